@@ -1,0 +1,3 @@
+-- Finite sums over natural numbers, and their laws.
+pub mod Sums
+pub mod Loops

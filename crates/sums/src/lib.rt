@@ -1,0 +1,1 @@
+// Finite sums and their laws. No code; all is in specs/.
