@@ -1,0 +1,3 @@
+-- The order of positions, and refusals.
+pub mod Order
+pub mod Refusals
