@@ -1,0 +1,43 @@
+-- `records::complete_report` meets its contract: each way out has the tests that led there.
+use mathlib.Core.Path.{sym}
+use borrow.Author.Tests.{eq-eqb, ne-eqb, not-true, not-false}
+use borrow.Author.Needs.{needs}
+use Rattle.format.specs.Rows.{complete}
+use Rattle.records.proofs.complete_report.Statement.{statement}
+use Rattle.records.proofs.complete_report.Tie as tie
+
+every-shard-requires : tie.Need-every-shard-requires
+every-shard-requires c κs = search needs
+
+covered-requires : tie.Need-covered-requires
+covered-requires c κs = search needs
+
+returns : tie.Need-returns
+unfolding complete
+returns c = simp (sym (c .before .before .every-shard .ensures), sym (c .before .covered .ensures), not-true (c .before .covered .result) (c .if1 .taken))
+
+shards-of-requires : tie.Need-shards-of-requires
+shards-of-requires c κs = search needs
+
+returns-2 : tie.Need-returns-2
+unfolding complete
+returns-2 c = simp (sym (c .before .before .before .before .every-shard .ensures), sym (c .before .before .before .covered .ensures), not-false (c .before .before .before .covered .result) (c .before .before .if1 .left), sym (c .before .shards-of .ensures), eq-eqb _ _ (c .if2 .taken))
+
+subset-requires : tie.Need-subset-requires
+subset-requires c κs = search needs
+
+returns-3 : tie.Need-returns-3
+unfolding complete
+returns-3 c = simp (sym (c .before .before .before .before .before .every-shard .ensures), sym (c .before .before .before .before .covered .ensures), not-false (c .before .before .before .before .covered .result) (c .before .before .before .if1 .left), sym (c .before .before .shards-of .ensures), ne-eqb _ _ (c .before .if2 .left), sym (c .subset .ensures))
+
+pub complete-report-spec : {M : Type 1} → statement M
+complete-report-spec =
+    tie.close
+    (tie.spec
+    every-shard-requires
+    covered-requires
+    returns
+    shards-of-requires
+    returns-2
+    subset-requires
+    returns-3)

@@ -1,0 +1,74 @@
+-- `records::masks_of` meets its contract. The invariant: the table is filled below s.
+use mathlib.Core.Path.{_≡_, sym, ap, _∙_}
+use Prim.Native.Nat.{ℕ, _≤_, _-_}
+use native.Mathlib.Omega.{arith}
+use lib.ListN.{replicate}
+use borrow.Author.Needs.{needs}
+use Rattle.laws.specs.Tables.{filled, filled-none, filled-turn}
+use Rattle.settings.specs.Settings.{shards}
+use Rattle.format.specs.Records.{membersOf}
+use Rattle.records.specs.Laws.{masks-filled}
+use Rattle.records.proofs.masks_of.Statement.{statement}
+use Rattle.records.proofs.masks_of.Tie as tie
+
+abbrev Inv-loop : tie.InvT-loop
+Inv-loop settings body count masks₀ s₀ masks s = (s ≤ shards settings) × (masks ≡ filled s (membersOf body) (replicate 16 0))
+
+abbrev μ-loop : tie.MeasureT-loop
+μ-loop settings body count masks₀ s₀ masks s = count - s
+
+shards-requires : tie.Need-shards-requires Inv-loop μ-loop
+shards-requires c κs = search needs
+
+cast-count : tie.Need-cast-count Inv-loop μ-loop
+cast-count c = search needs
+
+loop-holds : tie.Need-loop-holds Inv-loop μ-loop
+loop-holds c = (search needs, sym (filled-none (membersOf (c .before .before .args .body .now)) (replicate 16 0)))
+
+word1-requires : tie.Need-word1-requires Inv-loop μ-loop
+word1-requires c κs = search needs
+
+mul-masks : tie.Need-mul-masks Inv-loop μ-loop
+mul-masks c = search needs
+
+array-write-masks : tie.Need-array-write-masks Inv-loop μ-loop
+array-write-masks c = search needs
+
+add-s : tie.Need-add-s Inv-loop μ-loop
+add-s c = search needs
+
+loop-less : tie.Need-loop-less Inv-loop μ-loop
+loop-less c = search needs
+
+loop-again : tie.Need-loop-again Inv-loop μ-loop
+loop-again c = let l = c .before .before .loop in (
+  omega arith,
+  filled-turn (l .s) (membersOf (c .before .before .before .before .before .args .body .now)) (replicate 16 0) (l .masks) (c .word1 .result)
+      (omega arith) (l .inv .1) (c .word1 .ensures),
+)
+
+returns : tie.Need-returns Inv-loop μ-loop
+returns c = let a = c .before .before .before .before .args in
+    let l = c .before .loop in
+    let e : l .s ≡ shards (a .settings .now) = omega arith in
+    l .inv .1
+    ∙ ap (λ (n : ℕ). filled n (membersOf (a .body .now)) (replicate 16 0)) e
+    ∙ masks-filled (shards (a .settings .now)) (a .body .now) (omega arith)
+
+pub masks-of-spec : {M : Type 1} → statement M
+masks-of-spec =
+    tie.close
+    (tie.spec
+    Inv-loop
+    μ-loop
+    shards-requires
+    cast-count
+    loop-holds
+    word1-requires
+    mul-masks
+    array-write-masks
+    add-s
+    loop-less
+    loop-again
+    returns)

@@ -1,0 +1,3 @@
+-- What passes over the records gather, and its laws.
+pub mod Gathered
+pub mod Laws

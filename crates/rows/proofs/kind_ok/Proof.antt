@@ -1,0 +1,46 @@
+-- `rows::kind_ok` meets its contract: the arm tells the form, and `from_to` the range.
+use mathlib.Core.Path.{sym}
+use borrow.Author.Needs.{needs}
+use Rattle.format.specs.Rows.{kindOk}
+use Rattle.rows.proofs.kind_ok.Statement.{statement}
+use Rattle.rows.proofs.kind_ok.Tie as tie
+
+enum-told : tie.Need-enum-told
+enum-told c = search needs
+
+from-to-requires : tie.Need-from-to-requires
+from-to-requires c κs = search needs
+
+enum-told-2 : tie.Need-enum-told-2
+enum-told-2 c = search needs
+
+from-to-requires-2 : tie.Need-from-to-requires-2
+from-to-requires-2 c κs = search needs
+
+returns : tie.Need-returns
+unfolding kindOk
+returns c = simp (c .before .before .enum-told2 .given .1, sym (c .before .from-to2 .ensures), c .if1 .taken)
+
+from-to-requires-3 : tie.Need-from-to-requires-3
+from-to-requires-3 c κs = search needs
+
+returns-2 : tie.Need-returns-2
+unfolding kindOk
+returns-2 c = simp (c .before .enum-told .given .1, sym (c .from-to .ensures))
+
+returns-3 : tie.Need-returns-3
+unfolding kindOk
+returns-3 c = simp (c .before .before .before .enum-told2 .given .1, sym (c .before .before .from-to2 .ensures), c .before .if1 .left, sym (c .from-to3 .ensures))
+
+pub kind-ok-spec : {M : Type 1} → statement M
+kind-ok-spec =
+    tie.close
+    (tie.spec
+    enum-told
+    from-to-requires
+    enum-told-2
+    from-to-requires-2
+    returns
+    from-to-requires-3
+    returns-2
+    returns-3)
