@@ -1,0 +1,5 @@
+-- Reader and writer are inverse. Written: the message that the writer makes. RoundTrip: the theorems. Calls: the same in terms
+-- of what the two calls answer.
+pub mod Written
+pub mod RoundTrip
+pub mod Calls
