@@ -1,0 +1,36 @@
+-- The words are stored in a part of the table that is as long as they are, and that part is read back.
+use Prim.Native.Nat.{_≤_}
+use native.Mathlib.Omega.{arith}
+use borrow.Author.Needs.{needs}
+use lib.ListN.{length}
+use Rattle.lent_words.specs.Lent.{within-le, part-fits, part-holds}
+use Rattle.lent_words.proofs.words_of.Statement.{statement}
+use Rattle.lent_words.proofs.words_of.Tie as tie
+
+count-within-requires : tie.Need-count-within-requires
+count-within-requires c κs = search needs
+
+sub-decode : tie.Need-sub-decode
+sub-decode c = search needs
+
+part-table-start : tie.Need-part-table-start
+part-table-start c = search needs
+
+part-table-end : tie.Need-part-table-end
+part-table-end c = omega (arith, within-le (c .before .before .args .most) (length (c .before .before .args .bytes .now)))
+
+decode-requires : tie.Need-decode-requires
+decode-requires c κs =
+    part-fits (c .before .before .before .args .most) _ (c .before .before .before .args .bytes .now) (c .before .count-within .ensures) _
+
+returns : tie.Need-returns
+returns c =
+    let n = c .before .before .before .count-within .result in
+    let room : n ≤ 512 =
+    omega (arith, within-le (c .before .before .before .before .before .args .most) (length (c .before .before .before .before .before .args .bytes .now))) in
+    part-holds (c .before .before .before .before .before .args .most) _ (c .before .before .before .before .before .args .bytes .now)
+    (c .before .before .before .count-within .ensures) room _ (c .before .decode .ensures)
+
+pub words-of-spec : {M : Type 1} → statement M
+words-of-spec =
+    tie.close (tie.spec count-within-requires sub-decode part-table-start part-table-end decode-requires returns)

@@ -1,0 +1,3 @@
+-- Bytes that a C caller lends, as words; and what a call answers and leaves in them.
+pub mod Lent
+pub mod Answers

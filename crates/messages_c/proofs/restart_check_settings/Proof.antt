@@ -1,0 +1,42 @@
+-- The words that are looked at are those that were lent, or both are wrong.
+use mathlib.Core.Path.{sym, ap, _∙_}
+use native.Mathlib.Omega.{arith}
+use borrow.Author.Needs.{needs}
+use borrow.Author.Tests.{not-true, not-false}
+use Rattle.settings.specs.Settings.{settingsOk}
+use Rattle.messages_c.specs.Limits.{check-wrong, check-right}
+use Rattle.messages_c.proofs.restart_check_settings.Statement.{statement}
+use Rattle.messages_c.proofs.restart_check_settings.Tie as tie
+
+words-of-requires : tie.Need-words-of-requires
+words-of-requires c κs = search needs
+
+sub-check : tie.Need-sub-check
+sub-check c = search needs
+
+part-check-start : tie.Need-part-check-start
+part-check-start c = search needs
+
+part-check-end : tie.Need-part-check-end
+part-check-end c = let h = c .before .before .words-of .ensures in omega arith
+
+check-requires : tie.Need-check-requires
+check-requires c κs = search needs
+
+returns : tie.Need-returns
+returns c =
+    check-wrong _
+    (ap settingsOk (sym (c .before .before .before .before .before .words-of .ensures .front))
+    ∙ sym (c .before .check .ensures)
+    ∙ not-true _ (c .if1 .taken))
+
+returns-2 : tie.Need-returns-2
+returns-2 c =
+    check-right _
+    (ap settingsOk (sym (c .before .before .before .before .before .words-of .ensures .front))
+    ∙ sym (c .before .check .ensures)
+    ∙ not-false _ (c .if1 .left))
+
+pub restart-check-settings-spec : {M : Type 1} → statement M
+restart-check-settings-spec =
+    tie.close (tie.spec words-of-requires sub-check part-check-start part-check-end check-requires returns returns-2)

@@ -1,0 +1,6 @@
+-- The C entry points for settings and messages: what they answer, and what they leave in the lent bytes.
+pub mod Answers
+pub mod Limits
+pub mod Layout
+pub mod ReadCalls
+pub mod WriteCalls

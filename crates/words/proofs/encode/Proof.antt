@@ -1,0 +1,76 @@
+-- `words::encode` meets its contract. The loop's invariant: the slice is filled with the bytes of the words below i. The measure is what is
+-- left of the words. Assumes nothing.
+use borrow.Author.Needs.{needs}
+use mathlib.Core.Path.{_≡_, refl, sym, ap, _∙_}
+use Prim.Native.Nat.{_*_, _-_, _≤_}
+use native.Mathlib.Omega.{arith}
+use lib.ListN.{length, getD}
+use Rattle.laws.specs.Tables.{filled, filled-none}
+use Rattle.words.specs.Words.{byteAt, bytes-filled, stored-turn, length-stored}
+use Rattle.words.proofs.encode.Statement.{statement}
+use Rattle.words.proofs.encode.Tie as tie
+
+abbrev Inv-loop : tie.InvT-loop
+Inv-loop words bytes₀ i₀ bytes i = (i ≤ length words) × (length bytes ≡ length bytes₀) × (bytes ≡ filled (4 * i) (byteAt words) bytes₀)
+
+abbrev μ-loop : tie.MeasureT-loop
+μ-loop words bytes₀ i₀ bytes i = length words - i
+
+loop-holds : tie.Need-loop-holds Inv-loop μ-loop
+loop-holds c = (search needs, refl, sym (filled-none (byteAt (c .before .before .args .words .now)) (c .before .before .args .bytes .now)))
+
+mul-put : tie.Need-mul-put Inv-loop μ-loop
+mul-put c = search needs
+
+mul-put-2 : tie.Need-mul-put-2 Inv-loop μ-loop
+mul-put-2 c = search needs
+
+shared-slice-read-put : tie.Need-shared-slice-read-put Inv-loop μ-loop
+shared-slice-read-put c = search needs
+
+put-requires : tie.Need-put-requires Inv-loop μ-loop
+put-requires c κs = omega arith
+
+add-i : tie.Need-add-i Inv-loop μ-loop
+add-i c = search needs
+
+loop-less : tie.Need-loop-less Inv-loop μ-loop
+loop-less c = search needs
+
+loop-again : tie.Need-loop-again Inv-loop μ-loop
+loop-again c =
+    let s = c .before .before .before .before .before .before in
+    let i = s .loop .i in
+    let words = s .before .before .before .args .words .now in
+    let bytes₀ = s .before .before .before .args .bytes .now in
+    let bytes = s .loop .bytes in (
+      omega arith,
+      ap length (c .before .before .put .ensures) ∙ length-stored bytes (4 * i) (getD words i 0) ∙ s .loop .inv .1,
+      c .before .before .put .ensures ∙ stored-turn words bytes₀ bytes i (omega arith) (s .loop .inv .2),
+    )
+
+same-length : tie.Need-same-length Inv-loop μ-loop
+same-length c = c .before .loop .inv .1
+
+returns : tie.Need-returns Inv-loop μ-loop
+returns c =
+    let words = c .before .before .before .before .args .words .now in
+    let bytes₀ = c .before .before .before .before .args .bytes .now in
+    c .before .loop .inv .2 ∙ bytes-filled words bytes₀ (c .before .loop .i) (omega arith) (omega arith)
+
+pub encode-spec : {M : Type 1} → statement M
+encode-spec =
+    tie.close
+    (tie.spec
+    Inv-loop
+    μ-loop
+    loop-holds
+    mul-put
+    mul-put-2
+    shared-slice-read-put
+    put-requires
+    add-i
+    loop-less
+    loop-again
+    same-length
+    returns)

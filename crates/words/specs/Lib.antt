@@ -1,0 +1,2 @@
+-- Little-endian words in bytes.
+pub mod Words
