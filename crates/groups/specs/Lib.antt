@@ -1,0 +1,3 @@
+-- Placements of a subgroup.
+pub mod Placements
+pub mod Spread

@@ -1,0 +1,2 @@
+-- What the tests on owners promise.
+pub mod Post

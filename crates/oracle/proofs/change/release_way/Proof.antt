@@ -1,0 +1,26 @@
+-- `oracle::change::release_way` is safe and ends: `round` counts the turns up to 33. Assumes nothing.
+use Prim.Native.Nat.{_≤_, _-_}
+use borrow.Author.Needs.{needs}
+use Rattle.oracle.proofs.change.release_way.Statement.{statement}
+use Rattle.oracle.proofs.change.release_way.Tie as tie
+
+abbrev Inv-loop : tie.InvT-loop
+Inv-loop masks₀ marks₀ x y₀ round₀ masks marks y round = round ≤ 33
+
+abbrev μ-loop : tie.MeasureT-loop
+μ-loop masks₀ marks₀ x y₀ round₀ masks marks y round = 33 - round
+
+pub release-way-spec : {M : Type 1} → statement M
+release-way-spec =
+    tie.close
+    (tie.spec
+    Inv-loop
+    μ-loop
+    (λ c. search needs)
+    (λ c. search needs)
+    (λ c κs. search needs)
+    (λ c κs. search needs)
+    (λ c. search needs)
+    (λ c. search needs)
+    (λ c. search needs)
+    (λ c. search needs))

@@ -1,0 +1,31 @@
+-- `oracle::claim::reroute` is safe and ends: `round` counts the turns up to 64. Assumes nothing.
+use Prim.Native.Nat.{_≤_, _-_}
+use borrow.Author.Needs.{needs}
+use Rattle.oracle.proofs.claim.reroute.Statement.{statement}
+use Rattle.oracle.proofs.claim.reroute.Tie as tie
+
+abbrev Inv-loop : tie.InvT-loop
+Inv-loop masks₀ marks₀ i n most round₀ masks marks round = round ≤ 64
+
+abbrev μ-loop : tie.MeasureT-loop
+μ-loop masks₀ marks₀ i n most round₀ masks marks round = 64 - round
+
+pub reroute-spec : {M : Type 1} → statement M
+reroute-spec =
+    tie.close
+    (tie.spec
+    Inv-loop
+    μ-loop
+    (λ c. search needs)
+    (λ c κs. search needs)
+    (λ c. search needs)
+    (λ c κs. search needs)
+    (λ c κs. search needs)
+    (λ c κs. search needs)
+    (λ c κs. search needs)
+    (λ c. search needs)
+    (λ c κs. search needs)
+    (λ c. search needs)
+    (λ c. search needs)
+    (λ c. search needs)
+    (λ c. search needs))

@@ -1,0 +1,2 @@
+-- The definitions that the oracle's contracts cite.
+pub mod Weighed

@@ -1,0 +1,2 @@
+-- The definitions that the contracts of the C functions cite.
+pub mod Number

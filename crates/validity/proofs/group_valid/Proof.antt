@@ -1,0 +1,75 @@
+-- `validity::group_valid` meets its contract. The invariant: every shard below s passes. Assumes nothing.
+use Prim.Native.Nat.{ℕ, _≤_, _-_}
+use mathlib.Core.Bool.{Bool, true}
+use mathlib.Core.List.{List}
+use mathlib.Core.Path.{_≡_, sym, _∙_}
+use native.Mathlib.Omega.{arith}
+use lib.ListN.{getD}
+use borrow.Author.Tests.{not-true, not-false}
+use Rattle.laws.specs.Below.{allBelow, all-none, all-more, all-fails, all-fewer}
+use Rattle.settings.specs.Settings.{shards}
+use Rattle.groups.specs.Placements.{groupValid, groupValidAt}
+use borrow.Author.Needs.{needs}
+use Rattle.validity.proofs.group_valid.Statement.{statement}
+use Rattle.validity.proofs.group_valid.Tie as tie
+
+abbrev ok : List ℕ → ℕ → List ℕ → ℕ → ℕ → Bool
+ok σ held masks g = groupValidAt σ held (λ i. getD masks i 0) g
+
+abbrev Inv-loop : tie.InvT-loop
+Inv-loop settings held masks g count s₀ s = (s ≤ shards settings) × (allBelow s (ok settings held masks g) ≡ true)
+
+abbrev μ-loop : tie.MeasureT-loop
+μ-loop settings held masks g count s₀ s = shards settings - s
+
+shards-requires : tie.Need-shards-requires Inv-loop μ-loop
+shards-requires c κs = search needs
+
+loop-holds : tie.Need-loop-holds Inv-loop μ-loop
+loop-holds c = let a = c .before .before .args in (search needs, all-none (ok (a .settings .now) (a .held) (a .masks .now) (a .g)))
+
+group-valid-at-requires : tie.Need-group-valid-at-requires Inv-loop μ-loop
+group-valid-at-requires c κs = search needs
+
+returns : tie.Need-returns Inv-loop μ-loop
+unfolding groupValid
+returns c = let a = c .before .before .before .before .before .before .args in
+    let k = c .before .group-valid-at in
+    sym (all-fails (shards (a .settings .now)) (ok (a .settings .now) (a .held) (a .masks .now) (a .g)) (c .before .before .before .loop .s)
+    (omega (arith, c .before .before .before .before .shards .ensures))
+    (sym (k .ensures) ∙ not-true (k .result) (c .if1 .taken)))
+
+add-s : tie.Need-add-s Inv-loop μ-loop
+add-s c = search needs
+
+loop-less : tie.Need-loop-less Inv-loop μ-loop
+loop-less c = search needs
+
+loop-again : tie.Need-loop-again Inv-loop μ-loop
+loop-again c = let a = c .before .before .before .before .before .before .args in
+    let k = c .before .group-valid-at in
+    let l = c .before .before .before .loop in (
+      omega (arith, c .before .before .before .before .shards .ensures),
+      all-more (l .s) (ok (a .settings .now) (a .held) (a .masks .now) (a .g)) (l .inv .1) (sym (k .ensures) ∙ not-false (k .result) (c .if1 .left)),
+    )
+
+returns-2 : tie.Need-returns-2 Inv-loop μ-loop
+unfolding groupValid
+returns-2 c = let a = c .before .before .before .before .args in
+    let l = c .before .loop in
+    sym (all-fewer (shards (a .settings .now)) (l .s) (ok (a .settings .now) (a .held) (a .masks .now) (a .g)) (omega (arith, c .before .before .shards .ensures)) (l .inv .1))
+
+pub group-valid-spec : {M : Type 1} → statement M
+group-valid-spec =
+    tie.close
+    (tie.spec
+    Inv-loop
+    μ-loop
+    shards-requires
+    loop-holds
+    group-valid-at-requires
+    returns
+    add-s
+    loop-less
+    loop-again
+    returns-2)

@@ -1,0 +1,23 @@
+-- `validity::moved` meets its contract: a mask of 32 bits counts at most 32. Assumes nothing.
+use mathlib.Core.Path.{ap, _∙_}
+use native.Mathlib.Omega.{arith}
+use Rattle.laws.specs.Masks.{count, minus, minus-lt, count-within}
+use borrow.Author.Needs.{needs}
+use Rattle.validity.proofs.moved.Statement.{statement}
+use Rattle.validity.proofs.moved.Tie as tie
+
+minus-requires : tie.Need-minus-requires
+minus-requires c κs = search needs
+
+count-requires : tie.Need-count-requires
+count-requires c κs = search needs
+
+returns : tie.Need-returns
+returns c =
+    let a = c .before .before .args in (
+      c .count .ensures ∙ ap count (c .before .minus .ensures),
+      omega (arith, c .count .ensures, ap count (c .before .minus .ensures), count-within 32 (minus (a .new) (a .old)) (minus-lt 32 (a .new) (a .old) (c .before .before .fits .new .fits))),
+    )
+
+pub moved-spec : {M : Type 1} → statement M
+moved-spec = tie.close (tie.spec minus-requires count-requires returns)

@@ -1,0 +1,33 @@
+use native.Mathlib.Omega.{arith}
+use Rattle.groups.specs.Spread.{seenWith}
+use mathlib.Core.Path.{_≡_, refl, sym, ap, _∙_}
+use borrow.Author.Tests.{not-true, not-false}
+use borrow.Author.Needs.{needs}
+use Rattle.validity.proofs.seen_with.Statement.{statement}
+use Rattle.validity.proofs.seen_with.Tie as tie
+
+has-requires : tie.Need-has-requires
+has-requires c κs = search needs
+
+returns : tie.Need-returns
+unfolding seenWith
+returns c = simp (sym (c .before .has .ensures), not-true (c .before .has .result) (c .if1 .taken))
+
+set-of-requires : tie.Need-set-of-requires
+set-of-requires c κs = search needs
+
+cast-with : tie.Need-cast-with
+cast-with c = search needs
+
+with-requires : tie.Need-with-requires
+with-requires c κs =
+    let s = c .before .before .before .before .pre .0 in
+    omega (arith, c .set-of .ensures, s .set-below (c .before .before .before .before .args .n) (c .before .before .before .before .pre .1), s .sizes .sets-to)
+
+returns-2 : tie.Need-returns-2
+unfolding seenWith
+returns-2 c = simp (sym (c .before .before .before .has .ensures), not-false (c .before .before .before .has .result) (c .before .before .if1 .left), sym (c .before .set-of .ensures), sym (c .with .ensures))
+
+pub seen-with-spec : {M : Type 1} → statement M
+seen-with-spec =
+    tie.close (tie.spec has-requires returns set-of-requires cast-with with-requires returns-2)
