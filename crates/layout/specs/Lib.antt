@@ -1,0 +1,3 @@
+-- What the placement of all four subgroups promises.
+pub mod Post
+pub mod Steps

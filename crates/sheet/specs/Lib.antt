@@ -1,0 +1,4 @@
+-- The placement sheet.
+pub mod Sheet
+pub mod Laws
+pub mod Fills
