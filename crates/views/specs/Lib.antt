@@ -1,0 +1,13 @@
+-- Logs, reports on the desk, the quorum with each shard's target and holder, and the cut.
+pub mod Logs
+pub mod Reports
+pub mod LogLaws
+pub mod Slots
+pub mod Quorums
+pub mod Best
+pub mod Standings
+pub mod Soundness
+pub mod PlanLaws
+pub mod Cuts
+pub mod CutLaws
+pub mod Meets
