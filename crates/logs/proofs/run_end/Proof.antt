@@ -1,0 +1,19 @@
+-- `logs::run_end` meets its contract: its two words are the position.
+use Prim.Native.Nat.{ℕ}
+use mathlib.Core.Path.{ap₂}
+use borrow.Author.Needs.{needs}
+use Rattle.views.specs.Logs.{pos}
+use Rattle.logs.proofs.run_end.Statement.{statement}
+use Rattle.logs.proofs.run_end.Tie as tie
+
+word1-requires : tie.Need-word1-requires
+word1-requires c κs = search needs
+
+word2-requires : tie.Need-word2-requires
+word2-requires c κs = search needs
+
+returns : tie.Need-returns
+returns c = ap₂ (λ (v k : ℕ). pos v k) (c .before .word1 .ensures) (c .word2 .ensures)
+
+pub run-end-spec : {M : Type 1} → statement M
+run-end-spec = tie.close (tie.spec word1-requires word2-requires returns)

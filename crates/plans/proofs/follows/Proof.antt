@@ -1,0 +1,26 @@
+-- `plans::follows` meets its contract: both tests as the definition has them. Assumes nothing.
+use borrow.Author.Tests.{eq-eqb, ne-eqb}
+use Rattle.plans.specs.Matches.{follows}
+use borrow.Author.Needs.{needs}
+use Rattle.plans.proofs.follows.Statement.{statement}
+use Rattle.plans.proofs.follows.Tie as tie
+
+cast-if1 : tie.Need-cast-if1
+cast-if1 c = search needs
+
+cast-if1-2 : tie.Need-cast-if1-2
+cast-if1-2 c = search needs
+
+add-if1 : tie.Need-add-if1
+add-if1 c = search needs
+
+returns : tie.Need-returns
+unfolding follows
+returns c = simp (ne-eqb _ _ (c .if1 .taken))
+
+returns-2 : tie.Need-returns-2
+unfolding follows
+returns-2 c = simp (eq-eqb _ _ (c .before .if1 .left))
+
+pub follows-spec : {M : Type 1} → statement M
+follows-spec = tie.close (tie.spec cast-if1 cast-if1-2 add-if1 returns returns-2)

@@ -1,0 +1,22 @@
+-- `plans::plan_sound` meets its contract: the plan is held against the standing of the held reports. Assumes nothing.
+use mathlib.Core.Path.{ap, _∙_}
+use Rattle.views.specs.declared.Standing.{Standing}
+use Rattle.plans.specs.Matches.{matches, matches-sound}
+use borrow.Author.Needs.{needs}
+use Rattle.plans.proofs.plan_sound.Statement.{statement}
+use Rattle.plans.proofs.plan_sound.Tie as tie
+
+standing-requires : tie.Need-standing-requires
+standing-requires c κs = search needs
+
+matches-requires : tie.Need-matches-requires
+matches-requires c κs = search needs
+
+returns : tie.Need-returns
+returns c = let a = c .before .before .before .before .args in
+    c .matches .ensures
+    ∙ ap (λ (s : Standing). matches (a .settings .now) (a .v) (a .held) (a .p) s) (c .before .standing .ensures)
+    ∙ matches-sound (a .settings .now) (a .v) (a .t) (a .held) (a .desk .now) (a .p)
+
+pub plan-sound-spec : {M : Type 1} → statement M
+plan-sound-spec = tie.close (tie.spec standing-requires matches-requires returns)

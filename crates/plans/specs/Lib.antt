@@ -1,0 +1,2 @@
+-- A plan held against the standing of the held reports.
+pub mod Matches

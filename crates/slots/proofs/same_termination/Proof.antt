@@ -1,0 +1,24 @@
+-- `slots::same_termination` meets its contract: the positions are compared for as many shards as there are.
+use mathlib.Core.Path.{_∙_}
+use borrow.Author.Needs.{needs}
+use Rattle.slots.specs.Comparisons.{term-positions}
+use Rattle.slots.proofs.same_termination.Statement.{statement}
+use Rattle.slots.proofs.same_termination.Tie as tie
+
+shards-requires : tie.Need-shards-requires
+shards-requires c κs = search needs
+
+cast-count : tie.Need-cast-count
+cast-count c = search needs
+
+same-positions-requires : tie.Need-same-positions-requires
+same-positions-requires c κs = search needs
+
+returns : tie.Need-returns
+returns c = let a = c .before .before .before .before .before .before .before .args in
+    let n = c .before .before .before .before .before .shards in
+    c .same-positions .ensures ∙ term-positions (a .settings .now) (a .t2) (a .t3) (n .result) (n .ensures)
+
+pub same-termination-spec : {M : Type 1} → statement M
+same-termination-spec =
+    tie.close (tie.spec shards-requires cast-count same-positions-requires returns)

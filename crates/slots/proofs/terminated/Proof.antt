@@ -1,0 +1,27 @@
+-- `slots::terminated` meets its contract: the record after those of kind 1 is of kind 2, if there is one.
+use borrow.Author.Needs.{needs}
+use Rattle.slots.specs.Comparisons.{term-short, term-kind}
+use Rattle.slots.proofs.terminated.Statement.{statement}
+use Rattle.slots.proofs.terminated.Tie as tie
+
+shards-requires : tie.Need-shards-requires
+shards-requires c κs = search needs
+
+cast-count : tie.Need-cast-count
+cast-count c = search needs
+
+returns : tie.Need-returns
+returns c = let a = c .before .before .before .args in
+    let n = c .before .shards in
+    term-short (a .settings .now) (a .t2) (n .result) (n .ensures) (c .if1 .taken)
+
+word-requires : tie.Need-word-requires
+word-requires c κs = search needs
+
+returns-2 : tie.Need-returns-2
+returns-2 c = let a = c .before .before .before .before .before .before .args in
+    let n = c .before .before .before .before .shards in
+    term-kind (a .settings .now) (a .t2) (n .result) (n .ensures) (c .before .before .before .if1 .left) (c .word .result) (c .word .ensures)
+
+pub terminated-spec : {M : Type 1} → statement M
+terminated-spec = tie.close (tie.spec shards-requires cast-count returns word-requires returns-2)

@@ -1,0 +1,71 @@
+-- `standing::better` meets its contract, case by case.
+use mathlib.Core.Path.{_≡_, sym, ap₂, _∙_}
+use native.Mathlib.Omega.{arith}
+use borrow.Author.Needs.{needs}
+use borrow.Author.Tests.{not-true, not-false}
+use Rattle.ids.specs.Order.{notAfter}
+use Rattle.views.specs.Best.{with-miss, with-first, with-kept, with-later}
+use Rattle.standing.specs.Choices.{picked}
+use Rattle.standing.specs.Ends.{tableEnd}
+use Rattle.standing.proofs.better.Statement.{statement}
+use Rattle.standing.proofs.better.Tie as tie
+
+mul-has : tie.Need-mul-has
+mul-has c = search needs
+
+element-copy-out-has : tie.Need-element-copy-out-has
+element-copy-out-has c = search needs
+
+has-requires : tie.Need-has-requires
+has-requires c κs = search needs
+
+returns : tie.Need-returns
+returns c = let a = c .before .before .before .args in
+    let h = c .before .has in
+    sym (with-miss (picked (a .list .now) (a .s)) (tableEnd (a .table .now) (a .s)) 32 (a .n) (a .b) (sym (h .ensures) ∙ not-true (h .result) (c .if1 .taken)))
+
+returns-2 : tie.Need-returns-2
+returns-2 c = let a = c .before .before .before .before .args in
+    let h = c .before .before .has in
+    let e : a .b ≡ 32 = omega arith in
+    sym (with-first (picked (a .list .now) (a .s)) (tableEnd (a .table .now) (a .s)) 32 (a .n) (a .b) (sym (h .ensures) ∙ not-false (h .result) (c .before .if1 .left)) e)
+
+end-at-requires : tie.Need-end-at-requires
+end-at-requires c κs = search needs
+
+end-at-requires-2 : tie.Need-end-at-requires-2
+end-at-requires-2 c κs = search needs
+
+not-after-requires : tie.Need-not-after-requires
+not-after-requires c κs = search needs
+
+returns-3 : tie.Need-returns-3
+returns-3 c = let a = c .before .before .before .before .before .before .before .before .args in
+    let o = c .before .not-after in
+    let d : (a .b ≡ 32 → ⊥) = λ e. omega arith in
+    sym (with-kept (picked (a .list .now) (a .s)) (tableEnd (a .table .now) (a .s)) 32 (a .n) (a .b) d
+    (sym (ap₂ notAfter (c .before .before .before .end-at .ensures) (c .before .before .end-at2 .ensures)) ∙ sym (o .ensures) ∙ c .if3 .taken))
+
+returns-4 : tie.Need-returns-4
+returns-4 c = let a = c .before .before .before .before .before .before .before .before .args in
+    let o = c .before .not-after in
+    let h = c .before .before .before .before .before .before .has in
+    let d : (a .b ≡ 32 → ⊥) = λ e. omega arith in
+    sym (with-later (picked (a .list .now) (a .s)) (tableEnd (a .table .now) (a .s)) 32 (a .n) (a .b)
+    (sym (h .ensures) ∙ not-false (h .result) (c .before .before .before .before .before .if1 .left)) d
+    (sym (ap₂ notAfter (c .before .before .before .end-at .ensures) (c .before .before .end-at2 .ensures)) ∙ sym (o .ensures) ∙ c .if3 .left))
+
+pub better-spec : {M : Type 1} → statement M
+better-spec =
+    tie.close
+    (tie.spec
+    mul-has
+    element-copy-out-has
+    has-requires
+    returns
+    returns-2
+    end-at-requires
+    end-at-requires-2
+    not-after-requires
+    returns-3
+    returns-4)

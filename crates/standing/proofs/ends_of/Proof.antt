@@ -1,0 +1,42 @@
+-- `standing::ends_of` meets its contract. The invariant: the ends are those of the first j records.
+use Prim.Native.Nat.{_≤_, _-_}
+use mathlib.Core.Path.{_≡_, ap, _∙_}
+use native.Mathlib.Omega.{arith}
+use borrow.Author.Needs.{needs}
+use Rattle.standing.specs.Ends.{endsOf, ends-none, ends-noted}
+use Rattle.standing.proofs.ends_of.Statement.{statement}
+use Rattle.standing.proofs.ends_of.Tie as tie
+
+abbrev Inv-loop : tie.InvT-loop
+Inv-loop body len ends₀ j₀ ends j = (j ≤ len) × (ends ≡ endsOf body j)
+
+abbrev μ-loop : tie.MeasureT-loop
+μ-loop body len ends₀ j₀ ends j = len - j
+
+loop-holds : tie.Need-loop-holds Inv-loop μ-loop
+loop-holds c = (search needs, ends-none (c .args .body .now))
+
+note-end-requires : tie.Need-note-end-requires Inv-loop μ-loop
+note-end-requires c κs = search needs
+
+add-j : tie.Need-add-j Inv-loop μ-loop
+add-j c = search needs
+
+loop-less : tie.Need-loop-less Inv-loop μ-loop
+loop-less c = search needs
+
+loop-again : tie.Need-loop-again Inv-loop μ-loop
+loop-again c = let a = c .before .before .before .before .args in
+    let l = c .before .before .before .loop in
+    (omega arith, c .note-end .ensures ∙ ends-noted (a .body .now) (l .j) (l .ends) (l .inv .1))
+
+returns : tie.Need-returns Inv-loop μ-loop
+returns c = let a = c .before .before .args in
+    let l = c .before .loop in
+    let z : l .j ≡ a .len = omega arith in
+    l .inv .1 ∙ ap (endsOf (a .body .now)) z
+
+pub ends-of-spec : {M : Type 1} → statement M
+ends-of-spec =
+    tie.close
+    (tie.spec Inv-loop μ-loop loop-holds note-end-requires add-j loop-less loop-again returns)
