@@ -1,0 +1,88 @@
+-- `orders::order_contents` meets its contract: the four loops, one after another, make the order's body.
+use Prim.Native.Nat.{ℕ}
+use native.Mathlib.Omega.{arith}
+use mathlib.Core.Path.{subst⁻¹}
+use Rattle.laws.specs.Below.{count-le}
+use Rattle.orders.specs.Orders.{carries}
+use Rattle.orders.specs.Stores.{order-made}
+use Rattle.orders.specs.Readable.{Readable, Holders, read-few}
+use borrow.Author.Needs.{needs}
+use Rattle.orders.proofs.order_contents.Statement.{statement}
+use Rattle.orders.proofs.order_contents.Tie as tie
+
+shared-slice-read-wide : tie.Need-shared-slice-read-wide
+shared-slice-read-wide c = search needs
+
+wide-requires : tie.Need-wide-requires
+wide-requires c κs = search needs
+
+wide-requires-2 : tie.Need-wide-requires-2
+wide-requires-2 c κs = search needs
+
+report-at-requires : tie.Need-report-at-requires
+report-at-requires c κs =
+    let start = c .before .before .before .before .before .before .before in
+    let r = subst⁻¹ (Readable (start .args .desk .now)) (c .before .before .wide2 .ensures) (start .pre .1 .0) in
+    ((r .words, r .below), r .chained)
+
+put-members-requires : tie.Need-put-members-requires
+put-members-requires c κs = search needs
+
+put-targets-requires : tie.Need-put-targets-requires
+put-targets-requires c κs = search needs
+
+mul-put-holders : tie.Need-mul-put-holders
+mul-put-holders c = search needs
+
+put-holders-requires : tie.Need-put-holders-requires
+put-holders-requires c κs = search needs
+
+put-cuts-requires : tie.Need-put-cuts-requires
+put-cuts-requires c κs =
+    let start = c .before .before .before .before .before .before .before .before .before .before .before .before .before .before .before .before .before in
+    let holders = c .before .before .before .put-holders in
+    let report = c .before .before .before .before .before .before .before .before .before .report-at in
+    let wide = c .before .before .before .before .before .before .before .before .before .before .before .before .before .wide in (
+      (
+        omega (arith, wide .ensures, start .pre .0 .shards-to),
+        omega (arith, holders .ensures .0, wide .ensures, start .pre .0 .shards-to, count-le (wide .result) (carries (start .args .plan) (c .before .before .before .before .before .before .before .before .before .before .before .before .wide2 .result))),
+        read-few _ _ (report .result) (report .ensures),
+      ),
+      subst⁻¹ (λ (count : ℕ). Holders count (start .args .plan) (start .args .desk .now)) (wide .ensures) (start .pre .1 .1),
+    )
+
+returns : tie.Need-returns
+returns c =
+    let start = c .before .before .before .before .before .before .before .before .before .before .before .before .before .before .before .before .before .before in
+    let holders = c .before .before .before .before .put-holders in
+    let report = c .before .before .before .before .before .before .before .before .before .before .report-at in
+    order-made _ (start .args .plan) _ (start .args .node .0) (start .pre .0 .shards-to) (c .before .before .before .before .before .before .before .before .before .before .before .before .before .before .wide .result) (c .before .before .before .before .before .before .before .before .before .before .before .before .before .wide2 .result) (holders .result) (c .put-cuts .result)
+    (report .result)
+    (c .before .before .before .before .before .before .before .before .put-members .last .0)
+    (c .before .before .before .before .before .before .put-targets .last .0)
+    (holders .last .0)
+    (c .put-cuts .last .0)
+    (c .before .before .before .before .before .before .before .before .before .before .before .before .before .before .wide .ensures)
+    (c .before .before .before .before .before .before .before .before .before .before .before .before .before .wide2 .ensures)
+    (report .ensures)
+    (c .before .before .before .before .before .before .before .before .put-members .ensures)
+    (c .before .before .before .before .before .before .put-targets .ensures)
+    (holders .ensures .0)
+    (holders .ensures .1)
+    (c .put-cuts .ensures .0)
+    (c .put-cuts .ensures .1)
+
+pub order-contents-spec : {M : Type 1} → statement M
+order-contents-spec =
+    tie.close
+    (tie.spec
+    shared-slice-read-wide
+    wide-requires
+    wide-requires-2
+    report-at-requires
+    put-members-requires
+    put-targets-requires
+    mul-put-holders
+    put-holders-requires
+    put-cuts-requires
+    returns)

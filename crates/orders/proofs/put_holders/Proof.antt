@@ -1,0 +1,86 @@
+-- `orders::put_holders` meets its contract: turn s stores the holder of shard s where the node carries it.
+use Prim.Native.Nat.{_-_, _+_}
+use native.Mathlib.Omega.{arith}
+use mathlib.Core.Logic.{⊎-elim}
+use mathlib.Core.Path.{sym, _∙_}
+use borrow.Author.Needs.{needs}
+use lib.ListN.{getD}
+use Rattle.orders.specs.Stores.{storeHolder, Storing, storing-start, storing-room, storing-end, storing-hit, storing-miss, record-hit, record-miss}
+use Rattle.orders.proofs.put_holders.Statement.{statement}
+use Rattle.orders.proofs.put_holders.Tie as tie
+
+abbrev Inv-loop : tie.InvT-loop
+Inv-loop body₀ count n from plan layout j₀ s₀ body j s = Storing from plan n (storeHolder from plan n) count body₀ body j s
+
+abbrev μ-loop : tie.MeasureT-loop
+μ-loop body₀ count n from plan layout j₀ s₀ body j s = count - s
+
+loop-holds : tie.Need-loop-holds Inv-loop μ-loop
+loop-holds c = storing-start _ _ _ _ _ _ (c .before .pre .0)
+
+carries-requires : tie.Need-carries-requires Inv-loop μ-loop
+carries-requires c κs = search needs
+
+cast-put : tie.Need-cast-put Inv-loop μ-loop
+cast-put c = search needs
+
+add-put : tie.Need-add-put Inv-loop μ-loop
+add-put c = search needs
+
+mul-put : tie.Need-mul-put Inv-loop μ-loop
+mul-put c = search needs
+
+element-copy-out-put : tie.Need-element-copy-out-put Inv-loop μ-loop
+element-copy-out-put c = search needs
+
+put-requires : tie.Need-put-requires Inv-loop μ-loop
+put-requires c κs = omega (arith, storing-room (c .before .before .before .before .before .loop .inv) (c .before .before .before .before .loop-test .taken), c .before .before .before .before .before .before .before .pre .1)
+
+add-j : tie.Need-add-j Inv-loop μ-loop
+add-j c = omega (arith, storing-room (c .before .before .before .before .before .before .loop .inv) (c .before .before .before .before .before .loop-test .taken), c .before .before .before .before .before .before .before .before .pre .1)
+
+add-s : tie.Need-add-s Inv-loop μ-loop
+add-s c = search needs
+
+loop-less : tie.Need-loop-less Inv-loop μ-loop
+loop-less c = search needs
+
+loop-again : tie.Need-loop-again Inv-loop μ-loop
+loop-again c =
+    let i = c .before .before .before .loop in
+    let a = c .before .before .before .before .before .args in
+    let l = c .before .before .loop-test .taken in
+    ⊎-elim
+    (λ w.
+    let carried = sym (c .before .carries .ensures) ∙ w .0 .taken in
+    storing-hit (i .inv) (c .if1 .body) (c .if1 .j) l carried
+    (record-hit (a .from) (a .t2) (a .n) (i .s) _ _ _ (i .body) (c .if1 .body) carried (i .j) (i .inv .next) (w .4 ∙ w .3 .ensures))
+    (w .5))
+    (λ w.
+    let skipped = sym (c .before .carries .ensures) ∙ w .0 .left in
+    storing-miss (i .inv) (c .if1 .body) (c .if1 .j) l skipped
+    (record-miss (a .from) (a .t2) (a .n) (i .s) (1024 + i .s) (getD (a .t2 .holders) (i .s) 0) 0 (i .body) (c .if1 .body) skipped (w .1))
+    (w .2))
+    (c .if1 .came)
+
+returns : tie.Need-returns Inv-loop μ-loop
+returns c = storing-end (c .before .loop .inv) (c .loop-test .left)
+
+pub put-holders-spec : {M : Type 1} → statement M
+put-holders-spec =
+    tie.close
+    (tie.spec
+    Inv-loop
+    μ-loop
+    loop-holds
+    carries-requires
+    cast-put
+    add-put
+    mul-put
+    element-copy-out-put
+    put-requires
+    add-j
+    add-s
+    loop-less
+    loop-again
+    returns)
