@@ -1,0 +1,268 @@
+//! The events (document 01, section "State, desk, events").
+//!
+//! Each event takes settings, state and desk as words and gives what follows,
+//! or the number of the first row that holds. Rows that concern an event are
+//! asked in the order of document 01's table.
+
+use crate::desk::{self, DESK_WORDS};
+use crate::log::{self, Log, Position};
+use crate::mask;
+use crate::message::{self, Contents, Form, Triple, CUT, HOLDER, MEMBERS, TERMINATION};
+use crate::number::{self, refuse_if, Number};
+use crate::placement::Placement;
+use crate::quorum::{Reports, Wait};
+use crate::settings::{self, Settings, SUBGROUPS};
+use crate::soundness::{self, gathered, row_12, row_13};
+use crate::state::{self, Phase, Plan, State};
+
+/// What decide says.
+#[derive(Clone, Copy, Debug, PartialEq, Eq)]
+pub enum Decision {
+    /// The plan is in the state.
+    Plan,
+    Wait(Wait),
+}
+
+/// Settings, state and the held reports, after rows 1 to 3.
+struct Opened {
+    settings: Settings,
+    state: State,
+    reports: Reports,
+}
+
+/// Rows 1 to 3: the desk's length, the settings, the state's soundness.
+fn open(settings: &[u32], state: &[u32], desk: &[u32]) -> Result<Opened, Number> {
+    refuse_if(desk.len() != DESK_WORDS, number::LENT_LENGTH)?;
+    let settings = settings::parse(settings)?;
+    let state = state::decode(&settings, state).ok_or(number::STATE)?;
+    let reports = soundness::sound(&settings, &state, desk).ok_or(number::STATE)?;
+    Ok(Opened {
+        settings,
+        state,
+        reports,
+    })
+}
+
+/// A report: the next state and the next desk.
+pub fn report(
+    settings: &[u32],
+    state: &[u32],
+    desk: &[u32],
+    message: &[u32],
+) -> Result<(Vec<u32>, Vec<u32>), Number> {
+    let Opened {
+        settings, state, ..
+    } = open(settings, state, desk)?;
+    refuse_if(state.phase != Phase::Gathering, number::PHASE)?;
+    let report = message::read_with(Form::Report, &settings, message)?;
+    refuse_if(row_12(&settings, &state, &report), number::OTHER_MASKS)?;
+    refuse_if(row_13(&state, &report), number::OTHER_TERMINATION)?;
+    let next = after_report(&settings, &state, &report);
+    let desk = desk::with_message(desk, report.node, message);
+    Ok((state::encode(&next), desk))
+}
+
+/// A greater view becomes the kept view, with its termination or none. An equal
+/// view adds its termination if none is kept. A smaller view changes neither.
+fn after_report(settings: &Settings, state: &State, report: &Contents) -> State {
+    let mut next = state.clone();
+    let kept = state.kept.as_ref().map_or(0, |view| view.number);
+    next.held |= mask::only(report.node);
+    if report.view > kept {
+        next.kept = Some(soundness::view(settings, report));
+        next.termination = soundness::termination(report);
+    }
+    if report.view == kept && state.termination.is_none() {
+        next.termination = soundness::termination(report);
+    }
+    next
+}
+
+/// Rows 6 and 14 of a node that is an argument.
+fn check_held(settings: &Settings, state: &State, node: u32) -> Result<(), Number> {
+    refuse_if(message::row_6(settings, node), number::NODE)?;
+    refuse_if(!mask::has(state.held, node), number::NOT_HELD)
+}
+
+/// Drop: in gathering the node is no longer held; while ordered or preparing,
+/// gathering starts again with nothing held.
+pub fn drop_node(
+    settings: &[u32],
+    state: &[u32],
+    desk: &[u32],
+    node: u32,
+) -> Result<Vec<u32>, Number> {
+    let Opened {
+        settings, state, ..
+    } = open(settings, state, desk)?;
+    refuse_if(state.phase == Phase::Committed, number::PHASE)?;
+    check_held(&settings, &state, node)?;
+    let held = match state.phase {
+        Phase::Gathering => state.held & !mask::only(node),
+        _ => 0,
+    };
+    let next = State {
+        held,
+        kept: state.kept,
+        termination: state.termination,
+        ..state::fresh()
+    };
+    Ok(state::encode(&next))
+}
+
+/// Decide: what it says, and the next state.
+pub fn decide(
+    settings: &[u32],
+    state: &[u32],
+    desk: &[u32],
+) -> Result<(Decision, Vec<u32>), Number> {
+    let opened = open(settings, state, desk)?;
+    refuse_if(opened.state.phase != Phase::Gathering, number::PHASE)?;
+    match plan(&opened) {
+        Err(wait) => Ok((Decision::Wait(wait), state.to_vec())),
+        Ok(plan) => {
+            let next = State {
+                phase: Phase::Ordered,
+                plan: Some(plan),
+                ..opened.state
+            };
+            Ok((Decision::Plan, state::encode(&next)))
+        }
+    }
+}
+
+/// The plan, or the first reason to wait. Of the placements of least moves the
+/// first in request One's order is taken.
+fn plan(opened: &Opened) -> Result<Plan, Wait> {
+    let Opened {
+        settings,
+        state,
+        reports,
+    } = opened;
+    let gathered = gathered(settings, state, reports);
+    let (view, holdings) = gathered.quorum()?;
+    let mut masks: Placement = vec![0; settings.shards as usize];
+    let mut total = 0;
+    for number in 0..SUBGROUPS {
+        let subgroup = gathered.subgroup(view, number);
+        let own = subgroup.first_least().ok_or(Wait::NoPlacement(number))?;
+        total += subgroup.moves(&own);
+        for (mask, own) in masks.iter_mut().zip(own) {
+            *mask |= own;
+        }
+    }
+    Ok(Plan {
+        number: view.number + 1,
+        members: state.held,
+        total,
+        masks,
+        holders: holdings.iter().map(|h| h.holder).collect(),
+        targets: holdings.iter().map(|h| h.target).collect(),
+    })
+}
+
+/// Order: the words of one held node's order. `buffer_words` is the length of
+/// the buffer to be written.
+pub fn order(
+    settings: &[u32],
+    state: &[u32],
+    desk: &[u32],
+    node: u32,
+    buffer_words: usize,
+) -> Result<Vec<u32>, Number> {
+    refuse_if(buffer_words != message::MOST_WORDS, number::LENT_LENGTH)?;
+    let opened = open(settings, state, desk)?;
+    refuse_if(opened.state.phase != Phase::Ordered, number::PHASE)?;
+    check_held(&opened.settings, &opened.state, node)?;
+    let plan = opened.state.plan.as_ref().ok_or(number::STATE)?;
+    let contents = order_contents(&opened.settings, plan, &opened.reports, node);
+    message::write_with(Form::Order, &opened.settings, &contents)
+}
+
+/// That node, the new view, the plan's members and shard masks, the targets,
+/// and the node's holders and cuts.
+fn order_contents(settings: &Settings, plan: &Plan, reports: &Reports, node: u32) -> Contents {
+    let mut records = Vec::new();
+    for shard in 0..settings.shards {
+        let mask = plan.masks[shard as usize];
+        records.push(Triple::new(MEMBERS, shard, mask, 0));
+    }
+    for shard in 0..settings.shards {
+        let target = plan.targets[shard as usize];
+        records.push(Triple::new(TERMINATION, shard, target.view, target.k));
+    }
+    let carries = |&shard: &u32| mask::has(plan.masks[shard as usize], node);
+    let carried: Vec<u32> = (0..settings.shards).filter(carries).collect();
+    for &shard in &carried {
+        let holder = plan.holders[shard as usize];
+        records.push(Triple::new(HOLDER, shard, holder, 0));
+    }
+    for &shard in &carried {
+        let cut = cut(plan, reports, node, shard);
+        records.push(Triple::new(CUT, shard, cut.view, cut.k));
+    }
+    Contents {
+        node,
+        view: plan.number,
+        members: plan.members,
+        records,
+    }
+}
+
+/// The cut of a node in a shard it carries.
+fn cut(plan: &Plan, reports: &Reports, node: u32, shard: u32) -> Position {
+    let log_of = |wanted: u32| {
+        let report = reports.iter().find(|report| report.node == wanted);
+        report.map_or(Log::default(), |report| Log::of(report, shard))
+    };
+    let holder = plan.holders[shard as usize];
+    let target = plan.targets[shard as usize];
+    log::cut(&log_of(node), &log_of(holder), target)
+}
+
+/// Fetched: marks the node; when all held nodes are marked, preparing follows.
+pub fn fetched(
+    settings: &[u32],
+    state: &[u32],
+    desk: &[u32],
+    node: u32,
+) -> Result<Vec<u32>, Number> {
+    let Opened {
+        settings,
+        mut state,
+        ..
+    } = open(settings, state, desk)?;
+    refuse_if(state.phase != Phase::Ordered, number::PHASE)?;
+    check_held(&settings, &state, node)?;
+    refuse_if(mask::has(state.fetched, node), number::NOT_HELD)?;
+    state.fetched |= mask::only(node);
+    if state.fetched == state.held {
+        state.phase = Phase::Preparing;
+    }
+    Ok(state::encode(&state))
+}
+
+/// Prepared: marks the node; when all held nodes are marked, committed follows.
+pub fn prepared(
+    settings: &[u32],
+    state: &[u32],
+    desk: &[u32],
+    node: u32,
+) -> Result<Vec<u32>, Number> {
+    let Opened {
+        settings,
+        mut state,
+        ..
+    } = open(settings, state, desk)?;
+    refuse_if(state.phase != Phase::Preparing, number::PHASE)?;
+    check_held(&settings, &state, node)?;
+    refuse_if(mask::has(state.prepared, node), number::NOT_HELD)?;
+    state.prepared |= mask::only(node);
+    if state.prepared == state.held {
+        state.phase = Phase::Committed;
+    }
+    Ok(state::encode(&state))
+}
+
+#[cfg(test)]
+mod tests;

@@ -1,0 +1,39 @@
+//! The unrelated reference implementation of the restart planner.
+//!
+//! It is written from document 01 alone and shares nothing with the proved
+//! planner. It is plain and slow on purpose: the comparison programs trust it
+//! because a reader can check it against document 01 by eye.
+//!
+//! The modules, in the order in which data flows:
+//! - `number`: the numbers a refusal carries
+//! - `mask`: masks of nodes
+//! - `words`: words as little-endian bytes
+//! - `settings`: the settings
+//! - `message`: reading and writing reports and orders
+//! - `log`: logs, positions and cuts
+//! - `flow`: flow of least cost, for placements
+//! - `placement`: placing held nodes in shards
+//! - `state`, `desk`: what the planner keeps between events
+//! - `quorum`: candidates, targets, holders and waits
+//! - `soundness`: when a state is sound
+//! - `events`: report, drop, decide, order, fetched and prepared
+//! - `program`: what the program `restart` prints
+
+#![forbid(unsafe_code)]
+
+#[cfg(test)]
+mod cases;
+pub mod desk;
+pub mod events;
+pub mod flow;
+pub mod log;
+pub mod mask;
+pub mod message;
+pub mod number;
+pub mod placement;
+pub mod program;
+pub mod quorum;
+pub mod settings;
+pub mod soundness;
+pub mod state;
+pub mod words;

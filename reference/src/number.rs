@@ -1,0 +1,43 @@
+//! The numbers of document 01, section "Numbers and their places".
+
+/// A refusal: the number of the first row whose condition holds.
+#[derive(Clone, Copy, Debug, PartialEq, Eq)]
+pub struct Number(pub u32);
+
+/// Row 1: the desk or a buffer to be written has the wrong length.
+pub const LENT_LENGTH: Number = Number(1);
+/// Row 2: the settings.
+pub const SETTINGS: Number = Number(2);
+/// Row 3: the state is unsound.
+pub const STATE: Number = Number(3);
+/// Row 4: the event is not in its phase.
+pub const PHASE: Number = Number(4);
+/// Row 5: the message's length.
+pub const LENGTH: Number = Number(5);
+/// Row 6: a node not below N.
+pub const NODE: Number = Number(6);
+/// Row 7: the view's number or the members mask.
+pub const VIEW: Number = Number(7);
+/// Row 8: a next index.
+pub const NEXT: Number = Number(8);
+/// Row 9: kind, shard, order, a missing or surplus record, or word 2.
+pub const RECORD: Number = Number(9);
+/// Row 10: a shard's members mask.
+pub const SHARD: Number = Number(10);
+/// Row 11: a position, a run or a holder.
+pub const POSITION: Number = Number(11);
+/// Row 12: the kept number with other masks.
+pub const OTHER_MASKS: Number = Number(12);
+/// Row 13: another termination of the kept view.
+pub const OTHER_TERMINATION: Number = Number(13);
+/// Row 14: a node that is not held, or is marked already.
+pub const NOT_HELD: Number = Number(14);
+
+/// Refuses with `number` if the row's condition `bad` holds.
+pub fn refuse_if(bad: bool, number: Number) -> Result<(), Number> {
+    if bad {
+        Err(number)
+    } else {
+        Ok(())
+    }
+}

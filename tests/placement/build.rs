@@ -1,0 +1,15 @@
+//! Links the proved static library of the placement, which lies in the
+//! directory that the environment variable RESTART_LIB_DIR names.
+
+const LIBRARY: &str = "placement_c";
+const DIRECTORY: &str = "RESTART_LIB_DIR";
+
+fn main() {
+    println!("cargo:rerun-if-env-changed={DIRECTORY}");
+    let Ok(directory) = std::env::var(DIRECTORY) else {
+        panic!("set {DIRECTORY} to the directory of lib{LIBRARY}.a");
+    };
+    println!("cargo:rerun-if-changed={directory}/lib{LIBRARY}.a");
+    println!("cargo:rustc-link-search=native={directory}");
+    println!("cargo:rustc-link-lib=static={LIBRARY}");
+}

@@ -1,0 +1,205 @@
+//! Whole runs: inputs of the program `restart`, and the comparison of what it
+//! prints with what the reference prints.
+
+use crate::random::Random;
+use crate::world;
+use crate::{damage, generate};
+use reference::mask;
+use reference::program::{self, Ended};
+use reference::quorum::Gathered;
+use reference::settings::SUBGROUPS;
+use reference::words;
+use std::io::Write;
+use std::process::{Command, Stdio};
+
+/// The standard input of run `index`: settings and some nodes' reports as
+/// blocks, now and then cut or with a wrong count.
+pub fn input(seed: u64, index: u64) -> Vec<u8> {
+    let random = &mut Random::of_input(seed, index);
+    let world = world::world(random);
+    let mut settings = world.words.clone();
+    if random.chance(3) {
+        damage::settings(random, &mut settings);
+    }
+    let mut nodes: Vec<u32> = (0..world.settings.nodes).collect();
+    random.shuffle(&mut nodes);
+    if random.chance(60) {
+        nodes.truncate(random.below(nodes.len() + 1));
+    }
+    let faulty = random.chance(35);
+    let mut bytes = block(random, &settings);
+    for node in nodes {
+        let message = if faulty {
+            world.message(random, node)
+        } else {
+            match world.report(random, node) {
+                Some(report) => generate::message(random, &report),
+                None => continue,
+            }
+        };
+        bytes.extend(block(random, &message));
+    }
+    if random.chance(8) {
+        bytes.truncate(random.below(bytes.len() + 1));
+    }
+    if random.chance(4) {
+        let more = random.pick(&[1, 2, 3, 4, 7, 8]);
+        bytes.extend(vec![random.pick(&[0, 1, 255]); more]);
+    }
+    bytes
+}
+
+/// Words preceded by their count, which is seldom wrong.
+fn block(random: &mut Random, words: &[u32]) -> Vec<u8> {
+    let count = words.len() as u32;
+    let wrong = random.pick(&[0, 1, count + 1, count * 2, 1000, 1 << 30, u32::MAX]);
+    let mut block = vec![if random.chance(99) { count } else { wrong }];
+    block.extend(words);
+    words::to_bytes(&block)
+}
+
+/// What the program prints for an input, given to it in two parts.
+pub fn printed(path: &str, input: &[u8]) -> Result<String, String> {
+    let mut child = Command::new(path)
+        .stdin(Stdio::piped())
+        .stdout(Stdio::piped())
+        .spawn()
+        .map_err(|error| format!("{path} does not start: {error}"))?;
+    if let Some(mut stdin) = child.stdin.take() {
+        let (first, second) = input.split_at(input.len() / 3);
+        // A program that has refused need not read on.
+        let _ = stdin
+            .write_all(first)
+            .and_then(|()| stdin.write_all(second));
+    }
+    let output = child
+        .wait_with_output()
+        .map_err(|error| error.to_string())?;
+    String::from_utf8(output.stdout).map_err(|error| error.to_string())
+}
+
+/// How a run ended.
+#[derive(Clone, Copy, Debug, PartialEq, Eq, PartialOrd, Ord)]
+pub enum Ending {
+    Number(u32),
+    Wait(u32),
+    /// The plan is the one that request One puts first.
+    FirstPlan,
+    /// A plan of equal moves.
+    EqualPlan,
+}
+
+/// Compares what was printed with the reference: every word of it, but for the
+/// choice among placements of equal moves.
+pub fn compare(input: &[u8], printed: &str) -> Result<Ending, String> {
+    let expected = program::run(input);
+    let ended = program::decide(input);
+    if printed == expected {
+        return Ok(match ended {
+            Err(number) => Ending::Number(number.0),
+            Ok(ended) if ended.state.plan.is_some() => Ending::FirstPlan,
+            Ok(_) => Ending::Wait(reason(&expected)),
+        });
+    }
+    let differs = || format!("printed {printed:?}, the reference {expected:?}");
+    let ended = ended.map_err(|_| differs())?;
+    if ended.state.plan.is_some() && equal_plan(&ended, printed, &expected) {
+        return Ok(Ending::EqualPlan);
+    }
+    Err(differs())
+}
+
+fn reason(wait_line: &str) -> u32 {
+    let reason = wait_line.split_whitespace().nth(1);
+    reason.and_then(|word| word.parse().ok()).unwrap_or(0)
+}
+
+/// Whether the plan is the reference's but for members that are as good.
+fn equal_plan(ended: &Ended, printed: &str, expected: &str) -> bool {
+    let Some(masks) = members(printed) else {
+        return false;
+    };
+    let (Some(kept), Some(plan)) = (&ended.state.kept, &ended.state.plan) else {
+        return false;
+    };
+    let gathered = Gathered {
+        settings: &ended.settings,
+        kept: Some(kept),
+        termination: ended.state.termination.as_ref(),
+        held: ended.state.held,
+        reports: &Vec::new(),
+    };
+    let as_good = |number: u32| {
+        let subgroup = gathered.subgroup(kept, number);
+        subgroup.valid(&masks) && subgroup.moves(&masks) == subgroup.moves(&plan.masks)
+    };
+    masks.len() == plan.masks.len()
+        && without_members(printed) == without_members(expected)
+        && (0..SUBGROUPS).all(as_good)
+}
+
+/// The text with each line's members left out.
+fn without_members(text: &str) -> Vec<&str> {
+    text.split('\n')
+        .map(|line| line.split(" members ").next().unwrap_or(line))
+        .collect()
+}
+
+/// The mask of each line's members, which must ascend.
+fn members(text: &str) -> Option<Vec<u32>> {
+    let mut masks = Vec::new();
+    for line in text.lines().skip(2) {
+        let (_, list) = line.split_once(" members ")?;
+        let nodes: Option<Vec<u32>> = list.split(' ').map(|word| word.parse().ok()).collect();
+        let nodes = nodes?;
+        let ascending = nodes.windows(2).all(|pair| pair[0] < pair[1]);
+        if !ascending || nodes.iter().any(|&node| node >= 32) {
+            return None;
+        }
+        masks.push(nodes.into_iter().map(mask::only).sum());
+    }
+    Some(masks)
+}
+
+#[cfg(test)]
+mod tests {
+    use super::*;
+    use reference::message::{encode, Contents, Triple, MEMBERS};
+
+    /// Four nodes of different sets; a shard that needs two and had node 3.
+    fn input() -> Vec<u8> {
+        let settings = [4, 4, 1, 1, 0, 1, 2, 3, 2];
+        let mut all = vec![settings.len() as u32];
+        all.extend(settings);
+        for node in 0..4 {
+            let message = encode(&Contents {
+                node,
+                view: 5,
+                members: 15,
+                records: vec![Triple::new(MEMBERS, 0, 8, 0)],
+            });
+            all.push(message.len() as u32);
+            all.extend(message);
+        }
+        words::to_bytes(&all)
+    }
+
+    fn with_members(moves: u32, members: &str) -> Result<Ending, String> {
+        let text =
+            format!("view 6\nmoves {moves}\nshard 0 holder 3 target 0 0 members {members}\n");
+        compare(&input(), &text)
+    }
+
+    #[test]
+    fn only_the_choice_among_equal_placements_is_free() {
+        assert_eq!(with_members(1, "0 3"), Ok(Ending::FirstPlan));
+        assert_eq!(with_members(1, "2 3"), Ok(Ending::EqualPlan));
+        assert!(with_members(1, "3 2").is_err());
+        assert!(with_members(2, "2 3").is_err());
+        assert!(with_members(2, "1 2").is_err());
+        assert!(with_members(1, "1 2").is_err());
+        assert!(with_members(1, "3").is_err());
+        assert!(compare(&input(), "wait 2\n").is_err());
+        assert!(compare(&input(), "").is_err());
+    }
+}

@@ -1,0 +1,206 @@
+//! A group with some views and logs, whose nodes report: what restarts are made
+//! of. Reports of one view agree, so that most are accepted.
+
+use crate::random::Random;
+use crate::{damage, generate};
+use reference::mask;
+use reference::message::{Contents, Form, Triple, MEMBERS, RUN, TERMINATION};
+use reference::settings::{self, Settings};
+use reference::state::View;
+
+/// A view with its termination, if one was made, and the logs of its members.
+struct Era {
+    view: View,
+    termination: Option<Vec<(u32, u32)>>,
+}
+
+pub struct World {
+    pub words: Vec<u32>,
+    pub settings: Settings,
+    /// By ascending number, never empty.
+    eras: Vec<Era>,
+    /// For each shard the runs of the longest log.
+    logs: Vec<Vec<(u32, u32)>>,
+}
+
+/// Makes a group.
+pub fn world(random: &mut Random) -> World {
+    let words = if random.chance(75) {
+        roomy_settings(random)
+    } else {
+        generate::settings_words(random)
+    };
+    let settings = settings::parse(&words).expect("generated settings are good");
+    let numbers = view_numbers(random);
+    let logs: Vec<_> = (0..settings.shards)
+        .map(|_| longest_log(random, &numbers))
+        .collect();
+    let eras = numbers
+        .iter()
+        .map(|&number| era(random, &settings, &logs, number))
+        .collect();
+    World {
+        words,
+        settings,
+        eras,
+        logs,
+    }
+}
+
+/// Settings that most sets of nodes can satisfy.
+fn roomy_settings(random: &mut Random) -> Vec<u32> {
+    let nodes = random.pick(&[3, 4, 5, 6, 7, 8, 12, 20, 32]);
+    let sets = random.between(2, 16.min(nodes));
+    let shards = random.between(1, 16.min(nodes));
+    let mut words = vec![nodes, sets, random.between(1, nodes / 2 + 1), shards];
+    words.extend((0..nodes).map(|node| {
+        if random.chance(70) {
+            node % sets
+        } else {
+            random.between(0, sets - 1)
+        }
+    }));
+    let most = (2 * nodes / shards).clamp(1, sets.min(4));
+    for shard in 0..shards {
+        let any = random.between(0, 3);
+        let subgroup = random.pick(&[shard % 4, any, 2]);
+        words.push(subgroup * 256 + random.between(1, most));
+    }
+    words
+}
+
+/// One to four ascending view numbers.
+fn view_numbers(random: &mut Random) -> Vec<u32> {
+    let last = random.pick(&[4, 5, 9, 100, 4_000_000_000, u32::MAX - 1]);
+    let count = random.between(1, 4);
+    let mut numbers = vec![last];
+    while numbers.len() < count as usize && numbers[0] > 1 {
+        let before = numbers[0] - random.between(1, 2.min(numbers[0] - 1));
+        numbers.insert(0, before);
+    }
+    numbers
+}
+
+/// Runs in some of the views.
+fn longest_log(random: &mut Random, numbers: &[u32]) -> Vec<(u32, u32)> {
+    let mut runs = Vec::new();
+    for &number in numbers {
+        if random.chance(60) {
+            runs.push((number, random.pick(&[1, 2, 3, 5, 9, u32::MAX])));
+        }
+    }
+    runs
+}
+
+fn era(random: &mut Random, settings: &Settings, logs: &[Vec<(u32, u32)>], number: u32) -> Era {
+    let members = generate::members(random, settings);
+    let node = random.pick(&mask::nodes(members));
+    let masks = generate::shard_masks(random, settings, members, node);
+    let position = |random: &mut Random, log: &Vec<(u32, u32)>| {
+        let shorter = shortened(random, &up_to(log, number));
+        shorter.last().copied().unwrap_or((0, 0))
+    };
+    let terminated = random.chance(35);
+    Era {
+        view: View {
+            number,
+            members,
+            masks,
+        },
+        termination: terminated.then(|| logs.iter().map(|log| position(random, log)).collect()),
+    }
+}
+
+/// The runs of a log in views up to `number`.
+fn up_to(log: &[(u32, u32)], number: u32) -> Vec<(u32, u32)> {
+    let runs = log.iter().copied();
+    runs.filter(|&(view, _)| view <= number).collect()
+}
+
+/// The log up to some position, often all of it.
+fn shortened(random: &mut Random, log: &[(u32, u32)]) -> Vec<(u32, u32)> {
+    let mut runs = log.to_vec();
+    if random.chance(30) {
+        runs.truncate(random.below(runs.len() + 1));
+    }
+    if let Some((_, count)) = runs.last_mut() {
+        if random.chance(30) {
+            *count = random.between(1, *count);
+        }
+    }
+    runs
+}
+
+impl World {
+    /// A valid report of a node, mostly of the last view that has it. There is
+    /// none if no view has it.
+    pub fn report(&self, random: &mut Random, node: u32) -> Option<Contents> {
+        let mut has: Vec<&Era> = self.eras.iter().collect();
+        has.retain(|era| mask::has(era.view.members, node));
+        let last = has.last()?;
+        let era = if random.chance(80) {
+            last
+        } else {
+            random.pick(&has)
+        };
+        let number = era.view.number;
+        let mut records = Vec::new();
+        for (shard, &own) in (0..).zip(&era.view.masks) {
+            records.push(Triple::new(MEMBERS, shard, own, 0));
+        }
+        if let (Some(positions), true) = (&era.termination, random.chance(60)) {
+            for (shard, &(view, k)) in (0..).zip(positions) {
+                records.push(Triple::new(TERMINATION, shard, view, k));
+            }
+        }
+        for (shard, log) in (0..).zip(&self.logs) {
+            for (view, count) in shortened(random, &up_to(log, number)) {
+                records.push(Triple::new(RUN, shard, view, count));
+            }
+        }
+        records.truncate(reference::message::MOST_RECORDS - 1);
+        Some(Contents {
+            node,
+            view: number,
+            members: era.view.members,
+            records,
+        })
+    }
+
+    /// A message that reports a node, now and then with a fault.
+    pub fn message(&self, random: &mut Random, node: u32) -> Vec<u32> {
+        let report = self.report(random, node);
+        let mut report = match report {
+            Some(report) => report,
+            None => generate::contents(random, Form::Report, &self.settings),
+        };
+        if random.chance(6) {
+            other_termination(&mut report);
+        }
+        if random.chance(2) {
+            damage::head(random, &self.settings, &mut report);
+        }
+        if random.chance(3) {
+            damage::place(random, Form::Report, &mut report);
+        }
+        if random.chance(8) {
+            damage::contents(random, Form::Report, &self.settings, &mut report);
+        }
+        let mut words = generate::message(random, &report);
+        if random.chance(2) {
+            damage::next_index(random, &mut words);
+        }
+        if random.chance(1) {
+            damage::length(random, &mut words);
+        }
+        words
+    }
+}
+
+/// Makes the first position that is not (0, 0) another one.
+fn other_termination(report: &mut Contents) {
+    let position = |record: &&mut Triple| record.kind() == TERMINATION && record.word1 != 0;
+    if let Some(record) = report.records.iter_mut().find(position) {
+        record.word2 ^= if record.word2 == 1 { 3 } else { 1 };
+    }
+}

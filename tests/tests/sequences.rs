@@ -1,0 +1,144 @@
+//! Random sequences of events on the reference itself: every accepted event
+//! keeps the state sound, every order can be written and obeys document 01's
+//! words on cuts, every plan is valid and complete.
+
+use differential::random::Random;
+use differential::sequences::{self, Event, Given, Table};
+use differential::world;
+use reference::events::Decision;
+use reference::log::{Log, Position, START};
+use reference::mask;
+use reference::message::{self, Contents, Form, CUT, HOLDER, TERMINATION};
+use reference::settings::{self, Settings};
+use reference::state::{self, Phase, State};
+use reference::{desk, soundness};
+use std::collections::BTreeMap;
+
+const SEQUENCES: u64 = 700;
+const EVENTS: u64 = 120;
+
+fn decoded(settings: &Settings, table: &Table) -> State {
+    state::decode(settings, &table.state).expect("a state's words")
+}
+
+fn is_sound(settings: &Settings, table: &Table) -> bool {
+    soundness::sound(settings, &decoded(settings, table), &table.desk).is_some()
+}
+
+fn name(event: &Event) -> &'static str {
+    match event {
+        Event::Report(_) => "report",
+        Event::Drop(_) => "drop",
+        Event::Decide => "decide",
+        Event::Order(_) => "order",
+        Event::Fetched(_) => "fetched",
+        Event::Prepared(_) => "prepared",
+    }
+}
+
+fn label(event: &Event, given: &Given) -> String {
+    match given {
+        Given::Decision(Decision::Wait(wait)) => format!("wait {}", wait.reason()),
+        Given::Decision(Decision::Plan) => "plan".into(),
+        _ => name(event).into(),
+    }
+}
+
+#[test]
+fn accepted_events_keep_the_state_sound() {
+    let mut seen: BTreeMap<String, u32> = BTreeMap::new();
+    for index in 0..SEQUENCES {
+        let random = &mut Random::of_input(11, index);
+        let world = world::world(random);
+        let settings = settings::parse(&world.words).unwrap();
+        let mut table = Table::fresh(random, &world.words);
+        for _ in 0..EVENTS {
+            let state = decoded(&settings, &table);
+            let event = sequences::event(random, &world, &state);
+            match table.after(&event) {
+                Ok((next, given)) => {
+                    check(&settings, &table, &next, &event, &given);
+                    *seen.entry(label(&event, &given)).or_default() += 1;
+                    table = next;
+                }
+                Err(number) => {
+                    let label = format!("{} number {}", name(&event), number.0);
+                    *seen.entry(label).or_default() += 1;
+                }
+            }
+        }
+        if decoded(&settings, &table).phase == Phase::Committed {
+            *seen.entry("committed".into()).or_default() += 1;
+        }
+    }
+    println!("{seen:#?}");
+    let wanted = "report drop plan order fetched prepared committed";
+    for label in wanted.split(' ') {
+        assert!(seen.get(label).is_some_and(|&times| times >= 50), "{label}");
+    }
+    for reason in 1..=5 {
+        assert!(
+            seen.contains_key(&format!("wait {reason}")),
+            "wait {reason}"
+        );
+    }
+    for number in 4..=13 {
+        assert!(
+            seen.contains_key(&format!("report number {number}")),
+            "{number}"
+        );
+    }
+}
+
+fn check(settings: &Settings, before: &Table, after: &Table, event: &Event, given: &Given) {
+    assert!(is_sound(settings, after), "{event:?}");
+    assert_eq!(before.settings, after.settings);
+    if !matches!(event, Event::Report(_)) {
+        assert_eq!(before.desk, after.desk);
+    }
+    match (event, given) {
+        (Event::Decide, Given::Decision(Decision::Plan)) => check_plan(settings, after),
+        (Event::Decide, _) => assert_eq!(before, after),
+        (Event::Order(node), Given::Order(words)) => {
+            assert_eq!(before, after);
+            check_order(settings, before, *node, words);
+        }
+        _ => {}
+    }
+}
+
+/// The new view keeps the rule of views, and moves are at most 128.
+fn check_plan(settings: &Settings, after: &Table) {
+    let state = decoded(settings, after);
+    let (plan, kept) = (state.plan.unwrap(), state.kept.unwrap());
+    assert_eq!(plan.number, kept.number + 1);
+    assert!(2 * mask::count(plan.members & kept.members) > mask::count(kept.members));
+    assert!(plan.total <= 128);
+    for shard in 0..settings.shards as usize {
+        assert_eq!(mask::count(plan.masks[shard]), settings.need_of[shard]);
+    }
+}
+
+/// The order is read back, and each cut is (0, 0) or in the holder's log, and
+/// not past the target or the node's end.
+fn check_order(settings: &Settings, table: &Table, node: u32, words: &[u32]) {
+    let order = message::read_with(Form::Order, settings, words).unwrap();
+    assert_eq!(order.node, node);
+    let log = |node, shard| {
+        let report: Contents = desk::report(settings, &table.desk, node).unwrap();
+        Log::of(&report, shard)
+    };
+    for cut in order.of_kind(CUT) {
+        let shard = cut.shard();
+        let cut = Position::new(cut.word1, cut.word2);
+        let holder = order.find(HOLDER, shard).unwrap().word1;
+        let target = order.find(TERMINATION, shard).unwrap();
+        let target = Position::new(target.word1, target.word2);
+        assert!(log(holder, shard).has(target));
+        assert!(cut == START || log(holder, shard).holds(cut));
+        assert!(cut <= target && cut <= log(node, shard).end());
+        if node == holder {
+            assert_eq!(cut, target);
+        }
+    }
+}
