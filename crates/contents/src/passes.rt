@@ -17,11 +17,11 @@ fn kind_at(form: Form, body: &[u32; 381], j: usize) -> bool
     requires { ⌜ j < 127 ⌝ }
     ensures { λ r. ⌜ r ≡ Rows.kindAt form (now (body .entry)) j ⌝ }
 {
-    let kind = records::kind(body, j);
+    let kind = fields::kind(body, j);
     if !rows::kind_ok(form, kind) {
         return false;
     }
-    rows::plain(kind, records::word2(body, j))
+    rows::plain(kind, fields::word2(body, j))
 }
 
 // Row 9, first pass.
@@ -48,7 +48,7 @@ pub fn shards(settings: &[u32], body: &[u32; 381], len: usize) -> usize
     let count = settings::shards(settings) as usize;
     let mut j: usize = 0;
     while j < len {
-        if count <= records::shard(body, j) {
+        if count <= fields::shard(body, j) {
             return j;
         }
         j += 1;
@@ -64,7 +64,7 @@ fn follows(body: &[u32; 381], j: usize) -> bool
     if j == 0 {
         return true;
     }
-    records::precedes(body, j - 1, j)
+    fields::precedes(body, j - 1, j)
 }
 
 // Record j is a holder or a cut for a shard that is not among those carried.
@@ -72,10 +72,10 @@ fn stray(carried: u32, body: &[u32; 381], j: usize) -> bool
     requires { ⌜ j < 127 ⌝ }
     ensures { λ r. ⌜ r ≡ strayAt carried (now (body .entry)) j ⌝ }
 {
-    if records::kind(body, j) < 4 {
+    if fields::kind(body, j) < 4 {
         return false;
     }
-    !masks::has(carried, records::shard(body, j))
+    !masks::has(carried, fields::shard(body, j))
 }
 
 // Row 9, third pass, at record j, with the shards that the node carries by the records before it.
@@ -113,9 +113,9 @@ fn position_at(form: Form, view: View, members: u32, body: &[u32; 381], j: usize
     requires { ⌜ j < 127 ⌝ }
     ensures { λ r. ⌜ r ≡ Rows.row11At form (view .0) members (now (body .entry)) j ⌝ }
 {
-    let first = records::word1(body, j);
-    let second = records::word2(body, j);
-    rows::legal(form, view, members, records::kind(body, j), first, second)
+    let first = fields::word1(body, j);
+    let second = fields::word2(body, j);
+    rows::legal(form, view, members, fields::kind(body, j), first, second)
 }
 
 // Row 11.

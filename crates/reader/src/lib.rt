@@ -8,18 +8,12 @@ use ids::View;
 ghost use mathlib.Core.Bool.{true};
 ghost use mathlib.Core.Path.{_≡_};
 ghost use Prim.Native.Nat.{_<_, _≤_};
-ghost use Rattle.format.specs.Chain.{records, next, row5, row8};
+ghost use Rattle.format.specs.Chain.{records, row5, row8};
 ghost use Rattle.format.specs.Messages.{contentsOf, messageRefusal, readingOf, recordsRefusal};
 ghost use Rattle.reader.specs.Walks.{Sized};
 ghost use Rattle.reader.specs.Bodies.{stored};
 ghost use Rattle.reader.specs.Readings.{answer, nothing, headOf, readingUnder};
 ghost use Rattle.settings.specs.Settings.{Settings};
-
-fn wide(x: u32) -> usize
-    ensures { λ r. ⌜ r ≡ x ⌝ }
-{
-    x as usize
-}
 
 // Row 5: 1 to 128 records of four words.
 pub fn length_ok(words: &[u32]) -> bool
@@ -34,14 +28,6 @@ pub fn length_ok(words: &[u32]) -> bool
     words.len() % 4 == 0
 }
 
-// The next index that record i names.
-fn next_of(words: &[u32], i: usize) -> usize
-    requires { ⌜ i < records (now words) ⌝ }
-    ensures { λ r. ⌜ r ≡ next (now (words .entry)) i ⌝ }
-{
-    wide(words[4 * i + 3])
-}
-
 // Row 8: each next index on the chain is larger than its own record's and lies inside the message, or is 0.
 pub fn chain_ok(words: &[u32]) -> bool
     requires { ⌜ Sized (now words) ⌝ }
@@ -49,7 +35,7 @@ pub fn chain_ok(words: &[u32]) -> bool
 {
     let mut at: usize = 0;
     loop {
-        let next = next_of(words, at);
+        let next = chain::step_from(words, at);
         if next == 0 {
             return true;
         }
@@ -81,11 +67,11 @@ pub fn contents_of(words: &[u32]) -> Contents
 {
     let mut body = [0u32; 381];
     let mut len: usize = 0;
-    let mut at = next_of(words, 0);
+    let mut at = chain::step_from(words, 0);
     while at != 0 {
         store(&mut body, len, words, at);
         len += 1;
-        at = next_of(words, at);
+        at = chain::step_from(words, at);
     }
     Contents {
         node: Node(words[0]),

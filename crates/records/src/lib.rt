@@ -1,4 +1,4 @@
-// The records of a message's contents by index, and what they say together: the shards that have a record of a kind, those that
+// What the records of a message's contents say together: the shards that have a record of a kind, those that
 // a node carries, whether a record is missing, and the shard masks.
 use format::Form;
 use ids::Node;
@@ -10,76 +10,16 @@ ghost use Rattle.format.specs.Records as Records;
 ghost use Rattle.format.specs.Rows as Rows;
 ghost use Rattle.records.specs.Gathered.{SmallShards, ofKind, carries, withShard, shardMasks};
 
-// Word 0 of record j: kind × 256 + shard.
-pub fn tag(body: &[u32; 381], j: usize) -> u32
-    requires { ⌜ j < 127 ⌝ }
-    ensures { λ r. ⌜ r ≡ Records.tag (now (body .entry)) j ⌝ }
-{
-    body[3 * j]
-}
-
-// The kind of record j.
-pub fn kind(body: &[u32; 381], j: usize) -> u32
-    requires { ⌜ j < 127 ⌝ }
-    ensures { λ r. ⌜ r ≡ Records.kind (now (body .entry)) j ⌝ }
-{
-    tag(body, j) / 256
-}
-
-// The shard of record j.
-pub fn shard(body: &[u32; 381], j: usize) -> usize
-    requires { ⌜ j < 127 ⌝ }
-    ensures { λ r. ⌜ r ≡ Records.shard (now (body .entry)) j ⌝ }
-{
-    (tag(body, j) % 256) as usize
-}
-
-// Word 1 of record j.
-pub fn word1(body: &[u32; 381], j: usize) -> u32
-    requires { ⌜ j < 127 ⌝ }
-    ensures { λ r. ⌜ r ≡ Records.word1 (now (body .entry)) j ⌝ }
-{
-    body[3 * j + 1]
-}
-
-// Word 2 of record j.
-pub fn word2(body: &[u32; 381], j: usize) -> u32
-    requires { ⌜ j < 127 ⌝ }
-    ensures { λ r. ⌜ r ≡ Records.word2 (now (body .entry)) j ⌝ }
-{
-    body[3 * j + 2]
-}
-
-// Record i comes before record j: by kind, then shard, then (kind 3) view.
-pub fn precedes(body: &[u32; 381], i: usize, j: usize) -> bool
-    requires { ⌜ i < 127 ⌝ }
-    requires { ⌜ j < 127 ⌝ }
-    ensures { λ r. ⌜ r ≡ Records.precedes (now (body .entry)) i j ⌝ }
-{
-    let first = tag(body, i);
-    let second = tag(body, j);
-    if first < second {
-        return true;
-    }
-    if first != second {
-        return false;
-    }
-    if second / 256 != 3 {
-        return false;
-    }
-    word1(body, i) < word1(body, j)
-}
-
 // The mask with the shard of record j, if its kind is k.
 fn shards_more(mask: u32, k: u32, body: &[u32; 381], j: usize) -> u32
     requires { ⌜ j < 127 ⌝ }
     requires { ⌜ Records.shard (now body) j < 16 ⌝ }
     ensures { λ r. ⌜ r ≡ withShard (ofKind k (now (body .entry)) j) mask (now (body .entry)) j ⌝ }
 {
-    if kind(body, j) != k {
+    if fields::kind(body, j) != k {
         return mask;
     }
-    masks::with(mask, shard(body, j))
+    masks::with(mask, fields::shard(body, j))
 }
 
 // The shards that have a record of kind k.
@@ -103,13 +43,13 @@ pub fn carried_more(mask: u32, node: Node, body: &[u32; 381], j: usize) -> u32
     requires { ⌜ Records.shard (now body) j < 16 ⌝ }
     ensures { λ r. ⌜ r ≡ withShard (carries (node .0) (now (body .entry)) j) mask (now (body .entry)) j ⌝ }
 {
-    if kind(body, j) != 1 {
+    if fields::kind(body, j) != 1 {
         return mask;
     }
-    if !masks::has(word1(body, j), node.0 as usize) {
+    if !masks::has(fields::word1(body, j), node.0 as usize) {
         return mask;
     }
-    masks::with(mask, shard(body, j))
+    masks::with(mask, fields::shard(body, j))
 }
 
 // The shards that the node carries, by the members that the records give.
@@ -205,7 +145,7 @@ pub fn masks_of(settings: &[u32], body: &[u32; 381]) -> [u32; 16]
     let mut masks = [0u32; 16];
     let mut s: usize = 0;
     while s < count {
-        masks[s] = word1(body, s);
+        masks[s] = fields::word1(body, s);
         s += 1;
     }
     masks

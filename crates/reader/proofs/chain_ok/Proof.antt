@@ -18,22 +18,22 @@ abbrev μ-loop : tie.MeasureT-loop
 loop-holds : tie.Need-loop-holds Inv-loop μ-loop
 loop-holds c = walk-start _ (c .before .pre)
 
-next-of-requires : tie.Need-next-of-requires Inv-loop μ-loop
-next-of-requires c κs = search needs
+step-from-requires : tie.Need-step-from-requires Inv-loop μ-loop
+step-from-requires c κs = tt
 
 returns : tie.Need-returns Inv-loop μ-loop
 returns c =
-    let l = c .before .before .loop in let e = c .before .next-of .ensures in
+    let l = c .before .before .loop in let e = c .before .step-from .ensures in
     sym (walk-end _ _ _ (c .before .before .before .before .pre) (l .inv) e (c .if1 .taken))
 
 returns-2 : tie.Need-returns-2 Inv-loop μ-loop
 returns-2 c =
-    let l = c .before .before .before .loop in let e = c .before .before .next-of .ensures in
+    let l = c .before .before .before .loop in let e = c .before .before .step-from .ensures in
     sym (walk-broken _ _ _ (c .before .before .before .before .before .pre) (l .inv) e (c .before .if1 .left) (inl (c .if2 .taken)))
 
 returns-3 : tie.Need-returns-3 Inv-loop μ-loop
 returns-3 c =
-    let l = c .before .before .before .before .loop in let e = c .before .before .before .next-of .ensures in
+    let l = c .before .before .before .before .loop in let e = c .before .before .before .step-from .ensures in
     sym (walk-broken _ _ _ (c .before .before .before .before .before .before .pre) (l .inv) e (c .before .before .if1 .left) (inr (c .if3 .taken)))
 
 loop-less : tie.Need-loop-less Inv-loop μ-loop
@@ -41,9 +41,9 @@ loop-less c = omega arith
 
 loop-again : tie.Need-loop-again Inv-loop μ-loop
 loop-again c =
-    let l = c .before .before .before .before .loop in let e = c .before .before .before .next-of .ensures in
+    let l = c .before .before .before .before .loop in let e = c .before .before .before .step-from .ensures in
     walk-on _ _ _ (c .before .before .before .before .before .before .pre) (l .inv) e (c .before .if2 .left) (c .if3 .left)
 
 pub chain-ok-spec : {M : Type 1} → statement M
 chain-ok-spec =
-    tie.close (tie.spec Inv-loop μ-loop loop-holds next-of-requires returns returns-2 returns-3 loop-less loop-again)
+    tie.close (tie.spec Inv-loop μ-loop loop-holds step-from-requires returns returns-2 returns-3 loop-less loop-again)

@@ -23,11 +23,11 @@ room c =
     let p = c .before .before .before .before .pre in
     gathering-room _ _ _ _ (p .0) (p .1) (c .before .loop .inv) (c .loop-test .taken)
 
-next-of-requires : tie.Need-next-of-requires Inv-loop μ-loop
-next-of-requires c κs = search needs
+step-from-requires : tie.Need-step-from-requires Inv-loop μ-loop
+step-from-requires c κs = tt
 
 loop-holds : tie.Need-loop-holds Inv-loop μ-loop
-loop-holds c = gathering-start _ _ (c .next-of .ensures)
+loop-holds c = gathering-start _ _ (c .step-from .ensures)
 
 store-requires : tie.Need-store-requires Inv-loop μ-loop
 store-requires c κs =
@@ -37,8 +37,8 @@ store-requires c κs =
 add-len : tie.Need-add-len Inv-loop μ-loop
 add-len c = omega (arith, following-le (c .before .before .before .before .before .before .args .words .now))
 
-next-of-requires-2 : tie.Need-next-of-requires-2 Inv-loop μ-loop
-next-of-requires-2 c κs = room (c .before .before) .1
+step-from-requires-2 : tie.Need-step-from-requires-2 Inv-loop μ-loop
+step-from-requires-2 c κs = tt
 
 loop-less : tie.Need-loop-less Inv-loop μ-loop
 loop-less c = let r = room (c .before .before .before) in omega arith
@@ -48,7 +48,7 @@ loop-again c =
     let p = c .before .before .before .before .before .before .before .pre in
     let l = c .before .before .before .before .loop in
     gathering-more _ _ _ _ (p .0) (p .1) (l .inv) (c .before .before .before .loop-test .taken) _ _
-    (c .before .store .ensures) (c .next-of2 .ensures)
+    (c .before .store .ensures) (c .step-from2 .ensures)
 
 shared-slice-read-t9 : tie.Need-shared-slice-read-t9 Inv-loop μ-loop
 shared-slice-read-t9 c = search needs
@@ -70,11 +70,11 @@ contents-of-spec =
     (tie.spec
     Inv-loop
     μ-loop
-    next-of-requires
+    step-from-requires
     loop-holds
     store-requires
     add-len
-    next-of-requires-2
+    step-from-requires-2
     loop-less
     loop-again
     shared-slice-read-t9

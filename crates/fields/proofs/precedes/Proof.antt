@@ -1,10 +1,10 @@
--- `records::precedes` meets its contract: each way out has the tests that led there.
+-- `fields::precedes` meets its contract: each way out has the tests that led there.
 use mathlib.Core.Path.{sym}
 use borrow.Author.Tests.{eq-eqb, ne-eqb, lt-ltb, le-ltb, le-leb, lt-leb}
 use borrow.Author.Needs.{needs}
 use Rattle.format.specs.Records.{precedes}
-use Rattle.records.proofs.precedes.Statement.{statement}
-use Rattle.records.proofs.precedes.Tie as tie
+use Rattle.fields.proofs.precedes.Statement.{statement}
+use Rattle.fields.proofs.precedes.Tie as tie
 
 tag-requires : tie.Need-tag-requires
 tag-requires c κs = search needs

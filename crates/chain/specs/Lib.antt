@@ -1,0 +1,1 @@
+-- The chain itself is defined with the format.

@@ -1,0 +1,1 @@
+-- A record's fields are defined with the format.
