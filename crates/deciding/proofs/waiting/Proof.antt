@@ -1,0 +1,13 @@
+-- `deciding::waiting` meets its contract: the reason, and no plan. Assumes nothing.
+use borrow.Author.Needs.{needs}
+use Rattle.deciding.proofs.waiting.Statement.{statement}
+use Rattle.deciding.proofs.waiting.Tie as tie
+
+no-plan-requires : tie.Need-no-plan-requires
+no-plan-requires c κs = search needs
+
+returns : tie.Need-returns
+returns c = simp (c .no-plan .ensures)
+
+pub waiting-spec : {M : Type 1} → statement M
+waiting-spec = tie.close (tie.spec no-plan-requires returns)
