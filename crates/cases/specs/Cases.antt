@@ -1,4 +1,4 @@
--- Cases A to I of document 01, one table. In A and B to F the reports are those of case A; held masks name who is back.
+-- What the cases of document 01 compute to: quorum, holders, targets and cuts. In A and B to F the reports are those of case A; held masks name who is back.
 use Prim.Native.Nat.{ℕ, zero, suc}
 use mathlib.Core.Bool.{Bool, true, false}
 use mathlib.Core.List.{List, [], _∷_}

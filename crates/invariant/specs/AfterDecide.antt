@@ -24,11 +24,12 @@ use Rattle.views.specs.Reports.{maskAt}
 use Rattle.views.specs.Quorums.{target, holder, quorumOf}
 use Rattle.views.specs.Standings.{holdersOf, targetsOf}
 use Rattle.views.specs.Soundness.{isMet, shardPlanned, planSound}
+use Rattle.deciding.specs.Restarts.{Plans}
 use Rattle.planner.specs.declared.State.{State}
 use Rattle.planner.specs.declared.Decided.{Decided}
 use Rattle.planner.specs.States.{sound, planned}
 use Rattle.planner.specs.Refusing.{isGathering, deskOk, decideRefusal}
-use Rattle.planner.specs.Decide.{Plans, Decides}
+use Rattle.planner.specs.Decide.{Decides}
 use Rattle.invariant.specs.Parts.{entry-given}
 use Rattle.invariant.specs.PositionTables.{position-read}
 use Rattle.invariant.specs.AfterPlan.{plan-sound}
@@ -43,7 +44,7 @@ shard-at false h k p q e f =
     and-both (and-both (eq-eqb h 0 e) (eq-eqb (p .view .0) 0 (ap (λ (r : Position). r .view .0) f)))
     (eq-eqb (p .k) 0 (ap (λ (r : Position). r .k) f))
 
-module _ (σ : List ℕ) (x : State) (d : List ℕ) (p : Plan) (w : Plans σ x d p) where
+module _ (σ : List ℕ) (x : State) (d : List ℕ) (p : Plan) (w : Plans σ (x .kept) (x .termination) (x .held) d p) where
   holder-read : (s : ℕ) → s < 16 → getD (p .holders) s 0 ≡ cond (ltb s (shards σ)) (holder (x .kept) (x .termination) (x .held) d s) 0
   unfolding holdersOf
   holder-read s l =

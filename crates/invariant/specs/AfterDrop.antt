@@ -22,7 +22,7 @@ use Rattle.views.specs.Soundness.{layoutBlank, nothingKept, keptSound, marksSou
 use Rattle.views.specs.Slots.{slotsOk}
 use Rattle.planner.specs.declared.State.{State}
 use Rattle.planner.specs.States.{sound, holding, restarted}
-use Rattle.planner.specs.Refusing.{isCommitted, dropRefusal}
+use Rattle.planner.specs.Refusing.{isCommitted, deskOk, dropRefusal}
 use Rattle.planner.specs.Events.{droppedIn, afterDrop}
 use Rattle.invariant.specs.Parts.{Sound, sound-given, sound-test, kept-given, kept-test, slots-of, marks-still, plan-still, node-given}
 use Rattle.invariant.specs.Fitting.{slot-reported, reported-slot}
@@ -90,5 +90,5 @@ module _ (σ : List ℕ) (x : State) (d : List ℕ) (n : ℕ) (before : Sound σ
 pub drop-sound : (σ : List ℕ) (x : State) (d : List ℕ) (n : ℕ) → dropRefusal σ x d n ≡ none → sound σ (afterDrop x n) d ≡ true
 unfolding dropRefusal
 drop-sound σ x d n h =
-    let taken = node-given σ x d (not (isCommitted (x .phase))) n (has (x .held) n) h in
+    let taken = node-given (deskOk d) σ x d (not (isCommitted (x .phase))) n (has (x .held) n) h in
     dropped-sound σ x d n (sound-given σ x d (taken .entered .state-sound)) (x .phase) refl (taken .entered .in-phase)

@@ -13,15 +13,15 @@ use Rattle.views.specs.declared.Phase.the-variants.{Ordered, Preparing}
 use Rattle.views.specs.Soundness.{marksSound, planSound, planFits}
 use Rattle.planner.specs.declared.State.{State}
 use Rattle.planner.specs.States.{sound, marked}
-use Rattle.planner.specs.Refusing.{isOrdered, fetchedRefusal}
+use Rattle.planner.specs.Refusing.{isOrdered, deskOk, fetchedRefusal}
 use Rattle.planner.specs.Events.{afterFetched}
 use Rattle.invariant.specs.Parts.{Sound, sound-given, ordered-is, NodeTaken, node-given}
 use Rattle.invariant.specs.Marks.{subset-with, not-empty, marked-sound}
 
 module _ (σ : List ℕ) (x : State) (d : List ℕ) (n : ℕ) (h : fetchedRefusal σ x d n ≡ none) where
-  fetched-taken : NodeTaken σ x d (isOrdered (x .phase)) n (has (x .held) n && not (has (x .fetched) n))
+  fetched-taken : NodeTaken (deskOk d) σ x d (isOrdered (x .phase)) n (has (x .held) n && not (has (x .fetched) n))
   unfolding fetchedRefusal
-  fetched-taken = node-given σ x d (isOrdered (x .phase)) n (has (x .held) n && not (has (x .fetched) n)) h
+  fetched-taken = node-given (deskOk d) σ x d (isOrdered (x .phase)) n (has (x .held) n && not (has (x .fetched) n)) h
 
   pub fetched-sound : sound σ (afterFetched x n) d ≡ true
   unfolding afterFetched marksSound planFits

@@ -12,15 +12,15 @@ use Rattle.views.specs.declared.Phase.the-variants.{Preparing, Committed}
 use Rattle.views.specs.Soundness.{marksSound, planSound, planFits}
 use Rattle.planner.specs.declared.State.{State}
 use Rattle.planner.specs.States.{sound, marked}
-use Rattle.planner.specs.Refusing.{isPreparing, preparedRefusal}
+use Rattle.planner.specs.Refusing.{isPreparing, deskOk, preparedRefusal}
 use Rattle.planner.specs.Events.{afterPrepared}
 use Rattle.invariant.specs.Parts.{Sound, sound-given, preparing-is, NodeTaken, node-given}
 use Rattle.invariant.specs.Marks.{subset-with, marked-sound}
 
 module _ (σ : List ℕ) (x : State) (d : List ℕ) (n : ℕ) (h : preparedRefusal σ x d n ≡ none) where
-  prepared-taken : NodeTaken σ x d (isPreparing (x .phase)) n (has (x .held) n && not (has (x .prepared) n))
+  prepared-taken : NodeTaken (deskOk d) σ x d (isPreparing (x .phase)) n (has (x .held) n && not (has (x .prepared) n))
   unfolding preparedRefusal
-  prepared-taken = node-given σ x d (isPreparing (x .phase)) n (has (x .held) n && not (has (x .prepared) n)) h
+  prepared-taken = node-given (deskOk d) σ x d (isPreparing (x .phase)) n (has (x .held) n && not (has (x .prepared) n)) h
 
   pub prepared-sound : sound σ (afterPrepared x n) d ≡ true
   unfolding afterPrepared marksSound planFits

@@ -26,9 +26,11 @@ use Rattle.views.specs.Slots.{slotOk}
 use Rattle.views.specs.Meets.{slot-given}
 use Rattle.views.specs.Soundness.{viewSound, termSound}
 use Rattle.planner.specs.declared.State.{State}
-use Rattle.planner.specs.States.{sound, holding, keeping}
+use Rattle.planner.specs.States.{sound, keeping}
 use Rattle.planner.specs.Refusing.{reportRefusal}
-use Rattle.planner.specs.Events.{layoutOf, terminationOf, afterReport, deskWith}
+use Rattle.planner.specs.Events.{afterReport}
+use Rattle.reports.specs.declared.Kept.{Kept}
+use Rattle.reports.specs.Reports.{layoutOf, terminationOf, renewed, deskWith}
 use Rattle.reader.specs.Walks.{row5-gives}
 use Rattle.reader.specs.Padding.{padded-contents, padded-passes}
 use Rattle.invariant.specs.Parts.{Sound, sound-given, sound-test, KeptSound, kept-given, kept-test, kept-view, slots-of, gathering-is, marks-still, plan-still, cond-of, ReportTaken, report-given}
@@ -170,7 +172,7 @@ module _ (σ : List ℕ) (x : State) (d w : List ℕ) (h : reportRefusal σ x d 
         })
 
   pub report-sound : sound σ (afterReport σ x (contentsOf w)) (deskWith d (getD w 0 0) w) ≡ true
-  unfolding afterReport holding keeping
+  unfolding afterReport renewed
   report-sound =
       cond-of leads (ltb (x .kept .number .0) (contentsOf w .view .0))
       (λ e. next-sound _ _ (greater (ltb-true (x .kept .number .0) (contentsOf w .view .0) e)))
@@ -182,8 +184,9 @@ module _ (σ : List ℕ) (x : State) (d w : List ℕ) (h : reportRefusal σ x d 
       (of-not-true (x .termination .made) (and-right (eqb (x .kept .number .0) (contentsOf w .view .0)) (not (x .termination .made)) f))))
       (λ f. next-sound _ _ (unchanged (ltb-false (x .kept .number .0) (contentsOf w .view .0) e) f)))
     where
-      leads : State → Type 0
-      leads y = sound σ y (deskWith d (getD w 0 0) w) ≡ true
+      leads : Kept → Type 0
+      leads k =
+          sound σ (keeping x (k .view) (k .termination) (with (x .held) (contentsOf w .node .0))) (deskWith d (getD w 0 0) w) ≡ true
 
   -- and the desk keeps its length
   pub report-desk : length (deskWith d (getD w 0 0) w) ≡ 16384

@@ -1,25 +1,20 @@
 -- The desk after a report: the node's slot is the message followed by zeros, the other slots and the length are as they were.
 use Prim.Native.Nat.{ℕ, _+_, _*_, _-_, _<_}
 use native.Mathlib.Omega.{arith}
-use mathlib.Core.List.{List, _++_, append-assoc}
+use mathlib.Core.List.{List}
 use mathlib.Core.Logic.{inl, inr, ⊎-elim}
 use mathlib.Core.Path.{_≡_, sym, ap, _∙_}
 use lib.ListN.{length, take, drop}
 use Rattle.laws.specs.Bools.{lt-or-le}
-use Rattle.laws.specs.Tables.{padded, replaced, length-padded, length-replaced, part-replaced, part-apart}
+use Rattle.laws.specs.Tables.{padded, length-padded, length-replaced, part-replaced, part-apart}
 use Rattle.views.specs.Reports.{slot}
-use Rattle.planner.specs.Events.{deskWith}
+use Rattle.reports.specs.Reports.{deskWith}
+use Rattle.reports.specs.Laws.{desk-replaced}
 
 module _ (d w : List ℕ) (n : ℕ) (words : length d ≡ 16384) (below : n < 32) where
-  desk-replaced : deskWith d n w ≡ replaced (512 * n) (padded 512 w) d
-  unfolding deskWith replaced
-  desk-replaced =
-      append-assoc (take (512 * n) d) (padded 512 w) (drop (512 * n + 512) d)
-      ∙ ap (λ (k : ℕ). take (512 * n) d ++ (padded 512 w ++ drop (512 * n + k) d)) (sym (length-padded 512 w))
-
   pub desk-length : length (deskWith d n w) ≡ 16384
   desk-length =
-      ap length desk-replaced ∙ length-replaced (512 * n) (padded 512 w) d (omega (arith, length-padded 512 w)) ∙ words
+      ap length (desk-replaced d n w) ∙ length-replaced (512 * n) (padded 512 w) d (omega (arith, length-padded 512 w)) ∙ words
 
   -- a slot by its start and its length
   slot-part : (m : ℕ) (l : List ℕ) → slot l m ≡ take 512 (drop (512 * m) l)
@@ -29,13 +24,13 @@ module _ (d w : List ℕ) (n : ℕ) (words : length d ≡ 16384) (below : n < 32
   pub slot-own : slot (deskWith d n w) n ≡ padded 512 w
   slot-own =
       slot-part n (deskWith d n w)
-      ∙ ap (λ (l : List ℕ). take 512 (drop (512 * n) l)) desk-replaced
+      ∙ ap (λ (l : List ℕ). take 512 (drop (512 * n) l)) (desk-replaced d n w)
       ∙ part-replaced 0 (512 * n) 512 (padded 512 w) d (length-padded 512 w) (omega arith)
 
   pub slot-other : (m : ℕ) → m < 32 → (m ≡ n → ⊥) → slot (deskWith d n w) m ≡ slot d m
   slot-other m l other =
       slot-part m (deskWith d n w)
-      ∙ ap (λ (x : List ℕ). take 512 (drop (512 * m) x)) desk-replaced
+      ∙ ap (λ (x : List ℕ). take 512 (drop (512 * m) x)) (desk-replaced d n w)
       ∙ part-apart 0 (512 * n) (512 * m) 512 (padded 512 w) d (omega (arith, length-padded 512 w)) (omega arith)
       (⊎-elim (λ i. inl (omega arith)) (λ i. inr (omega (arith, length-padded 512 w))) (lt-or-le m n))
       ∙ sym (slot-part m d)

@@ -23,7 +23,7 @@ use Rattle.views.specs.declared.Termination.{Termination}
 use Rattle.views.specs.Reports.{slot, reportOf, terminated, terminatedAt, maskAt, positionAt}
 use Rattle.views.specs.Slots.{ofKept, sameView, row12, samePosition, sameTermination, row13, termKept, slotOk}
 use Rattle.views.specs.Meets.{SlotSound}
-use Rattle.planner.specs.Events.{layoutOf, terminationOf}
+use Rattle.reports.specs.Reports.{layoutOf, terminationOf}
 use Rattle.invariant.specs.Keeping.{mask-same, position-same}
 
 pub record Fits (σ : List ℕ) (v : Layout) (t : Termination) (c : Contents) : Type 0 where

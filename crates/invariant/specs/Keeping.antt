@@ -23,7 +23,7 @@ use Rattle.views.specs.declared.Layout.{Layout}
 use Rattle.views.specs.Logs.{start}
 use Rattle.views.specs.Reports.{terminated, terminatedAt, maskAt, positionAt}
 use Rattle.views.specs.Soundness.{layoutTidy, viewSound, positionSound, termSoundAt, termSound}
-use Rattle.planner.specs.Events.{layoutOf, terminationOf}
+use Rattle.reports.specs.Reports.{layoutOf, terminationOf}
 use Rattle.invariant.specs.Places.{term-place}
 use Rattle.invariant.specs.PositionTables.{position-read}
 

@@ -1,17 +1,14 @@
--- What soundness and no refusal mean, part by part, as records: one for a sound state, one for what is kept soundly, and one
--- for each list of rows.
+-- What no refusal means, part by part: a record for each list of rows. Those of a sound state, of what is kept soundly and of
+-- rows 1 to 4, 6 and 14 are passed on.
 use Prim.Native.Nat.{ℕ, _<_}
-use mathlib.Core.Bool.{Bool, true, false, cond, not, _&&_, _||_}
+use mathlib.Core.Bool.{Bool, true, false, cond, not, _||_}
 use mathlib.Core.List.{List}
 use mathlib.Core.Logic.{_⊎_, ⊎-elim}
 use mathlib.Core.Path.{_≡_, refl}
-use lib.Dec.{ltb}
-use borrow.Author.Tests.{eqb-true, ltb-true}
-use Rattle.laws.specs.Bools.{either, clash, and-both, and-left, and-right, or-left, or-right, or-holds, not-of-false}
+use Rattle.laws.specs.Bools.{either, clash, or-left, or-right, not-of-false}
 use Rattle.laws.specs.Below.{all-of}
-use Rattle.laws.specs.Masks.{has, within}
-use Rattle.settings.specs.Settings.{nodes, settingsOk}
-use Rattle.ids.specs.Refusals.{none, firstOf, unless-ok, unless-rest, first-left, first-right}
+use Rattle.laws.specs.Masks.{has}
+use Rattle.ids.specs.Refusals.{none, unless-ok, unless-rest, first-left, first-right}
 use Rattle.format.specs.declared.Form.the-variants.{Report}
 use Rattle.format.specs.Messages.{messageRefusal, contentsOf}
 use Rattle.views.specs.declared.Layout.{Layout}
@@ -20,79 +17,21 @@ use Rattle.views.specs.declared.Plan.{Plan}
 use Rattle.views.specs.declared.Phase.{Phase}
 use Rattle.views.specs.declared.Phase.the-variants.{Gathering, Ordered, Preparing, Committed}
 use Rattle.views.specs.Slots.{row12, row13, slotOk, slotsOk}
-use Rattle.views.specs.Soundness.{layoutBlank, viewSound, termSound, nothingKept, keptSound, marksSound, planFits}
+use Rattle.views.specs.Soundness.{marksSound, planFits}
+use Rattle.reports.specs.Reports.{keptRefusal, refusalBeside}
 use Rattle.planner.specs.declared.State.{State}
-use Rattle.planner.specs.States.{sound}
-use Rattle.planner.specs.Refusing.{isGathering, isOrdered, isPreparing, deskOk, entryRefusal, nodeRefusal, reportRefusal}
+use Rattle.planner.specs.Refusing.{isGathering, isOrdered, isPreparing, deskOk, entryRefusal, reportRefusal}
+pub use Rattle.deciding.specs.Kept.{KeptSound, kept-given, kept-test, kept-view}
+pub use Rattle.planner.specs.Entry.{Sound, sound-given, sound-test, Entered, entry-given, NodeTaken, node-given}
 
 -- general: what holds of either choice holds of the chosen one
 pub cond-of {ℓ κ} : {A : Type ℓ} (P : A → Type κ) (b : Bool) {y z : A} → (b ≡ true → P y) → (b ≡ false → P z) → P (cond b y z)
 cond-of P true f g = f refl
 cond-of P false f g = g refl
 
--- ---- a sound state
-
-pub record Sound (σ : List ℕ) (x : State) (d : List ℕ) : Type 0 where
-  pub kept-sound : keptSound σ (x .kept) (x .termination) (x .held) ≡ true
-  pub slots-ok : slotsOk σ (x .kept) (x .termination) (x .held) d ≡ true
-  pub marks-sound : marksSound (x .phase) (x .held) (x .fetched) (x .prepared) ≡ true
-  pub plan-fits : planFits (x .phase) σ (x .kept) (x .termination) (x .held) d (x .plan) ≡ true
-
-module _ (σ : List ℕ) (x : State) (d : List ℕ) where
-  pub sound-given : sound σ x d ≡ true → Sound σ x d
-  unfolding sound
-  sound-given h =
-      let k = keptSound σ (x .kept) (x .termination) (x .held) in
-      let s = slotsOk σ (x .kept) (x .termination) (x .held) d in
-      let m = marksSound (x .phase) (x .held) (x .fetched) (x .prepared) in
-      let p = planFits (x .phase) σ (x .kept) (x .termination) (x .held) d (x .plan) in
-      let ksm : (k && s && m) ≡ true = and-left (k && s && m) p h in
-      let ks : (k && s) ≡ true = and-left (k && s) m ksm in
-      record {
-        kept-sound = and-left k s ks;
-        slots-ok = and-right k s ks;
-        marks-sound = and-right (k && s) m ksm;
-        plan-fits = and-right (k && s && m) p h;
-      }
-
-  pub sound-test : Sound σ x d → sound σ x d ≡ true
-  unfolding sound
-  sound-test p = and-both (and-both (and-both (p .kept-sound) (p .slots-ok)) (p .marks-sound)) (p .plan-fits)
-
--- ---- what is kept, and the held slots
-
-pub record KeptSound (σ : List ℕ) (v : Layout) (t : Termination) (held : ℕ) : Type 0 where
-  pub view-kept : (nothingKept v t held ≡ true) ⊎ (viewSound σ v ≡ true)
-  pub term-sound : termSound σ v t ≡ true
-  pub held-within : within (nodes σ) held ≡ true
+-- ---- the held slots
 
 module _ (σ : List ℕ) (v : Layout) (t : Termination) (held : ℕ) where
-  pub kept-given : keptSound σ v t held ≡ true → KeptSound σ v t held
-  unfolding keptSound
-  kept-given h =
-      let e = and-left ((nothingKept v t held || viewSound σ v) && termSound σ v t) (within (nodes σ) held) h in
-      record {
-        view-kept = or-holds (nothingKept v t held) (viewSound σ v) (and-left (nothingKept v t held || viewSound σ v) (termSound σ v t) e);
-        term-sound = and-right (nothingKept v t held || viewSound σ v) (termSound σ v t) e;
-        held-within = and-right ((nothingKept v t held || viewSound σ v) && termSound σ v t) (within (nodes σ) held) h;
-      }
-
-  pub kept-test : KeptSound σ v t held → keptSound σ v t held ≡ true
-  unfolding keptSound
-  kept-test p =
-      and-both
-      (and-both (⊎-elim (λ e. or-left (viewSound σ v) e) (λ e. or-right (nothingKept v t held) e) (p .view-kept)) (p .term-sound))
-      (p .held-within)
-
-  -- while no view is kept its number is 0
-  pub nothing-number : nothingKept v t held ≡ true → v .number .0 ≡ 0
-  unfolding nothingKept layoutBlank
-  nothing-number h = eqb-true (v .number .0) 0 (and-left _ _ (and-left _ _ (and-left _ _ (and-left _ _ h))))
-
-  -- a view with a number is kept soundly
-  pub kept-view : KeptSound σ v t held → (v .number .0 ≡ 0 → ⊥) → viewSound σ v ≡ true
-  kept-view p other = ⊎-elim (λ e. absurd (other (nothing-number e))) (λ e. e) (p .view-kept)
-
   pub slots-of : (d : List ℕ) → ((n : ℕ) → n < 32 → has held n ≡ true → slotOk σ v t d n ≡ true) → slotsOk σ v t held d ≡ true
   unfolding slotsOk
   slots-of d f =
@@ -132,44 +71,6 @@ plan-still p σ v u t r held more c d q e h = rw e (rw e at h)
 
 -- ---- no refusal
 
--- rows 1 to 4
-pub record Entered (lengths : Bool) (σ : List ℕ) (x : State) (d : List ℕ) (inPhase : Bool) : Type 0 where
-  pub lengths-ok : lengths ≡ true
-  pub settings-ok : settingsOk σ ≡ true
-  pub state-sound : sound σ x d ≡ true
-  pub in-phase : inPhase ≡ true
-
-pub entry-given : (lengths : Bool) (σ : List ℕ) (x : State) (d : List ℕ) (inPhase : Bool) → entryRefusal lengths σ x d inPhase ≡ none
-    → Entered lengths σ x d inPhase
-unfolding entryRefusal
-entry-given lengths σ x d inPhase h0 =
-    let h1 = unless-rest lengths 0 _ h0 in
-    let h2 = unless-rest (settingsOk σ) 1 _ h1 in
-    let h3 = unless-rest (sound σ x d) 2 _ h2 in
-    record {
-      lengths-ok = unless-ok lengths 0 _ h0;
-      settings-ok = unless-ok (settingsOk σ) 1 _ h1;
-      state-sound = unless-ok (sound σ x d) 2 _ h2;
-      in-phase = unless-ok inPhase 3 none h3;
-    }
-
--- rows 1 to 4, 6 and 14
-pub record NodeTaken (σ : List ℕ) (x : State) (d : List ℕ) (inPhase : Bool) (n : ℕ) (ok : Bool) : Type 0 where
-  pub entered : Entered (deskOk d) σ x d inPhase
-  pub node-below : n < nodes σ
-  pub node-ok : ok ≡ true
-
-pub node-given : (σ : List ℕ) (x : State) (d : List ℕ) (inPhase : Bool) (n : ℕ) (ok : Bool)
-    → firstOf (entryRefusal (deskOk d) σ x d inPhase) (nodeRefusal σ n ok) ≡ none → NodeTaken σ x d inPhase n ok
-unfolding nodeRefusal
-node-given σ x d inPhase n ok h0 =
-    let h1 = first-right (entryRefusal (deskOk d) σ x d inPhase) _ h0 in
-    record {
-      entered = entry-given (deskOk d) σ x d inPhase (first-left _ _ h0);
-      node-below = ltb-true n (nodes σ) (unless-ok (ltb n (nodes σ)) 5 _ h1);
-      node-ok = unless-ok ok 13 none (unless-rest (ltb n (nodes σ)) 5 _ h1);
-    }
-
 -- the rows of a report
 pub record ReportTaken (σ : List ℕ) (x : State) (d w : List ℕ) : Type 0 where
   pub entered : Entered (deskOk d) σ x d (isGathering (x .phase))
@@ -178,7 +79,7 @@ pub record ReportTaken (σ : List ℕ) (x : State) (d w : List ℕ) : Type 0 whe
   pub row13-holds : row13 σ (x .kept) (x .termination) (contentsOf w) ≡ true
 
 pub report-given : (σ : List ℕ) (x : State) (d w : List ℕ) → reportRefusal σ x d w ≡ none → ReportTaken σ x d w
-unfolding reportRefusal
+unfolding reportRefusal refusalBeside keptRefusal
 report-given σ x d w h0 =
     let h1 = first-right (entryRefusal (deskOk d) σ x d (isGathering (x .phase))) _ h0 in
     let h2 = first-right (messageRefusal Report σ w) _ h1 in

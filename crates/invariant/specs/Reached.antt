@@ -16,7 +16,8 @@ use Rattle.planner.specs.declared.State.{State}
 use Rattle.planner.specs.declared.Decided.{Decided}
 use Rattle.planner.specs.States.{sound, fresh, planned}
 use Rattle.planner.specs.Refusing.{deskOk, entryRefusal, reportRefusal, dropRefusal, decideRefusal, fetchedRefusal, preparedRefusal}
-use Rattle.planner.specs.Events.{afterReport, deskWith, afterDrop, afterFetched, afterPrepared}
+use Rattle.planner.specs.Events.{afterReport, afterDrop, afterFetched, afterPrepared}
+use Rattle.reports.specs.Reports.{deskWith}
 use Rattle.planner.specs.Decide.{Decides}
 use Rattle.invariant.specs.Fresh.{fresh-sound}
 use Rattle.invariant.specs.AfterReport.{report-sound, report-desk}

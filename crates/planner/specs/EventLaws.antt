@@ -1,56 +1,25 @@
--- Laws that the events' code uses: the refusal of an event that names a node, and what its acceptance gives.
-use Prim.Native.Nat.{ℕ, _<_, _^_}
-use mathlib.Core.Bool.{Bool, true, false, _&&_, _||_}
+-- Laws that the events' code uses: what acceptance gives, and what an event hands back by the refusal that its code found.
+use Prim.Native.Nat.{ℕ, _<_}
+use mathlib.Core.Bool.{Bool, true, false}
 use mathlib.Core.List.{List}
-use mathlib.Core.Path.{_≡_, ap}
+use mathlib.Core.Path.{_≡_, sym, ap, ap₂, _∙_}
 use native.Mathlib.Omega.{arith}
-use lib.Dec.{ltb}
-use borrow.Author.Tests.{ltb-true}
-use Rattle.laws.specs.Masks.{within, within-lt}
-use Rattle.laws.specs.Bools.{and-right}
-use Rattle.settings.specs.Settings.{nodes, settingsOk, Settings}
+use borrow.Author.Tests.{eq-eqb, ne-eqb}
+use Rattle.settings.specs.Settings.{Settings}
 use Rattle.settings.specs.Laws.{settings-give}
 use Rattle.ids.specs.declared.Refusal.{Refusal}
-use Rattle.ids.specs.Refusals.{none, accepted, unless, firstOf, accepted-none, unless-ok, unless-rest, first-left, first-right}
-use Rattle.views.specs.declared.Layout.{Layout}
-use Rattle.views.specs.declared.Termination.{Termination}
-use Rattle.views.specs.Soundness.{keptSound, nothingKept, viewSound, termSound}
+use Rattle.ids.specs.Refusals.{accepted, accepted-none}
 use Rattle.planner.specs.declared.State.{State}
 use Rattle.planner.specs.declared.Answer.{Answer}
-use Rattle.planner.specs.States.{sound}
-use Rattle.planner.specs.Refusing.{entryRefusal, deskOk, nodeRefusal}
+use Rattle.planner.specs.declared.Outcome.{Outcome}
+use Rattle.planner.specs.Refusing.{entryRefusal, eventRefusal}
+use Rattle.planner.specs.Entry.{entry-given, node-given}
 use Rattle.planner.specs.Events.{outcome}
-
--- the refusal of an event that names node n, in its phase, where n is as it should be
-unfoldable pub eventRefusal : List ℕ → State → List ℕ → Bool → ℕ → Bool → Refusal
-eventRefusal σ x d inPhase n ok = firstOf (entryRefusal (deskOk d) σ x d inPhase) (nodeRefusal σ n ok)
-
-pub held-below : (σ : List ℕ) (v : Layout) (t : Termination) (held : ℕ) → keptSound σ v t held ≡ true → held < 2 ^ nodes σ
-unfolding keptSound
-held-below σ v t held h =
-    within-lt (nodes σ) held
-    (and-right ((nothingKept v t held || viewSound σ v) && termSound σ v t) (within (nodes σ) held) h)
 
 module _ (lengths : Bool) (σ : List ℕ) (x : State) (d : List ℕ) (inPhase : Bool) where
   pub entry-settings : accepted (entryRefusal lengths σ x d inPhase) ≡ true → Settings σ
-  unfolding entryRefusal
   entry-settings h =
-      let rest = unless (sound σ x d) 3 (unless inPhase 4 none) in
-      settings-give σ
-      (unless-ok (settingsOk σ) 1 rest
-      (unless-rest lengths 0 (unless (settingsOk σ) 2 rest) (accepted-none (entryRefusal lengths σ x d inPhase) h)))
-
-module _ (σ : List ℕ) (x : State) (d : List ℕ) (inPhase : Bool) (n : ℕ) (ok : Bool) where
-  -- an accepted event names a node of the settings
-  pub event-node : accepted (eventRefusal σ x d inPhase n ok) ≡ true → n < 32
-  unfolding eventRefusal nodeRefusal
-  event-node h =
-      let e = accepted-none (eventRefusal σ x d inPhase n ok) h in
-      let entry = entryRefusal (deskOk d) σ x d inPhase in
-      let left = first-left entry (nodeRefusal σ n ok) e in
-      let g = entry-settings (deskOk d) σ x d inPhase (ap accepted left) in
-      let b = unless-ok (ltb n (nodes σ)) 5 (unless ok 14 none) (first-right entry (nodeRefusal σ n ok) e) in
-      omega (arith, ltb-true n (nodes σ) b, g .sizes .nodes-to)
+      settings-give σ (entry-given lengths σ x d inPhase (accepted-none (entryRefusal lengths σ x d inPhase) h) .settings-ok)
 
 module _ (r : Refusal) (x next : State) where
   pub outcome-accepted : accepted r ≡ true → outcome r x next ≡ record { state = next; answer = Answer.Accepted }
@@ -60,3 +29,27 @@ module _ (r : Refusal) (x next : State) where
   pub outcome-refused : accepted r ≡ false → outcome r x next ≡ record { state = x; answer = Answer.Refused r }
   unfolding outcome
   outcome-refused h = rw h
+
+-- an event that names node n: p and q are what its code found of the phase and of the node, r its refusal
+module _ (lengths : Bool) (σ : List ℕ) (x : State) (d : List ℕ) (p : Bool) (n : ℕ) (q : Bool) {r : Refusal} (e : r ≡ eventRefusal lengths σ x d p n q) where
+  -- an accepted one names a node of the settings
+  pub event-below : r .number ≡ 0 → n < 32
+  event-below h =
+      let t = node-given lengths σ x d p n q (accepted-none _ (sym (ap accepted e) ∙ eq-eqb (r .number) 0 h)) in
+      omega (arith, t .node-below, settings-give σ (t .entered .settings-ok) .sizes .nodes-to)
+
+  module _ {inPhase ok : Bool} (f : p ≡ inPhase) (g : q ≡ ok) (next : State) where
+    same : (s : Outcome) → outcome r x next ≡ s → s ≡ outcome (eventRefusal lengths σ x d inPhase n ok) x next
+    same s h =
+        sym h
+        ∙ ap (λ (k : Refusal). outcome k x next) (e ∙ ap₂ (λ (a b : Bool). eventRefusal lengths σ x d a n b) f g)
+
+    pub event-refused : (r .number ≡ 0 → ⊥)
+        → record { state = x; answer = Answer.Refused r } ≡ outcome (eventRefusal lengths σ x d inPhase n ok) x next
+    event-refused h = same (record { state = x; answer = Answer.Refused r }) (outcome-refused r x next (ne-eqb (r .number) 0 h))
+
+    pub event-accepted : r .number ≡ 0 → (s : State) → s ≡ next
+        → record { state = s; answer = Answer.Accepted } ≡ outcome (eventRefusal lengths σ x d inPhase n ok) x next
+    event-accepted h s i =
+        ap (λ (y : State). record { state = y; answer = Answer.Accepted }) i
+        ∙ same (record { state = next; answer = Answer.Accepted }) (outcome-accepted r x next (eq-eqb (r .number) 0 h))

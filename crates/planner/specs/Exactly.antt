@@ -1,14 +1,12 @@
 -- Demand 3, from what decide promises alone: nobody finds a restart that it missed, and where it plans one exists.
 use Prim.Native.Nat.{ℕ, _<_}
-use mathlib.Core.Bool.{Bool, true}
+use mathlib.Core.Bool.{true}
 use mathlib.Core.List.{List}
-use mathlib.Core.Logic.{_⊎_, inl, inr, ⊎-elim}
-use mathlib.Core.Path.{_≡_, refl, sym, ap, _∙_}
+use mathlib.Core.Logic.{_⊎_, ⊎-elim}
+use mathlib.Core.Path.{_≡_, refl, ap}
 use native.Mathlib.Omega.{arith}
 use Rattle.ids.specs.Refusals.{accepted}
-use Rattle.groups.specs.Placements.{groupValid, Impossible, LeastMoves}
-use Rattle.views.specs.declared.Reason.{Reason}
-use Rattle.views.specs.declared.Reason.the-variants.{NoPlacement}
+use Rattle.groups.specs.Placements.{groupValid}
 use Rattle.views.specs.declared.Quorum.{Quorum}
 use Rattle.views.specs.declared.Quorum.the-variants.{Met, Short}
 use Rattle.views.specs.Reports.{maskAt}
@@ -17,7 +15,7 @@ use Rattle.planner.specs.declared.State.{State}
 use Rattle.planner.specs.declared.Decision.{Decision}
 use Rattle.planner.specs.declared.Decided.{Decided}
 use Rattle.planner.specs.Refusing.{decideRefusal}
-use Rattle.planner.specs.Decide.{Decides, WithPlan, Stuck}
+use Rattle.planner.specs.Decide.{Decides, WithPlan}
 
 -- a restart exists: no quorum condition fails, and every subgroup has a valid placement
 pub record Possible (σ : List ℕ) (x : State) (d : List ℕ) : Type 0 where
@@ -29,7 +27,7 @@ module _ (σ : List ℕ) (x : State) (d : List ℕ) (r : Decided) (decides : Dec
   pub plans-where-possible : Possible σ x d → WithPlan σ x d r
   plans-where-possible p =
       ⊎-elim (λ w. w)
-      (λ s. let q = p .placements (s .group) (s .below) in absurd (s .none .none (q .0) (q .1)))
+      (λ s. let q = p .placements (s .group) (s .lowest .below) in absurd (s .lowest .none .none (q .0) (q .1)))
       (decides .answers taken (p .quorum))
 
   -- where decide plans a restart exists

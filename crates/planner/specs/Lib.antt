@@ -1,8 +1,10 @@
 -- The planner's state, its soundness, and each event: when it is refused and what it leads to.
 pub mod States
 pub mod Refusing
+pub mod Entry
 pub mod Events
-pub mod Orders
 pub mod Decide
 pub mod Exactly
 pub mod EventLaws
+pub mod ReportLaws
+pub mod DecideLaws

@@ -8,11 +8,9 @@ use Rattle.laws.specs.Masks.{has}
 use Rattle.settings.specs.Settings.{nodes, settingsOk}
 use Rattle.ids.specs.declared.Refusal.{Refusal}
 use Rattle.ids.specs.Refusals.{none, unless, firstOf}
-use Rattle.format.specs.declared.Form.the-variants.{Report}
-use Rattle.format.specs.Messages.{messageRefusal, contentsOf}
 use Rattle.views.specs.declared.Phase.{Phase}
 use Rattle.views.specs.declared.Phase.the-variants.{Gathering, Ordered, Preparing, Committed}
-use Rattle.views.specs.Slots.{row12, row13}
+use Rattle.reports.specs.Reports.{refusalBeside}
 use Rattle.planner.specs.declared.State.{State}
 use Rattle.planner.specs.States.{sound}
 
@@ -52,31 +50,28 @@ deskOk d = eqb (length d) 16384
 unfoldable pub nodeRefusal : List ℕ → ℕ → Bool → Refusal
 nodeRefusal σ n ok = unless (ltb n (nodes σ)) 6 (unless ok 14 none)
 
+-- an event that names node n, in its phase, where n is as it should be
+unfoldable pub eventRefusal : Bool → List ℕ → State → List ℕ → Bool → ℕ → Bool → Refusal
+eventRefusal lengths σ x d inPhase n ok = firstOf (entryRefusal lengths σ x d inPhase) (nodeRefusal σ n ok)
+
 unfoldable pub reportRefusal : List ℕ → State → List ℕ → List ℕ → Refusal
 reportRefusal σ x d w =
-    firstOf (entryRefusal (deskOk d) σ x d (isGathering (x .phase)))
-    (firstOf (messageRefusal Report σ w)
-    (unless (row12 σ (x .kept) (contentsOf w)) 12
-    (unless (row13 σ (x .kept) (x .termination) (contentsOf w)) 13 none)))
+    firstOf (entryRefusal (deskOk d) σ x d (isGathering (x .phase))) (refusalBeside σ (x .kept) (x .termination) w)
 
 unfoldable pub dropRefusal : List ℕ → State → List ℕ → ℕ → Refusal
-dropRefusal σ x d n =
-    firstOf (entryRefusal (deskOk d) σ x d (not (isCommitted (x .phase)))) (nodeRefusal σ n (has (x .held) n))
+dropRefusal σ x d n = eventRefusal (deskOk d) σ x d (not (isCommitted (x .phase))) n (has (x .held) n)
 
 unfoldable pub decideRefusal : List ℕ → State → List ℕ → Refusal
 decideRefusal σ x d = entryRefusal (deskOk d) σ x d (isGathering (x .phase))
 
 unfoldable pub orderRefusal : List ℕ → State → List ℕ → ℕ → List ℕ → Refusal
 orderRefusal σ x d n buffer =
-    firstOf (entryRefusal (deskOk d && eqb (length buffer) 512) σ x d (isOrdered (x .phase)))
-    (nodeRefusal σ n (has (x .held) n))
+    eventRefusal (deskOk d && eqb (length buffer) 512) σ x d (isOrdered (x .phase)) n (has (x .held) n)
 
 unfoldable pub fetchedRefusal : List ℕ → State → List ℕ → ℕ → Refusal
 fetchedRefusal σ x d n =
-    firstOf (entryRefusal (deskOk d) σ x d (isOrdered (x .phase)))
-    (nodeRefusal σ n (has (x .held) n && not (has (x .fetched) n)))
+    eventRefusal (deskOk d) σ x d (isOrdered (x .phase)) n (has (x .held) n && not (has (x .fetched) n))
 
 unfoldable pub preparedRefusal : List ℕ → State → List ℕ → ℕ → Refusal
 preparedRefusal σ x d n =
-    firstOf (entryRefusal (deskOk d) σ x d (isPreparing (x .phase)))
-    (nodeRefusal σ n (has (x .held) n && not (has (x .prepared) n)))
+    eventRefusal (deskOk d) σ x d (isPreparing (x .phase)) n (has (x .held) n && not (has (x .prepared) n))

@@ -1,15 +1,16 @@
 -- The planner's state: when it is sound beside a desk, the fresh state, and a state with a part changed.
 use Prim.Native.Nat.{ℕ}
-use mathlib.Core.Bool.{Bool, true, false, _&&_}
+use mathlib.Core.Bool.{Bool, false, _&&_}
 use mathlib.Core.List.{List}
 use lib.ListN.{replicate}
 use Rattle.views.specs.declared.Layout.{Layout}
 use Rattle.views.specs.declared.Termination.{Termination}
 use Rattle.views.specs.declared.Plan.{Plan}
 use Rattle.views.specs.declared.Phase.{Phase}
-use Rattle.views.specs.declared.Phase.the-variants.{Gathering, Ordered, Preparing, Committed}
+use Rattle.views.specs.declared.Phase.the-variants.{Gathering, Ordered}
 use Rattle.views.specs.Slots.{slotsOk}
 use Rattle.views.specs.Soundness.{keptSound, marksSound, planFits}
+pub use Rattle.deciding.specs.Restarts.{noView, noPlan}
 use Rattle.planner.specs.declared.State.{State}
 
 -- row 3: the state is sound beside the desk, under right settings
@@ -20,14 +21,8 @@ sound σ x d =
     && marksSound (x .phase) (x .held) (x .fetched) (x .prepared)
     && planFits (x .phase) σ (x .kept) (x .termination) (x .held) d (x .plan)
 
-abbrev pub noView : Layout
-noView = record { number = record { 0 = 0 }; members = 0; masks = replicate 16 0 }
-
 abbrev pub noTermination : Termination
 noTermination = record { made = false; positions = replicate 32 0 }
-
-abbrev pub noPlan : Plan
-noPlan = record { layout = noView; total = 0; holders = replicate 16 0; targets = replicate 32 0 }
 
 -- the fresh state: gathering, with the rest empty
 unfoldable pub fresh : State

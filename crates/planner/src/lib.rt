@@ -1,4 +1,6 @@
 // The planner: its state, and the events that lead from state to state.
+use deciding::Verdict;
+use format::Contents;
 use ids::Node;
 use ids::Refusal;
 use ids::Shard;
@@ -6,6 +8,7 @@ use ids::View;
 use views::Layout;
 use views::Phase;
 use views::Plan;
+use views::Quorum;
 use views::Reason;
 use views::Termination;
 ghost use mathlib.Core.Bool.{true, not, _&&_};
@@ -17,7 +20,7 @@ ghost use Rattle.settings.specs.Settings.{Settings};
 ghost use Rattle.planner.specs.States as States;
 ghost use Rattle.planner.specs.Refusing as Refusing;
 ghost use Rattle.planner.specs.Events as Events;
-ghost use Rattle.planner.specs.EventLaws.{eventRefusal};
+ghost use Rattle.planner.specs.Decide as Decide;
 
 // The planner's state: the phase, the kept view and its termination, the masks of held, fetched and prepared nodes, the plan.
 pub struct State {
@@ -108,7 +111,7 @@ fn node_refusal(settings: &[u32], n: u32, ok: bool) -> Refusal
 }
 
 // The refusal of an event that names a node.
-fn event_refusal(
+pub fn event_refusal(
     settings: &[u32],
     x: State,
     desk: &[u32],
@@ -116,7 +119,7 @@ fn event_refusal(
     n: u32,
     ok: bool,
 ) -> Refusal
-    ensures { λ r. ⌜ r ≡ eventRefusal (now (settings .entry)) x (now (desk .entry)) in_phase n ok ⌝ }
+    ensures { λ r. ⌜ r ≡ Refusing.eventRefusal (Refusing.deskOk (now (desk .entry))) (now (settings .entry)) x (now (desk .entry)) in_phase n ok ⌝ }
 {
     let refusal = entry_refusal(settings, x, desk, in_phase);
     if refusal.number != 0 {
@@ -125,7 +128,18 @@ fn event_refusal(
     node_refusal(settings, n, ok)
 }
 
-fn is_ordered(phase: Phase) -> bool
+fn is_gathering(phase: Phase) -> bool
+    ensures { λ r. ⌜ r ≡ Refusing.isGathering phase ⌝ }
+{
+    match phase {
+        Phase::Gathering => true,
+        Phase::Ordered => false,
+        Phase::Preparing => false,
+        Phase::Committed => false,
+    }
+}
+
+pub fn is_ordered(phase: Phase) -> bool
     ensures { λ r. ⌜ r ≡ Refusing.isOrdered phase ⌝ }
 {
     match phase {
@@ -158,27 +172,6 @@ fn is_committed(phase: Phase) -> bool
     }
 }
 
-fn no_view() -> Layout
-    ensures { λ r. ⌜ r ≡ States.noView ⌝ }
-{
-    Layout {
-        number: View(0),
-        members: 0,
-        masks: [0u32; 16],
-    }
-}
-
-fn no_plan() -> Plan
-    ensures { λ r. ⌜ r ≡ States.noPlan ⌝ }
-{
-    Plan {
-        layout: no_view(),
-        total: 0,
-        holders: [0u32; 16],
-        targets: [0u32; 32],
-    }
-}
-
 // Gathering anew: only the kept view and its termination remain.
 fn restarted(x: State) -> State
     ensures { λ r. ⌜ r ≡ States.restarted x ⌝ }
@@ -188,7 +181,25 @@ fn restarted(x: State) -> State
         held: 0,
         fetched: 0,
         prepared: 0,
-        plan: no_plan(),
+        plan: deciding::no_plan(),
+        ..x
+    }
+}
+
+// The node that reports is held, and what is kept is renewed.
+fn after_report(settings: &[u32], x: State, c: Contents) -> State
+    requires { ⌜ Settings (now settings) ⌝ }
+    requires { ⌜ c .node .0 < 32 ⌝ }
+    ensures { λ r. ⌜ r ≡ Events.afterReport (now (settings .entry)) x c ⌝ }
+{
+    let renewed = reports::renew(settings, x.kept, x.termination, c);
+    let kept = renewed.view;
+    let termination = renewed.termination;
+    let node = c.node;
+    State {
+        kept,
+        termination,
+        held: masks::with(x.held, node.0 as usize),
         ..x
     }
 }
@@ -246,6 +257,28 @@ fn after_prepared(x: State, n: usize) -> State
     }
 }
 
+// A plan leads to ordered, and a wait changes nothing.
+fn after_verdict(x: State, verdict: Verdict) -> Decided
+    ensures { λ r. ⌜ r ≡ Decide.decidedBy (verdict .quorum) x (verdict .plan) ⌝ }
+{
+    let quorum = verdict.quorum;
+    let plan = verdict.plan;
+    match quorum {
+        Quorum::Met => Decided {
+            state: State {
+                phase: Phase::Ordered,
+                plan,
+                ..x
+            },
+            decision: Decision::Planned,
+        },
+        Quorum::Short(reason) => Decided {
+            state: x,
+            decision: Decision::Wait(reason),
+        },
+    }
+}
+
 // The node is in one mask and not in the other.
 fn lacks(held: u32, marks: u32, n: usize) -> bool
     ensures { λ r. ⌜ r ≡ (has held n && not (has marks n)) ⌝ }
@@ -263,7 +296,7 @@ impl State {
     {
         State {
             phase: Phase::Gathering,
-            kept: no_view(),
+            kept: deciding::no_view(),
             termination: Termination {
                 made: false,
                 positions: [0u32; 32],
@@ -271,7 +304,38 @@ impl State {
             held: 0,
             fetched: 0,
             prepared: 0,
-            plan: no_plan(),
+            plan: deciding::no_plan(),
+        }
+    }
+
+    // A node reports: its message is copied to its slot of the desk, and the node is held.
+    pub fn report(self, settings: &[u32], desk: &mut [u32], message: &[u32]) -> Outcome
+        ensures outcome { λ r. ⌜ r ≡ Events.reported (now (settings .entry)) self (now (desk .entry)) (now (message .entry)) ⌝ }
+        ensures desk { λ r. ⌜ now (desk .exit) ≡ Events.deskAfter (now (settings .entry)) self (now (desk .entry)) (now (message .entry)) ⌝ }
+    {
+        let phase = self.phase;
+        let in_phase = is_gathering(phase);
+        let entry = entry_refusal(settings, self, desk, in_phase);
+        if entry.number != 0 {
+            return Outcome {
+                state: self,
+                answer: Answer::Refused(entry),
+            };
+        }
+        let reading = reports::read_beside(settings, self.kept, self.termination, message);
+        let refusal = reading.refusal;
+        if refusal.number != 0 {
+            return Outcome {
+                state: self,
+                answer: Answer::Refused(refusal),
+            };
+        }
+        let contents = reading.contents;
+        let node = contents.node;
+        reports::store(desk, node.0 as usize, message);
+        Outcome {
+            state: after_report(settings, self, contents),
+            answer: Answer::Accepted,
         }
     }
 
@@ -336,5 +400,22 @@ impl State {
             state: after_prepared(self, n as usize),
             answer: Answer::Accepted,
         }
+    }
+
+    // A plan for the held nodes, or the first reason to wait.
+    pub fn decide(self, settings: &[u32], desk: &[u32]) -> Decided
+        ensures { λ r. ⌜ Decide.Decides (now (settings .entry)) self (now (desk .entry)) r ⌝ }
+    {
+        let phase = self.phase;
+        let in_phase = is_gathering(phase);
+        let refusal = entry_refusal(settings, self, desk, in_phase);
+        if refusal.number != 0 {
+            return Decided {
+                state: self,
+                decision: Decision::Refused(refusal),
+            };
+        }
+        let verdict = deciding::restart(settings, self.kept, self.termination, self.held, desk);
+        after_verdict(self, verdict)
     }
 }

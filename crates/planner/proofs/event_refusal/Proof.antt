@@ -2,8 +2,8 @@
 use mathlib.Core.Path.{sym, ap, _∙_}
 use borrow.Author.Tests.{eq-eqb, ne-eqb}
 use Rattle.ids.specs.Refusals.{firstOf, accepted}
-use Rattle.planner.specs.Refusing.{deskOk}
-use Rattle.planner.specs.EventLaws.{eventRefusal, entry-settings}
+use Rattle.planner.specs.Refusing.{deskOk, eventRefusal}
+use Rattle.planner.specs.EventLaws.{entry-settings}
 use borrow.Author.Needs.{needs}
 use Rattle.planner.proofs.event_refusal.Statement.{statement}
 use Rattle.planner.proofs.event_refusal.Tie as tie

@@ -2,7 +2,7 @@
 use mathlib.Core.Path.{sym, _∙_}
 use borrow.Author.Tests.{not-true, not-false}
 use Rattle.planner.specs.States.{sound}
-use Rattle.planner.specs.EventLaws.{held-below}
+use Rattle.deciding.specs.Kept.{held-below}
 use borrow.Author.Needs.{needs}
 use Rattle.planner.proofs.is_sound.Statement.{statement}
 use Rattle.planner.proofs.is_sound.Tie as tie

@@ -1,0 +1,6 @@
+-- Document 01's runs at the level of decide. Start: the states that they start from. Taken: decide refuses none of them.
+-- PlanA: what decide's promise says of case A. Table: cases A to I.
+pub mod Start
+pub mod Taken
+pub mod PlanA
+pub mod Table
