@@ -1,5 +1,5 @@
 -- What a C entry point answers, as one word, and what it leaves in lent bytes.
-use Prim.Native.Nat.{ℕ, _+_}
+use Prim.Native.Nat.{ℕ, _+_, _*_}
 use mathlib.Core.Bool.{true, false, cond}
 use mathlib.Core.List.{List}
 use mathlib.Core.Path.{_≡_}
@@ -13,6 +13,14 @@ answerWord r given = cond (accepted r) given (r .number)
 -- the word given by a call that is accepted with a length in words; one without a length gives 0
 abbrev pub withLength : ℕ → ℕ
 withLength n = 16777216 + n
+
+-- the word given where a plan was made
+abbrev pub plannedWord : ℕ
+plannedWord = 33554432
+
+-- the word given for a wait: its reason's number, and the shard or subgroup that it names
+abbrev pub waitWord : ℕ → ℕ → ℕ
+waitWord reason value = 50331648 + 256 * reason + value
 
 -- the lent bytes afterwards: those that the call makes, or what they were beside a refusal
 unfoldable pub bytesLeft : Refusal → List ℕ → List ℕ → List ℕ

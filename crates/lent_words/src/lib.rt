@@ -1,6 +1,7 @@
 // Bytes that a C caller lends, as words.
 ghost use mathlib.Core.Path.{_≡_};
 ghost use Prim.Native.Nat.{_≤_};
+ghost use Rattle.lent_words.specs.Answers.{withLength};
 ghost use Rattle.lent_words.specs.Lent.{countWithin, Holds};
 
 // The words of lent bytes: the first len of the table.
@@ -31,4 +32,12 @@ pub fn words_of(most: usize, bytes: &[u8]) -> Lent
     let mut table = [0u32; 512];
     words::decode(bytes, &mut table[0..len]);
     Lent { len, table }
+}
+
+// The number of words, of which there are few, as an answer.
+pub fn with_length(words: usize) -> u32
+    requires { ⌜ words ≤ 512 ⌝ }
+    ensures { λ r. ⌜ r ≡ withLength words ⌝ }
+{
+    16777216 + words as u32
 }

@@ -51,7 +51,7 @@ check-right b h = simp (sym (settings-same b) ∙ h)
 -- ---- reading
 
 -- the words of a message that a call looks at are those that were lent, or both are of a wrong length
-message-within : (b : List ℕ)
+pub message-within : (b : List ℕ)
     → (wordsWithin 512 b ≡ wordsIn b) ⊎ ((row5 (wordsWithin 512 b) ≡ false) × (row5 (wordsIn b) ≡ false))
 unfolding row5
 message-within b =

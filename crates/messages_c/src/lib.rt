@@ -59,14 +59,6 @@ fn lay_out(c: Contents) -> [u32; 512]
     words
 }
 
-// The number of words, of which there are few, as an answer.
-fn with_length(words: usize) -> u32
-    requires { ⌜ words ≤ 512 ⌝ }
-    ensures { λ r. ⌜ r ≡ withLength words ⌝ }
-{
-    16777216 + words as u32
-}
-
 // Stores contents in 2048 lent bytes, and answers how many words they are.
 fn give(c: Contents, bytes: &mut [u8]) -> u32
     requires { ⌜ (c .len ≤ 127) × (length (now bytes) ≡ 2048) ⌝ }
@@ -74,7 +66,7 @@ fn give(c: Contents, bytes: &mut [u8]) -> u32
 {
     let words = lay_out(c);
     words::encode(&words, bytes);
-    with_length(3 + 3 * c.len)
+    lent_words::with_length(3 + 3 * c.len)
 }
 
 // Reads a message into lent contents.
@@ -179,7 +171,7 @@ fn write_into(form: Form, settings: &[u8], contents: &[u8], buffer: &mut [u8]) -
         return refusal.number;
     }
     words::encode(&words, buffer);
-    with_length(writing.length)
+    lent_words::with_length(writing.length)
 }
 
 // Writes a report: rows 1 (the buffer is not 2048 bytes), 2, 5 (the contents' length is wrong, or they have more than 127 records),

@@ -1,0 +1,3 @@
+-- Decide, over lent bytes.
+pub mod Decisions
+pub mod Cases

@@ -1,0 +1,28 @@
+-- The event was refused, or the next state is stored.
+use mathlib.Core.Path.{sym, _∙_}
+use borrow.Author.Tests.{eq-eqb, ne-eqb}
+use Rattle.lent_words.specs.Answers.{told-refused, told-accepted}
+use borrow.Author.Needs.{needs}
+use Rattle.lent_state.proofs.keep.Statement.{statement}
+use Rattle.lent_state.proofs.keep.Tie as tie
+
+refusal-of-requires : tie.Need-refusal-of-requires
+refusal-of-requires c κs = search needs
+
+returns : tie.Need-returns
+returns c = told-refused (c .before .before .refusal-of .result) _ (sym (c .before .before .refusal-of .ensures)) _ _ _ (ne-eqb _ _ (c .if1 .taken))
+
+store-requires : tie.Need-store-requires
+store-requires c κs = search needs
+
+same-length : tie.Need-same-length
+same-length c = search needs
+
+returns-2 : tie.Need-returns-2
+returns-2 c =
+    let t =
+    told-accepted (c .before .before .before .before .before .before .refusal-of .result) _ (sym (c .before .before .before .before .before .before .refusal-of .ensures)) 0 _ (c .before .before .before .before .before .before .before .before .args .state .now) (eq-eqb _ _ (c .before .before .before .before .if1 .left)) in
+    record { answers = t .answers; leaves = c .before .before .store .ensures ∙ t .leaves }
+
+pub keep-spec : {M : Type 1} → statement M
+keep-spec = tie.close (tie.spec refusal-of-requires returns store-requires same-length returns-2)

@@ -1,0 +1,4 @@
+-- What the C calls over the planner's state have in common.
+pub mod Calls
+pub mod CallLaws
+pub mod Stored

@@ -1,0 +1,3 @@
+-- The order event, over lent bytes.
+pub mod OrderCalls
+pub mod Cases

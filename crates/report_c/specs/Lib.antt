@@ -1,0 +1,3 @@
+-- The report event, over lent bytes.
+pub mod ReportCalls
+pub mod Cases

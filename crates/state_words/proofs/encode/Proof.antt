@@ -1,0 +1,61 @@
+-- At the loop's head the first k words are stored.
+use Prim.Native.Nat.{_-_, _≤_}
+use mathlib.Core.Path.{_≡_, sym, _∙_}
+use native.Mathlib.Omega.{arith}
+use lib.Dec.{lit≤}
+use lib.ListN.{replicate}
+use Rattle.laws.specs.Tables.{filled, filled-none, filled-turn}
+use Rattle.state_words.specs.StateWords.{stateWord}
+use Rattle.state_words.specs.Laws.{words-filled}
+use borrow.Author.Needs.{needs}
+use Rattle.state_words.proofs.encode.Statement.{statement}
+use Rattle.state_words.proofs.encode.Tie as tie
+
+abbrev Inv-loop : tie.InvT-loop
+Inv-loop x words₀ k₀ words k = (k ≤ 160) × (words ≡ filled k (stateWord x) (replicate 160 0))
+
+abbrev μ-loop : tie.MeasureT-loop
+μ-loop x words₀ k₀ words k = 160 - k
+
+loop-holds : tie.Need-loop-holds Inv-loop μ-loop
+loop-holds c = (lit≤ tt, sym (filled-none _ _))
+
+state-word-requires : tie.Need-state-word-requires Inv-loop μ-loop
+state-word-requires c κs = search needs
+
+mul-words : tie.Need-mul-words Inv-loop μ-loop
+mul-words c = search needs
+
+array-write-words : tie.Need-array-write-words Inv-loop μ-loop
+array-write-words c = search needs
+
+add-k : tie.Need-add-k Inv-loop μ-loop
+add-k c = search needs
+
+loop-less : tie.Need-loop-less Inv-loop μ-loop
+loop-less c = search needs
+
+loop-again : tie.Need-loop-again Inv-loop μ-loop
+loop-again c =
+    let l = c .before .before .loop in (
+      omega arith,
+      filled-turn (l .k) (stateWord (c .before .before .before .args .x)) (replicate 160 0) (l .words) (c .state-word .result) (omega arith) (l .inv .1) (c .state-word .ensures),
+    )
+
+returns : tie.Need-returns Inv-loop μ-loop
+returns c = c .before .loop .inv .1 ∙ words-filled (c .before .before .args .x) _ (omega arith)
+
+pub encode-spec : {M : Type 1} → statement M
+encode-spec =
+    tie.close
+    (tie.spec
+    Inv-loop
+    μ-loop
+    loop-holds
+    state-word-requires
+    mul-words
+    array-write-words
+    add-k
+    loop-less
+    loop-again
+    returns)

@@ -1,0 +1,64 @@
+-- At the loop's head the first k of the words that carry nothing are zero.
+use Prim.Native.Nat.{_+_, _-_, _≤_}
+use mathlib.Core.Bool.{true}
+use mathlib.Core.Path.{_≡_, sym}
+use native.Mathlib.Omega.{arith}
+use lib.Dec.{lit≤, eqb}
+use lib.ListN.{getD}
+use borrow.Author.Tests.{eq-eqb, ne-eqb}
+use Rattle.laws.specs.Below.{allBelow, all-none, all-more, all-fails, all-fewer}
+use Rattle.state_words.specs.StateWords.{restZero}
+use borrow.Author.Needs.{needs}
+use Rattle.state_words.proofs.rest_is_zero.Statement.{statement}
+use Rattle.state_words.proofs.rest_is_zero.Tie as tie
+
+abbrev Inv-loop : tie.InvT-loop
+Inv-loop words k₀ k = (k ≤ 38) × (allBelow k (λ i. eqb (getD words (122 + i) 0) 0) ≡ true)
+
+abbrev μ-loop : tie.MeasureT-loop
+μ-loop words k₀ k = 38 - k
+
+loop-holds : tie.Need-loop-holds Inv-loop μ-loop
+loop-holds c = (lit≤ tt, all-none _)
+
+add-if1 : tie.Need-add-if1 Inv-loop μ-loop
+add-if1 c = search needs
+
+mul-if1 : tie.Need-mul-if1 Inv-loop μ-loop
+mul-if1 c = search needs
+
+shared-slice-read-if1 : tie.Need-shared-slice-read-if1 Inv-loop μ-loop
+shared-slice-read-if1 c = search needs
+
+returns : tie.Need-returns Inv-loop μ-loop
+unfolding restZero
+returns c = sym (all-fails 38 _ (c .before .before .before .loop .k) (omega arith) (ne-eqb _ _ (c .if1 .taken)))
+
+add-k : tie.Need-add-k Inv-loop μ-loop
+add-k c = search needs
+
+loop-less : tie.Need-loop-less Inv-loop μ-loop
+loop-less c = search needs
+
+loop-again : tie.Need-loop-again Inv-loop μ-loop
+loop-again c = (omega arith, all-more _ _ (c .before .before .before .loop .inv .1) (eq-eqb _ _ (c .if1 .left)))
+
+returns-2 : tie.Need-returns-2 Inv-loop μ-loop
+unfolding restZero
+returns-2 c = sym (all-fewer 38 (c .before .loop .k) _ (omega arith) (c .before .loop .inv .1))
+
+pub rest-is-zero-spec : {M : Type 1} → statement M
+rest-is-zero-spec =
+    tie.close
+    (tie.spec
+    Inv-loop
+    μ-loop
+    loop-holds
+    add-if1
+    mul-if1
+    shared-slice-read-if1
+    returns
+    add-k
+    loop-less
+    loop-again
+    returns-2)
