@@ -1,0 +1,40 @@
+-- `lines::put_member` meets its contract: the node if the mask has it, and else nothing. Assumes nothing.
+use mathlib.Core.Path.{sym, _∙_}
+use borrow.Author.Needs.{needs}
+use Rattle.lines.specs.Puts.{puts-as, puts-none}
+use Rattle.lines.specs.Text.{member-in, member-out}
+use Rattle.lines.proofs.put_member.Statement.{statement}
+use Rattle.lines.proofs.put_member.Tie as tie
+
+has-requires : tie.Need-has-requires
+has-requires c κs = search needs
+
+slice-aggregate-put-field : tie.Need-slice-aggregate-put-field
+slice-aggregate-put-field c = search needs
+
+cast-put-field : tie.Need-cast-put-field
+cast-put-field c = search needs
+
+put-field-requires : tie.Need-put-field-requires
+put-field-requires c κs = search needs
+
+same-length : tie.Need-same-length
+same-length c = search needs
+
+returns : tie.Need-returns
+returns c = puts-as (member-in _ _ (sym (c .before .before .before .before .before .before .has .ensures) ∙ c .before .before .before .before .before .if1 .taken)) (c .before .before .put-field .ensures)
+
+returns-2 : tie.Need-returns-2
+returns-2 c = puts-as (member-out _ _ (sym (c .before .has .ensures) ∙ c .if1 .left)) (puts-none _ _ (c .before .before .before .pre .0))
+
+pub put-member-spec : {M : Type 1} → statement M
+put-member-spec =
+    tie.close
+    (tie.spec
+    has-requires
+    slice-aggregate-put-field
+    cast-put-field
+    put-field-requires
+    same-length
+    returns
+    returns-2)

@@ -1,0 +1,115 @@
+-- Every run comes to a sound state, so that decide refuses nothing after its last block; and a run is ended by number 2 or by one
+-- of 5 to 13 only.
+use Prim.Native.Nat.{ℕ, _≤_}
+use mathlib.Core.Bool.{Bool, true, false, cond}
+use mathlib.Core.Logic.{_⊎_, inl, inr, ⊎-elim}
+use mathlib.Core.List.{List, [], _∷_}
+use mathlib.Core.Path.{_≡_, refl, ap, _∙_, subst, subst⁻¹}
+use lib.ListN.{getD, length-replicate}
+use borrow.Author.Tests.{eq-eqb}
+use Rattle.laws.specs.Bools.{either, clash}
+use Rattle.settings.specs.Settings.{settingsOk}
+use Rattle.ids.specs.declared.Refusal.{Refusal}
+use Rattle.ids.specs.Refusals.{none, refused, accepted, accepted-none, first-none, unless-true}
+use Rattle.views.specs.declared.Phase.the-variants.{Gathering}
+use Rattle.reports.specs.Reports.{refusalBeside, deskWith}
+use Rattle.planner.specs.declared.State.{State}
+use Rattle.planner.specs.declared.Outcome.{Outcome}
+use Rattle.format.specs.Messages.{contentsOf}
+use Rattle.planner.specs.States.{fresh, keeping}
+use Rattle.planner.specs.Refusing.{deskOk, isGathering, entryRefusal, reportRefusal, decideRefusal}
+use Rattle.planner.specs.Events.{afterReport, reported, deskAfter}
+use Rattle.planner.specs.EventLaws.{outcome-accepted}
+use Rattle.invariant.specs.Reached.{Reached, starting, reporting, reached-entry}
+use Rattle.blocks.specs.Blocks.{blocks}
+use Rattle.runs.specs.Runs.{Progress, Started, Standing, Ended, opened, told, next, after, start}
+use Rattle.run_laws.specs.Numbers.{in-beside}
+
+-- a state of a run: reached by accepted reports, and gathering
+pub record Gathers (σ : List ℕ) (x : State) (d : List ℕ) : Type 0 where
+  pub reached : Reached σ x d
+  pub phase : x .phase ≡ Gathering
+
+-- what a run can come to
+unfoldable pub Reaches : Progress → Type 0
+Reaches (Started d) = deskOk d ≡ true
+Reaches (Standing σ x d) = Gathers σ x d
+Reaches (Ended r) = (r .number ≡ 2) ⊎ ((5 ≤ r .number) × (r .number ≤ 13))
+
+-- while a run gathers, rows 1 to 4 refuse nothing
+entry-none : (σ : List ℕ) (x : State) (d : List ℕ) → Gathers σ x d → entryRefusal (deskOk d) σ x d (isGathering (x .phase)) ≡ none
+entry-none σ x d g =
+    reached-entry σ x d (g .reached) (isGathering (x .phase))
+    ∙ unless-true (isGathering (x .phase)) 4 none (ap isGathering (g .phase))
+
+report-none : (σ : List ℕ) (x : State) (d w : List ℕ) → Gathers σ x d → reportRefusal σ x d w ≡ refusalBeside σ (x .kept) (x .termination) w
+unfolding reportRefusal
+report-none σ x d w g = first-none _ _ (entry-none σ x d g)
+
+-- the settings
+reaches-opened : (d w : List ℕ) → deskOk d ≡ true → Reaches (opened d w)
+unfolding Reaches opened fresh
+reaches-opened d w h =
+    ⊎-elim
+    (λ e. subst⁻¹ (λ (b : Bool). Reaches (cond b (Standing w fresh d) (Ended (refused 2)))) e (record { reached = starting d e h; phase = refl }))
+    (λ e. subst⁻¹ (λ (b : Bool). Reaches (cond b (Standing w fresh d) (Ended (refused 2)))) e (inl refl))
+    (either (settingsOk w))
+
+-- a report
+module _ (σ : List ℕ) (x : State) (d w : List ℕ) (g : Gathers σ x d) where
+  taken-next : accepted (reportRefusal σ x d w) ≡ true → Gathers σ (reported σ x d w .state) (deskAfter σ x d w)
+  unfolding reported deskAfter afterReport keeping
+  taken-next e =
+      let s : reported σ x d w .state ≡ afterReport σ x (contentsOf w) =
+      ap (λ (o : Outcome). o .state) (outcome-accepted (reportRefusal σ x d w) x (afterReport σ x (contentsOf w)) e) in
+      let k : deskAfter σ x d w ≡ deskWith d (getD w 0 0) w = ap (λ (b : Bool). cond b (deskWith d (getD w 0 0) w) d) e in
+      record {
+        reached =
+            subst⁻¹ (λ (y : State). Reached σ y (deskAfter σ x d w)) s
+            (subst⁻¹ (λ (f : List ℕ). Reached σ (afterReport σ x (contentsOf w)) f) k
+            (reporting x d w (g .reached) (accepted-none (reportRefusal σ x d w) e)));
+        phase = ap (λ (y : State). y .phase) s ∙ g .phase;
+      }
+
+  ended-number : accepted (reportRefusal σ x d w) ≡ false → Reaches (Ended (reportRefusal σ x d w))
+  unfolding Reaches
+  ended-number e =
+      let r : reportRefusal σ x d w ≡ refusalBeside σ (x .kept) (x .termination) w = report-none σ x d w g in
+      ⊎-elim (λ z. clash (eq-eqb (reportRefusal σ x d w .number) 0 (ap (λ (q : Refusal). q .number) r ∙ z)) e)
+      (λ z. inr (subst⁻¹ (λ (q : Refusal). (5 ≤ q .number) × (q .number ≤ 13)) r z))
+      (in-beside σ (x .kept) (x .termination) w)
+
+  reaches-told : Reaches (told σ x d w)
+  unfolding Reaches told
+  reaches-told =
+      ⊎-elim (λ e. subst⁻¹ (λ (b : Bool). Reaches (choose b)) e (taken-next e)) (λ e. subst⁻¹ (λ (b : Bool). Reaches (choose b)) e (ended-number e))
+      (either (accepted (reportRefusal σ x d w)))
+    where
+      choose : Bool → Progress
+      choose b = cond b (Standing σ (reported σ x d w .state) (deskAfter σ x d w)) (Ended (reportRefusal σ x d w))
+
+reaches-next : (p : Progress) (w : List ℕ) → Reaches p → Reaches (next p w)
+unfolding next Reaches
+reaches-next (Started d) w h = reaches-opened d w h
+reaches-next (Standing σ x d) w h = reaches-told σ x d w h
+reaches-next (Ended r) w h = h
+
+reaches-after : (p : Progress) (ws : List (List ℕ)) → Reaches p → Reaches (after p ws)
+unfolding after
+reaches-after p [] h = h
+reaches-after p (w ∷ ws) h = reaches-after (next p w) ws (reaches-next p w h)
+
+-- whatever the input
+pub run-reaches : (input : List ℕ) → Reaches (after start (blocks input))
+unfolding Reaches
+run-reaches input = reaches-after start (blocks input) (eq-eqb _ 16384 (length-replicate {A = ℕ} 16384 0))
+
+-- after the last block decide refuses nothing
+pub decide-taken : (input σ : List ℕ) (x : State) (d : List ℕ) → after start (blocks input) ≡ Standing σ x d → decideRefusal σ x d ≡ none
+unfolding Reaches decideRefusal
+decide-taken input σ x d e = entry-none σ x d (subst (λ (p : Progress). Reaches p) e (run-reaches input))
+
+-- the numbers that end a run
+pub ended-by : (input : List ℕ) (r : Refusal) → after start (blocks input) ≡ Ended r → (r .number ≡ 2) ⊎ ((5 ≤ r .number) × (r .number ≤ 13))
+unfolding Reaches
+ended-by input r e = subst (λ (p : Progress). Reaches p) e (run-reaches input)

@@ -1,0 +1,403 @@
+-- What each step of a Run in memory leads to, over plain arguments.
+use Prim.Native.Nat.{ℕ, zero, suc, _+_, _-_, _≤_, _<_}
+use mathlib.Core.Bool.{true, false}
+use mathlib.Core.Logic.{⊎-elim}
+use mathlib.Core.List.{List, [], _∷_, _++_, append-assoc}
+use mathlib.Core.Path.{_≡_, refl, sym, ap, ap₂, _∙_, subst}
+use native.Mathlib.Numerals.{add-one}
+use native.Mathlib.Omega.{arith}
+use lib.ListN.{length, take, drop, getD, replicate, length-replicate, set, getD-replicate, length-append, length-take, length-set, List·getD-eq-default}
+use lib.Seq.{take-nil, take-all, take-suc, take-suc-set, append-snoc, length-take-le}
+use Rattle.laws.specs.Bools.{either, lt-or-le}
+use Rattle.laws.specs.Tables.{padded, filled, length-padded, padded-ext, length-filled, getD-filled, getD-filled-rest}
+use Rattle.settings.specs.Settings.{shards, settingsOk, Settings}
+use Rattle.settings.specs.Laws.{settings-give}
+use Rattle.ids.specs.declared.Refusal.{Refusal}
+use Rattle.ids.specs.Refusals.{refused, accepted}
+use Rattle.views.specs.declared.Reason.{Reason}
+use Rattle.planner.specs.declared.State.{State}
+use Rattle.planner.specs.declared.Answer.{Answer}
+use Rattle.planner.specs.declared.Outcome.{Outcome}
+use Rattle.planner.specs.declared.Decision.{Decision}
+use Rattle.planner.specs.declared.Decided.{Decided}
+use Rattle.planner.specs.Refusing.{reportRefusal, decideRefusal, deskOk, isGathering}
+use Rattle.planner.specs.Events.{reported, deskAfter, afterReport}
+use Rattle.planner.specs.EventLaws.{outcome-accepted, outcome-refused, entry-settings}
+use Rattle.planner.specs.Decide.{Decides}
+use Rattle.planner.specs.States.{fresh}
+use Rattle.format.specs.Messages.{contentsOf}
+use Rattle.blocks.specs.declared.Block.{Block}
+use Rattle.blocks.specs.Blocks.{blocks, needed, wholeWords, length-whole, needed-ends, needed-more}
+use Rattle.blocks.specs.Held.{held, front-padded}
+use Rattle.lines.specs.Lines.{numberLine, waitLine, planLines, number-length, wait-length, plan-length}
+use Rattle.lines.specs.Puts.{Puts}
+use Rattle.runs.specs.declared.Stage.{Stage}
+use Rattle.runs.specs.declared.Stage.the-variants.{Opening, Open, Closed}
+use Rattle.runs.specs.declared.Run.{Run}
+use Rattle.runs.specs.Runs.{Progress, Standing, Ended, opened, told, next, after, decisionText, Prints}
+use Rattle.runs.specs.RunLaws.{after-block, after-cut, after-none}
+use Rattle.runs.specs.Machine.{progress, progressAt, closedBy, emptied, ahead, Ready, Takes, Opens, Feeds, Closes, Writes}
+
+-- the settings as they are lent
+part-front : (n : ℕ) (l : List ℕ) → take (n - 0) l ≡ take n l
+part-front n l = let e : n - 0 ≡ n = omega arith in rw e
+
+-- ---- a report
+
+-- accepted and refused, by the answer
+told-accepted : (σ : List ℕ) (x : State) (d w : List ℕ) → reported σ x d w .answer ≡ Answer.Accepted
+    → told σ x d w ≡ Standing σ (reported σ x d w .state) (deskAfter σ x d w)
+unfolding told reported
+told-accepted σ x d w h =
+    ⊎-elim (λ e. rw e)
+    (λ e.
+    let a = ap (λ (o : Outcome). o .answer) (outcome-refused (reportRefusal σ x d w) x (afterReport σ x (contentsOf w)) e) in
+    let z : _≡_ {A = ℕ} 0 1 = cc in
+    absurd (omega arith))
+    (either (accepted (reportRefusal σ x d w)))
+
+told-refused : (σ : List ℕ) (x : State) (d w : List ℕ) (r : Refusal) → reported σ x d w .answer ≡ Answer.Refused r
+    → told σ x d w ≡ Ended r
+unfolding told reported
+told-refused σ x d w r h =
+    ⊎-elim
+    (λ e.
+    let a = ap (λ (o : Outcome). o .answer) (outcome-accepted (reportRefusal σ x d w) x (afterReport σ x (contentsOf w)) e) in
+    let z : _≡_ {A = ℕ} 0 1 = cc in
+    absurd (omega arith))
+    (λ e.
+    let a = ap (λ (o : Outcome). o .answer) (outcome-refused (reportRefusal σ x d w) x (afterReport σ x (contentsOf w)) e) in
+    let s : reportRefusal σ x d w ≡ r = cc in
+    rw e (ap Ended s))
+    (either (accepted (reportRefusal σ x d w)))
+
+module _ (run : Run) (d : List ℕ) where
+  -- the stage of a run tells what it has come to
+  progress-is : (s : Stage) → run .stage ≡ s → progress run d ≡ progressAt s (take (run .words) (run .settings)) (run .state) d
+  progress-is s h = ap (λ (k : Stage). progressAt k (take (run .words) (run .settings)) (run .state) d) h
+
+  -- a report that is accepted, and one that is refused
+  module _ (w : List ℕ) (o : Outcome) (e : List ℕ) (h : run .stage ≡ Open) (few : run .words ≤ length (run .settings))
+      (given : o ≡ reported (take (run .words - 0) (run .settings)) (run .state) d w)
+      (desk : e ≡ deskAfter (take (run .words - 0) (run .settings)) (run .state) d w) where
+    own : o ≡ reported (take (run .words) (run .settings)) (run .state) d w
+    own = given ∙ ap (λ (σ : List ℕ). reported σ (run .state) d w) (part-front (run .words) (run .settings))
+
+    told-next : next (progress run d) w ≡ told (take (run .words) (run .settings)) (run .state) d w
+    unfolding progressAt next
+    told-next = ap (λ (p : Progress). next p w) (progress-is Open h)
+
+    pub report-accepted : o .answer ≡ Answer.Accepted
+        → Takes run d w (record { stage = run .stage; state = o .state; settings = run .settings; words = run .words; pending = run .pending }) e
+    unfolding progressAt
+    report-accepted a =
+        record {
+          leads =
+              ap (λ (k : Stage). progressAt k (take (run .words) (run .settings)) (o .state) e) h
+              ∙ ap₂ (Standing (take (run .words) (run .settings))) (ap (λ (p : Outcome). p .state) own)
+              (desk ∙ ap (λ (σ : List ℕ). deskAfter σ (run .state) d w) (part-front (run .words) (run .settings)))
+              ∙ sym (told-next ∙ told-accepted (take (run .words) (run .settings)) (run .state) d w (sym (ap (λ (p : Outcome). p .answer) own) ∙ a));
+          pending = refl;
+          few = few;
+        }
+
+    pub report-refused : (x : Refusal) (r : Run) → o .answer ≡ Answer.Refused x → r ≡ closedBy run x → Takes run d w r e
+    unfolding progressAt
+    report-refused x r a c =
+        subst (λ (s : Run). Takes run d w s e) (sym c)
+        (record {
+          leads = sym (told-next ∙ told-refused (take (run .words) (run .settings)) (run .state) d w x (sym (ap (λ (p : Outcome). p .answer) own) ∙ a));
+          pending = refl;
+          few = few;
+        })
+
+-- ---- the settings
+
+pub settings-size : (w : List ℕ) → settingsOk w ≡ true → length w ≤ 52
+settings-size w h = let g = settings-give w h in omega (arith, g .sizes .words, g .sizes .nodes-to, g .sizes .shards-to)
+
+module _ (run : Run) (w : List ℕ) where
+  pub open-refused : (r : Run) → run .words ≤ length (run .settings) → settingsOk w ≡ false → r ≡ closedBy run (refused 2) → Opens run w r
+  unfolding progressAt opened
+  open-refused r few h c =
+      subst (λ (s : Run). Opens run w s) (sym c) (record { leads = λ d. rw h; pending = refl; few = few })
+
+  pub open-accepted : (x : State) (table : List ℕ) → settingsOk w ≡ true → x ≡ fresh → table ≡ padded 52 w
+      → Opens run w (record { stage = Open; state = x; settings = table; words = length w; pending = run .pending })
+  unfolding progressAt opened
+  open-accepted x table h e f =
+      let size : length w ≤ 52 = settings-size w h in
+      record {
+        leads =
+            λ d.
+            rw h
+            (ap₂ (λ (σ : List ℕ) (y : State). Standing σ y d) (ap (take (length w)) f ∙ front-padded 52 (length w) w size refl) e);
+        pending = refl;
+        few = omega (arith, length-padded 52 w, ap length f);
+      }
+
+-- ---- a block
+
+module _ (run : Run) (d w : List ℕ) where
+  pub takes-first : (r : Run) → run .stage ≡ Opening → Opens run w r → Takes run d w r d
+  unfolding progressAt next
+  takes-first r h o =
+      record { leads = o .leads d ∙ sym (ap (λ (p : Progress). next p w) (progress-is run d Opening h)); pending = o .pending; few = o .few }
+
+  pub takes-none : (x : Refusal) → run .stage ≡ Closed x → run .words ≤ length (run .settings) → Takes run d w run d
+  unfolding progressAt next
+  takes-none x h few =
+      let e : progress run d ≡ Ended x = progress-is run d (Closed x) h in
+      record { leads = e ∙ sym (ap (λ (p : Progress). next p w) e); pending = refl; few = few }
+
+-- the words of the block, as they are lent
+pub takes-as : (run : Run) (d v w : List ℕ) (r : Run) (e : List ℕ) → v ≡ w → Takes run d v r e → Takes run d w r e
+takes-as run d v w r e h t = subst (λ (x : List ℕ). Takes run d x r e) h t
+
+pub block-front : (b : Block) (bytes : List ℕ) → length bytes ≤ 2052 → b ≡ held bytes → take (b .len - 0) (b .table) ≡ wholeWords bytes
+block-front b bytes h e =
+    let size : length (wholeWords bytes) ≤ 513 = omega (arith, length-whole bytes) in
+    part-front (b .len) (b .table)
+    ∙ ap (λ (x : Block). take (x .len) (x .table)) e
+    ∙ front-padded 513 (length (wholeWords bytes)) (wholeWords bytes) size refl
+
+pub block-fits : (b : Block) (bytes : List ℕ) → length bytes ≤ 2052 → b ≡ held bytes → b .len ≤ length (b .table)
+block-fits b bytes h e =
+    omega (arith, length-whole bytes, ap (λ (x : Block). x .len) e, ap (λ (x : Block). length (x .table)) e, length-padded 513 (wholeWords bytes))
+
+-- ---- words stored before zeros
+
+pub padded-stored : (ws : List ℕ) (i : ℕ) (l : List ℕ) → length ws ≤ 52 → i ≤ length ws → length ws ≤ i
+    → l ≡ filled i (λ k. getD ws k 0) (replicate 52 0) → l ≡ padded 52 ws
+padded-stored ws i l h m k e =
+    padded-ext 52 ws l (ap length e ∙ length-filled i f zeros (omega (arith, size)) ∙ size) at ∙ refl
+  where
+    f : ℕ → ℕ
+    f k = getD ws k 0
+
+    zeros : List ℕ
+    zeros = replicate 52 0
+
+    size : length zeros ≡ 52
+    size = length-replicate {A = ℕ} 52 0
+
+    at : (j : ℕ) → j < 52 → getD l j 0 ≡ getD ws j 0
+    at j n =
+        ap (λ (x : List ℕ). getD x j 0) e
+        ∙ ⊎-elim (λ a. getD-filled i f zeros j 0 a)
+        (λ a. getD-filled-rest i f zeros j 0 a ∙ getD-replicate 52 j 0 0 n ∙ sym (List·getD-eq-default ws 0 (omega arith)))
+        (lt-or-le j i)
+
+-- ---- a byte
+
+-- general: a part as the end of the front
+pub part-end : (a m : ℕ) (l : List ℕ) → take (m - a) (drop a l) ≡ drop a (take m l)
+part-end zero m l = part-front m l
+part-end (suc a) m [] = take-nil (m - suc a) ∙ sym (ap (drop (suc a)) (take-nil m))
+part-end (suc a) zero (x ∷ l) = let e : 0 - suc a ≡ 0 = omega arith in rw e
+part-end (suc a) (suc m) (x ∷ l) = let e : suc m - suc a ≡ m - a = omega arith in rw e (part-end a m l)
+
+module _ (run : Run) (bytes : List ℕ) (ready : Ready run bytes) where
+  pub pending-room : run .pending < length bytes
+  pending-room = omega (arith, needed-ends (take (run .pending) bytes) .1)
+
+  pub pending-few : run .pending < 2056
+  pending-few = omega (arith, pending-room, ready .room)
+
+  come-size : length (take (run .pending) bytes) ≡ run .pending
+  come-size = length-take-le (run .pending) bytes (omega (arith, pending-room))
+
+  module _ (d : List ℕ) (x : ℕ) where
+    -- the bytes that have come now
+    come : List ℕ
+    come = take (run .pending) bytes ++ (x ∷ [])
+
+    come-now : take (run .pending + 1) (set bytes (run .pending) x) ≡ come
+    unfolding come
+    come-now = ap (λ (k : ℕ). take k (set bytes (run .pending) x)) (add-one (run .pending)) ∙ take-suc-set bytes (run .pending) x pending-room
+
+    come-more : length come ≡ run .pending + 1
+    unfolding come
+    come-more = length-append (take (run .pending) bytes) (x ∷ []) ∙ ap (λ (k : ℕ). k + 1) come-size
+
+    come-then : (rest : List ℕ) → come ++ rest ≡ take (run .pending) bytes ++ (x ∷ rest)
+    unfolding come
+    come-then rest = append-snoc (take (run .pending) bytes) x rest
+
+    -- the block is not whole yet
+    pub push-waits : run .pending + 1 < needed (take (run .pending + 1 - 0) (set bytes (run .pending) x))
+        → Feeds run d bytes (x ∷ [])
+        (record { stage = run .stage; state = run .state; settings = run .settings; words = run .words; pending = run .pending + 1 })
+        d (set bytes (run .pending) x)
+    unfolding ahead
+    push-waits h =
+        record {
+          ready =
+              record {
+                room = length-set bytes (run .pending) x ∙ ready .room;
+                coming = subst (λ (l : List ℕ). run .pending + 1 < needed l) (part-front (run .pending + 1) (set bytes (run .pending) x)) h;
+                few = ready .few;
+              };
+          same = λ rest. ap (λ (l : List ℕ). after (progress run d) (blocks l)) (ap (λ (l : List ℕ). l ++ rest) come-now ∙ come-then rest);
+        }
+
+    -- the block is whole, and is taken
+    module _ (h : needed (take (run .pending + 1 - 0) (set bytes (run .pending) x)) ≤ run .pending + 1) where
+      whole : length come ≡ needed come
+      unfolding come
+      whole =
+          let e : needed (take (run .pending + 1 - 0) (set bytes (run .pending) x)) ≡ needed come =
+          ap needed (part-front (run .pending + 1) (set bytes (run .pending) x) ∙ come-now) in
+          let c : run .pending < needed (take (run .pending) bytes) = ready .coming in
+          omega (arith, come-more, come-size, needed-more (take (run .pending) bytes) x (omega (arith, come-size)))
+
+      pub whole-from : 4 ≤ run .pending + 1
+      whole-from = omega (arith, whole, come-more, needed-ends come .0)
+
+      pub whole-size : length (take (run .pending + 1 - 4) (drop 4 (set bytes (run .pending) x))) ≤ 2052
+      whole-size =
+          omega (arith, pending-room, ready .room, length-take (run .pending + 1 - 4) (drop 4 (set bytes (run .pending) x)))
+
+      pub push-takes : (r : Run) (e : List ℕ)
+          → Takes (emptied run) d (wholeWords (take (run .pending + 1 - 4) (drop 4 (set bytes (run .pending) x)))) r e
+          → Feeds run d bytes (x ∷ []) r e (set bytes (run .pending) x)
+      unfolding ahead
+      push-takes r e t =
+          let none : r .pending ≡ 0 = t .pending in
+          let block : take (run .pending + 1 - 4) (drop 4 (set bytes (run .pending) x)) ≡ drop 4 come =
+          part-end 4 (run .pending + 1) (set bytes (run .pending) x) ∙ ap (drop 4) come-now in
+          record {
+            ready =
+                record {
+                  room = length-set bytes (run .pending) x ∙ ready .room;
+                  coming = omega (arith, none, needed-ends (take (r .pending) (set bytes (run .pending) x)) .0);
+                  few = t .few;
+                };
+            same =
+                λ rest.
+                ap₂ (λ (p : Progress) (k : ℕ). after p (blocks (take k (set bytes (run .pending) x) ++ rest)))
+                (t .leads ∙ ap (λ (l : List ℕ). next (progress run d) (wholeWords l)) block) none
+                ∙ sym (after-block (progress run d) come rest whole)
+                ∙ ap (λ (l : List ℕ). after (progress run d) (blocks l)) (come-then rest);
+          }
+
+-- ---- bytes one after another
+
+module _ {run : Run} {d bytes : List ℕ} where
+  pub feeds-none : Ready run bytes → Feeds run d bytes [] run d bytes
+  feeds-none ready = record { ready = ready; same = λ rest. refl }
+
+  pub feeds-then : {s t : List ℕ} {r u : Run} {e f b c : List ℕ} → Feeds run d bytes s r e b → Feeds r e b t u f c
+      → Feeds run d bytes (s ++ t) u f c
+  feeds-then {s} {t} p q =
+      record {
+        ready = q .ready;
+        same = λ rest. q .same rest ∙ p .same (t ++ rest) ∙ ap (ahead run d bytes) (sym (append-assoc s t rest));
+      }
+
+  pub feeds-more : (fed : List ℕ) (i : ℕ) {r s : Run} {e f b c : List ℕ} → i < length fed
+      → Feeds run d bytes (take i fed) r e b → Feeds r e b (getD fed i 0 ∷ []) s f c → Feeds run d bytes (take (i + 1) fed) s f c
+  feeds-more fed i {s = s} {f = f} {c = c} l p q =
+      subst (λ (x : List ℕ). Feeds run d bytes x s f c) (sym (ap (λ (k : ℕ). take k fed) (add-one i) ∙ take-suc fed i 0 l)) (feeds-then p q)
+
+  pub feeds-all : (fed : List ℕ) (i : ℕ) {r : Run} {e b : List ℕ} → length fed ≤ i
+      → Feeds run d bytes (take i fed) r e b → Feeds run d bytes fed r e b
+  feeds-all fed i {r} {e} {b} l p = subst (λ (x : List ℕ). Feeds run d bytes x r e b) (take-all i fed l) p
+
+-- ---- the end of the input
+
+module _ (run : Run) (d bytes : List ℕ) (ready : Ready run bytes) where
+  pub close-none : run .pending < 4 → Closes run d bytes run d
+  unfolding ahead
+  close-none h =
+      record { leads = sym (after-none (progress run d) (take (run .pending) bytes) (omega (arith, come-size run bytes ready))); few = ready .few }
+
+  pub cut-size : length (take (run .pending - 4) (drop 4 bytes)) ≤ 2052
+  cut-size = omega (arith, pending-room run bytes ready, ready .room, length-take (run .pending - 4) (drop 4 bytes))
+
+  pub close-cut : 4 ≤ run .pending → (r : Run) (e : List ℕ) → Takes (emptied run) d (wholeWords (take (run .pending - 4) (drop 4 bytes))) r e
+      → Closes run d bytes r e
+  unfolding ahead
+  close-cut h r e t =
+      let s = come-size run bytes ready in
+      let c = ready .coming in
+      record {
+        leads =
+            t .leads ∙ ap (λ (l : List ℕ). next (progress run d) (wholeWords l)) (part-end 4 (run .pending) bytes)
+            ∙ sym (after-cut (progress run d) (take (run .pending) bytes) (omega arith) (omega arith));
+        few = t .few;
+      }
+
+-- ---- what is printed
+
+module _ (run : Run) (d out after : List ℕ) (n : ℕ) where
+  pub writes-opening : run .stage ≡ Opening → Puts out 0 (numberLine (refused 2)) after n → Writes (progress run d) out after n
+  unfolding progressAt Prints
+  writes-opening h p =
+      record {
+        text = numberLine (refused 2);
+        prints = subst (λ (q : Progress). Prints q (numberLine (refused 2))) (sym (progress-is run d Opening h)) refl;
+        fits = number-length (refused 2);
+        puts = p;
+      }
+
+  pub writes-closed : (r : Refusal) → run .stage ≡ Closed r → Puts out 0 (numberLine r) after n → Writes (progress run d) out after n
+  unfolding progressAt Prints
+  writes-closed r h p =
+      record {
+        text = numberLine r;
+        prints = subst (λ (q : Progress). Prints q (numberLine r)) (sym (progress-is run d (Closed r) h)) refl;
+        fits = number-length r;
+        puts = p;
+      }
+
+  -- the text of a decision
+  module _ (h : run .stage ≡ Open) (r : Decided) (decides : Decides (take (run .words - 0) (run .settings)) (run .state) d r) where
+    own-decides : Decides (take (run .words) (run .settings)) (run .state) d r
+    own-decides = subst (λ (σ : List ℕ). Decides σ (run .state) d r) (part-front (run .words) (run .settings)) decides
+
+    writes-text : (text : List ℕ) → text ≡ decisionText (take (run .words) (run .settings)) (r .decision) (r .state .plan)
+        → length text ≤ 8192 → Puts out 0 text after n → Writes (progress run d) out after n
+    unfolding progressAt Prints
+    writes-text text says fits p =
+        record {
+          text = text;
+          prints =
+              subst (λ (q : Progress). Prints q text) (sym (progress-is run d Open h))
+              (record { decided = r; decides = own-decides; says = says });
+          fits = fits;
+          puts = p;
+        }
+
+    pub writes-wait : (reason : Reason) → r .decision ≡ Decision.Wait reason → Puts out 0 (waitLine reason) after n
+        → Writes (progress run d) out after n
+    unfolding decisionText
+    writes-wait reason e p =
+        writes-text (waitLine reason)
+        (sym (ap (λ (a : Decision). decisionText (take (run .words) (run .settings)) a (r .state .plan)) e)) (wait-length reason) p
+
+    pub writes-refused : (x : Refusal) → r .decision ≡ Decision.Refused x → Puts out 0 (numberLine x) after n
+        → Writes (progress run d) out after n
+    unfolding decisionText
+    writes-refused x e p =
+        writes-text (numberLine x)
+        (sym (ap (λ (a : Decision). decisionText (take (run .words) (run .settings)) a (r .state .plan)) e)) (number-length x) p
+
+    pub writes-plan : (shards-of : ℕ) → r .decision ≡ Decision.Planned → shards-of ≡ shards (take (run .words - 0) (run .settings)) → shards-of ≤ 16
+        → Puts out 0 (planLines (r .state .plan) shards-of) after n → Writes (progress run d) out after n
+    unfolding decisionText
+    writes-plan k e f few p =
+        writes-text (planLines (r .state .plan) k)
+        (ap (planLines (r .state .plan)) (f ∙ ap shards (part-front (run .words) (run .settings)))
+        ∙ sym (ap (λ (a : Decision). decisionText (take (run .words) (run .settings)) a (r .state .plan)) e)) (plan-length (r .state .plan) k few) p
+
+-- where decide plans the settings are right
+pub planned-settings : (σ : List ℕ) (x : State) (d : List ℕ) (r : Decided) → Decides σ x d r → r .decision ≡ Decision.Planned → Settings σ
+unfolding decideRefusal
+planned-settings σ x d r decides e =
+    ⊎-elim (λ h. entry-settings (deskOk d) σ x d (isGathering (x .phase)) h)
+    (λ h.
+    let a = ap (λ (q : Decided). q .decision) (decides .refused h) in
+    let z : _≡_ {A = ℕ} 0 1 = cc in
+    absurd (omega arith))
+    (either (accepted (decideRefusal σ x d)))

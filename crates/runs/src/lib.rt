@@ -1,0 +1,219 @@
+// A run of the program restart: a stream of bytes gives settings, then reports; after its end the run decides, and what it prints
+// is put into lent bytes.
+use ids::Refusal;
+use planner::Answer;
+use planner::Decision;
+use planner::State;
+ghost use mathlib.Core.List.{_∷_, []};
+ghost use mathlib.Core.Path.{_≡_};
+ghost use Prim.Native.Nat.{_≤_};
+ghost use lib.ListN.{length};
+ghost use Rattle.laws.specs.Tables as Tables;
+ghost use Rattle.blocks.specs.Blocks.{wholeWords};
+ghost use Rattle.runs.specs.Machine as Machine;
+
+// How far a run has come.
+pub enum Stage {
+    // no block has come
+    Opening,
+    // the settings are right, and every report so far was accepted
+    Open,
+    // a block was refused
+    Closed(Refusal),
+}
+
+// A run. The bytes of the block that is coming in lie in lent memory, which the run is lent at each step.
+pub struct Run {
+    pub stage: Stage,
+    pub state: State,
+    // the settings are the first `words` of these
+    pub settings: [u32; 52],
+    pub words: usize,
+    // how many bytes of the next block have come in, its count included
+    pub pending: usize,
+}
+
+// The words with zeros after them.
+fn padded(words: &[u32]) -> [u32; 52]
+    requires { ⌜ length (now words) ≤ 52 ⌝ }
+    ensures { λ r. ⌜ r ≡ Tables.padded 52 (now (words .entry)) ⌝ }
+{
+    let mut table = [0u32; 52];
+    let mut i = 0;
+    while i < words.len() {
+        table[i] = words[i];
+        i += 1;
+    }
+    table
+}
+
+fn closed(run: Run, refusal: Refusal) -> Run
+    ensures { λ r. ⌜ r ≡ Machine.closedBy run refusal ⌝ }
+{
+    Run {
+        stage: Stage::Closed(refusal),
+        ..run
+    }
+}
+
+// The first block: the settings.
+fn begin(run: Run, block: &[u32]) -> Run
+    requires { ⌜ run .words ≤ length (run .settings) ⌝ }
+    ensures { λ r. ⌜ Machine.Opens run (now (block .entry)) r ⌝ }
+{
+    if !settings::check(block) {
+        return closed(run, Refusal { number: 2 });
+    }
+    Run {
+        stage: Stage::Open,
+        state: State::fresh(),
+        settings: padded(block),
+        words: block.len(),
+        ..run
+    }
+}
+
+// A later block: a report.
+fn report(run: Run, desk: &mut [u32], block: &[u32]) -> Run
+    requires { ⌜ (run .stage ≡ Stage.Open) × (run .words ≤ length (run .settings)) ⌝ }
+    ensures { λ r. ⌜ Machine.Takes run (now (desk .entry)) (now (block .entry)) r (now (desk .exit)) ⌝ }
+{
+    let n = run.words;
+    let settings = run.settings;
+    let state = run.state;
+    let outcome = state.report(&settings[0..n], desk, block);
+    let answer = outcome.answer;
+    let next = outcome.state;
+    match answer {
+        Answer::Accepted => Run { state: next, ..run },
+        Answer::Refused(refusal) => closed(run, refusal),
+    }
+}
+
+// A block of words.
+fn take_block(run: Run, desk: &mut [u32], block: &[u32]) -> Run
+    requires { ⌜ run .words ≤ length (run .settings) ⌝ }
+    ensures { λ r. ⌜ Machine.Takes run (now (desk .entry)) (now (block .entry)) r (now (desk .exit)) ⌝ }
+{
+    let stage = run.stage;
+    match stage {
+        Stage::Opening => begin(run, block),
+        Stage::Open => report(run, desk, block),
+        Stage::Closed(_) => run,
+    }
+}
+
+// The block whose bytes have come in, cut short or not.
+fn take_bytes(run: Run, desk: &mut [u32], bytes: &[u8]) -> Run
+    requires { ⌜ (length (now bytes) ≤ 2052) × (run .words ≤ length (run .settings)) ⌝ }
+    ensures { λ r. ⌜ Machine.Takes (Machine.emptied run) (now (desk .entry)) (wholeWords (now (bytes .entry))) r (now (desk .exit)) ⌝ }
+{
+    let block = blocks::words_of(bytes);
+    let len = block.len;
+    let table = block.table;
+    take_block(Run { pending: 0, ..run }, desk, &table[0..len])
+}
+
+// A byte.
+fn push(run: Run, desk: &mut [u32], bytes: &mut [u8], byte: u8) -> Run
+    requires { ⌜ Machine.Ready run (now bytes) ⌝ }
+    ensures { λ r. ⌜ Machine.Feeds run (now (desk .entry)) (now (bytes .entry)) (byte ∷ []) r (now (desk .exit)) (now (bytes .exit)) ⌝ }
+{
+    let at = run.pending;
+    bytes[at] = byte;
+    let end = at + 1;
+    if end < blocks::needed(&bytes[0..end]) {
+        return Run {
+            pending: end,
+            ..run
+        };
+    }
+    take_bytes(run, desk, &bytes[4..end])
+}
+
+// What the decision prints.
+fn print_decision(run: Run, desk: &[u32], out: &mut [u8]) -> usize
+    requires { ⌜ (run .stage ≡ Stage.Open) × (run .words ≤ length (run .settings)) ⌝ }
+    ensures { λ r. ⌜ Machine.Writes (Machine.progress run (now (desk .entry))) (now (out .entry)) (now (out .exit)) r ⌝ }
+{
+    let n = run.words;
+    let settings = run.settings;
+    let state = run.state;
+    let decided = state.decide(&settings[0..n], desk);
+    let decision = decided.decision;
+    let next = decided.state;
+    match decision {
+        Decision::Planned => {
+            let shards = settings::shards(&settings[0..n]);
+            lines::plan_lines(out, next.plan, shards as usize)
+        }
+        Decision::Wait(reason) => lines::wait_line(out, reason),
+        Decision::Refused(refusal) => lines::number_line(out, refusal),
+    }
+}
+
+impl Run {
+    // The run before any byte.
+    pub fn start() -> Run
+        ensures { λ r. ⌜ r ≡ Machine.started ⌝ }
+    {
+        Run {
+            stage: Stage::Opening,
+            state: State::fresh(),
+            settings: [0u32; 52],
+            words: 0,
+            pending: 0,
+        }
+    }
+
+    // Whether nothing that follows matters any more.
+    pub fn is_closed(self) -> bool
+        ensures { λ r. ⌜ r ≡ Machine.closedAt (self .stage) ⌝ }
+    {
+        let stage = self.stage;
+        match stage {
+            Stage::Opening => false,
+            Stage::Open => false,
+            Stage::Closed(_) => true,
+        }
+    }
+
+    // Bytes of the input.
+    pub fn feed(self, desk: &mut [u32], bytes: &mut [u8], fed: &[u8]) -> Run
+        requires { ⌜ Machine.Ready self (now bytes) ⌝ }
+        ensures { λ r. ⌜ Machine.Feeds self (now (desk .entry)) (now (bytes .entry)) (now (fed .entry)) r (now (desk .exit)) (now (bytes .exit)) ⌝ }
+    {
+        let mut run = self;
+        let mut i = 0;
+        while i < fed.len() {
+            run = push(run, desk, bytes, fed[i]);
+            i += 1;
+        }
+        run
+    }
+
+    // The end of the input: a block cut short is its whole words.
+    pub fn close(self, desk: &mut [u32], bytes: &[u8]) -> Run
+        requires { ⌜ Machine.Ready self (now bytes) ⌝ }
+        ensures { λ r. ⌜ Machine.Closes self (now (desk .entry)) (now (bytes .entry)) r (now (desk .exit)) ⌝ }
+    {
+        let end = self.pending;
+        if end < 4 {
+            return self;
+        }
+        take_bytes(self, desk, &bytes[4..end])
+    }
+
+    // What the run prints after the last block.
+    pub fn print(self, desk: &[u32], out: &mut [u8]) -> usize
+        requires { ⌜ self .words ≤ length (self .settings) ⌝ }
+        ensures { λ r. ⌜ Machine.Writes (Machine.progress self (now (desk .entry))) (now (out .entry)) (now (out .exit)) r ⌝ }
+    {
+        let stage = self.stage;
+        match stage {
+            Stage::Opening => lines::number_line(out, Refusal { number: 2 }),
+            Stage::Open => print_decision(self, desk, out),
+            Stage::Closed(refusal) => lines::number_line(out, refusal),
+        }
+    }
+}

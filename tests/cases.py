@@ -1,0 +1,262 @@
+"""Run the program restart on the runs that document 01 names, on a run for each number that it can give, and on inputs that are
+cut. What it must print is written here by hand.
+
+    python3 tests/cases.py [PROGRAM]        target/bin/restart unless told otherwise
+
+The last line is `N passed, M failed`."""
+import os
+import struct
+import subprocess
+import sys
+
+ROOT = os.path.dirname(os.path.dirname(os.path.abspath(__file__)))
+PROGRAM = sys.argv[1] if len(sys.argv) > 1 else os.path.join(ROOT, "target", "bin", "restart")
+LARGEST = 2**32 - 1
+
+# Document 01's settings and masks: nodes a to g as 0 to 6, view 7.
+SETTINGS = [7, 3, 4, 3, 0, 0, 1, 1, 1, 2, 2, 2, 3, 1]
+MASKS = [5, 82, 32]
+ALL = [0, 1, 2, 3, 4, 5]
+PLAN = """view 8
+moves 2
+shard 0 holder 0 target 0 0 members 0 2
+shard 1 holder 1 target 7 5 members 1 4 5
+shard 2 holder 5 target 0 0 members 3
+"""
+
+
+def message(node, view, members, records):
+    """The words of a message: a head and records of three words, each linked to the next."""
+    heads = [[node, view, members]] + records
+    last = len(heads) - 1
+    return [word for i, head in enumerate(heads) for word in head + [i + 1 if i < last else 0]]
+
+
+def shard_masks(masks):
+    return [[256 + s, mask, 0] for s, mask in enumerate(masks)]
+
+
+def termination(positions):
+    return [[512 + s, view, k] for s, (view, k) in enumerate(positions)]
+
+
+def runs(shard, *pairs):
+    return [[768 + shard, view, count] for view, count in pairs]
+
+
+def report(node, more=(), view=7, members=127, masks=MASKS):
+    return message(node, view, members, shard_masks(masks) + list(more))
+
+
+def of_case_a(node):
+    """Node 1 has logged (7, 5) of shard 1 and node 4 (7, 4); all else is empty."""
+    return report(node, runs(1, (7, {1: 5, 4: 4}[node])) if node in (1, 4) else [])
+
+
+def changed(words, at, word):
+    return words[:at] + [word] + words[at + 1 :]
+
+
+def bytes_of(words):
+    return struct.pack("<%dI" % len(words), *words)
+
+
+def blocks(*parts):
+    return b"".join(bytes_of([len(words)] + words) for words in parts)
+
+
+def case(nodes, settings=SETTINGS):
+    return blocks(settings, *[of_case_a(node) for node in nodes])
+
+
+def after(*messages):
+    """Document 01's settings, then these messages."""
+    return blocks(SETTINGS, *messages)
+
+
+CASE_A = case(ALL)
+
+
+def named():
+    """Cases A to F and I; G and H speak of orders, which restart does not print."""
+    yield "A", CASE_A, PLAN
+    for nodes in ([0, 1, 2], [3, 4, 5], [1, 3, 4]):
+        yield "B %s" % nodes, case(nodes), "wait 2\n"
+    six = [6, 1, 1, 1, 0, 0, 0, 0, 0, 0, 1]
+    members = [report(node, view=3, members=63, masks=[1]) for node in range(4)]
+    yield "C with 3", blocks(six, *members[:3]), "wait 2\n"
+    yield "C with 4", blocks(six, *members), "view 4\nmoves 0\nshard 0 holder 0 target 0 0 members 0\n"
+    yield "D", case([]), "wait 1\n"
+    yield "E", case(ALL, changed(SETTINGS, 2, 7)), "wait 3\n"
+    yield "F", case([0, 1, 2, 3, 4]), "wait 4 2\n"
+    yield "I", case(ALL, changed(SETTINGS, 11, 3)), "wait 5 0\n"
+
+
+def more_plans():
+    """What else a plan's lines and a wait can show."""
+    # A stale machine's longer log is no target, and its member is kept without a move.
+    stale = [of_case_a(n) for n in (0, 2, 3, 5)]
+    stale += [report(1, runs(1, (6, 8))), report(4, runs(1, (6, 9)), view=6)]
+    lines = PLAN.replace("target 7 5", "target 6 8")
+    yield "stale log", after(*stale), lines
+    # A kept termination decides the target, and only a log that holds it makes a holder.
+    ended = termination([(0, 0), (7, 4), (0, 0)])
+    kept = [of_case_a(n) for n in (0, 2, 3, 5)] + [report(1, ended + runs(1, (7, 3))), of_case_a(4)]
+    yield "kept termination", after(*kept), PLAN.replace("holder 1 target 7 5", "holder 4 target 7 4")
+    # An older report of a node is replaced: node 1's log is empty now.
+    yield "replaced", case(ALL + [1]) + blocks(report(1)), PLAN.replace("holder 1 target 7 5", "holder 4 target 7 4")
+    # Moves are counted by node: shard {0, 2}, node 0 down, node 1 of its failure set up.
+    by_node = [3, 2, 1, 1, 0, 0, 1, 2]
+    up = [report(node, view=5, members=7, masks=[5]) for node in (1, 2)]
+    yield "moves by node", blocks(by_node, *up), "view 6\nmoves 1\nshard 0 holder 2 target 0 0 members 1 2\n"
+    # The greatest view and run, and 16 members.
+    wide = [32, 16, 1, 1] + [n % 16 for n in range(32)] + [16]
+    great = [report(n, runs(0, (LARGEST - 1, LARGEST)), view=LARGEST - 1, members=LARGEST, masks=[0xFFFF]) for n in range(32)]
+    line = "shard 0 holder 0 target 4294967294 4294967295 members %s\n" % " ".join(str(n) for n in range(16))
+    yield "greatest numbers", blocks(wide, *great), "view 4294967295\nmoves 0\n" + line
+    # Subgroup 3: shard 1 needs a node of each failure set, so it takes node 2, the only one of set 1, and shard 2 must move. Where
+    # shard 2 needs both sets too there is no valid placement.
+    narrow = [3, 2, 1, 3, 0, 0, 1, 1, 3 * 256 + 2, 3 * 256 + 1]
+    parts = [report(n, view=2, members=7, masks=[1, 2, 4]) for n in range(3)]
+    yield "subgroup 3", blocks(narrow, *parts), (
+        "view 3\nmoves 2\nshard 0 holder 0 target 0 0 members 0\nshard 1 holder 1 target 0 0 members 1 2\n"
+        "shard 2 holder 2 target 0 0 members 0\n"
+    )
+    yield "subgroup 3 without a placement", blocks(changed(narrow, 9, 3 * 256 + 2), *parts), "wait 5 3\n"
+
+
+def refused():
+    """A run for each number that restart can give: 2 and 5 to 13."""
+    good = of_case_a(0)
+    yield "number 2: no nodes", blocks(changed(SETTINGS, 0, 0)), 2
+    yield "number 2: no words", blocks([]), 2
+    yield "number 2: a word too many", blocks(SETTINGS + [0]), 2
+    yield "number 2 before 5", blocks(changed(SETTINGS, 0, 0), good[:6]), 2
+    yield "number 5: 6 words", after(good[:6]), 5
+    yield "number 5: no words", after([]), 5
+    yield "number 5: 513 words", after(good + [0] * 497), 5
+    yield "number 5: 516 words", after(good + [0] * 500), 5
+    yield "number 6: node 7 of 7", after(report(7)), 6
+    yield "number 6: greatest node", after(report(LARGEST)), 6
+    yield "number 7: view 0", after(report(0, view=0)), 7
+    yield "number 7: greatest view", after(report(0, view=LARGEST)), 7
+    yield "number 7: member 7 of 7", after(report(0, members=255)), 7
+    yield "number 7: without the node", after(report(0, members=126)), 7
+    yield "number 8: record 2 names 2", after(changed(good, 11, 2)), 8
+    yield "number 8: past the end", after(changed(good, 15, 4)), 8
+    yield "number 8 before 9", after(changed(changed(good, 11, 2), 4, 9 * 256)), 8
+    yield "number 9: kind 9", after(changed(good, 4, 9 * 256)), 9
+    yield "number 9: shard 3 of 3", after(report(0, [[256 + 3, 1, 0]])), 9
+    yield "number 9: a mask is missing", after(report(0, masks=MASKS[:2])), 9
+    yield "number 9: word 2", after(changed(good, 6, 1)), 9
+    yield "number 9: one position of three", after(report(0, [[512, 1, 1]])), 9
+    yield "number 9: an order's record", after(report(0, [[1024, 1, 0]])), 9
+    yield "number 9: two runs of one view", after(report(0, runs(1, (5, 1), (5, 2)))), 9
+    yield "number 10: no members", after(changed(good, 5, 0)), 10
+    yield "number 10: outside the members", after(report(0, members=123, masks=[5, 82, 32])), 10
+    yield "number 10: a node twice", after(report(0, masks=[5, 83, 32])), 10
+    yield "number 10 before 11", after(report(0, runs(1, (7, 0)), masks=[0, 82, 32])), 10
+    yield "number 11: a run of count 0", after(report(0, runs(1, (7, 0)))), 11
+    yield "number 11: position (0, 3)", after(report(0, termination([(0, 3), (0, 0), (0, 0)]))), 11
+    yield "number 11: a run above the view", after(report(0, runs(1, (8, 1)))), 11
+    yield "number 12: other members", after(good, report(1, members=119)), 12
+    yield "number 12: other shard", after(good, report(1, masks=[1, 82, 32])), 12
+    at_five = termination([(0, 0), (7, 5), (0, 0)])
+    at_four = termination([(0, 0), (7, 4), (0, 0)])
+    yield "number 13: (7, 4) against (7, 5)", after(report(0, at_five), report(1, at_four)), 13
+    yield "number 12 before 13", after(report(0, at_five), report(1, at_four, members=119)), 12
+    yield "the first refusal speaks", after(report(7), good[:6]), 6
+    yield "what follows a refusal is not read", after(good[:6]) + b"\x07" * 100_000, 5
+
+
+def cut_at(at):
+    """What case A cut after so many bytes must print. Blocks start at 0 (15 words), 60, 128, 212, 280, 348 and 432."""
+    starts = [0, 60, 128, 212, 280, 348, 432, len(CASE_A)]
+    decided = ["number 2\n", "wait 1\n", "wait 2\n", "wait 2\n", "wait 2\n", "wait 4 2\n", "wait 4 2\n", PLAN]
+    block = max(i for i, start in enumerate(starts) if start <= at)
+    inside = at - starts[block]
+    if inside < 4:
+        # the blocks before; a cut count ends the input
+        return decided[block]
+    if block == 0:
+        return "number 2\n"
+    words = (inside - 4) // 4
+    # no words or no whole records, or a chain that leads out of the message
+    return "number 5\n" if words == 0 or words % 4 != 0 else "number 8\n"
+
+
+def cut():
+    for at in range(len(CASE_A) + 1):
+        yield "A cut at %d" % at, CASE_A[:at], cut_at(at)
+
+
+def counts():
+    """Counts that are wrong, and what follows the last block."""
+    last = of_case_a(5)
+    before = case(ALL[:5])
+    for more in (b"\x00", b"\x09\x00", b"\xff\xff\xff"):
+        yield "A and %d bytes" % len(more), CASE_A + more, PLAN
+    for count in (0, 9, LARGEST):
+        yield "A and a count of %d" % count, CASE_A + bytes_of([count]), "number 5\n"
+    for count in (17, 20, 512, 513, 514, 2**30, LARGEST):
+        yield "last count %d" % count, before + bytes_of([count] + last), PLAN
+        yield "last count %d and 3 bytes" % count, before + bytes_of([count] + last) + b"abc", PLAN
+    # Records off the chain carry nothing: 512 words are as good as 16, 513 are too many, whatever the count.
+    full = last + [LARGEST] * 496
+    for count in (512, 513, LARGEST):
+        yield "512 words, count %d" % count, before + bytes_of([count] + full), PLAN
+        # with count 512 the word after them is the count of a block without words
+        yield "513 words, count %d" % count, before + bytes_of([count] + full + [0]), "number 5\n"
+    for count in (15, 52, 53, 54, LARGEST):
+        yield "settings of count %d" % count, bytes_of([count] + SETTINGS), "wait 1\n"
+    yield "long settings", bytes_of([LARGEST] + SETTINGS + [0] * 1000), "number 2\n"
+    yield "long settings and reports", bytes_of([LARGEST]) + bytes_of(SETTINGS) + CASE_A, "number 2\n"
+    yield "nothing", b"", "number 2\n"
+    yield "half a count", b"\x0e\x00", "number 2\n"
+
+
+def long_runs():
+    """More input than is read at once: reports that replace each other."""
+    many = [of_case_a(node) for node in ALL] * 200
+    yield "1,200 reports", after(*many), PLAN
+    yield "1,200 reports and one that is refused", after(*many, report(7)), "number 6\n"
+    full = [of_case_a(node) + [0] * (512 - len(of_case_a(node))) for node in ALL]
+    yield "reports of 512 words", after(*full), PLAN
+
+
+def printed(data, pieces):
+    """What the program prints, given the input whole or byte by byte."""
+    child = subprocess.Popen([PROGRAM], stdin=subprocess.PIPE, stdout=subprocess.PIPE)
+    if not pieces:
+        return child.communicate(data)[0]
+    for byte in data:
+        child.stdin.write(bytes([byte]))
+        child.stdin.flush()
+    return child.communicate()[0]
+
+
+def own_input():
+    """The input of the program's own test."""
+    with open(os.path.join(ROOT, "crates", "restart", "stdin"), "rb") as file:
+        return file.read()
+
+
+def main():
+    rows = list(named()) + list(more_plans()) + list(cut()) + list(counts()) + list(long_runs())
+    rows += [(name, data, "number %d\n" % number) for name, data, number in refused()]
+    tried = [(name, data, text, False) for name, data, text in rows]
+    tried += [(name + ", byte by byte", data, text, True) for name, data, text in named()]
+    failed = 0
+    for name, data, text, pieces in tried:
+        got = printed(data, pieces)
+        if got != text.encode():
+            failed += 1
+            print("%s: printed %r and must print %r" % (name, got, text))
+    if own_input() != CASE_A:
+        failed += 1
+        print("crates/restart/stdin is not case A")
+    print("%d passed, %d failed" % (len(tried) + 1 - failed, failed))
+    sys.exit(1 if failed else 0)
+
+
+main()
