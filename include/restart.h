@@ -1,0 +1,359 @@
+/*
+ * The restart planner of the score store, for C11 and C++.
+ *
+ * After all machines have stopped, the planner takes a report from each machine that returns,
+ * decides whether enough of them are back, and says where each shard's log ends and which machines
+ * carry which shard. The library does this and nothing else: no network, no files, no clock, no
+ * memory of its own. Everything that it reads or writes is lent by the caller for the length of a
+ * call, so calls on different memory may run at the same time.
+ *
+ * Every lent piece is a pointer, not null, and a length in bytes. It holds words: numbers of 32
+ * bits, lowest byte first (restart_get_word, restart_put_word). A piece needs no alignment. A piece
+ * that is written must not overlap another piece of the same call. A mask is a word that has bit n
+ * for node n.
+ *
+ * Every call answers with a word: see "Answers". A refused call changes no lent byte, and its
+ * number says why: the first that applies, in ascending order of those that are named at the call.
+ */
+#ifndef RESTART_H
+#define RESTART_H
+
+#include <stddef.h>
+#include <stdint.h>
+
+#ifdef __cplusplus
+extern "C" {
+#endif
+
+/* ---- Sizes ---- */
+
+#define RESTART_NODES 32          /* most nodes */
+#define RESTART_SETS 16           /* most failure sets */
+#define RESTART_SHARDS 16         /* most shards */
+#define RESTART_SUBGROUPS 4       /* subgroups are numbered 0 to 3 */
+#define RESTART_RECORDS 128       /* most records of a message, its head among them */
+#define RESTART_RECORD_WORDS 4    /* words of a record */
+#define RESTART_SETTINGS_WORDS 52 /* longest settings; their length is 4 + nodes + shards words */
+#define RESTART_STATE_WORDS 160
+#define RESTART_DESK_WORDS 16384 /* a slot for each of 32 nodes */
+#define RESTART_SLOT_WORDS 512
+#define RESTART_BUFFER_WORDS 512   /* a buffer that a message is written to */
+#define RESTART_CONTENTS_WORDS 512 /* a buffer that contents are written to */
+
+#define RESTART_SETTINGS_BYTES 208
+#define RESTART_STATE_BYTES 640
+#define RESTART_DESK_BYTES 65536
+#define RESTART_SLOT_BYTES 2048
+#define RESTART_BUFFER_BYTES 2048
+#define RESTART_CONTENTS_BYTES 2048
+#define RESTART_MESSAGE_BYTES 2048 /* longest message */
+
+/* ---- Numbers of refusals, in the order in which they are checked ---- */
+
+enum restart_number {
+    /* desk not 65536 bytes; buffer or contents to be written not 2048 */
+    RESTART_WRONG_LENT = 1,
+    /* the settings, or their length */
+    RESTART_WRONG_SETTINGS = 2,
+    /* state not 640 bytes, words that are no state, or one that settings and desk contradict */
+    RESTART_UNSOUND_STATE = 3,
+    /* the event is not for this phase */
+    RESTART_WRONG_PHASE = 4,
+    /* message of 0 or more than 512 words, or no whole records */
+    RESTART_WRONG_LENGTH = 5,
+    /* node not below the number of nodes */
+    RESTART_WRONG_NODE = 6,
+    /* view out of its limits; members with an unknown node or without the head's */
+    RESTART_WRONG_VIEW = 7,
+    /* a next index that is not larger than its record's, or not inside the message */
+    RESTART_WRONG_NEXT = 8,
+    /* kind, shard, sequence, a missing or surplus record, or word 2 not zero */
+    RESTART_WRONG_RECORD = 9,
+    /* a shard empty, outside the members, or sharing a node within its subgroup */
+    RESTART_WRONG_SHARD = 10,
+    /* a position or run; a holder outside the members */
+    RESTART_WRONG_POSITION = 11,
+    /* the kept view's number with other masks */
+    RESTART_OTHER_MASKS = 12,
+    /* another termination of the kept view */
+    RESTART_OTHER_TERMINATION = 13,
+    /* the node is not held; in fetched and prepared also: it is marked already */
+    RESTART_NOT_HELD = 14
+};
+
+/* ---- Reasons to wait, the first that applies ---- */
+
+enum restart_reason {
+    /* no view is kept: no report has come */
+    RESTART_NO_VIEW = 1,
+    /* not more than half of the kept view's members are held */
+    RESTART_NO_MAJORITY = 2,
+    /* fewer nodes are held than the least group size */
+    RESTART_TOO_FEW = 3,
+    /* a shard has no holder; the value is the lowest such shard */
+    RESTART_NO_HOLDER = 4,
+    /* a subgroup has no valid placement; the value is the lowest such subgroup */
+    RESTART_NO_PLACEMENT = 5
+};
+
+/* ---- The state's words ----
+ * What is not there is zero, and so are the places of shards that the settings do not have.
+ */
+
+enum restart_state_word {
+    /* one of enum restart_phase */
+    RESTART_PHASE = 0,
+    /* number of the kept view; 0: none */
+    RESTART_KEPT_VIEW = 1,
+    /* its members mask */
+    RESTART_KEPT_MEMBERS = 2,
+    /* 1 if a termination is kept, else 0 */
+    RESTART_KEPT_TERMINATION = 3,
+    /* 16 words: each shard's members mask in the kept view */
+    RESTART_KEPT_MASKS = 4,
+    /* 32 words: the kept termination, view and k for each shard */
+    RESTART_TERMINATION = 20,
+    /* mask of the nodes whose reports are held */
+    RESTART_HELD = 52,
+    /* mask of those that have fetched */
+    RESTART_FETCHED = 53,
+    /* mask of those that are prepared */
+    RESTART_PREPARED = 54,
+    /* the plan (not while gathering): number of the new view */
+    RESTART_PLAN_VIEW = 55,
+    /* its members mask */
+    RESTART_PLAN_MEMBERS = 56,
+    /* total of moves; a move is a node in a shard that it did not carry in the kept view */
+    RESTART_PLAN_MOVES = 57,
+    /* 16 words: each shard's members mask in the new view */
+    RESTART_PLAN_MASKS = 58,
+    /* 16 words: for each shard the node whose log is taken */
+    RESTART_PLAN_HOLDERS = 74,
+    /* 32 words: for each shard the target, up to which that log is taken, view and k */
+    RESTART_PLAN_TARGETS = 90,
+    /* zeros from here on */
+    RESTART_STATE_ZEROS = 122
+};
+
+enum restart_phase {
+    RESTART_GATHERING = 0,
+    RESTART_ORDERED = 1,
+    RESTART_PREPARING = 2,
+    RESTART_COMMITTED = 3
+};
+
+/* ---- Records of a message: word 0 of a record after the head is kind * 256 + shard ---- */
+
+enum restart_kind {
+    /* members mask, 0 */
+    RESTART_KIND_MEMBERS = 1,
+    /* a position: view, k */
+    RESTART_KIND_TERMINATION = 2,
+    /* reports: view, count */
+    RESTART_KIND_RUN = 3,
+    /* orders: node, 0 */
+    RESTART_KIND_HOLDER = 4,
+    /* orders: a position: view, k */
+    RESTART_KIND_CUT = 5
+};
+
+/* ---- Answers ----
+ * An answer is class * 16777216 + rest:
+ *   class 0   0: accepted.  number + 256 * index: refused (index is 0 so far)
+ *   class 1   accepted; the rest is a length in words
+ *   class 2   a plan stands in the state
+ *   class 3   a wait: 256 * reason + value
+ */
+
+enum restart_class { RESTART_PLAIN = 0, RESTART_LENGTH = 1, RESTART_PLAN = 2, RESTART_WAIT = 3 };
+
+#define RESTART_ACCEPTED UINT32_C(0)
+#define RESTART_CLASS_UNIT UINT32_C(16777216)
+
+static inline uint32_t restart_class_of(uint32_t answer)
+{
+    return answer / RESTART_CLASS_UNIT;
+}
+
+/* Whether the call was refused, with nothing changed. */
+static inline int restart_is_refusal(uint32_t answer)
+{
+    return answer != RESTART_ACCEPTED && restart_class_of(answer) == RESTART_PLAIN;
+}
+
+/* Whether decide has put a plan into the state. */
+static inline int restart_is_plan(uint32_t answer)
+{
+    return restart_class_of(answer) == RESTART_PLAN;
+}
+
+/* Whether decide waits. */
+static inline int restart_is_wait(uint32_t answer)
+{
+    return restart_class_of(answer) == RESTART_WAIT;
+}
+
+/* A refusal's number, enum restart_number; 0 of another answer. */
+static inline uint32_t restart_number_of(uint32_t answer)
+{
+    return restart_is_refusal(answer) ? answer % 256 : 0;
+}
+
+/* A refusal's index; 0 of another answer. */
+static inline uint32_t restart_index_of(uint32_t answer)
+{
+    return restart_is_refusal(answer) ? answer / 256 : 0;
+}
+
+/* A wait's reason, enum restart_reason; 0 of another answer. */
+static inline uint32_t restart_reason_of(uint32_t answer)
+{
+    return restart_is_wait(answer) ? answer % RESTART_CLASS_UNIT / 256 : 0;
+}
+
+/* A wait's shard (reason 4) or subgroup (reason 5); 0 of another answer. */
+static inline uint32_t restart_value_of(uint32_t answer)
+{
+    return restart_is_wait(answer) ? answer % 256 : 0;
+}
+
+/* The length in words of what was read or written; 0 of another answer. */
+static inline uint32_t restart_length_of(uint32_t answer)
+{
+    return restart_class_of(answer) == RESTART_LENGTH ? answer % RESTART_CLASS_UNIT : 0;
+}
+
+/* ---- Words in lent bytes ---- */
+
+/* Word `index` of the bytes. */
+static inline uint32_t restart_get_word(const uint8_t *bytes, size_t index)
+{
+    const uint8_t *at = bytes + 4 * index;
+    return (uint32_t)at[0] | (uint32_t)at[1] << 8 | (uint32_t)at[2] << 16 | (uint32_t)at[3] << 24;
+}
+
+/* Stores word `index`. */
+static inline void restart_put_word(uint8_t *bytes, size_t index, uint32_t word)
+{
+    uint8_t *at = bytes + 4 * index;
+    at[0] = (uint8_t)(word & 255);
+    at[1] = (uint8_t)(word >> 8 & 255);
+    at[2] = (uint8_t)(word >> 16 & 255);
+    at[3] = (uint8_t)(word >> 24);
+}
+
+/* ---- Settings and messages ---- */
+
+/*
+ * Whether settings are right.
+ * Answers 0, or number 2.
+ * Changes nothing.
+ */
+uint32_t restart_check_settings(const uint8_t *settings, size_t settings_len);
+
+/*
+ * Read a report or an order; a message does not say which of the two it is. Contents are words:
+ * node, view, members, then three words of each record of the chain, in the chain's order, then
+ * zeros to 512 words.
+ * Answers class 1 with the number of words before the zeros, 3 + 3 * records; or one of the
+ * numbers 1 (contents not 2048 bytes), 2, 5 to 11.
+ * Changes the contents.
+ */
+uint32_t restart_read_report(const uint8_t *settings, size_t settings_len, const uint8_t *message,
+                             size_t message_len, uint8_t *contents, size_t contents_len);
+uint32_t restart_read_order(const uint8_t *settings, size_t settings_len, const uint8_t *message,
+                            size_t message_len, uint8_t *contents, size_t contents_len);
+
+/*
+ * Write a report or an order from contents. Their length says how many records they have: it is
+ * 12 * (1 + records) bytes. The buffer then holds the records one after another and zeros to 512
+ * words. What is written is read back to the same contents.
+ * Answers class 1 with the message's length in words, 4 + 4 * records; or one of the numbers 1
+ * (buffer not 2048 bytes), 2, 5 (contents of another length, or more than 127 records), 6, 7, 9,
+ * 10, 11.
+ * Changes the buffer.
+ */
+uint32_t restart_write_report(const uint8_t *settings, size_t settings_len, const uint8_t *contents,
+                              size_t contents_len, uint8_t *buffer, size_t buffer_len);
+uint32_t restart_write_order(const uint8_t *settings, size_t settings_len, const uint8_t *contents,
+                             size_t contents_len, uint8_t *buffer, size_t buffer_len);
+
+/* ---- Events ----
+ * A restart is a state of 640 bytes and a desk of 65536. The caller keeps both between the calls,
+ * uses the same settings throughout and changes neither state nor desk itself. The desk has a slot
+ * of 2048 bytes for each node; before the first report its bytes may be any.
+ */
+
+/*
+ * Stores the fresh state: gathering, nothing held, no view kept.
+ * Answers 0, or number 3 (state not 640 bytes).
+ * Changes the state.
+ */
+uint32_t restart_fresh(uint8_t *state, size_t state_len);
+
+/*
+ * Takes a node's report, while gathering. The message is copied to the node's slot and the node is
+ * held; an older report of the node is replaced. A greater view than the kept one becomes the kept
+ * view, with its termination or none; an equal one adds its termination if none is kept.
+ * Answers 0, or one of the numbers 1 to 13.
+ * Changes state and desk.
+ */
+uint32_t restart_report(const uint8_t *settings, size_t settings_len, uint8_t *state,
+                        size_t state_len, uint8_t *desk, size_t desk_len, const uint8_t *message,
+                        size_t message_len);
+
+/*
+ * Gives up a held node. While gathering the node is no longer held. While ordered or preparing
+ * nothing is held any more, the plan and all marks go and gathering starts again: every machine
+ * has to report anew. Kept view and termination remain.
+ * Answers 0, or one of the numbers 1 to 4, 6, 14.
+ * Changes the state.
+ */
+uint32_t restart_drop(const uint8_t *settings, size_t settings_len, uint8_t *state,
+                      size_t state_len, const uint8_t *desk, size_t desk_len, uint32_t node);
+
+/*
+ * Decides, while gathering: a plan, or a wait with its reason. A plan leads to ordered and stands
+ * in the state. A wait changes nothing.
+ * Answers class 2 (a plan) or class 3 (a wait), or one of the numbers 1 to 4.
+ * Changes the state where there is a plan.
+ */
+uint32_t restart_decide(const uint8_t *settings, size_t settings_len, uint8_t *state,
+                        size_t state_len, const uint8_t *desk, size_t desk_len);
+
+/*
+ * Writes a held node's order, while ordered: the new view with its members, each shard's members
+ * and target, and for each shard that the node carries the holder and the node's cut. The node
+ * keeps its log up to the cut and fetches what the holder has after it, up to the target.
+ * Answers class 1 with the order's length in words, or one of the numbers 1 (desk or buffer) to 4,
+ * 6, 14.
+ * Changes the buffer: the order, then zeros.
+ */
+uint32_t restart_order(const uint8_t *settings, size_t settings_len, const uint8_t *state,
+                       size_t state_len, const uint8_t *desk, size_t desk_len, uint32_t node,
+                       uint8_t *buffer, size_t buffer_len);
+
+/*
+ * Marks a held node as having fetched what its order names, while ordered. When all held nodes are
+ * marked, preparing follows.
+ * Answers 0, or one of the numbers 1 to 4, 6, 14.
+ * Changes the state.
+ */
+uint32_t restart_fetched(const uint8_t *settings, size_t settings_len, uint8_t *state,
+                         size_t state_len, const uint8_t *desk, size_t desk_len, uint32_t node);
+
+/*
+ * Marks a held node as prepared (the new view and all that was fetched are on its disk), while
+ * preparing. When all held nodes are marked, the new view is committed; a committed state takes no
+ * event.
+ * Answers 0, or one of the numbers 1 to 4, 6, 14.
+ * Changes the state.
+ */
+uint32_t restart_prepared(const uint8_t *settings, size_t settings_len, uint8_t *state,
+                          size_t state_len, const uint8_t *desk, size_t desk_len, uint32_t node);
+
+#ifdef __cplusplus
+}
+#endif
+
+#endif

@@ -1,0 +1,89 @@
+/* The entry points behind one signature, so that a test can go through them. */
+#include "harness.h"
+
+#define PIECE(i) p[i].bytes, p[i].length
+
+static uint32_t call_check_settings(const struct piece *p, uint32_t node)
+{
+    (void)node;
+    return restart_check_settings(PIECE(0));
+}
+
+static uint32_t call_read_report(const struct piece *p, uint32_t node)
+{
+    (void)node;
+    return restart_read_report(PIECE(0), PIECE(1), PIECE(2));
+}
+
+static uint32_t call_read_order(const struct piece *p, uint32_t node)
+{
+    (void)node;
+    return restart_read_order(PIECE(0), PIECE(1), PIECE(2));
+}
+
+static uint32_t call_write_report(const struct piece *p, uint32_t node)
+{
+    (void)node;
+    return restart_write_report(PIECE(0), PIECE(1), PIECE(2));
+}
+
+static uint32_t call_write_order(const struct piece *p, uint32_t node)
+{
+    (void)node;
+    return restart_write_order(PIECE(0), PIECE(1), PIECE(2));
+}
+
+static uint32_t call_fresh(const struct piece *p, uint32_t node)
+{
+    (void)node;
+    return restart_fresh(PIECE(0));
+}
+
+static uint32_t call_report(const struct piece *p, uint32_t node)
+{
+    (void)node;
+    return restart_report(PIECE(0), PIECE(1), PIECE(2), PIECE(3));
+}
+
+static uint32_t call_drop(const struct piece *p, uint32_t node)
+{
+    return restart_drop(PIECE(0), PIECE(1), PIECE(2), node);
+}
+
+static uint32_t call_decide(const struct piece *p, uint32_t node)
+{
+    (void)node;
+    return restart_decide(PIECE(0), PIECE(1), PIECE(2));
+}
+
+static uint32_t call_order(const struct piece *p, uint32_t node)
+{
+    return restart_order(PIECE(0), PIECE(1), PIECE(2), node, PIECE(3));
+}
+
+static uint32_t call_fetched(const struct piece *p, uint32_t node)
+{
+    return restart_fetched(PIECE(0), PIECE(1), PIECE(2), node);
+}
+
+static uint32_t call_prepared(const struct piece *p, uint32_t node)
+{
+    return restart_prepared(PIECE(0), PIECE(1), PIECE(2), node);
+}
+
+const struct entry check_settings = {"restart_check_settings", 1, 0, call_check_settings};
+const struct entry read_report = {"restart_read_report", 3, 1u << 2, call_read_report};
+const struct entry read_order = {"restart_read_order", 3, 1u << 2, call_read_order};
+const struct entry write_report = {"restart_write_report", 3, 1u << 2, call_write_report};
+const struct entry write_order = {"restart_write_order", 3, 1u << 2, call_write_order};
+const struct entry fresh = {"restart_fresh", 1, 1u << 0, call_fresh};
+const struct entry report = {"restart_report", 4, 1u << 1 | 1u << 2, call_report};
+const struct entry drop = {"restart_drop", 3, 1u << 1, call_drop};
+const struct entry decide = {"restart_decide", 3, 1u << 1, call_decide};
+const struct entry order = {"restart_order", 4, 1u << 3, call_order};
+const struct entry fetched = {"restart_fetched", 3, 1u << 1, call_fetched};
+const struct entry prepared = {"restart_prepared", 3, 1u << 1, call_prepared};
+
+const struct entry *const entries[] = {&check_settings, &read_report, &read_order, &write_report,
+                                       &write_order,    &fresh,       &report,     &drop,
+                                       &decide,         &order,       &fetched,    &prepared};

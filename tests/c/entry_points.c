@@ -1,0 +1,242 @@
+/*
+ * Every entry point through the header's declaration, on document 01's case A: answers and words
+ * are written out by hand. Compiled as C and as C++.
+ */
+#include "world.h"
+
+#include <string.h>
+
+/* ---- The header's constants and small functions ---- */
+
+static void sizes(void)
+{
+    check_word("settings bytes", RESTART_SETTINGS_BYTES, 4 * RESTART_SETTINGS_WORDS);
+    check_word("settings words", RESTART_SETTINGS_WORDS, 4 + RESTART_NODES + RESTART_SHARDS);
+    check_word("state bytes", RESTART_STATE_BYTES, 4 * RESTART_STATE_WORDS);
+    check_word("desk bytes", RESTART_DESK_BYTES, 4 * RESTART_DESK_WORDS);
+    check_word("desk words", RESTART_DESK_WORDS, RESTART_NODES * RESTART_SLOT_WORDS);
+    check_word("slot bytes", RESTART_SLOT_BYTES, 4 * RESTART_SLOT_WORDS);
+    check_word("buffer bytes", RESTART_BUFFER_BYTES, 4 * RESTART_BUFFER_WORDS);
+    check_word("contents bytes", RESTART_CONTENTS_BYTES, 4 * RESTART_CONTENTS_WORDS);
+    check_word("message bytes", RESTART_MESSAGE_BYTES, 4 * RESTART_RECORD_WORDS * RESTART_RECORDS);
+}
+
+/* An answer, and what the header's functions must say of it. */
+struct taken {
+    uint32_t answer;
+    uint32_t kind; /* its class */
+    int refusal, plan, wait;
+    uint32_t number, index, reason, value, length;
+};
+
+static void answers(void)
+{
+    static const struct taken rows[] = {
+        {0, 0, 0, 0, 0, 0, 0, 0, 0, 0},
+        {9, 0, 1, 0, 0, 9, 0, 0, 0, 0},
+        {14 + 256 * 127, 0, 1, 0, 0, 14, 127, 0, 0, 0},
+        {16777216 + 512, 1, 0, 0, 0, 0, 0, 0, 0, 512},
+        {33554432, 2, 0, 1, 0, 0, 0, 0, 0, 0},
+        {50331648 + 256, 3, 0, 0, 1, 0, 0, 1, 0, 0},
+        {50331648 + 256 * 4 + 15, 3, 0, 0, 1, 0, 0, 4, 15, 0},
+    };
+    for (size_t i = 0; i < sizeof rows / sizeof rows[0]; i++) {
+        uint32_t answer = rows[i].answer;
+        check_word("class", restart_class_of(answer), rows[i].kind);
+        check_word("is a refusal", (uint32_t)restart_is_refusal(answer), (uint32_t)rows[i].refusal);
+        check_word("is a plan", (uint32_t)restart_is_plan(answer), (uint32_t)rows[i].plan);
+        check_word("is a wait", (uint32_t)restart_is_wait(answer), (uint32_t)rows[i].wait);
+        check_word("number", restart_number_of(answer), rows[i].number);
+        check_word("index", restart_index_of(answer), rows[i].index);
+        check_word("reason", restart_reason_of(answer), rows[i].reason);
+        check_word("value", restart_value_of(answer), rows[i].value);
+        check_word("length", restart_length_of(answer), rows[i].length);
+    }
+}
+
+static void words(void)
+{
+    static const uint8_t expected[12] = {9, 9, 9, 9, 1, 2, 3, 252, 9, 9, 9, 9};
+    uint8_t bytes[12];
+    memset(bytes, 9, sizeof bytes);
+    restart_put_word(bytes, 1, UINT32_C(252) * 16777216 + 3 * 65536 + 2 * 256 + 1);
+    check_bytes("a stored word", bytes, expected, sizeof expected);
+    check_word("a word read", restart_get_word(bytes, 1),
+               UINT32_C(252) * 16777216 + 3 * 65536 + 2 * 256 + 1);
+}
+
+/* ---- Settings and messages ---- */
+
+/* Checks that a buffer of 512 words holds these and zeros. */
+static void check_buffer(const char *what, const uint8_t *found, const uint32_t *words,
+                         size_t count)
+{
+    uint8_t expected[RESTART_BUFFER_BYTES];
+    memset(expected, 0, sizeof expected);
+    put_words(expected, words, count);
+    check_bytes(what, found, expected, sizeof expected);
+}
+
+/* Node 4's report in case A: its words and its contents. */
+static const uint32_t report_words[20] = {4, 7, 127, 1,  256, 5, 0,   2, 257, 82,
+                                          0, 3, 258, 32, 0,   4, 769, 7, 4,   0};
+static const uint32_t report_contents[15] = {4, 7,   127, 256, 5,   0, 257, 82,
+                                             0, 258, 32,  0,   769, 7, 4};
+
+/* Node 4's order: it carries shard 1, whose holder is node 1, and its cut is (7, 4). */
+static const uint32_t order_words[36] = {
+    4, 8, 63,  1, 256, 5, 0,   2, 257, 50, 0,    3, 258, 8, 0,    4, 512, 0,
+    0, 5, 513, 7, 5,   6, 514, 0, 0,   7,  1025, 1, 0,   8, 1281, 7, 4,   0,
+};
+static const uint32_t order_contents[27] = {
+    4, 8,   63, 256, 5,   0, 257, 50,   0, 258, 8,    0, 512, 0,
+    0, 513, 7,  5,   514, 0, 0,   1025, 1, 0,   1281, 7, 4,
+};
+
+static void messages(struct world *world)
+{
+    uint8_t message[4 * 36], contents[RESTART_CONTENTS_BYTES], buffer[RESTART_BUFFER_BYTES];
+    size_t length;
+
+    world_fresh(world);
+    check_word("right settings", restart_check_settings(world->settings, sizeof world->settings),
+               RESTART_ACCEPTED);
+
+    length = put_words(message, report_words, 20);
+    check_word("read a report",
+               restart_read_report(world->settings, sizeof world->settings, message, length,
+                                   contents, sizeof contents),
+               16777216 + 15);
+    check_buffer("contents of a report", contents, report_contents, 15);
+    check_word("write a report",
+               restart_write_report(world->settings, sizeof world->settings, contents, 4 * 15,
+                                    buffer, sizeof buffer),
+               16777216 + 20);
+    check_buffer("a written report", buffer, report_words, 20);
+
+    length = put_words(message, order_words, 36);
+    check_word("read an order",
+               restart_read_order(world->settings, sizeof world->settings, message, length,
+                                  contents, sizeof contents),
+               16777216 + 27);
+    check_buffer("contents of an order", contents, order_contents, 27);
+    check_word("write an order",
+               restart_write_order(world->settings, sizeof world->settings, contents, 4 * 27,
+                                   buffer, sizeof buffer),
+               16777216 + 36);
+    check_buffer("a written order", buffer, order_words, 36);
+
+    restart_put_word(world->settings, 0, 0);
+    check_word("no nodes", restart_check_settings(world->settings, sizeof world->settings),
+               RESTART_WRONG_SETTINGS);
+}
+
+/* ---- Events ---- */
+
+/* The parts of case A's state: view 7 is kept, and the plan. */
+static void put_kept(uint8_t *state)
+{
+    static const uint32_t masks[3] = {5, 82, 32};
+    restart_put_word(state, RESTART_KEPT_VIEW, 7);
+    restart_put_word(state, RESTART_KEPT_MEMBERS, 127);
+    put_words(state + 4 * RESTART_KEPT_MASKS, masks, 3);
+}
+
+static void put_plan(uint8_t *state)
+{
+    static const uint32_t masks[3] = {5, 50, 8};
+    static const uint32_t holders[3] = {0, 1, 5};
+    static const uint32_t targets[6] = {0, 0, 7, 5, 0, 0};
+    restart_put_word(state, RESTART_PLAN_VIEW, 8);
+    restart_put_word(state, RESTART_PLAN_MEMBERS, 63);
+    restart_put_word(state, RESTART_PLAN_MOVES, 2);
+    put_words(state + 4 * RESTART_PLAN_MASKS, masks, 3);
+    put_words(state + 4 * RESTART_PLAN_HOLDERS, holders, 3);
+    put_words(state + 4 * RESTART_PLAN_TARGETS, targets, 6);
+}
+
+/* Checks all words of a state after a report of case A; outside gathering it has the plan. */
+static void check_state(const char *what, const struct world *world, enum restart_phase phase,
+                        uint32_t held, uint32_t fetched_mask, uint32_t prepared_mask)
+{
+    uint8_t expected[RESTART_STATE_BYTES];
+    memset(expected, 0, sizeof expected);
+    put_kept(expected);
+    if (phase != RESTART_GATHERING)
+        put_plan(expected);
+    restart_put_word(expected, RESTART_PHASE, (uint32_t)phase);
+    restart_put_word(expected, RESTART_HELD, held);
+    restart_put_word(expected, RESTART_FETCHED, fetched_mask);
+    restart_put_word(expected, RESTART_PREPARED, prepared_mask);
+    check_bytes(what, world->state, expected, sizeof expected);
+}
+
+#define LENT                                                                                       \
+    world->settings, sizeof world->settings, world->state, sizeof world->state, world->desk,       \
+        sizeof world->desk
+
+static void reporting(struct world *world)
+{
+    static const uint8_t empty[RESTART_STATE_BYTES] = {0};
+    static uint8_t desk[RESTART_DESK_BYTES];
+    uint8_t message[RESTART_MESSAGE_BYTES];
+
+    world_fresh(world);
+    check_bytes("the fresh state", world->state, empty, sizeof empty);
+    check_word("no report: wait 1", restart_decide(LENT), 50331648 + 256);
+    memcpy(desk, world->desk, sizeof desk);
+    memset(desk + 4 * RESTART_SLOT_BYTES, 0, RESTART_SLOT_BYTES);
+    size_t length = put_words(message, report_words, 20);
+    memcpy(desk + 4 * RESTART_SLOT_BYTES, message, length);
+    check_word("a report", restart_report(LENT, message, length), RESTART_ACCEPTED);
+    check_state("the state after a report", world, RESTART_GATHERING, 16, 0, 0);
+    check_bytes("the desk after a report", world->desk, desk, sizeof desk);
+    check_word("one of seven: wait 2", restart_decide(LENT), 50331648 + 256 * 2);
+
+    world_gathered(world);
+    check_state("the state after six reports", world, RESTART_GATHERING, 63, 0, 0);
+    check_word("a drop", restart_drop(LENT, 4), RESTART_ACCEPTED);
+    check_state("the state after a drop", world, RESTART_GATHERING, 47, 0, 0);
+    check_word("a drop of what is not held", restart_drop(LENT, 4), RESTART_NOT_HELD);
+    check_word("the holder of shard 2", restart_drop(LENT, 5), RESTART_ACCEPTED);
+    check_word("shard 2 without holder: wait 4", restart_decide(LENT), 50331648 + 256 * 4 + 2);
+}
+
+static void carrying_out(struct world *world)
+{
+    uint8_t buffer[RESTART_BUFFER_BYTES];
+
+    world_ordered(world);
+    check_state("the state with a plan", world, RESTART_ORDERED, 63, 0, 0);
+    check_word("an order", restart_order(LENT, 4, buffer, sizeof buffer), 16777216 + 36);
+    check_buffer("node 4's order", buffer, order_words, 36);
+    check_word("fetched", restart_fetched(LENT, 3), RESTART_ACCEPTED);
+    check_state("the state with a mark", world, RESTART_ORDERED, 63, 8, 0);
+    check_word("fetched twice", restart_fetched(LENT, 3), RESTART_NOT_HELD);
+    check_word("a drop while ordered", restart_drop(LENT, 3), RESTART_ACCEPTED);
+    check_state("the state after it", world, RESTART_GATHERING, 0, 0, 0);
+
+    world_preparing(world);
+    check_state("the state with all fetched", world, RESTART_PREPARING, 63, 63, 0);
+    check_word("prepared", restart_prepared(LENT, 2), RESTART_ACCEPTED);
+    check_state("the state with a mark", world, RESTART_PREPARING, 63, 63, 4);
+    check_word("a drop while preparing", restart_drop(LENT, 0), RESTART_ACCEPTED);
+    check_state("the state after it", world, RESTART_GATHERING, 0, 0, 0);
+
+    world_committed(world);
+    check_state("the state with all prepared", world, RESTART_COMMITTED, 63, 63, 63);
+    check_word("prepared after commit", restart_prepared(LENT, 0), RESTART_WRONG_PHASE);
+    check_word("a drop after commit", restart_drop(LENT, 0), RESTART_WRONG_PHASE);
+}
+
+int main(void)
+{
+    static struct world world;
+    sizes();
+    answers();
+    words();
+    messages(&world);
+    reporting(&world);
+    carrying_out(&world);
+    return summary();
+}

@@ -1,0 +1,119 @@
+/*
+ * Stand-ins with one fault each, put in front of the library by `-include` and FAULT=n. They show
+ * that the tests find such faults; tests/c/run.sh names the test that must find each.
+ */
+#include <restart.h>
+
+#include <string.h>
+
+#define SETTINGS const uint8_t *settings, size_t settings_len
+#define STATE uint8_t *state, size_t state_len
+#define EVENT SETTINGS, STATE, const uint8_t *desk, size_t desk_len
+#define PASSED_ON settings, settings_len, state, state_len, desk, desk_len
+#define CONVERSION                                                                                 \
+    SETTINGS, const uint8_t *input, size_t input_len, uint8_t *output, size_t output_len
+
+#if FAULT == 1 /* a part word at the end is not seen */
+static inline uint32_t faulty(SETTINGS)
+{
+    return restart_check_settings(settings, settings_len / 4 * 4);
+}
+#define restart_check_settings faulty
+
+#elif FAULT == 2 /* an order is read as a report */
+static inline uint32_t faulty(CONVERSION)
+{
+    return restart_read_report(settings, settings_len, input, input_len, output, output_len);
+}
+#define restart_read_order faulty
+
+#elif FAULT == 3 /* the length has no class */
+static inline uint32_t faulty(CONVERSION)
+{
+    return restart_length_of(
+        restart_write_report(settings, settings_len, input, input_len, output, output_len));
+}
+#define restart_write_report faulty
+
+#elif FAULT == 4 /* the last word of the fresh state is left */
+static inline uint32_t faulty(STATE)
+{
+    uint32_t last = restart_get_word(state, RESTART_STATE_WORDS - 1);
+    uint32_t answer = restart_fresh(state, state_len);
+    restart_put_word(state, RESTART_STATE_WORDS - 1, last);
+    return answer;
+}
+#define restart_fresh faulty
+
+#elif FAULT == 5 /* a byte after the message is read */
+static inline uint32_t faulty(SETTINGS, STATE, uint8_t *desk, size_t desk_len,
+                              const uint8_t *message, size_t message_len)
+{
+    (void)*(const volatile uint8_t *)(message + message_len);
+    return restart_report(PASSED_ON, message, message_len);
+}
+#define restart_report faulty
+
+#elif FAULT == 6 /* row 14 before row 6 */
+static inline uint32_t faulty(EVENT, uint32_t node)
+{
+    uint32_t answer = restart_drop(PASSED_ON, node);
+    return answer == RESTART_WRONG_NODE ? (uint32_t)RESTART_NOT_HELD : answer;
+}
+#define restart_drop faulty
+
+#elif FAULT == 7 /* memory that is only read is written, with what it held */
+static inline uint32_t faulty(EVENT)
+{
+    *(volatile uint8_t *)(uintptr_t)settings = settings[0];
+    return restart_decide(PASSED_ON);
+}
+#define restart_decide faulty
+
+#elif FAULT == 8 /* a refused order clears the buffer */
+static inline uint32_t faulty(SETTINGS, const uint8_t *state, size_t state_len, const uint8_t *desk,
+                              size_t desk_len, uint32_t node, uint8_t *buffer, size_t buffer_len)
+{
+    uint32_t answer = restart_order(PASSED_ON, node, buffer, buffer_len);
+    if (restart_is_refusal(answer))
+        memset(buffer, 0, buffer_len);
+    return answer;
+}
+#define restart_order faulty
+
+#elif FAULT == 9 /* every held node is marked */
+static inline uint32_t faulty(EVENT, uint32_t node)
+{
+    uint32_t answer = restart_fetched(PASSED_ON, node);
+    if (answer == RESTART_ACCEPTED)
+        restart_put_word(state, RESTART_FETCHED, restart_get_word(state, RESTART_HELD));
+    return answer;
+}
+#define restart_fetched faulty
+
+#elif FAULT == 10 /* a byte after the state is written */
+static inline uint32_t faulty(EVENT, uint32_t node)
+{
+    *(volatile uint8_t *)(state + state_len) = 0;
+    return restart_prepared(PASSED_ON, node);
+}
+#define restart_prepared faulty
+
+#elif FAULT == 11 /* a wait marks the state */
+static inline uint32_t faulty(EVENT)
+{
+    uint32_t answer = restart_decide(PASSED_ON);
+    if (restart_is_wait(answer))
+        restart_put_word(state, RESTART_STATE_ZEROS, restart_reason_of(answer));
+    return answer;
+}
+#define restart_decide faulty
+
+#elif FAULT == 12 /* any desk that is long enough is taken */
+static inline uint32_t faulty(EVENT)
+{
+    return restart_decide(settings, settings_len, state, state_len, desk,
+                          desk_len > RESTART_DESK_BYTES ? RESTART_DESK_BYTES : desk_len);
+}
+#define restart_decide faulty
+#endif

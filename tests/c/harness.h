@@ -1,0 +1,60 @@
+/* What the tests in C share: counting, and calls on memory between pages that nobody may touch. */
+#ifndef HARNESS_H
+#define HARNESS_H
+
+#include <restart.h>
+
+#ifdef __cplusplus
+extern "C" {
+#endif
+
+/* Counts a check, and prints it if it failed. */
+void check_word(const char *what, uint32_t found, uint32_t expected);
+void check_bytes(const char *what, const uint8_t *found, const uint8_t *expected, size_t length);
+
+/* Prints `N passed, M failed`; what main returns. */
+int summary(void);
+
+/* A piece to be lent: bytes and their length. */
+struct piece {
+    uint8_t *bytes;
+    size_t length;
+};
+
+enum { MOST_PIECES = 4 };
+
+/* An entry point: its pieces in order, which of them it writes, and whether it takes a node. */
+struct entry {
+    const char *name;
+    unsigned pieces;
+    unsigned written; /* bit i: piece i */
+    uint32_t (*call)(const struct piece *pieces, uint32_t node);
+};
+
+extern const struct entry check_settings, read_report, read_order, write_report, write_order;
+extern const struct entry fresh, report, drop, decide, order, fetched, prepared;
+
+/* All of them. */
+extern const struct entry *const entries[];
+enum { ENTRIES = 12 };
+
+/*
+ * Calls with every piece in pages of its own between two pages without access; a piece that the
+ * call does not write is read-only. Bit i of `last` puts piece i against the page after it, else
+ * against the page before it. Then checks that no byte around a piece has changed and, if the call
+ * was refused or waits, no byte of a piece. What the call wrote is copied back. Touching another
+ * byte ends the program with a line that names the call.
+ */
+uint32_t call_between(const struct entry *entry, const struct piece *pieces, uint32_t node,
+                      unsigned last);
+
+/* Calls at both ends and checks that the answer is this one. What the second call wrote is left in
+ * the pieces. */
+void check_call(const struct entry *entry, const struct piece *pieces, uint32_t node,
+                uint32_t expected);
+
+#ifdef __cplusplus
+}
+#endif
+
+#endif

@@ -1,0 +1,251 @@
+/*
+ * The numbers in their places. Each call starts with everything wrong at once and is mended row by
+ * row, so that its number climbs through the rows of document 01 that concern it; then it is
+ * accepted. All memory lies between pages without access.
+ */
+#include "world.h"
+
+#include <string.h>
+
+#define COUNT(array) (sizeof(array) / sizeof((array)[0]))
+
+static struct world world;
+static struct piece pieces[MOST_PIECES];
+static uint8_t buffer[RESTART_BUFFER_BYTES];
+
+/* A word that is wrong, its right value, and the number while it is wrong. */
+struct fault {
+    size_t word;
+    uint32_t wrong, right;
+    uint32_t number;
+};
+
+/* Climbs through the faults of the words in a piece. Of two faults of one word the first is mended
+ * to the second. */
+static void climb(const struct entry *entry, struct piece piece, const struct fault *faults,
+                  size_t count)
+{
+    for (size_t i = count; i-- > 0;)
+        restart_put_word(piece.bytes, faults[i].word, faults[i].wrong);
+    for (size_t i = 0; i < count; i++) {
+        check_call(entry, pieces, 0, faults[i].number);
+        restart_put_word(piece.bytes, faults[i].word, faults[i].right);
+    }
+}
+
+/* ---- Reading and writing: rows 1, 2, 5 and then those of the words ---- */
+
+static void message_call(const struct entry *entry, const uint32_t *words, size_t count,
+                         size_t wrong_count, const struct fault *faults, size_t fault_count,
+                         uint32_t accepted)
+{
+    uint8_t input[RESTART_MESSAGE_BYTES];
+    world_fresh(&world);
+    pieces[0] = (struct piece){world.settings, sizeof world.settings};
+    pieces[1] = (struct piece){input, 4 * wrong_count};
+    pieces[2] = (struct piece){buffer, sizeof buffer - 4};
+    memset(buffer, 0xEE, sizeof buffer);
+    put_words(input, words, count);
+    restart_put_word(world.settings, 0, 0);
+    restart_put_word(input, 0, 7);
+    check_call(entry, pieces, 0, 1);
+    pieces[2].length = sizeof buffer;
+    check_call(entry, pieces, 0, 2);
+    restart_put_word(world.settings, 0, 7);
+    check_call(entry, pieces, 0, 5);
+    pieces[1].length = 4 * count;
+    climb(entry, pieces[1], faults, fault_count);
+    check_call(entry, pieces, 0, accepted);
+}
+
+static void messages(void)
+{
+    static const uint32_t report_words[] = {4, 7, 127, 1,  256, 5, 0,   2, 257, 82,
+                                            0, 3, 258, 32, 0,   4, 769, 7, 4,   0};
+    static const struct fault report_faults[] = {
+        {0, 7, 4, 6},          {1, 0, 7, 7},  {11, 2, 3, 8},
+        {16, 9 * 256, 769, 9}, {5, 0, 5, 10}, {18, 0, 4, 11},
+    };
+    static const uint32_t order_words[] = {
+        4, 8, 63,  1, 256, 5, 0,   2, 257, 50, 0,    3, 258, 8, 0,    4, 512, 0,
+        0, 5, 513, 7, 5,   6, 514, 0, 0,   7,  1025, 1, 0,   8, 1281, 7, 4,   0,
+    };
+    static const struct fault order_faults[] = {
+        {0, 7, 4, 6},   {1, 1, 8, 7},   {11, 2, 3, 8},  {14, 1, 0, 9},
+        {5, 69, 5, 10}, {29, 6, 1, 11}, {33, 8, 7, 11},
+    };
+    message_call(&read_report, report_words, COUNT(report_words), 6, report_faults,
+                 COUNT(report_faults), 16777216 + 15);
+    message_call(&read_order, order_words, COUNT(order_words), 6, order_faults, COUNT(order_faults),
+                 16777216 + 27);
+}
+
+static void contents(void)
+{
+    static const uint32_t report_contents[] = {4, 7,   127, 256, 5,   0, 257, 82,
+                                               0, 258, 32,  0,   769, 7, 4};
+    static const struct fault report_faults[] = {
+        {0, 7, 4, 6}, {1, 4294967295, 7, 7}, {12, 9 * 256, 769, 9}, {4, 0, 5, 10}, {14, 0, 4, 11},
+    };
+    static const uint32_t order_contents[] = {
+        4, 8,   63, 256, 5,   0, 257, 50,   0, 258, 8,    0, 512, 0,
+        0, 513, 7,  5,   514, 0, 0,   1025, 1, 0,   1281, 7, 4,
+    };
+    static const struct fault order_faults[] = {
+        {0, 7, 4, 6}, {1, 1, 8, 7}, {11, 1, 0, 9}, {4, 69, 5, 10}, {22, 6, 1, 11}, {25, 8, 7, 11},
+    };
+    message_call(&write_report, report_contents, COUNT(report_contents), 13, report_faults,
+                 COUNT(report_faults), 16777216 + 20);
+    message_call(&write_order, order_contents, COUNT(order_contents), 13, order_faults,
+                 COUNT(order_faults), 16777216 + 36);
+}
+
+/* ---- Events ---- */
+
+typedef void phase(struct world *);
+
+/* Rows 1 to 4 of an event: the desk's length, the settings, a held node from N up, and the event in
+ * a phase that is not its own. */
+static void first_rows(const struct entry *entry, phase *other, phase *own, uint32_t node)
+{
+    own(&world);
+    lend_world(pieces, &world);
+    uint32_t held = restart_get_word(world.state, RESTART_HELD);
+    pieces[2].length -= 4;
+    restart_put_word(world.settings, 0, 0);
+    restart_put_word(world.state, RESTART_HELD, held | 512);
+    check_call(entry, pieces, node, 1);
+    pieces[2].length += 4;
+    check_call(entry, pieces, node, 2);
+    restart_put_word(world.settings, 0, 7);
+    check_call(entry, pieces, node, 3);
+    other(&world);
+    check_call(entry, pieces, node, 4);
+    own(&world);
+}
+
+/* Nodes 0 to 5 are held; node 6 is below N and is not. */
+static void node_rows(const struct entry *entry, uint32_t accepted)
+{
+    check_call(entry, pieces, 7, 6);
+    check_call(entry, pieces, 4294967295, 6);
+    check_call(entry, pieces, 6, 14);
+    check_call(entry, pieces, 3, accepted);
+}
+
+/* View 7 is kept with a termination: (0, 0), (7, 5), (0, 0). */
+static void terminated(struct world *to)
+{
+    static const uint32_t words[] = {
+        0, 7, 127, 1, 256, 5, 0,   2, 257, 82, 0,   3, 258, 32,
+        0, 4, 512, 0, 0,   5, 513, 7, 5,   6,  514, 0, 0,   0,
+    };
+    uint8_t message[sizeof words];
+    world_fresh(to);
+    check_word("a report with a termination",
+               restart_report(to->settings, sizeof to->settings, to->state, sizeof to->state,
+                              to->desk, sizeof to->desk, message,
+                              put_words(message, words, COUNT(words))),
+               RESTART_ACCEPTED);
+}
+
+static void reports(void)
+{
+    static const uint32_t words[] = {
+        3,   7, 127, 1, 256, 5, 0, 2, 257, 82, 0, 3, 258, 32, 0, 4,
+        512, 0, 0,   5, 513, 7, 5, 6, 514, 0,  0, 7, 769, 7,  1, 0,
+    };
+    static const struct fault faults[] = {
+        {0, 7, 3, 6},   {1, 0, 7, 7},   {11, 2, 3, 8},  {28, 9 * 256, 769, 9},
+        {5, 0, 13, 10}, {30, 0, 1, 11}, {5, 13, 5, 12}, {22, 4, 5, 13},
+    };
+    uint8_t message[sizeof words];
+    put_words(message, words, COUNT(words));
+    restart_put_word(message, 0, 7);
+    pieces[3] = (struct piece){message, 24};
+    first_rows(&report, world_committed, terminated, 0);
+    check_call(&report, pieces, 0, 5);
+    pieces[3].length = sizeof message;
+    climb(&report, pieces[3], faults, COUNT(faults));
+    check_call(&report, pieces, 0, RESTART_ACCEPTED);
+}
+
+static void drops(void)
+{
+    first_rows(&drop, world_committed, world_gathered, 7);
+    node_rows(&drop, RESTART_ACCEPTED);
+    check_call(&drop, pieces, 3, 14);
+    world_ordered(&world);
+    node_rows(&drop, RESTART_ACCEPTED);
+    world_preparing(&world);
+    node_rows(&drop, RESTART_ACCEPTED);
+}
+
+static void orders(void)
+{
+    memset(buffer, 0xEE, sizeof buffer);
+    pieces[3] = (struct piece){buffer, sizeof buffer};
+    first_rows(&order, world_preparing, world_ordered, 7);
+    pieces[3].length -= 4;
+    restart_put_word(world.settings, 0, 0);
+    check_call(&order, pieces, 7, 1);
+    pieces[3].length += 4;
+    check_call(&order, pieces, 7, 2);
+    restart_put_word(world.settings, 0, 7);
+    node_rows(&order, 16777216 + 36);
+}
+
+static void marks(void)
+{
+    first_rows(&fetched, world_gathered, world_ordered, 7);
+    node_rows(&fetched, RESTART_ACCEPTED);
+    check_call(&fetched, pieces, 3, 14);
+    first_rows(&prepared, world_ordered, world_preparing, 7);
+    node_rows(&prepared, RESTART_ACCEPTED);
+    check_call(&prepared, pieces, 3, 14);
+}
+
+/* ---- Decisions: cases B, D, E, F, I of document 01, and A ---- */
+
+static void check_wait(uint32_t reason, uint32_t value)
+{
+    check_call(&decide, pieces, 0, 50331648 + 256 * reason + value);
+}
+
+static void decisions(void)
+{
+    first_rows(&decide, world_ordered, world_gathered, 0);
+    world_fresh(&world);
+    check_wait(1, 0);
+    world_gathered(&world);
+    restart_put_word(world.state, RESTART_HELD, 7);
+    check_wait(2, 0);
+    world_gathered(&world);
+    restart_put_word(world.settings, 2, 7);
+    check_wait(3, 0);
+    world_gathered(&world);
+    restart_put_word(world.state, RESTART_HELD, 31);
+    check_wait(4, 2);
+    world_gathered(&world);
+    restart_put_word(world.settings, 11, 3);
+    check_wait(5, 0);
+    /* Shard 1 alone in subgroup 3, and no held node in failure set 2. */
+    world_gathered(&world);
+    restart_put_word(world.settings, 9, 1);
+    restart_put_word(world.settings, 12, 3 * 256 + 3);
+    check_wait(5, 3);
+    world_gathered(&world);
+    check_call(&decide, pieces, 0, 33554432);
+}
+
+int main(void)
+{
+    messages();
+    contents();
+    reports();
+    drops();
+    orders();
+    marks();
+    decisions();
+    return summary();
+}
