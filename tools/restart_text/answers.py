@@ -1,0 +1,95 @@
+"""What `restart` prints: a plan, a wait or a number. And running it."""
+import re
+import subprocess
+from dataclasses import dataclass
+
+from . import words
+
+
+class BadAnswer(Exception):
+    """Lines that `restart` does not print, or a program that does not run."""
+
+
+@dataclass(frozen=True)
+class Placed:
+    """A shard of a plan."""
+
+    holder: int
+    target: tuple
+    members: frozenset
+
+
+@dataclass(frozen=True)
+class Plan:
+    view: int
+    moves: int
+    shards: tuple  # of Placed
+
+
+@dataclass(frozen=True)
+class Wait:
+    reason: int
+    value: int | None  # the shard of reason 4, the subgroup of reason 5
+
+
+@dataclass(frozen=True)
+class Number:
+    number: int
+
+
+SHARD = re.compile(r"shard (\d+) holder (\d+) target (\d+) (\d+) members((?: \d+)+)")
+
+
+def parse(text):
+    lines = text.splitlines()
+    if not lines:
+        raise BadAnswer("the answer is empty")
+    if len(lines) == 1:
+        return one_line(lines[0])
+    view, moves = re.fullmatch(r"view (\d+)", lines[0]), re.fullmatch(r"moves (\d+)", lines[1])
+    if not view or not moves:
+        raise BadAnswer("expected 'view NUMBER' and 'moves NUMBER', found '%s' and '%s'" % tuple(lines[:2]))
+    shards = tuple(placed(number, line) for number, line in enumerate(lines[2:]))
+    return Plan(int(view[1]), int(moves[1]), shards)
+
+
+def one_line(line):
+    wait = re.fullmatch(r"wait ([1-3])|wait ([45]) (\d+)", line)
+    number = re.fullmatch(r"number (\d+)", line)
+    if number:
+        return Number(int(number[1]))
+    if wait:
+        return Wait(int(wait[1]), None) if wait[1] else Wait(int(wait[2]), int(wait[3]))
+    raise BadAnswer("expected a plan, 'wait REASON' or 'number NUMBER', found '%s'" % line)
+
+
+def placed(number, line):
+    found = SHARD.fullmatch(line)
+    if not found or int(found[1]) != number:
+        raise BadAnswer("expected 'shard %d holder NODE target VIEW UPDATE members NODES', found '%s'" % (number, line))
+    members = frozenset(map(int, found[5].split()))
+    return Placed(int(found[2]), (int(found[3]), int(found[4])), members)
+
+
+def run(program, blocks):
+    """What the program prints for these blocks."""
+    try:
+        done = subprocess.run([program], input=words.joined(blocks), capture_output=True, check=False)
+    except OSError as error:
+        raise BadAnswer("%s does not run: %s" % (program, error.strerror)) from None
+    if done.returncode != 0:
+        raise BadAnswer("%s ended with status %d" % (program, done.returncode))
+    return done.stdout.decode("ascii", "replace")
+
+
+def block_at_fault(program, blocks):
+    """The number of the first block that the program refuses: it refuses the input cut off after this block, and no shorter one.
+    Refusals end the run, so longer ones are refused as well and halving finds it."""
+    low, high = 0, max(len(blocks) - 1, 0)
+    while low < high:
+        middle = (low + high) // 2
+        if isinstance(parse(run(program, blocks[: middle + 1])), Number):
+            high = middle
+        else:
+            low = middle + 1
+    return low

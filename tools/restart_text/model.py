@@ -1,0 +1,79 @@
+"""What the planner's words mean: settings, views, reports and orders as plain values.
+
+A node is a machine. Nodes stand in frozensets of their numbers. A position in a log is a pair (view, update); START is before all
+updates and the end of an empty log. A run is a pair (view, count): the log holds updates 1 to count of that view."""
+from dataclasses import dataclass
+
+MOST_NODES, MOST_SETS, MOST_SHARDS, SUBGROUPS = 32, 16, 16, 4
+MOST_RECORDS = 128
+GREATEST = 2**32 - 1
+START = (0, 0)
+
+
+@dataclass(frozen=True)
+class Shard:
+    """A shard's place in the settings: its subgroup, and how many members from different failure sets it needs."""
+
+    subgroup: int
+    needs: int
+
+
+@dataclass(frozen=True)
+class Settings:
+    failure_sets: int
+    least: int
+    set_of: tuple  # each node's failure set
+    shards: tuple  # of Shard
+
+    @property
+    def nodes(self):
+        return frozenset(range(len(self.set_of)))
+
+    def shards_of(self, subgroup):
+        return [number for number, shard in enumerate(self.shards) if shard.subgroup == subgroup]
+
+    def nodes_of(self, failure_set):
+        return frozenset(node for node in self.nodes if self.set_of[node] == failure_set)
+
+
+@dataclass(frozen=True)
+class View:
+    """A view: its number, its members, and each shard's members."""
+
+    number: int
+    members: frozenset
+    shards: tuple  # of frozensets
+
+
+@dataclass(frozen=True)
+class Report:
+    node: int
+    view: View
+    termination: tuple | None  # each shard's position
+    runs: tuple  # each shard's runs, ascending by view
+
+    def end(self, shard):
+        """The last position of the shard's log."""
+        return self.runs[shard][-1] if self.runs[shard] else START
+
+    def has(self, shard, position):
+        """Whether the shard's log has the update at this position; every log has START."""
+        return position == START or any(view == position[0] and position[1] <= count for view, count in self.runs[shard])
+
+
+@dataclass(frozen=True)
+class Order:
+    node: int
+    view: View
+    targets: tuple  # each shard's position
+    holders: dict  # the holder of each shard that the node carries
+    cuts: dict  # and the node's cut there
+
+
+class Refused(Exception):
+    """Words that the planner refuses: the number of the row in document 01's table, and what is wrong, in words."""
+
+    def __init__(self, number, why):
+        super().__init__("number %d: %s" % (number, why))
+        self.number = number
+        self.why = why

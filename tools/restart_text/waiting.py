@@ -1,0 +1,92 @@
+"""A wait in words: which condition fails, by counting, and what would cure it."""
+from .gathering import shortage
+from .model import START
+from .printing import numbers
+from .sentences import counted, listed, machines, update
+
+
+def wait_lines(gathered, reason, value):
+    """A sentence that says what fails, then what to do."""
+    return [no_report, no_majority, too_few, no_holder, no_placement][reason - 1](gathered, value)
+
+
+def no_report(gathered, _):
+    return ["No machine has reported, so no view is known.",
+            "To do: bring machines back and give their reports."]
+
+
+def no_majority(gathered, _):
+    kept = gathered.kept
+    held, missing = kept.members & gathered.held, kept.members - gathered.held
+    more = len(kept.members) // 2 + 1 - len(held)
+    return ["%d of the %s of view %d are held (%s); more than half are needed, so at least %d."
+            % (len(held), counted(len(kept.members), "member"), kept.number, machines(held), len(held) + more),
+            "To do: bring back %s." % some(more, missing)]
+
+
+def too_few(gathered, _):
+    least, held = gathered.settings.least, len(gathered.held)
+    return ["%s held; the least group size is %d." % (counted(held, "machine") + (" is" if held == 1 else " are"), least),
+            "To do: bring back %s. Members of view %d or not, all count." % (some(least - held, gathered.absent), gathered.kept.number)]
+
+
+def some(count, nodes):
+    """So many of these machines, of which there are enough."""
+    return machines(nodes) if count == len(nodes) else "at least %d more of %s" % (count, machines(nodes))
+
+
+def no_holder(gathered, shard):
+    kept, members = gathered.kept, gathered.kept.shards[shard]
+    absent, wanted = members - gathered.held, "a report of view %d%s" % (kept.number, wanted_update(gathered, shard))
+    lines = ["Shard %d has no machine to take its log from. Its members in view %d: %s." % (shard, kept.number, machines(members))]
+    for node in sorted(members & gathered.held):
+        number = gathered.reports[node].view.number
+        if number != kept.number:
+            lines.append("Machine %d is back but reported view %d, so its log of this shard is not used." % (node, number))
+    if gathered.candidates(shard):
+        lines += no_such_update(gathered, shard)
+    if absent:
+        return lines + ["Absent: %s." % machines(absent), "To do: bring back %s with %s." % (machines(absent, "or"), wanted)]
+    return lines + ["All members of the shard are back, so waiting will not help.",
+                    "To do: look at the disks of %s for %s." % (machines(members), wanted)]
+
+
+def no_such_update(gathered, shard):
+    """With a kept termination: who reported the kept view, and where their logs end."""
+    lines = ["The termination, first reported by machine %d, ends this shard at %s. No log that may be used has it:"
+             % (gathered.termination_from, update(gathered.termination[shard]))]
+    return lines + ["  machine %d: %s" % (report.node, runs(report.runs[shard])) for report in gathered.candidates(shard)]
+
+
+def runs(log):
+    return "runs " + ", ".join("view %d updates 1 to %d" % run for run in log) if log else "empty log"
+
+
+def wanted_update(gathered, shard):
+    """What a log must have besides, where a termination is kept."""
+    target = gathered.termination[shard] if gathered.termination else START
+    return " whose log of shard %d has %s" % (shard, update(target)) if target != START else ""
+
+
+def no_placement(gathered, subgroup):
+    short, settings = shortage(gathered, subgroup), gathered.settings
+    count = len(short.shards)
+    need = "Shard %s needs %s" if count == 1 else "Shards %s together need %s"
+    need %= (listed(short.shards), counted(short.needed, "machine"))
+    lines = ["Subgroup %d has no valid placement. %s, and a failure set can give each shard only one:" % (subgroup, need)]
+    for failure_set, given in short.given.items():
+        nodes = settings.nodes_of(failure_set)
+        lack = ", lacks %d" % (count - given) if given < count else ""
+        lines.append("  failure set %d can give %d%s: held %s, absent %s"
+                     % (failure_set, given, lack, numbers(nodes & gathered.held), numbers(nodes - gathered.held)))
+    lines.append("That makes %d of %d." % (sum(short.given.values()), short.needed))
+    return lines + [placement_cure(settings, short)]
+
+
+def placement_cure(settings, short):
+    if short.spare is None:
+        return "To do: change the settings. They ask for more than the machines can give, even with all of them back."
+    if short.alone:
+        sets = sorted({settings.set_of[node] for node in short.alone})
+        return "To do: bring back %s (failure set %s)." % (machines(short.alone, "or"), listed(sets, "or"))
+    return "To do: bring back %d machines, for instance %s; fewer will not do." % (len(short.spare), machines(short.spare))

@@ -1,0 +1,25 @@
+"""Run the tests of restart-text: python3 tools/tests/run.py [PROGRAM]. PROGRAM is the program restart to test with; without it
+the first that has been built. Closes with one line `N passed, M failed`."""
+import os
+import sys
+import unittest
+
+HERE = os.path.dirname(os.path.abspath(__file__))
+
+
+def main():
+    if len(sys.argv) > 1:
+        os.environ["RESTART_PROGRAM"] = os.path.abspath(sys.argv[1])
+    sys.path.insert(0, HERE)
+    import support
+
+    print("program under test: %s" % os.path.relpath(support.program(), support.ROOT), flush=True)
+    result = unittest.TextTestRunner(stream=sys.stdout, verbosity=0).run(unittest.defaultTestLoader.discover(HERE))
+    failed = len({getattr(test, "test_case", test).id() for test, _ in result.failures + result.errors})
+    passed = result.testsRun - failed
+    print("%d passed, %d failed" % (passed, failed), flush=True)
+    return 0 if failed == 0 and passed > 0 else 1
+
+
+if __name__ == "__main__":
+    sys.exit(main())

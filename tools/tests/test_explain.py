@@ -1,0 +1,267 @@
+"""Explanations of document 01's cases, of every refusal, and of answers that do not fit."""
+import unittest
+
+import support
+from restart_text import answers, inputs
+from restart_text.explaining import explain
+
+A = support.example("a")
+
+
+def without(text, *nodes):
+    """The text without the reports of these machines."""
+    parts = text.split("\n\n")
+    return "\n\n".join(part for part in parts if not any(part.startswith("report node %d " % node) for node in nodes)) + "\n"
+
+
+def explained(given, answer):
+    """The explanation of what the program under test answers, which must be this answer."""
+    printed = answers.run(support.program(), given.blocks)
+    if printed != answer:
+        raise AssertionError("expected %r, the program printed %r" % (answer, printed))
+    parsed = answers.parse(printed)
+    fault = answers.block_at_fault(support.program(), given.blocks) if isinstance(parsed, answers.Number) else None
+    lines, agrees = explain(given, parsed, fault)
+    if not agrees:
+        raise AssertionError("\n".join(lines))
+    return "\n".join(lines)
+
+
+class Cases(unittest.TestCase):
+    def says(self, text, answer, *pieces):
+        told = explained(support.given(text), answer)
+        for piece in pieces:
+            self.assertIn(piece, told)
+        return told
+
+    def test_case_a(self):
+        self.says(
+            A,
+            support.ANSWER_A,
+            "Held: 0 1 2 3 4 5. Absent: 6.\n",
+            "Plan: new view 8 after view 7, 2 moves.\n",
+            "shard  subgroup  needs  holder  target  members  stay  move in  leave  absent\n"
+            "0      0         2      0       (0, 0)  0 2      0 2   -        -      -\n"
+            "1      0         3      1       (7, 5)  1 4 5    1 4   5        -      6\n"
+            "2      0         1      5       (0, 0)  3        -     3        5      -\n",
+            "  machine 3 (failure set 1) goes to shard 2, had no shard of this subgroup\n"
+            "  machine 5 (failure set 2) goes to shard 1, comes from shard 2\n",
+            "  shard 1 up to (7, 5), from machine 1\n"
+            "    machine 1  log ends at (7, 5)  cut (7, 5)  keeps all    fetches nothing\n"
+            "    machine 4  log ends at (7, 4)  cut (7, 4)  keeps all    fetches 1 update\n"
+            "    machine 5  log ends at (0, 0)  cut (0, 0)  has nothing  fetches 5 updates\n"
+            "  shards 0 2: no updates, nothing to fetch",
+        )
+
+    def test_case_b(self):
+        self.says(
+            support.example("b"),
+            "wait 2\n",
+            "Waiting, reason 2.\n"
+            "3 of the 7 members of view 7 are held (machines 0, 1 and 2); more than half are needed, so at least 4.\n"
+            "To do: bring back at least 1 more of machines 3, 4, 5 and 6.\n",
+            "Not met either, as things stand:\nReason 3.\n3 machines are held; the least group size is 4.\n",
+        )
+
+    def test_case_c(self):
+        """Half of six members is not more than half."""
+        six = A.replace("members 0-6", "members 0-5").replace("shard 1 members 1 4 6", "shard 1 members 1 4")
+        self.says(
+            without(six, 0, 1, 2),
+            "wait 2\n",
+            "3 of the 6 members of view 7 are held (machines 3, 4 and 5); more than half are needed, so at least 4.\n"
+            "To do: bring back at least 1 more of machines 0, 1 and 2.\n",
+        )
+        self.says(without(six, 0, 2), "wait 4 0\n", "To do: bring back machine 0 or 2 with a report of view 7.")
+
+    def test_case_d(self):
+        told = self.says(without(A, *range(6)), "wait 1\n", "Waiting, reason 1.\nNo machine has reported, so no view is known.\n")
+        self.assertNotIn("Kept view", told)
+
+    def test_case_e(self):
+        told = self.says(
+            A.replace("least group size 4", "least group size 7"),
+            "wait 3\n",
+            "Waiting, reason 3.\n6 machines are held; the least group size is 7.\n"
+            "To do: bring back machine 6. Members of view 7 or not, all count.",
+        )
+        self.assertNotIn("Not met either", told)
+
+    def test_case_f(self):
+        self.says(
+            support.example("f"),
+            "wait 4 2\n",
+            "Waiting, reason 4.\nShard 2 has no machine to take its log from. Its members in view 7: machine 5.\nAbsent: machine 5.\n"
+            "To do: bring back machine 5 with a report of view 7.\n",
+        )
+
+    def test_case_i(self):
+        self.says(
+            support.example("i"),
+            "wait 5 0\n",
+            "Subgroup 0 has no valid placement. Shards 0 and 1 together need 6 machines,"
+            " and a failure set can give each shard only one:\n"
+            "  failure set 0 can give 2: held 0 1, absent none\n"
+            "  failure set 1 can give 2: held 2 3 4, absent none\n"
+            "  failure set 2 can give 1, lacks 1: held 5, absent 6\n"
+            "That makes 5 of 6.\nTo do: bring back machine 6 (failure set 2).",
+        )
+
+    def test_settings_that_no_machine_can_meet(self):
+        greedy = A.replace("subgroup 0 needs 1", "subgroup 0 needs 3").replace("subgroup 0 needs 2", "subgroup 0 needs 3")
+        self.says(greedy, "wait 5 0\n",
+                  "To do: change the settings. They ask for more than the machines can give, even with all of them back.")
+
+    def test_a_stale_member(self):
+        text = A.replace("report node 5 view 7", "report node 5 view 6")
+        self.says(text, "wait 4 2\n", "Older views: machine 5 reported view 6.\n",
+                  "Machine 5 is back but reported view 6, so its log of this shard is not used.\n"
+                  "All members of the shard are back, so waiting will not help.\n")
+
+    def test_a_termination_that_no_log_has(self):
+        ending = "".join("termination shard %d view %d update %d\n" % row for row in ((0, 0, 0), (1, 7, 6), (2, 0, 0)))
+        told = self.says(
+            A + ending,
+            "wait 4 1\n",
+            "The termination, first reported by machine 5, ends this shard at update 6 of view 7. No log that may be used has it:\n"
+            "  machine 1: runs view 7 updates 1 to 5\n  machine 4: runs view 7 updates 1 to 4\nAbsent: machine 6.\n"
+            "To do: bring back machine 6 with a report of view 7 whose log of shard 1 has update 6 of view 7.",
+        )
+        self.assertIn("a termination is kept", told)
+
+    def test_cuts_of_cases_g_and_h(self):
+        """Case H in a plan: the holder has (5, 3), (7, 2); machine 4 ends at (6, 9), machine 5 at (5, 2)."""
+        runs = {"count 5": "run shard 1 view 5 count 3\nrun shard 1 view 7 count 2", "count 4": "run shard 1 view 6 count 9"}
+        text = A
+        for old, new in runs.items():
+            text = text.replace("run shard 1 view 7 " + old, new)
+        text = text.rstrip() + "\nrun shard 1 view 5 count 2\n"
+        self.says(
+            text,
+            support.ANSWER_A.replace("target 7 5", "target 7 2"),
+            "    machine 1  log ends at (7, 2)  cut (7, 2)  keeps all            fetches nothing\n"
+            "    machine 4  log ends at (6, 9)  cut (5, 3)  keeps up to the cut  fetches 2 updates\n"
+            "    machine 5  log ends at (5, 2)  cut (5, 2)  keeps all            fetches 3 updates\n",
+        )
+
+
+    def test_a_termination_inside_the_logs(self):
+        ending = "".join("termination shard %d view %d update %d\n" % row for row in ((0, 0, 0), (1, 7, 3), (2, 0, 0)))
+        self.says(
+            A + ending,
+            support.ANSWER_A.replace("target 7 5", "target 7 3"),
+            "    machine 1  log ends at (7, 5)  cut (7, 3)  keeps up to the cut  fetches nothing\n"
+            "    machine 4  log ends at (7, 4)  cut (7, 3)  keeps up to the cut  fetches nothing\n"
+            "    machine 5  log ends at (0, 0)  cut (0, 0)  has nothing          fetches 3 updates\n",
+        )
+
+    def test_a_machine_with_shards_of_two_subgroups(self):
+        """A move is told within its subgroup, whatever the machine carries in another."""
+        text = A.replace("shard 2 subgroup 0 needs 1", "shard 2 subgroup 1 needs 1")
+        self.says(
+            text,
+            "view 8\nmoves 1\nshard 0 holder 0 target 0 0 members 0 2\nshard 1 holder 1 target 7 5 members 1 4 5\n"
+            "shard 2 holder 5 target 0 0 members 5\n",
+            "Without a shard: machine 3.\n",
+            "Moves:\n  machine 5 (failure set 2) goes to shard 1, had no shard of this subgroup\n",
+        )
+
+
+class Refusals(unittest.TestCase):
+    HEAD = [0, 7, 127, 1]
+    REST = [256, 5, 0, 2, 257, 82, 0, 3, 258, 32, 0, 0]
+
+    def says(self, given, number, *pieces):
+        told = explained(given, "number %d\n" % number)
+        for piece in pieces:
+            self.assertIn(piece, told)
+
+    def test_settings(self):
+        self.says(support.with_block(0, [7, 3, 8, 3] + support.CASE_A[0][4:]), 2,
+                  "given when: settings.\nAt fault: the settings.\n",
+                  "What is wrong: the least group size is 8, allowed are 1 to 7.\n")
+        self.says(inputs.Input([], []), 2, "At fault: the settings, which are missing.")
+
+    def test_each_row_of_a_report(self):
+        rest = self.REST
+        for number, block, why in (
+            (5, [2, 7, 127, 0, 256, 5], "the message has 6 words"),
+            (6, [7, 7, 127, 1] + rest, "the message names node 7, the settings have nodes 0 to 6"),
+            (7, [2, 0, 127, 1] + rest, "the view number is 0"),
+            (7, [2, 7, 255, 1] + rest, "node 7 is among the members"),
+            (7, [2, 7, 123, 1] + rest, "node 2 is not among the members"),
+            (8, [2, 7, 127, 1, 256, 5, 0, 1] + rest[4:], "record 1 names 1 as the next one; that is no later record of the 4"),
+            (9, [2, 7, 127, 1, 2304, 5, 0, 2] + rest[4:], "record 1 has kind 9, a report has kinds 1 2 3"),
+            (9, [2, 7, 127, 1, 256, 5, 1, 2] + rest[4:], "word 2 of record 1 is 1 and should be 0"),
+            (9, [2, 7, 127, 1, 259, 5, 0, 2] + rest[4:], "record 1 is for shard 3, the settings have shards 0 to 2"),
+            (9, [2, 7, 127, 2] + rest, "the members record (kind 1) of shard 0 is missing"),
+            (9, [2, 7, 127, 1, 256, 5, 0, 2, 256, 5, 0, 3] + rest[8:], "record 2 is out of sequence or a repeat"),
+            (10, [2, 7, 127, 1, 256, 0, 0, 2] + rest[4:], "shard 0 has no members"),
+            (10, [2, 7, 63, 1] + rest, "node 6 of shard 1 is not among the view's members"),
+            (10, [2, 7, 127, 1, 256, 7, 0, 2] + rest[4:], "node 1 is in shards 0 and 1 of one subgroup"),
+            (11, [2, 7, 127, 1] + rest[:-1] + [4, 768, 7, 0, 0], "record 4, the run of shard 0, is (7, 0), both should be from 1"),
+            (11, [2, 7, 127, 1] + rest[:-1] + [4, 768, 8, 1, 0], "record 4, the run of shard 0, is of view 8, at most 7 is allowed"),
+        ):
+            with self.subTest(why):
+                machine = block[0]
+                self.says(support.with_block(3, block), number, "Refused with number %d, given when: " % number,
+                          "At fault: report 3 of 6, which names machine %d.\nWhat is wrong: %s" % (machine, why), "\nTo do: ")
+
+    def test_two_views_of_one_number(self):
+        start = "report node 4 view 7\nmembers 0-6\nshard 0 members 0 "
+        text = A.replace(start + "2", start + "3")
+        self.says(support.given(text), 12, "At fault: report 5 of 6, which names machine 4 (line 42).\n",
+                  "machine 4 gives view 7 the members of shard 0 0 3; machine 0 gave it 0 2")
+
+    def test_two_terminations(self):
+        parts, ending = A.split("\n\n"), "\n".join("termination shard %d view 7 update 4" % shard for shard in range(3))
+        parts[3] += "\n" + ending
+        parts[5] += "\n" + ending.replace("shard 2 view 7 update 4", "shard 2 view 7 update 5")
+        self.says(support.given("\n\n".join(parts)), 13, "At fault: report 4 of 6, which names machine 3",
+                  "machine 3 ends shard 2 at view 7 update 5; machine 1 ended it at view 7 update 4")
+
+    def test_a_number_that_restart_does_not_give(self):
+        for number, piece in ((14, "node not held"), (99, "is not in document 01's table")):
+            lines, agrees = explain(support.given(A), answers.Number(number))
+            self.assertIn(piece, lines[0])
+            self.assertFalse(agrees)
+
+
+class AnswersThatDoNotFit(unittest.TestCase):
+    def warned(self, text, answer, piece):
+        lines, agrees = explain(support.given(text), answers.parse(answer))
+        self.assertFalse(agrees)
+        self.assertIn("WARNING: this answer does not fit this input.", "\n".join(lines))
+        self.assertIn("  " + piece, lines)
+
+    def test_waits_and_numbers(self):
+        self.warned(A, "wait 2\n", "a plan")
+        self.warned(A, "number 9\n", "a plan")
+        self.warned(support.example("f"), "wait 4 1\n", "wait 4 2")
+        self.warned(support.example("b"), support.ANSWER_A, "wait 2")
+
+    def test_another_block_at_fault(self):
+        given = support.with_block(3, [2, 0, 127, 0])
+        self.assertTrue(explain(given, answers.Number(7), 3)[1])
+        self.assertFalse(explain(given, answers.Number(7), 2)[1])
+        self.assertFalse(explain(given, answers.Number(8), 3)[1])
+
+    def test_plans(self):
+        for old, new, piece in (
+            ("view 8", "view 9", "the new view is 9, not 8"),
+            ("moves 2", "moves 1", "the moves add up to 2"),
+            ("holder 1", "holder 4", "shard 1 has another holder or target"),
+            ("target 7 5", "target 7 4", "shard 1 has another holder or target"),
+            ("members 3", "members 6", "the members of shard 2 are not valid"),
+            ("members 0 2", "members 0 1", "the members of shard 0 are not valid"),
+            ("members 0 2", "members 0 4", "shards 0 and 1 share a machine"),
+            ("shard 2 holder 5 target 0 0 members 3\n", "", "the plan has 2 shards, the settings have 3"),
+        ):
+            with self.subTest(new):
+                self.warned(A, support.ANSWER_A.replace(old, new), piece)
+
+    def test_lines_that_are_no_answer(self):
+        mixed = support.ANSWER_A.replace("shard 1", "shard 2")
+        for text in ("", "wait 4\n", "wait 2 1\n", "wait 6\n", "number\n", "view 8\nmoves x\n", mixed):
+            with self.subTest(text):
+                self.assertRaises(answers.BadAnswer, answers.parse, text)
