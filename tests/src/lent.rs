@@ -28,6 +28,7 @@ extern "C" {
 }
 
 const PROT_NONE: c_int = 0;
+const PROT_READ: c_int = 1;
 const PROT_READ_WRITE: c_int = 3;
 const MAP_PRIVATE_ANONYMOUS: c_int = 0x22;
 const SIGBUS: c_int = 7;
@@ -99,15 +100,31 @@ impl Lent {
         self.length
     }
 
+    /// Until `unseal`, the pages can only be read: writing into them ends the
+    /// program, even with the byte that is there already.
+    pub fn seal(&mut self) {
+        self.protect(PROT_READ);
+    }
+
+    pub fn unseal(&mut self) {
+        self.protect(PROT_READ_WRITE);
+    }
+
+    fn protect(&mut self, access: c_int) {
+        let (at, length) = (self.pages.as_mut_ptr(), self.pages.len());
+        // SAFETY: the pages are this value's own; nobody writes while sealed.
+        let status = unsafe { mprotect(at.cast(), length, access) };
+        assert_eq!(status, 0, "the pages' access cannot be changed");
+    }
+
     pub fn bytes(&self) -> &[u8] {
         &self.pages[self.begin..self.begin + self.length]
     }
 
     /// Whether no guard byte was changed.
     pub fn guards_whole(&self) -> bool {
-        let is_guard = |&byte: &u8| byte == GUARD;
-        self.pages[..self.begin].iter().all(is_guard)
-            && self.pages[self.begin + self.length..].iter().all(is_guard)
+        let (before, rest) = self.pages.split_at(self.begin);
+        all_guard(before) && all_guard(&rest[self.length..])
     }
 
     /// Makes all guard bytes good again.
@@ -116,6 +133,16 @@ impl Lent {
         self.length = 0;
         self.pages.fill(GUARD);
     }
+}
+
+fn all_guard(bytes: &[u8]) -> bool {
+    bytes.iter().fold(0, |all, &byte| all | byte ^ GUARD) == 0
+}
+
+/// The bytes in hex, a space after each word.
+pub fn hex(bytes: &[u8]) -> String {
+    let word = |word: &[u8]| word.iter().map(|byte| format!("{byte:02x}")).collect();
+    bytes.chunks(4).map(word).collect::<Vec<String>>().join(" ")
 }
 
 /// The input being compared, for the message of `watch_ends`.

@@ -9,10 +9,18 @@
 //! - `damage`: faults put into them
 //! - `messages`: the inputs of the `messages` program and their comparison
 //! - `world`: groups whose nodes report
-//! - `sequences`: sequences of events
+//! - `sequences`: events that a state's phase takes
+//! - `calls`: one call of an event, what the reference says of it, and their
+//!   comparison
+//! - `unsound`: faults put into states and desks
+//! - `events`: the sequences of the `events` program
+//! - `situations`, `tally`: what the sequences came to, and how often
+//! - `regressions`, `recorder`: stored sequences of calls, read and written
 //! - `runs`: whole runs of the program `restart`
 
+pub mod calls;
 pub mod damage;
+pub mod events;
 pub mod expected;
 pub mod generate;
 pub mod lent;
@@ -20,6 +28,11 @@ pub mod library;
 pub mod messages;
 pub mod mock;
 pub mod random;
+pub mod recorder;
+pub mod regressions;
 pub mod runs;
 pub mod sequences;
+pub mod situations;
+pub mod tally;
+pub mod unsound;
 pub mod world;

@@ -1,18 +1,106 @@
-//! The C interface of the proved library, as a table of functions.
+//! The C interface of the proved library, as tables of functions: one for
+//! settings and messages, one for the planner's events.
 //!
-//! Every slice is a pointer and then a length in bytes. Every answer is a word:
-//! a refusal's number (1 to 14), 0 where something was accepted that has no
-//! length, or `ACCEPTED` plus a length in words.
+//! Every slice is a pointer and then a length in bytes. Every answer is a word
+//! whose highest byte is its class, see `Answer`.
+
+use std::fmt;
 
 /// Added to the length of what was accepted.
 pub const ACCEPTED: u32 = 16_777_216;
+/// A plan stands in the state.
+pub const PLAN: u32 = 2 * ACCEPTED;
+/// Added to 256 times the reason of a wait and to its shard or subgroup.
+pub const WAIT: u32 = 3 * ACCEPTED;
+
+/// What an answer word says.
+#[derive(Clone, Copy, Debug, PartialEq, Eq, PartialOrd, Ord)]
+pub enum Answer {
+    Accepted,
+    /// Accepted, with a length in words.
+    Length(u32),
+    Plan,
+    /// The reason, and its shard or subgroup or 0.
+    Wait(u32, u32),
+    Number(u32),
+    /// No answer has this word.
+    Other(u32),
+}
+
+impl Answer {
+    pub fn of(word: u32) -> Answer {
+        let rest = word % ACCEPTED;
+        match word / ACCEPTED {
+            0 if rest == 0 => Answer::Accepted,
+            0 if rest < 256 => Answer::Number(rest),
+            1 => Answer::Length(rest),
+            2 if rest == 0 => Answer::Plan,
+            3 if rest < 65536 => Answer::Wait(rest / 256, rest % 256),
+            _ => Answer::Other(word),
+        }
+    }
+
+    pub fn refused(self) -> bool {
+        matches!(self, Answer::Number(_) | Answer::Other(_))
+    }
+}
+
+impl fmt::Display for Answer {
+    fn fmt(&self, f: &mut fmt::Formatter) -> fmt::Result {
+        match *self {
+            Answer::Accepted => write!(f, "accepted"),
+            Answer::Length(length) => write!(f, "length {length}"),
+            Answer::Plan => write!(f, "plan"),
+            Answer::Wait(reason @ (4 | 5), value) => write!(f, "wait {reason} {value}"),
+            Answer::Wait(reason, 0) => write!(f, "wait {reason}"),
+            Answer::Wait(reason, value) => write!(f, "wait {reason} with value {value}"),
+            Answer::Number(number) => write!(f, "number {number}"),
+            Answer::Other(word) => write!(f, "word {word}"),
+        }
+    }
+}
 
 /// A function of settings alone.
 pub type CheckSettings = unsafe extern "C" fn(*const u8, usize) -> u32;
 /// A function of settings, an input and a buffer to be written.
 pub type Convert = unsafe extern "C" fn(*const u8, usize, *const u8, usize, *mut u8, usize) -> u32;
 
-/// The functions that are compared.
+/// A function of a state to be made.
+pub type Fresh = unsafe extern "C" fn(*mut u8, usize) -> u32;
+/// A function of settings, state and desk, both written, and a message.
+pub type Report =
+    unsafe extern "C" fn(*const u8, usize, *mut u8, usize, *mut u8, usize, *const u8, usize) -> u32;
+/// A function of settings, state, which is written, and desk.
+pub type Decide = unsafe extern "C" fn(*const u8, usize, *mut u8, usize, *const u8, usize) -> u32;
+/// A function of settings, state, which is written, desk and node.
+pub type OfNode =
+    unsafe extern "C" fn(*const u8, usize, *mut u8, usize, *const u8, usize, u32) -> u32;
+/// A function of settings, state, desk, node and a buffer to be written.
+pub type Order = unsafe extern "C" fn(
+    *const u8,
+    usize,
+    *const u8,
+    usize,
+    *const u8,
+    usize,
+    u32,
+    *mut u8,
+    usize,
+) -> u32;
+
+/// The planner's events.
+#[derive(Clone, Copy)]
+pub struct Planner {
+    pub fresh: Fresh,
+    pub report: Report,
+    pub drop: OfNode,
+    pub decide: Decide,
+    pub order: Order,
+    pub fetched: OfNode,
+    pub prepared: OfNode,
+}
+
+/// The functions on settings and messages.
 #[derive(Clone, Copy)]
 pub struct Library {
     pub check_settings: CheckSettings,
@@ -58,6 +146,63 @@ mod linked {
             buffer: *mut u8,
             buffer_len: usize,
         ) -> u32;
+        pub fn restart_fresh(state: *mut u8, state_len: usize) -> u32;
+        pub fn restart_report(
+            settings: *const u8,
+            settings_len: usize,
+            state: *mut u8,
+            state_len: usize,
+            desk: *mut u8,
+            desk_len: usize,
+            message: *const u8,
+            message_len: usize,
+        ) -> u32;
+        pub fn restart_drop(
+            settings: *const u8,
+            settings_len: usize,
+            state: *mut u8,
+            state_len: usize,
+            desk: *const u8,
+            desk_len: usize,
+            node: u32,
+        ) -> u32;
+        pub fn restart_decide(
+            settings: *const u8,
+            settings_len: usize,
+            state: *mut u8,
+            state_len: usize,
+            desk: *const u8,
+            desk_len: usize,
+        ) -> u32;
+        pub fn restart_order(
+            settings: *const u8,
+            settings_len: usize,
+            state: *const u8,
+            state_len: usize,
+            desk: *const u8,
+            desk_len: usize,
+            node: u32,
+            buffer: *mut u8,
+            buffer_len: usize,
+        ) -> u32;
+        pub fn restart_fetched(
+            settings: *const u8,
+            settings_len: usize,
+            state: *mut u8,
+            state_len: usize,
+            desk: *const u8,
+            desk_len: usize,
+            node: u32,
+        ) -> u32;
+        pub fn restart_prepared(
+            settings: *const u8,
+            settings_len: usize,
+            state: *mut u8,
+            state_len: usize,
+            desk: *const u8,
+            desk_len: usize,
+            node: u32,
+        ) -> u32;
     }
 }
 
@@ -79,11 +224,56 @@ pub fn tested() -> Library {
     crate::mock::library::<crate::mock::Faithful>()
 }
 
+/// The proved planner.
+#[cfg(linked)]
+pub fn tested_planner() -> Planner {
+    Planner {
+        fresh: linked::restart_fresh,
+        report: linked::restart_report,
+        drop: linked::restart_drop,
+        decide: linked::restart_decide,
+        order: linked::restart_order,
+        fetched: linked::restart_fetched,
+        prepared: linked::restart_prepared,
+    }
+}
+
+/// Without the library, the reference stands in.
+#[cfg(not(linked))]
+pub fn tested_planner() -> Planner {
+    crate::mock::planner::<crate::mock::Faithful>()
+}
+
 /// The name of what is tested, for the programs' first line.
 pub fn tested_name() -> &'static str {
     if cfg!(linked) {
         "the library"
     } else {
         "the reference itself"
+    }
+}
+
+#[cfg(test)]
+mod tests {
+    use super::*;
+
+    #[test]
+    fn answer_words() {
+        let words = [
+            (0, "accepted"),
+            (14, "number 14"),
+            (9 + 256 * 3, "word 777"),
+            (16_777_216 + 60, "length 60"),
+            (33_554_432, "plan"),
+            (33_554_433, "word 33554433"),
+            (50_331_648 + 256, "wait 1"),
+            (50_331_648 + 256 * 4, "wait 4 0"),
+            (50_331_648 + 256 * 5 + 3, "wait 5 3"),
+            (50_331_648 + 256 * 2 + 1, "wait 2 with value 1"),
+            (4 * 16_777_216, "word 67108864"),
+        ];
+        for (word, text) in words {
+            assert_eq!(Answer::of(word).to_string(), text);
+        }
     }
 }

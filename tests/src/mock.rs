@@ -2,9 +2,11 @@
 //! the harness; the tests put unfaithful forms in its place, to show that the
 //! harness finds them.
 
+use crate::calls::{self, Asked, Kind, Outcome, Table};
 use crate::expected::{self, Expected};
-use crate::library::Library;
+use crate::library::{Library, Planner};
 use reference::message::Form;
+use std::slice::from_raw_parts;
 
 /// What a stand-in does. `buffer` is the length in bytes.
 pub trait Behaviour {
@@ -16,6 +18,9 @@ pub trait Behaviour {
     }
     fn write(form: Form, settings: &[u8], contents: &[u8], buffer: usize) -> Expected {
         expected::write(form, settings, contents, buffer)
+    }
+    fn event(asked: &Asked) -> Outcome {
+        calls::expected(asked)
     }
 }
 
@@ -36,7 +41,7 @@ pub fn library<B: Behaviour>() -> Library {
 }
 
 unsafe extern "C" fn check_settings<B: Behaviour>(settings: *const u8, length: usize) -> u32 {
-    B::check_settings(std::slice::from_raw_parts(settings, length))
+    B::check_settings(from_raw_parts(settings, length))
 }
 
 macro_rules! convert {
@@ -49,8 +54,8 @@ macro_rules! convert {
             buffer: *mut u8,
             buffer_len: usize,
         ) -> u32 {
-            let settings = std::slice::from_raw_parts(settings, settings_len);
-            let input = std::slice::from_raw_parts(input, input_len);
+            let settings = from_raw_parts(settings, settings_len);
+            let input = from_raw_parts(input, input_len);
             let expected = B::$call($form, settings, input, buffer_len);
             if let Some(output) = expected.output {
                 let buffer = std::slice::from_raw_parts_mut(buffer, output.len());
@@ -65,3 +70,122 @@ convert!(read_report, read, Form::Report);
 convert!(read_order, read, Form::Order);
 convert!(write_report, write, Form::Report);
 convert!(write_order, write, Form::Order);
+
+/// The table of a stand-in's events.
+pub fn planner<B: Behaviour>() -> Planner {
+    Planner {
+        fresh: fresh::<B>,
+        report: report::<B>,
+        drop: drop_node::<B>,
+        decide: decide::<B>,
+        order: order::<B>,
+        fetched: fetched::<B>,
+        prepared: prepared::<B>,
+    }
+}
+
+/// Memory lent to a call.
+type Piece = (*const u8, usize);
+
+const NONE: Piece = (std::ptr::dangling(), 0);
+
+/// A call with its pieces: settings, state, desk, message and buffer.
+unsafe fn event<B: Behaviour>(kind: Kind, pieces: [Piece; 5], node: u32) -> u32 {
+    let bytes = |(at, length): Piece| from_raw_parts(at, length).to_vec();
+    let [settings, state, desk, message, buffer] = pieces.map(bytes);
+    let asked = Asked {
+        kind,
+        table: Table {
+            settings,
+            state,
+            desk,
+        },
+        message,
+        node,
+        buffer,
+    };
+    let outcome = B::event(&asked);
+    leave(pieces[1], &asked.table.state, &outcome.state);
+    leave(pieces[2], &asked.table.desk, &outcome.desk);
+    leave(pieces[4], &asked.buffer, &outcome.buffer);
+    outcome.answer
+}
+
+/// Writes what has changed. Only an unfaithful stand-in changes what it may
+/// only read.
+unsafe fn leave((at, _): Piece, before: &[u8], after: &[u8]) {
+    if before != after {
+        std::ptr::copy_nonoverlapping(after.as_ptr(), at.cast_mut(), after.len());
+    }
+}
+
+unsafe extern "C" fn fresh<B: Behaviour>(state: *mut u8, state_len: usize) -> u32 {
+    event::<B>(Kind::Fresh, [NONE, (state, state_len), NONE, NONE, NONE], 0)
+}
+
+unsafe extern "C" fn report<B: Behaviour>(
+    settings: *const u8,
+    settings_len: usize,
+    state: *mut u8,
+    state_len: usize,
+    desk: *mut u8,
+    desk_len: usize,
+    message: *const u8,
+    message_len: usize,
+) -> u32 {
+    let (settings, state) = ((settings, settings_len), (state.cast_const(), state_len));
+    let (desk, message) = ((desk.cast_const(), desk_len), (message, message_len));
+    event::<B>(Kind::Report, [settings, state, desk, message, NONE], 0)
+}
+
+unsafe extern "C" fn decide<B: Behaviour>(
+    settings: *const u8,
+    settings_len: usize,
+    state: *mut u8,
+    state_len: usize,
+    desk: *const u8,
+    desk_len: usize,
+) -> u32 {
+    let (settings, state) = ((settings, settings_len), (state.cast_const(), state_len));
+    let pieces = [settings, state, (desk, desk_len), NONE, NONE];
+    event::<B>(Kind::Decide, pieces, 0)
+}
+
+unsafe extern "C" fn order<B: Behaviour>(
+    settings: *const u8,
+    settings_len: usize,
+    state: *const u8,
+    state_len: usize,
+    desk: *const u8,
+    desk_len: usize,
+    node: u32,
+    buffer: *mut u8,
+    buffer_len: usize,
+) -> u32 {
+    let (settings, state) = ((settings, settings_len), (state, state_len));
+    let buffer = (buffer.cast_const(), buffer_len);
+    let pieces = [settings, state, (desk, desk_len), NONE, buffer];
+    event::<B>(Kind::Order, pieces, node)
+}
+
+macro_rules! of_node {
+    ($name:ident, $kind:expr) => {
+        unsafe extern "C" fn $name<B: Behaviour>(
+            settings: *const u8,
+            settings_len: usize,
+            state: *mut u8,
+            state_len: usize,
+            desk: *const u8,
+            desk_len: usize,
+            node: u32,
+        ) -> u32 {
+            let (settings, state) = ((settings, settings_len), (state.cast_const(), state_len));
+            let pieces = [settings, state, (desk, desk_len), NONE, NONE];
+            event::<B>($kind, pieces, node)
+        }
+    };
+}
+
+of_node!(drop_node, Kind::Drop);
+of_node!(fetched, Kind::Fetched);
+of_node!(prepared, Kind::Prepared);

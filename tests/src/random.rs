@@ -1,5 +1,7 @@
 //! A seeded xorshift generator.
 
+use std::time::{SystemTime, UNIX_EPOCH};
+
 /// The generator's state, never 0.
 pub struct Random(u64);
 
@@ -66,6 +68,12 @@ impl Random {
             _ => self.between(1, greatest),
         }
     }
+}
+
+/// A seed from the clock.
+pub fn clock_seed() -> u64 {
+    let since = SystemTime::now().duration_since(UNIX_EPOCH);
+    since.map_or(1, |since| since.as_nanos() as u64)
 }
 
 /// The finalizer of splitmix64.

@@ -12,10 +12,52 @@ use reference::words;
 use std::io::Write;
 use std::process::{Command, Stdio};
 
+/// Inputs up to this length are cut at every byte.
+const SHORT: usize = 700;
+
 /// The standard input of run `index`: settings and some nodes' reports as
-/// blocks, now and then cut or with a wrong count.
+/// blocks, now and then cut, with a wrong count or with other bytes.
 pub fn input(seed: u64, index: u64) -> Vec<u8> {
     let random = &mut Random::of_input(seed, index);
+    let mut bytes = whole(random);
+    if random.chance(8) {
+        bytes.truncate(random.below(bytes.len() + 1));
+    }
+    if random.chance(4) {
+        let more = random.pick(&[1, 2, 3, 4, 7, 8]);
+        bytes.extend(vec![random.pick(&[0, 1, 255]); more]);
+    }
+    if random.chance(8) {
+        let places = random.between(1, 4);
+        for _ in 0..places {
+            spoil(random, &mut bytes);
+        }
+    }
+    bytes
+}
+
+/// An input that is short enough to be cut at every byte.
+pub fn short_input(seed: u64, index: u64) -> Vec<u8> {
+    let random = &mut Random::of_input(!seed, index);
+    loop {
+        let bytes = whole(random);
+        if bytes.len() <= SHORT {
+            return bytes;
+        }
+    }
+}
+
+/// Another value in the place of one byte.
+fn spoil(random: &mut Random, bytes: &mut [u8]) {
+    if !bytes.is_empty() {
+        let place = random.below(bytes.len());
+        let any = random.below(256) as u8;
+        bytes[place] = random.pick(&[0, 1, 2, 255, any]);
+    }
+}
+
+/// The blocks of a run, some of which have a fault.
+fn whole(random: &mut Random) -> Vec<u8> {
     let world = world::world(random);
     let mut settings = world.words.clone();
     if random.chance(3) {
@@ -38,13 +80,6 @@ pub fn input(seed: u64, index: u64) -> Vec<u8> {
             }
         };
         bytes.extend(block(random, &message));
-    }
-    if random.chance(8) {
-        bytes.truncate(random.below(bytes.len() + 1));
-    }
-    if random.chance(4) {
-        let more = random.pick(&[1, 2, 3, 4, 7, 8]);
-        bytes.extend(vec![random.pick(&[0, 1, 255]); more]);
     }
     bytes
 }

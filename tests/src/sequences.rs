@@ -72,23 +72,37 @@ impl Table {
 
 /// An event that the state's phase takes, mostly.
 pub fn event(random: &mut Random, world: &World, state: &State) -> Event {
-    let phase = if random.chance(92) {
+    let phase = if random.chance(93) {
         state.phase
     } else {
-        random.pick(&[Phase::Gathering, Phase::Ordered, Phase::Preparing])
+        random.pick(&[
+            Phase::Gathering,
+            Phase::Gathering,
+            Phase::Ordered,
+            Phase::Preparing,
+        ])
     };
     let held = state.held;
+    let reports = if held == mask::below(world.settings.nodes) {
+        45
+    } else {
+        80
+    };
     match (phase, random.between(0, 99)) {
-        (Phase::Gathering, 0..=79) => report(random, world, held),
-        (Phase::Gathering, 80..=91) => Event::Decide,
-        (Phase::Ordered, 0..=29) => Event::Order(node(random, world, held)),
-        (Phase::Ordered, 30..=96) => Event::Fetched(node(random, world, held & !state.fetched)),
-        (Phase::Preparing, 0..=97) => Event::Prepared(node(random, world, held & !state.prepared)),
+        (Phase::Gathering, chosen) if chosen < reports => report(random, world, held),
+        (Phase::Gathering, ..=93) => Event::Decide,
+        (Phase::Ordered, 0..=27) => Event::Order(node(random, world, held, held)),
+        (Phase::Ordered, 28..=96) => {
+            Event::Fetched(node(random, world, held, held & !state.fetched))
+        }
+        (Phase::Preparing, 0..=97) => {
+            Event::Prepared(node(random, world, held, held & !state.prepared))
+        }
         (Phase::Committed, 0..=19) => Event::Decide,
         (Phase::Committed, 20..=39) => report(random, world, held),
-        (Phase::Committed, 40..=59) => Event::Order(node(random, world, held)),
-        (Phase::Committed, 60..=79) => Event::Prepared(node(random, world, held)),
-        _ => Event::Drop(node(random, world, held)),
+        (Phase::Committed, 40..=59) => Event::Order(node(random, world, held, held)),
+        (Phase::Committed, 60..=79) => Event::Prepared(node(random, world, held, held)),
+        _ => Event::Drop(node(random, world, held, held)),
     }
 }
 
@@ -104,12 +118,19 @@ fn report(random: &mut Random, world: &World, held: u32) -> Event {
     Event::Report(world.message(random, node))
 }
 
-/// A node of `wanted`, mostly.
-fn node(random: &mut Random, world: &World, wanted: u32) -> u32 {
+/// A node of `wanted`, mostly; else one that is held, absent or none at all.
+fn node(random: &mut Random, world: &World, held: u32, wanted: u32) -> u32 {
     let nodes = world.settings.nodes;
-    if wanted != 0 && random.chance(95) {
-        return random.pick(&mask::nodes(wanted));
+    let absent = mask::below(nodes) & !held;
+    let from = match random.between(0, 99) {
+        0..=83 => wanted,
+        84..=88 => held,
+        89..=94 => absent,
+        _ => 0,
+    };
+    if from != 0 {
+        return random.pick(&mask::nodes(from));
     }
     let below = random.between(0, nodes - 1);
-    random.pick(&[below, below, below, nodes, 32, 33, u32::MAX])
+    random.pick(&[below, nodes, 32, 33, u32::MAX])
 }

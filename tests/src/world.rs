@@ -49,7 +49,7 @@ pub fn world(random: &mut Random) -> World {
 
 /// Settings that most sets of nodes can satisfy.
 fn roomy_settings(random: &mut Random) -> Vec<u32> {
-    let nodes = random.pick(&[3, 4, 5, 6, 7, 8, 12, 20, 32]);
+    let nodes = random.pick(&[3, 4, 5, 6, 7, 8, 12, 20, 32, 32]);
     let sets = random.between(2, 16.min(nodes));
     let shards = random.between(1, 16.min(nodes));
     let mut words = vec![nodes, sets, random.between(1, nodes / 2 + 1), shards];
@@ -97,7 +97,10 @@ fn era(random: &mut Random, settings: &Settings, logs: &[Vec<(u32, u32)>], numbe
     let node = random.pick(&mask::nodes(members));
     let masks = generate::shard_masks(random, settings, members, node);
     let position = |random: &mut Random, log: &Vec<(u32, u32)>| {
-        let shorter = shortened(random, &up_to(log, number));
+        let mut shorter = shortened(random, &up_to(log, number));
+        if random.chance(40) {
+            shorter.pop();
+        }
         shorter.last().copied().unwrap_or((0, 0))
     };
     let terminated = random.chance(35);
@@ -131,6 +134,26 @@ fn shortened(random: &mut Random, log: &[(u32, u32)]) -> Vec<(u32, u32)> {
     runs
 }
 
+/// Adds a run that the longest log may not have, or leaves one out.
+fn other_run(random: &mut Random, runs: &mut Vec<(u32, u32)>, number: u32) {
+    let view = number - random.between(0, 3.min(number - 1));
+    let place = runs.partition_point(|&(other, _)| other < view);
+    if runs.get(place).is_some_and(|&(other, _)| other == view) {
+        runs.remove(place);
+    }
+    if random.chance(70) {
+        runs.insert(place, (view, random.pick(&[1, 2, 4, 9, 10])));
+    }
+}
+
+/// Makes a log that goes on after a target that it does not have.
+fn skip(random: &mut Random, runs: &mut Vec<(u32, u32)>, target: (u32, u32), number: u32) {
+    if target.0 < number {
+        runs.retain(|&(view, _)| view != target.0 && view != number);
+        runs.push((number, random.pick(&[1, 9])));
+    }
+}
+
 impl World {
     /// A valid report of a node, mostly of the last view that has it. There is
     /// none if no view has it.
@@ -154,7 +177,14 @@ impl World {
             }
         }
         for (shard, log) in (0..).zip(&self.logs) {
-            for (view, count) in shortened(random, &up_to(log, number)) {
+            let mut runs = shortened(random, &up_to(log, number));
+            if random.chance(25) {
+                other_run(random, &mut runs, number);
+            }
+            if let (Some(positions), true) = (&era.termination, random.chance(8)) {
+                skip(random, &mut runs, positions[shard as usize], number);
+            }
+            for (view, count) in runs {
                 records.push(Triple::new(RUN, shard, view, count));
             }
         }
@@ -174,16 +204,16 @@ impl World {
             Some(report) => report,
             None => generate::contents(random, Form::Report, &self.settings),
         };
-        if random.chance(6) {
+        if random.chance(9) {
             other_termination(&mut report);
         }
-        if random.chance(2) {
+        if random.chance(4) {
             damage::head(random, &self.settings, &mut report);
         }
         if random.chance(3) {
             damage::place(random, Form::Report, &mut report);
         }
-        if random.chance(8) {
+        if random.chance(11) {
             damage::contents(random, Form::Report, &self.settings, &mut report);
         }
         let mut words = generate::message(random, &report);

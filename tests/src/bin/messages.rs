@@ -4,12 +4,12 @@
 //! Every input depends on the seed and its index alone, so `messages SEED 1
 //! INDEX` makes one input again.
 
-use differential::lent;
+use differential::lent::{self, hex};
 use differential::library::{self, ACCEPTED};
 use differential::messages::{self, Call, Desk, Input};
+use differential::random;
 use std::collections::BTreeMap;
 use std::process::ExitCode;
-use std::time::{SystemTime, UNIX_EPOCH};
 
 const COUNT: u64 = 200_000;
 /// From this many inputs on, every answer must be common.
@@ -23,7 +23,7 @@ type Answers = BTreeMap<(Call, u32), u64>;
 
 fn main() -> ExitCode {
     let argument = |index| std::env::args().nth(index).and_then(|a| a.parse().ok());
-    let seed = argument(1).unwrap_or_else(clock);
+    let seed = argument(1).unwrap_or_else(random::clock_seed);
     let count = argument(2).unwrap_or(COUNT);
     let first = argument(3).unwrap_or(0);
     println!(
@@ -58,12 +58,6 @@ fn main() -> ExitCode {
     ExitCode::SUCCESS
 }
 
-/// A seed from the clock.
-fn clock() -> u64 {
-    let since = SystemTime::now().duration_since(UNIX_EPOCH);
-    since.map_or(1, |since| since.as_nanos() as u64)
-}
-
 /// All acceptances are one class.
 fn class(answer: u32) -> u32 {
     if answer >= ACCEPTED {
@@ -83,12 +77,6 @@ fn print_difference(seed: u64, index: u64, input: &Input, what: &str) {
     println!("settings {}", hex(&input.settings));
     println!("given {}", hex(&input.given));
     println!("messages: {} inputs compared, 1 differs", index + 1);
-}
-
-/// The bytes in hex, a space after each word.
-fn hex(bytes: &[u8]) -> String {
-    let word = |word: &[u8]| word.iter().map(|byte| format!("{byte:02x}")).collect();
-    bytes.chunks(4).map(word).collect::<Vec<String>>().join(" ")
 }
 
 fn print_answers(answers: &Answers, count: u64) {

@@ -1,0 +1,181 @@
+//! The calls that are measured, each ready to be made again and again.
+
+use crate::inputs::Input;
+use differential::library::{self, Library, Planner};
+use reference::message::{self, Form};
+use reference::{events, settings, words};
+use std::hint::black_box;
+
+#[derive(Clone, Copy, Debug, PartialEq, Eq)]
+pub enum Call {
+    Fresh,
+    Report,
+    Drop,
+    Decide,
+    Order,
+    Fetched,
+    Prepared,
+    CheckSettings,
+    ReadReport,
+    ReadOrder,
+    WriteReport,
+    WriteOrder,
+}
+
+impl Call {
+    pub const EVENTS: [Call; 6] = [
+        Call::Report,
+        Call::Drop,
+        Call::Decide,
+        Call::Order,
+        Call::Fetched,
+        Call::Prepared,
+    ];
+    pub const MESSAGES: [Call; 5] = [
+        Call::CheckSettings,
+        Call::ReadReport,
+        Call::ReadOrder,
+        Call::WriteReport,
+        Call::WriteOrder,
+    ];
+
+    pub fn all() -> Vec<Call> {
+        let mut all = vec![Call::Fresh];
+        all.extend(Call::EVENTS);
+        all.extend(Call::MESSAGES);
+        all
+    }
+
+    /// The name of the C function, without its prefix.
+    pub fn name(self) -> &'static str {
+        match self {
+            Call::Fresh => "fresh",
+            Call::Report => "report",
+            Call::Drop => "drop",
+            Call::Decide => "decide",
+            Call::Order => "order",
+            Call::Fetched => "fetched",
+            Call::Prepared => "prepared",
+            Call::CheckSettings => "check_settings",
+            Call::ReadReport => "read_report",
+            Call::ReadOrder => "read_order",
+            Call::WriteReport => "write_report",
+            Call::WriteOrder => "write_order",
+        }
+    }
+
+    /// The state that the call meets.
+    fn state(self, input: &Input) -> &[u32] {
+        match self {
+            Call::Order | Call::Fetched => &input.ordered,
+            Call::Prepared => &input.preparing,
+            _ => &input.gathered,
+        }
+    }
+
+    /// The message of a reader or of the report event, the contents of a writer.
+    fn given(self, input: &Input, node: u32) -> &[u32] {
+        match self {
+            Call::Report => &input.messages[node as usize],
+            Call::ReadReport => &input.messages[0],
+            Call::ReadOrder => &input.order,
+            Call::WriteReport => &input.report_contents,
+            Call::WriteOrder => &input.order_contents,
+            _ => &[],
+        }
+    }
+}
+
+/// A call of the library with memory of its own.
+pub struct Ready {
+    call: Call,
+    node: u32,
+    planner: Planner,
+    library: Library,
+    settings: Vec<u8>,
+    before: Vec<u8>,
+    state: Vec<u8>,
+    desk: Vec<u8>,
+    given: Vec<u8>,
+    buffer: Vec<u8>,
+}
+
+impl Ready {
+    pub fn new(call: Call, input: &Input, node: u32) -> Ready {
+        let state = words::to_bytes(call.state(input));
+        Ready {
+            call,
+            node,
+            planner: library::tested_planner(),
+            library: library::tested(),
+            settings: words::to_bytes(&input.settings),
+            before: state.clone(),
+            state,
+            desk: words::to_bytes(&input.desk),
+            given: words::to_bytes(call.given(input, node)),
+            buffer: vec![0; 2048],
+        }
+    }
+
+    /// Makes the state what it was. A report leaves the desk as it is, for it
+    /// brings what the slot has.
+    pub fn restore(&mut self) {
+        self.state.copy_from_slice(&self.before);
+    }
+
+    /// Whether the last call was accepted.
+    pub fn accepted(answer: u32) -> bool {
+        answer == 0 || (library::ACCEPTED..library::WAIT).contains(&answer)
+    }
+
+    pub fn make(&mut self) -> u32 {
+        let (settings, s) = (self.settings.as_ptr(), self.settings.len());
+        let (state, t) = (self.state.as_mut_ptr(), self.state.len());
+        let (desk, d) = (self.desk.as_mut_ptr(), self.desk.len());
+        let (given, g) = (self.given.as_ptr(), self.given.len());
+        let (buffer, b) = (self.buffer.as_mut_ptr(), self.buffer.len());
+        let (planner, library, node) = (&self.planner, &self.library, self.node);
+        // SAFETY: the pointers are to this value's own memory of those lengths.
+        unsafe {
+            match self.call {
+                Call::Fresh => (planner.fresh)(state, t),
+                Call::Report => (planner.report)(settings, s, state, t, desk, d, given, g),
+                Call::Drop => (planner.drop)(settings, s, state, t, desk, d, node),
+                Call::Decide => (planner.decide)(settings, s, state, t, desk, d),
+                Call::Order => (planner.order)(settings, s, state, t, desk, d, node, buffer, b),
+                Call::Fetched => (planner.fetched)(settings, s, state, t, desk, d, node),
+                Call::Prepared => (planner.prepared)(settings, s, state, t, desk, d, node),
+                Call::CheckSettings => (library.check_settings)(settings, s),
+                Call::ReadReport => (library.read_report)(settings, s, given, g, buffer, b),
+                Call::ReadOrder => (library.read_order)(settings, s, given, g, buffer, b),
+                Call::WriteReport => (library.write_report)(settings, s, given, g, buffer, b),
+                Call::WriteOrder => (library.write_order)(settings, s, given, g, buffer, b),
+            }
+        }
+    }
+}
+
+/// The same by the reference, on words.
+pub fn by_reference(call: Call, input: &Input, node: u32) {
+    let (settings, state, desk) = (&input.settings, call.state(input), &input.desk);
+    let given = call.given(input, node);
+    let read = |form| drop(black_box(message::read(form, settings, given)));
+    let write = |form| {
+        let contents = differential::expected::words_contents(given).expect("contents");
+        drop(black_box(message::write(form, settings, &contents, 512)));
+    };
+    match call {
+        Call::Fresh => drop(black_box(reference::state::fresh())),
+        Call::Report => drop(black_box(events::report(settings, state, desk, given))),
+        Call::Drop => drop(black_box(events::drop_node(settings, state, desk, node))),
+        Call::Decide => drop(black_box(events::decide(settings, state, desk))),
+        Call::Order => drop(black_box(events::order(settings, state, desk, node, 512))),
+        Call::Fetched => drop(black_box(events::fetched(settings, state, desk, node))),
+        Call::Prepared => drop(black_box(events::prepared(settings, state, desk, node))),
+        Call::CheckSettings => drop(black_box(settings::parse(settings))),
+        Call::ReadReport => read(Form::Report),
+        Call::ReadOrder => read(Form::Order),
+        Call::WriteReport => write(Form::Report),
+        Call::WriteOrder => write(Form::Order),
+    }
+}

@@ -1,0 +1,55 @@
+//! Measures the planner's calls:
+//!
+//! - `events-bench times [COUNT]`: median and worst times over COUNT inputs
+//! - `events-bench stack [COUNT]`: the deepest stack of each call
+//! - `events-bench names`: the calls
+//! - `events-bench once CALL [INDEX]`: makes one call on a full-size input,
+//!   inside the function `measured`, for a program that counts instructions
+
+mod calls;
+mod inputs;
+mod stack;
+mod times;
+
+use calls::{Call, Ready};
+use std::process::ExitCode;
+
+/// What is inside is counted.
+#[no_mangle]
+#[inline(never)]
+pub fn measured(ready: &mut Ready) -> u32 {
+    ready.make()
+}
+
+fn main() -> ExitCode {
+    let argument = |index| std::env::args().nth(index);
+    let (mode, second) = (argument(1).unwrap_or_default(), argument(2));
+    let number = |default| {
+        second
+            .as_ref()
+            .and_then(|a| a.parse().ok())
+            .unwrap_or(default)
+    };
+    match mode.as_str() {
+        "times" => times::print(number(40)),
+        "stack" => stack::print(number(20)),
+        "names" => Call::all()
+            .iter()
+            .for_each(|call| println!("{}", call.name())),
+        "once" => {
+            let named = |call: &Call| Some(call.name()) == second.as_deref();
+            let Some(call) = Call::all().into_iter().find(named) else {
+                println!("no such call");
+                return ExitCode::FAILURE;
+            };
+            let index = argument(3).and_then(|a| a.parse().ok()).unwrap_or(0);
+            let mut ready = Ready::new(call, &inputs::input(inputs::FULL, index), 0);
+            println!("answer {}", measured(&mut ready));
+        }
+        _ => {
+            println!("times, stack, names or once");
+            return ExitCode::FAILURE;
+        }
+    }
+    ExitCode::SUCCESS
+}

@@ -1,0 +1,132 @@
+"""Measure the library and write docs/PERFORMANCE.md: performance.py [mock].
+
+Times of every call beside the reference's, instructions by callgrind, stack by painting, and the placement beside LEMON's
+network simplex. With `mock` the reference stands in for the library, the placement is left out and the page goes to
+target/performance.md. It needs valgrind and, for the placement, LEMON (Debian: liblemon-dev)."""
+import os
+import re
+import subprocess
+import sys
+
+ROOT = os.path.dirname(os.path.dirname(os.path.abspath(__file__)))
+TARGET = os.path.join(ROOT, "target")
+CARGO = os.path.join(TARGET, "cargo")
+BENCH = os.path.join(CARGO, "release", "events-bench")
+ENVIRONMENT = dict(os.environ, CARGO_TARGET_DIR=CARGO, RESTART_LIB_DIR=os.path.join(TARGET, "staticlib"))
+COUNTED = re.compile(r"Collected : (\d+)")
+ROW = re.compile(r"^(.+?)\s+(\d+)%\s+([\d.]+) \|\s+([\d.]+)\s+([\d.]+) \|\s+([\d.]+)\s+([\d.]+) \|\s+([\d.]+)\s+([\d.]+) \| (\d+)$")
+
+
+def said(*command):
+    """What a command prints; it must succeed."""
+    done = subprocess.run(command, cwd=ROOT, env=ENVIRONMENT, stdout=subprocess.PIPE, text=True, check=True)
+    return done.stdout
+
+
+def build(mock):
+    if not mock:
+        for name in ("planner_c", "placement_c"):
+            subprocess.run(["rt", "staticlib", name], cwd=ROOT, env=ENVIRONMENT, check=True, stdout=subprocess.DEVNULL)
+    features = ["--features", "mock"] if mock else []
+    said("cargo", "build", "--release", "--offline", "--quiet", "--manifest-path", "bench/events/Cargo.toml", *features)
+
+
+def instructions(inputs):
+    """A table of the instructions that a call of each function takes at full size: the least and the most over some inputs."""
+    lines = ["| call | least | most |", "|---|---|---|"]
+    for call in said(BENCH, "names").split():
+        counts = [counted(call, index) for index in range(inputs)]
+        lines.append("| %s | %s | %s |" % (call, "{:,}".format(min(counts)), "{:,}".format(max(counts))))
+    return "\n".join(lines)
+
+
+def counted(call, index):
+    command = ["valgrind", "--tool=callgrind", "--toggle-collect=measured", "--callgrind-out-file=/dev/null", BENCH, "once", call, str(index)]
+    done = subprocess.run(command, stdout=subprocess.PIPE, stderr=subprocess.STDOUT, text=True, check=True)
+    return int(COUNTED.search(done.stdout).group(1))
+
+
+def placement():
+    """The placement's table from bench/bench.cpp, and a sentence about single instances."""
+    rows = [row for row in map(ROW.match, said("make", "--no-print-directory", "-C", "bench", "bench").splitlines()) if row]
+    lines = ["| kind | median | worst | LEMON, median | worst | ratio of medians |", "|---|---|---|---|---|---|"]
+    for row in rows:
+        name, _, _, median, worst, lemon, lemon_worst, ratio, _, _ = row.groups()
+        lines.append("| %s | %s | %s | %s | %s | %s |" % (name, median, worst, lemon, lemon_worst, ratio))
+    slowest = max(float(row.group(9)) for row in rows)
+    differ = sum(int(row.group(10)) for row in rows)
+    lines.append("\nThe greatest ratio on a single instance is %.2f; %d answers differ." % (slowest, differ))
+    return "\n".join(lines)
+
+
+def needs():
+    """What the archive takes from outside, which has to be no allocator."""
+    names = {line.split()[-1] for line in said("nm", "-u", "target/staticlib/libplanner_c.a").splitlines() if line.strip().startswith("U ")}
+    return "From outside the\nlibrary takes %s alone, so no call allocates memory." % " and ".join(sorted(names))
+
+
+def machine():
+    """The machine and the compilers, without the machine's name."""
+    with open("/proc/cpuinfo") as text:
+        cpus = [line.split(":", 1)[1].strip() for line in text if line.startswith("model name")]
+    with open("/proc/meminfo") as text:
+        memory = int(re.search(r"MemTotal:\s+(\d+)", text.read()).group(1)) // (1 << 20)
+    versions = [said(*command).splitlines()[0] for command in (["rustc", "--version"], ["valgrind", "--version"])]
+    system = "%s %s, %s" % (os.uname().sysname, os.uname().release.split("-")[0], os.uname().machine)
+    return "%d processors (%s), %d GiB of memory, %s; %s." % (len(cpus), cpus[0], memory, system, ", ".join(versions))
+
+
+PAGE = """# Performance
+
+Written by `make performance`. The machine: {machine}
+
+Other work may have shared the machine: each time is the least of 15 runs of the same call (of the reference, 5), and medians and
+worsts are taken over {count} seeded inputs with up to four nodes each. The reference is the one in `reference/`, built with the
+same options and given words where the library is given bytes; it is plain and not meant to be fast. Every event judges the whole
+state and every held slot before it does anything, so its time grows with the held reports.
+
+{times}
+### Instructions
+
+Of one call at full size, counted by callgrind over {counted} of the inputs.
+
+{instructions}
+
+### Stack
+
+Deepest stack of a call at full size, over {stacks} inputs: the call is made on a thread whose stack was painted before. {needs}
+
+{stack}{placement}"""
+
+PLACEMENT = """
+### Placement
+
+The placement of one subgroup (the first of least moves, or that none exists) against LEMON's network simplex (least moves alone,
+graph building included) on the same seeded instances; microseconds. `bench/README.md` describes the kinds.
+
+{table}
+"""
+
+
+def main():
+    mock = "mock" in sys.argv[1:]
+    count, stacks, counted_inputs = (4, 2, 1) if mock else (40, 20, 4)
+    build(mock)
+    page = PAGE.format(
+        machine=machine(),
+        count=count,
+        stacks=stacks,
+        times=said(BENCH, "times", str(count)),
+        counted=counted_inputs,
+        instructions=instructions(counted_inputs),
+        stack=said(BENCH, "stack", str(stacks)),
+        needs="" if mock else needs(),
+        placement="" if mock else PLACEMENT.format(table=placement()),
+    )
+    path = os.path.join(TARGET, "performance.md") if mock else os.path.join(ROOT, "docs", "PERFORMANCE.md")
+    with open(path, "w") as out:
+        out.write(page)
+    print("written: %s" % os.path.relpath(path, ROOT))
+
+
+main()

@@ -1,0 +1,60 @@
+"""Run the comparisons with fresh seeds until the time is over: fuzz.py SECONDS [mock].
+
+A round is one call of each program: messages, events and runs. The first that finds a difference has printed its input and how
+to make it again, and ends all. With `mock` the reference stands in for the library and for `restart`. The last line is
+`N passed, M failed`, counted by rounds of a program."""
+import os
+import secrets
+import subprocess
+import sys
+import time
+
+ROOT = os.path.dirname(os.path.dirname(os.path.abspath(__file__)))
+TARGET = os.path.join(ROOT, "target")
+CARGO = os.path.join(TARGET, "cargo")
+ENVIRONMENT = dict(os.environ, CARGO_TARGET_DIR=CARGO, RESTART_LIB_DIR=os.path.join(TARGET, "staticlib"))
+
+
+def cargo(folder, *words):
+    return ["cargo", "build", "--release", "--offline", "--quiet", "--manifest-path", folder + "/Cargo.toml", *words]
+
+
+def build(mock):
+    """Makes the programs and gives what a round calls, the seed left out."""
+    release = os.path.join(CARGO, "release")
+    if mock:
+        commands = [cargo("reference"), cargo("tests", "--bins", "--features", "mock")]
+        restart = os.path.join(release, "restart-reference")
+    else:
+        commands = [["rt", "staticlib", "planner_c"], ["rt", "check", "restart"], cargo("tests", "--bins")]
+        restart = os.path.join(TARGET, "bin", "restart")
+    for command in commands:
+        done = subprocess.run(command, cwd=ROOT, env=ENVIRONMENT, stdout=subprocess.PIPE, stderr=subprocess.STDOUT, text=True, errors="replace")
+        if done.returncode != 0:
+            sys.exit(done.stdout + "not built: " + " ".join(command))
+    return [
+        ([os.path.join(release, "messages")], "9000"),
+        ([os.path.join(release, "events")], "200"),
+        ([os.path.join(release, "runs"), restart], "300"),
+    ]
+
+
+def main():
+    seconds, mock = float(sys.argv[1]), "mock" in sys.argv[2:]
+    programs = build(mock)
+    end = time.time() + seconds
+    passed = 0
+    while time.time() < end:
+        for program, count in programs:
+            seed = str(secrets.randbits(48))
+            done = subprocess.run([*program, seed, count], cwd=ROOT, stdout=subprocess.PIPE, stderr=subprocess.STDOUT, text=True, errors="replace")
+            if done.returncode != 0:
+                print(done.stdout)
+                print("found by: %s %s %s" % (" ".join(program), seed, count))
+                print("%d passed, 1 failed" % passed)
+                sys.exit(1)
+            passed += 1
+    print("%d passed, 0 failed" % passed)
+
+
+main()

@@ -1,0 +1,297 @@
+//! Names for what an accepted call, or a refusal with number 14, was about, to
+//! show that the random sequences go into every corner.
+
+use crate::calls::{Asked, Kind, Outcome};
+use crate::library::Answer;
+use reference::log::Log;
+use reference::message::{self, Contents, Form, CUT, HOLDER, TERMINATION};
+use reference::settings::{self, Settings};
+use reference::state::{self, Phase, Plan, State, View};
+use reference::{desk, mask, words};
+
+/// Every situation that enough sequences must come to.
+pub const ALL: [&str; 51] = [
+    "report: the first",
+    "report: a greater view",
+    "report: a greater view without termination takes the kept one away",
+    "report: a greater view with termination",
+    "report: the kept view",
+    "report: the kept view adds its termination",
+    "report: the kept view repeats its termination",
+    "report: the kept view without its termination",
+    "report: a smaller view",
+    "report: a smaller view's termination",
+    "report: replaces one of the node",
+    "report: replaces one of the node by a smaller view",
+    "report: replaces a longer one",
+    "report: records off the chain",
+    "report: of 512 words",
+    "report: of node 31",
+    "drop: in gathering",
+    "drop: in gathering, the last held",
+    "drop: while ordered",
+    "drop: while preparing",
+    "plan: without termination",
+    "plan: with termination",
+    "plan: without moves",
+    "plan: with moves",
+    "plan: a stale machine held",
+    "plan: a held node of no shard",
+    "plan: a node in shards of two subgroups",
+    "plan: a holder that leaves its shard",
+    "plan: a target that is not (0, 0)",
+    "plan: of all 32 nodes",
+    "plan: with the greatest number",
+    "plan: a stale member has a longer log",
+    "plan: a holder without the greatest end",
+    "plan: few members reported the kept view",
+    "order: to a node of no shard",
+    "order: to a node of one shard",
+    "order: to a node of more shards",
+    "order: to a holder",
+    "order: cut at (0, 0)",
+    "order: cut at the node's end",
+    "order: cut before the node's end",
+    "order: cut before the target",
+    "order: cut between (0, 0) and both the node's end and the target",
+    "fetched: one of some",
+    "fetched: the last",
+    "prepared: one of some",
+    "prepared: the last",
+    "number 14: not held",
+    "number 14: marked already",
+    "decide: a wait with machines held",
+    "decide: a wait with half of the members held",
+];
+
+struct Names(Vec<&'static str>);
+
+impl Names {
+    fn put(&mut self, holds: bool, name: &'static str) {
+        if holds {
+            self.0.push(name);
+        }
+    }
+}
+
+/// The situations of a call that was compared.
+pub fn of(asked: &Asked, outcome: &Outcome) -> Vec<&'static str> {
+    let mut names = Names(Vec::new());
+    let whole = |bytes: &[u8]| words::whole_words(bytes);
+    let Ok(settings) = settings::parse(&whole(&asked.table.settings)) else {
+        return names.0;
+    };
+    let before = state::decode(&settings, &whole(&asked.table.state));
+    let after = state::decode(&settings, &whole(&outcome.state));
+    let (Some(before), Some(after)) = (before, after) else {
+        return names.0;
+    };
+    match (asked.kind, outcome.answer()) {
+        (kind, Answer::Number(14)) => refused_node(&mut names, kind, &before, asked.node),
+        (_, Answer::Number(_)) => {}
+        (Kind::Report, _) => report(&mut names, &settings, asked, &before),
+        (Kind::Drop, _) => dropped(&mut names, &before, &after),
+        (Kind::Decide, Answer::Plan) => plan(&mut names, &settings, asked, &after),
+        (Kind::Decide, _) => waited(&mut names, &before),
+        (Kind::Order, _) => order(&mut names, &settings, asked, outcome),
+        (Kind::Fetched, _) => {
+            let last = after.phase == Phase::Preparing;
+            names.put(!last, "fetched: one of some");
+            names.put(last, "fetched: the last");
+        }
+        (Kind::Prepared, _) => {
+            let last = after.phase == Phase::Committed;
+            names.put(!last, "prepared: one of some");
+            names.put(last, "prepared: the last");
+        }
+        (Kind::Fresh, _) => {}
+    }
+    names.0
+}
+
+fn refused_node(names: &mut Names, kind: Kind, before: &State, node: u32) {
+    let held = mask::has(before.held, node);
+    names.put(!held, "number 14: not held");
+    let marking = matches!(kind, Kind::Fetched | Kind::Prepared);
+    names.put(held && marking, "number 14: marked already");
+}
+
+fn report(names: &mut Names, settings: &Settings, asked: &Asked, before: &State) {
+    let message = words::whole_words(&asked.message);
+    let Ok(report) = message::read_with(Form::Report, settings, &message) else {
+        return;
+    };
+    view(names, before, &report);
+    if mask::has(before.held, report.node) {
+        let desk = words::whole_words(&asked.table.desk);
+        replaced(names, settings, &desk, &message, &report);
+    }
+    let records = 1 + report.records.len();
+    names.put(4 * records < message.len(), "report: records off the chain");
+    names.put(message.len() == 512, "report: of 512 words");
+    names.put(report.node == 31, "report: of node 31");
+}
+
+/// The reported view and termination beside the kept ones.
+fn view(names: &mut Names, before: &State, report: &Contents) {
+    let terminated = !report.of_kind(TERMINATION).is_empty();
+    let kept_one = before.termination.is_some();
+    match before.kept.as_ref().map(|kept| kept.number) {
+        None => names.put(true, "report: the first"),
+        Some(kept) if report.view > kept => {
+            names.put(true, "report: a greater view");
+            names.put(terminated, "report: a greater view with termination");
+            names.put(
+                !terminated && kept_one,
+                "report: a greater view without termination takes the kept one away",
+            );
+        }
+        Some(kept) if report.view == kept => {
+            names.put(true, "report: the kept view");
+            match (terminated, kept_one) {
+                (true, false) => names.put(true, "report: the kept view adds its termination"),
+                (true, true) => names.put(true, "report: the kept view repeats its termination"),
+                (false, true) => names.put(true, "report: the kept view without its termination"),
+                (false, false) => {}
+            }
+        }
+        Some(_) => {
+            names.put(true, "report: a smaller view");
+            names.put(terminated, "report: a smaller view's termination");
+        }
+    }
+}
+
+fn replaced(
+    names: &mut Names,
+    settings: &Settings,
+    desk: &[u32],
+    message: &[u32],
+    report: &Contents,
+) {
+    let older = desk::report(settings, desk, report.node);
+    let smaller = older.is_some_and(|older| report.view < older.view);
+    let slot = desk::slot(desk, report.node);
+    names.put(true, "report: replaces one of the node");
+    names.put(
+        smaller,
+        "report: replaces one of the node by a smaller view",
+    );
+    let rest = slot.iter().skip(message.len());
+    let longer = rest.copied().any(|word| word != 0);
+    names.put(longer, "report: replaces a longer one");
+}
+
+fn dropped(names: &mut Names, before: &State, after: &State) {
+    let gathering = before.phase == Phase::Gathering;
+    names.put(gathering, "drop: in gathering");
+    names.put(
+        gathering && after.held == 0,
+        "drop: in gathering, the last held",
+    );
+    names.put(before.phase == Phase::Ordered, "drop: while ordered");
+    names.put(before.phase == Phase::Preparing, "drop: while preparing");
+}
+
+fn waited(names: &mut Names, before: &State) {
+    names.put(before.held != 0, "decide: a wait with machines held");
+    let members = before.kept.as_ref().map_or(0, |kept| kept.members);
+    let half = 2 * mask::count(before.held & members) == mask::count(members);
+    names.put(
+        half && members != 0,
+        "decide: a wait with half of the members held",
+    );
+}
+
+fn plan(names: &mut Names, settings: &Settings, asked: &Asked, after: &State) {
+    let (Some(plan), Some(kept)) = (&after.plan, &after.kept) else {
+        return;
+    };
+    let carried = |&node: &u32| carried(plan, node);
+    let held = mask::nodes(after.held);
+    let terminated = after.termination.is_some();
+    names.put(!terminated, "plan: without termination");
+    names.put(terminated, "plan: with termination");
+    names.put(plan.total == 0, "plan: without moves");
+    names.put(plan.total > 0, "plan: with moves");
+    let none = held.iter().any(|node| carried(node) == 0);
+    names.put(none, "plan: a held node of no shard");
+    let two = held.iter().any(|node| carried(node) > 1);
+    names.put(two, "plan: a node in shards of two subgroups");
+    let mut holders = plan.holders.iter().zip(&plan.masks);
+    let leaves = holders.any(|(&holder, &own)| !mask::has(own, holder));
+    names.put(leaves, "plan: a holder that leaves its shard");
+    let targets = plan.targets.iter().any(|target| target.view > 0);
+    names.put(targets, "plan: a target that is not (0, 0)");
+    names.put(plan.members == u32::MAX, "plan: of all 32 nodes");
+    names.put(plan.number == u32::MAX, "plan: with the greatest number");
+    let desk = words::whole_words(&asked.table.desk);
+    let held = held.into_iter();
+    let reports: Vec<Contents> = held
+        .filter_map(|node| desk::report(settings, &desk, node))
+        .collect();
+    reported(names, plan, kept, &reports, terminated);
+}
+
+/// What a plan was made of.
+fn reported(names: &mut Names, plan: &Plan, kept: &View, reports: &[Contents], terminated: bool) {
+    let stale = |report: &Contents| report.view < kept.number;
+    names.put(reports.iter().any(stale), "plan: a stale machine held");
+    let is_member = |report: &&Contents| mask::has(kept.members, report.node);
+    let fresh = reports.iter().filter(is_member).filter(|r| !stale(r));
+    names.put(
+        2 * fresh.count() <= mask::count(kept.members) as usize,
+        "plan: few members reported the kept view",
+    );
+    for (shard, &own) in (0..).zip(&kept.masks) {
+        let end = |report: &Contents| Log::of(report, shard).end();
+        let target = plan.targets[shard as usize];
+        let holder = plan.holders[shard as usize];
+        let of_holder = reports.iter().find(|r| r.node == holder).map(end);
+        let members = || reports.iter().filter(|r| mask::has(own, r.node));
+        let longer = members().any(|r| stale(r) && end(r) > target);
+        names.put(
+            longer && !terminated,
+            "plan: a stale member has a longer log",
+        );
+        let greater = members().any(|r| !stale(r) && Some(end(r)) > of_holder);
+        names.put(greater, "plan: a holder without the greatest end");
+    }
+}
+
+/// How many shards a node carries.
+fn carried(plan: &Plan, node: u32) -> usize {
+    let has = |own: &&u32| mask::has(**own, node);
+    plan.masks.iter().filter(has).count()
+}
+
+fn order(names: &mut Names, settings: &Settings, asked: &Asked, outcome: &Outcome) {
+    let buffer = words::whole_words(&outcome.buffer);
+    let desk = words::whole_words(&asked.table.desk);
+    let order = message::read_with(Form::Order, settings, &buffer);
+    let own = desk::report(settings, &desk, asked.node);
+    let (Ok(order), Some(own)) = (order, own) else {
+        return;
+    };
+    let cuts = order.of_kind(CUT);
+    names.put(cuts.is_empty(), "order: to a node of no shard");
+    names.put(cuts.len() == 1, "order: to a node of one shard");
+    names.put(cuts.len() > 1, "order: to a node of more shards");
+    let holds = |record: &message::Triple| record.word1 == asked.node;
+    let holder = order.of_kind(HOLDER).iter().any(holds);
+    names.put(holder, "order: to a holder");
+    for cut in cuts {
+        let end = Log::of(&own, cut.shard()).end();
+        let target = order.find(TERMINATION, cut.shard());
+        let target = target.map_or((0, 0), |target| (target.word1, target.word2));
+        let (end, cut) = ((end.view, end.k), (cut.word1, cut.word2));
+        names.put(cut == (0, 0), "order: cut at (0, 0)");
+        names.put(cut == end && cut.0 > 0, "order: cut at the node's end");
+        names.put(cut < end, "order: cut before the node's end");
+        names.put(cut < target, "order: cut before the target");
+        names.put(
+            cut != (0, 0) && cut < end && cut < target,
+            "order: cut between (0, 0) and both the node's end and the target",
+        );
+    }
+}

@@ -1,0 +1,278 @@
+//! Faults put into a state's words and into held slots, a few for each part of
+//! document 01's soundness. Some leave the state sound.
+
+use crate::random::Random;
+use crate::world::World;
+use crate::{damage, generate};
+use reference::desk::{self, SLOT_WORDS};
+use reference::mask;
+use reference::message::encode;
+use reference::placement::Subgroup;
+use reference::settings::{Settings, SUBGROUPS};
+use reference::state::STATE_WORDS;
+
+/// Where the parts of a state begin.
+const NUMBER: usize = 1;
+const MEMBERS: usize = 2;
+const TERMINATED: usize = 3;
+const MASKS: usize = 4;
+const POSITIONS: usize = 20;
+const HELD: usize = 52;
+const FETCHED: usize = 53;
+const PREPARED: usize = 54;
+const PLAN_NUMBER: usize = 55;
+const PLAN_MEMBERS: usize = 56;
+const PLAN_TOTAL: usize = 57;
+const PLAN_MASKS: usize = 58;
+const HOLDERS: usize = 74;
+const TARGETS: usize = 90;
+const UNUSED: usize = 122;
+
+/// Puts a fault into the words of a state and names it.
+pub fn state(random: &mut Random, settings: &Settings, words: &mut [u32]) -> &'static str {
+    let shard = random.below(settings.shards as usize);
+    let held = words[HELD];
+    match random.between(0, 17) {
+        0 => phase(random, words),
+        1 => near(random, words, NUMBER, "kept number"),
+        2 => any_mask(random, settings, words, MEMBERS, "kept members"),
+        3 => {
+            words[TERMINATED] = random.pick(&[0, 1, 1, 2, u32::MAX]);
+            "termination kept or not"
+        }
+        4 => any_mask(random, settings, words, MASKS + shard, "kept shard mask"),
+        5 => position(random, words, POSITIONS + 2 * shard, "kept position"),
+        6 => any_mask(random, settings, words, HELD, "held"),
+        7 => marks(random, words, FETCHED, held, "fetched"),
+        8 => marks(random, words, PREPARED, held, "prepared"),
+        9 => near(random, words, PLAN_NUMBER, "plan's number"),
+        10 => any_mask(random, settings, words, PLAN_MEMBERS, "plan's members"),
+        11 => near(random, words, PLAN_TOTAL, "plan's total"),
+        12 => plan_mask(random, settings, words, shard),
+        13 => {
+            let other = random.between(0, settings.nodes);
+            words[HOLDERS + shard] = random.pick(&[other, other, 32, u32::MAX]);
+            "holder"
+        }
+        14 => position(random, words, TARGETS + 2 * shard, "target"),
+        15 => dead_word(random, settings, words),
+        16 => other_placement(random, settings, words),
+        _ => {
+            let index = random.below(STATE_WORDS);
+            words[index] = random.word();
+            "any word"
+        }
+    }
+}
+
+fn phase(random: &mut Random, words: &mut [u32]) -> &'static str {
+    words[0] = random.pick(&[0, 1, 2, 3, 4, 256, u32::MAX]);
+    "phase"
+}
+
+/// A number changed a little, or to an end of its range.
+fn near(random: &mut Random, words: &mut [u32], at: usize, name: &'static str) -> &'static str {
+    let word = words[at];
+    let choices = [
+        word.wrapping_sub(1),
+        word.wrapping_add(1),
+        word.wrapping_add(1),
+        0,
+        1,
+        u32::MAX - 1,
+        u32::MAX,
+    ];
+    words[at] = random.pick(&choices);
+    name
+}
+
+/// A mask with a node more or less, or a bit from N up.
+fn any_mask(
+    random: &mut Random,
+    settings: &Settings,
+    words: &mut [u32],
+    at: usize,
+    name: &'static str,
+) -> &'static str {
+    match random.between(0, 5) {
+        0 | 1 => words[at] ^= mask::only(random.between(0, settings.nodes - 1)),
+        2 => words[at] |= mask::only(settings.nodes.min(31)),
+        3 => words[at] &= words[at].wrapping_sub(1),
+        4 => words[at] = random.pick(&[0, u32::MAX, mask::below(settings.nodes)]),
+        _ => words[at] ^= mask::only(random.between(0, 31)),
+    }
+    name
+}
+
+fn marks(
+    random: &mut Random,
+    words: &mut [u32],
+    at: usize,
+    held: u32,
+    name: &'static str,
+) -> &'static str {
+    let bit = mask::only(random.between(0, 31));
+    let without_lowest = held & held.wrapping_sub(1);
+    words[at] = random.pick(&[0, held, without_lowest, words[at] ^ bit, held | bit]);
+    name
+}
+
+fn position(random: &mut Random, words: &mut [u32], at: usize, name: &'static str) -> &'static str {
+    let (view, k) = (words[at], words[at + 1]);
+    let kept = words[NUMBER];
+    let choices = [
+        (0, 0),
+        (0, 3),
+        (view, 0),
+        (view, k.wrapping_add(1)),
+        (view, k.wrapping_sub(1)),
+        (view.wrapping_add(1), k),
+        (kept, 1),
+        (kept.wrapping_add(1), 1),
+    ];
+    (words[at], words[at + 1]) = random.pick(&choices);
+    name
+}
+
+/// A node of the plan's shard replaced, left out or added, or two shards
+/// exchanged.
+fn plan_mask(
+    random: &mut Random,
+    settings: &Settings,
+    words: &mut [u32],
+    shard: usize,
+) -> &'static str {
+    let at = PLAN_MASKS + shard;
+    let node = mask::only(random.between(0, settings.nodes - 1));
+    let other = PLAN_MASKS + random.below(settings.shards as usize);
+    match random.between(0, 3) {
+        0 => words[at] ^= node,
+        1 => words[at] = words[at] & words[at].wrapping_sub(1) | node,
+        2 => words[at] |= words[other],
+        _ => words.swap(at, other),
+    }
+    "plan's shard mask"
+}
+
+/// A word that means nothing under these settings.
+fn dead_word(random: &mut Random, settings: &Settings, words: &mut [u32]) -> &'static str {
+    let shards = settings.shards as usize;
+    let parts = [
+        (MASKS + shards, POSITIONS),
+        (POSITIONS + 2 * shards, HELD),
+        (PLAN_MASKS + shards, HOLDERS),
+        (HOLDERS + shards, TARGETS),
+        (TARGETS + 2 * shards, UNUSED),
+        (UNUSED, STATE_WORDS),
+    ];
+    let (from, to) = random.pick(&parts);
+    if from < to {
+        words[from + random.below(to - from)] = random.pick(&[1, 1 << 31, u32::MAX]);
+    }
+    "word that means nothing"
+}
+
+/// Another valid placement with its own total: least moves are not checked
+/// again. It is the cheapest one for other old members.
+fn other_placement(random: &mut Random, settings: &Settings, words: &mut [u32]) -> &'static str {
+    let held = words[HELD] & mask::below(settings.nodes);
+    let old = words[MASKS..POSITIONS].to_vec();
+    let others: Vec<u32> = old.iter().map(|_| random.word()).collect();
+    let mut total = 0;
+    for number in 0..SUBGROUPS {
+        let subgroup = |old| Subgroup {
+            settings,
+            number,
+            held,
+            old,
+        };
+        let Some(placed) = subgroup(&others).any_least() else {
+            return "another placement";
+        };
+        total += subgroup(&old).moves(&placed);
+        for shard in settings.shards_of(number) {
+            words[PLAN_MASKS + shard as usize] = placed[shard as usize];
+        }
+    }
+    words[PLAN_TOTAL] = total;
+    "another placement"
+}
+
+/// Puts a fault into a slot of the desk and names it.
+pub fn desk(random: &mut Random, world: &World, held: u32, desk: &mut [u32]) -> &'static str {
+    let nodes = if random.chance(90) { held } else { !held };
+    let all = mask::nodes(nodes);
+    if all.is_empty() {
+        return "nothing held";
+    }
+    let node = random.pick(&all);
+    let whole = desk::slot(desk, node).to_vec();
+    let first = node as usize * SLOT_WORDS;
+    let slot = &mut desk[first..first + SLOT_WORDS];
+    match random.between(0, 7) {
+        0 => {
+            damage::next_index(random, slot);
+            "slot's next index"
+        }
+        1 => {
+            let index = random.below(40);
+            slot[index] = random.pick(&[0, 1, slot[index] ^ 1, slot[index] ^ 256]);
+            "slot's word"
+        }
+        2 => {
+            slot.fill(random.pick(&[0, 1, u32::MAX]));
+            "slot filled"
+        }
+        3 => {
+            let other = random.pick(&all);
+            let words = desk::slot(desk, other).to_vec();
+            desk[first..first + SLOT_WORDS].copy_from_slice(&words);
+            "slot of another node"
+        }
+        4 => other_report(random, world, node, slot),
+        5 => {
+            slot[SLOT_WORDS - 4 + random.below(4)] = random.word();
+            "slot's last words"
+        }
+        6 => run_count(random, slot),
+        _ => laid_out_anew(random, world, &whole, slot),
+    }
+}
+
+/// Another valid report of the node: of another view, or with another log.
+fn other_report(random: &mut Random, world: &World, node: u32, slot: &mut [u32]) -> &'static str {
+    if let Some(report) = world.report(random, node) {
+        let words = encode(&report);
+        slot.fill(0);
+        slot[..words.len()].copy_from_slice(&words);
+    }
+    "slot's other report"
+}
+
+/// Makes the count of a run another one.
+fn run_count(random: &mut Random, slot: &mut [u32]) -> &'static str {
+    let runs: Vec<usize> = (4..SLOT_WORDS)
+        .step_by(4)
+        .filter(|&at| slot[at] / 256 == 3)
+        .collect();
+    if !runs.is_empty() {
+        let at = random.pick(&runs) + 2;
+        slot[at] = random.pick(&[0, 1, slot[at].wrapping_sub(1), slot[at].wrapping_add(1)]);
+    }
+    "slot's run"
+}
+
+/// The same report with its records at other places, up to the slot's end.
+fn laid_out_anew(
+    random: &mut Random,
+    world: &World,
+    whole: &[u32],
+    slot: &mut [u32],
+) -> &'static str {
+    let form = reference::message::Form::Report;
+    if let Ok(report) = reference::message::read_with(form, &world.settings, whole) {
+        let words = generate::message(random, &report);
+        slot[..words.len()].copy_from_slice(&words);
+    }
+    "slot laid out anew"
+}
