@@ -1,7 +1,7 @@
 -- A refusal is the first row of a list of (condition, number) whose condition fails, in the order of the list.
 -- Laws: a list gives none just where every condition of it holds.
 use Prim.Native.Nat.{ℕ, suc}
-use mathlib.Core.Bool.{Bool, true, false, cond}
+use mathlib.Core.Bool.{Bool, true, false, cond, _&&_}
 use mathlib.Core.Path.{_≡_, refl, sym, ap, _∙_}
 use lib.Dec.{eqb}
 use borrow.Author.Tests.{eqb-true}
@@ -59,6 +59,12 @@ pub unless-false : (ok : Bool) (k : ℕ) (rest : Refusal) → ok ≡ false → u
 unfolding unless
 unless-false ok k rest h = rw h
 
+-- two conditions of one number are one condition
+pub unless-and : (p q : Bool) (k : ℕ) (rest : Refusal) → unless p k (unless q k rest) ≡ unless (p && q) k rest
+unfolding unless
+unless-and true q k rest = refl
+unless-and false q k rest = refl
+
 -- both of two lists that together give none
 pub first-left : (r rest : Refusal) → firstOf r rest ≡ none → r ≡ none
 unfolding firstOf
@@ -79,3 +85,11 @@ first-right r rest h = sym (first-none r rest (first-left r rest h)) ∙ h
 pub first-refused : (r rest : Refusal) → accepted r ≡ false → firstOf r rest ≡ r
 unfolding firstOf
 first-refused r rest h = rw h
+
+-- r is what the first list gives
+module _ {r first : Refusal} (e : r ≡ first) where
+  pub rows-refused : (rest : Refusal) → accepted r ≡ false → r ≡ firstOf first rest
+  rows-refused rest h = e ∙ sym (first-refused first rest (sym (ap accepted e) ∙ h))
+
+  pub rows-followed : {s rest : Refusal} → s ≡ rest → accepted r ≡ true → s ≡ firstOf first rest
+  rows-followed {s} {rest} f h = f ∙ sym (first-none first rest (accepted-none first (sym (ap accepted e) ∙ h)))

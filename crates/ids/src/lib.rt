@@ -36,3 +36,10 @@ pub fn not_after(p: Position, q: Position) -> bool
     }
     false
 }
+
+// A word as an index.
+pub fn wide(x: u32) -> usize
+    ensures { λ r. ⌜ r ≡ x ⌝ }
+{
+    x as usize
+}

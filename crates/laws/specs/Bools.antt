@@ -4,7 +4,7 @@ use mathlib.Core.Logic.{_⊎_, inl, inr, ⊎-elim}
 use Prim.Native.Nat.{ℕ, _≤_, _<_}
 use lib.Dec.{eqb, ltb}
 use borrow.Author.Tests.{ltb-true, ltb-false, eqb-true, eqb-false}
-use mathlib.Core.Bool.{Bool, true, false, not, _&&_, _||_, true≢false}
+use mathlib.Core.Bool.{Bool, true, false, cond, not, _&&_, _||_, true≢false}
 
 -- a test is true or false
 pub either : (b : Bool) → (b ≡ true) ⊎ (b ≡ false)
@@ -55,6 +55,10 @@ pub and-fails-right : (a : Bool) {b : Bool} → b ≡ false → (a && b) ≡ fal
 and-fails-right true p = p
 and-fails-right false p = refl
 
+-- a test that holds leaves the rest
+pub and-rest : {a : Bool} (b : Bool) → a ≡ true → b ≡ (a && b)
+and-rest {a} b h = rw h
+
 -- ---- or
 
 pub or-left : {a : Bool} (b : Bool) → a ≡ true → (a || b) ≡ true
@@ -94,6 +98,21 @@ of-not-true false h = refl
 pub of-not-false : (a : Bool) → not a ≡ false → a ≡ true
 of-not-false true h = refl
 of-not-false false h = sym h
+
+-- ---- what is asked under a condition: where it fails nothing, where it holds all
+
+pub unasked : {a : Bool} (b : Bool) → a ≡ false → true ≡ (not a || b)
+unasked {a} b h = rw h
+
+pub asked : {a : Bool} (b : Bool) → a ≡ true → b ≡ (not a || b)
+asked {a} b h = rw h
+
+-- ---- a choice
+
+-- what holds of either choice holds of the chosen one
+pub cond-of {ℓ κ} : {A : Type ℓ} (P : A → Type κ) (b : Bool) {y z : A} → (b ≡ true → P y) → (b ≡ false → P z) → P (cond b y z)
+cond-of P true f g = f refl
+cond-of P false f g = g refl
 
 -- ---- two numbers: one case or the other
 

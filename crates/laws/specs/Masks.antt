@@ -12,8 +12,8 @@ use lib.Arith.{lt-one}
 use lib.Pow.{pow-pos, pow-mono, pow-lt, shl-exact, shr-le, shr-shr}
 use lib.Bits.{bitAnd, bitOr, and-step, or-step, and-le-l, and-le-r, and-lt, or-lt, and-self, and-comm}
 use lib.Count.{ones, ones-step, ones-le}
-use borrow.Author.Tests.{eqb-true, eqb-false, eq-eqb, ltb-true, ltb-false, lt-ltb}
-use Rattle.laws.specs.Bools.{lt-or-le, either, clash, no-true, no-false, and-both, and-left, and-right, and-fails-left, or-left, or-fails-left, or-fails-right, not-of-false, of-not-false}
+use borrow.Author.Tests.{eqb-true, eqb-false, eq-eqb, ne-eqb, ltb-true, ltb-false, lt-ltb}
+use Rattle.laws.specs.Bools.{lt-or-le, either, clash, no-true, no-false, and-both, and-left, and-right, and-fails-left, or-left, or-holds, or-fails-left, or-fails-right, not-of-false, of-not-false}
 use Rattle.laws.specs.Below.{allBelow, anyBelow, countBelow, all-at, all-counter, any-witness, any-fails, count-cong, count-front, count-mono, count-some, count-pos, count-or-and, count-split, count-single, count-with, count-without, count-meet}
 
 -- bit n of the mask m is set
@@ -307,6 +307,17 @@ and-subset-right a b =
 pub minus-subset : (a b : ℕ) → subset (minus a b) a ≡ true
 minus-subset a b =
     subset-of (minus a b) (minus a b) a (width (minus a b)) (λ n l p. and-left (has a n) (not (has b n)) (sym (has-minus a b n) ∙ p))
+
+-- a bit more that the greater mask has
+pub subset-with : (a b n : ℕ) → subset a b ≡ true → has b n ≡ true → subset (with a n) b ≡ true
+subset-with a b n s p =
+    subset-of (with a n) (with a n) b (width (with a n)) (λ k l q.
+    ⊎-elim (λ e. subset-has a b s k e) (λ e. subst (λ (m : ℕ). has b m ≡ true) (eqb-true n k e) p)
+    (or-holds (has a k) (eqb n k) (sym (has-with a n k) ∙ q)))
+
+-- a mask with a bit is not empty
+pub not-empty : (m n : ℕ) → has m n ≡ true → eqb 0 m ≡ false
+not-empty m n p = ne-eqb 0 m (λ e. clash (subst (λ (k : ℕ). has k n ≡ true) (sym e) p) (has-zero n))
 
 -- ---- disjoint
 

@@ -2,13 +2,17 @@
 -- `tabulate n f` is the list of f below n; a loop that stores f i at i turns l into `filled n f l`; `padded n ws` is ws with zeros to length n.
 use mathlib.Core.Path.{_≡_, refl, sym, ap, ap₂, _∙_, subst, subst⁻¹}
 use mathlib.Core.Logic.{_⊎_, inl, inr, ⊎-elim}
+use mathlib.Core.Bool.{cond}
 use mathlib.Core.List.{List, [], _∷_, _++_, map, map-append, append-assoc, append-nil}
-use Prim.Native.Nat.{ℕ, zero, suc, _+_, _-_, _≤_, _<_}
-use native.Mathlib.Nat.{le-refl, le-of-suc-le-suc, not-suc-le-zero, eq-or-lt-of-le, add-zero, add-suc}
+use Prim.Native.Nat.{ℕ, zero, suc, _+_, _*_, _/_, _%_, _-_, _≤_, _<_, zero-le}
+use native.Mathlib.Nat.{le-refl, le-antisymm, le-of-suc-le-suc, not-suc-le-zero, eq-or-lt-of-le, add-zero, add-suc}
 use native.Mathlib.Numerals.{add-one}
 use native.Mathlib.Omega.{arith}
-use lib.ListN.{length, getD, set, take, drop, replicate, length-append, length-take, length-drop, length-replicate, getD-replicate, List·getD-eq-default, List·getD-append}
-use lib.Seq.{ext-getD, getD-append-add, getD-set-same, getD-set-other, getD-take, getD-drop, getD-at, set-at, drop-cons, drop-length, append-snoc, drop-drop}
+use lib.Arith.{lt-of-le-ne}
+use lib.Dec.{ltb}
+use lib.ListN.{length, getD, set, take, drop, replicate, replicate-append-replicate, length-set, length-append, length-take, length-drop, length-replicate, getD-replicate, List·getD-eq-default, List·getD-append}
+use lib.Seq.{ext-getD, take-nil, take-at, drop-at, getD-append-add, set-split, length-take-le, getD-set-same, getD-set-other, getD-take, getD-drop, getD-at, set-at, drop-cons, drop-length, append-snoc, drop-drop}
+use borrow.Author.Tests.{lt-ltb, le-ltb}
 use borrow.Rule.Slice.PartMut.{putMid}
 use Rattle.laws.specs.Bools.{lt-or-le, eq-or-ne}
 
@@ -112,12 +116,26 @@ module _ {ℓ} {A : Type ℓ} where
       go (inl q) = subst⁻¹ (λ (x : ℕ). getD (set l i v) x d ≡ f x) q (getD-set-same l i v d h ∙ e)
       go (inr q) = getD-set-other l i k v d q ∙ below k (omega arith)
 
+  -- the same of what is told of the elements
+  pub told-more : (d : A) (told : A → Type 0) (l : List A) (i : ℕ) (v : A) → i < length l → told v
+      → ((k : ℕ) → k < i → told (getD l k d)) → (k : ℕ) → k < i + 1 → told (getD (set l i v) k d)
+  told-more d told l i v h t below k m = go (eq-or-ne k i)
+    where
+      go : (k ≡ i) ⊎ (k ≡ i → ⊥) → told (getD (set l i v) k d)
+      go (inl q) = subst⁻¹ (λ (x : ℕ). told (getD (set l i v) x d)) q (subst⁻¹ told (getD-set-same l i v d h) t)
+      go (inr q) = subst⁻¹ told (getD-set-other l i k v d q) (below k (omega arith))
+
   -- what lies from i on is as it was
   pub set-rest : (d : A) (l₀ l : List A) (i : ℕ) (v : A)
       → ((k : ℕ) → i ≤ k → getD l k d ≡ getD l₀ k d) → (k : ℕ) → i + 1 ≤ k → getD (set l i v) k d ≡ getD l₀ k d
   set-rest d l₀ l i v rest k m =
       let q : (k ≡ i → ⊥) = λ e. omega arith in
       getD-set-other l i k v d q ∙ rest k (omega arith)
+
+  -- what stands from a stored value on
+  pub drop-set : (l : List A) (i : ℕ) (v : A) → i < length l → drop i (set l i v) ≡ v ∷ drop (suc i) l
+  drop-set l i v h =
+      ap (drop i) (set-split l i v h) ∙ drop-at (take i l) (v ∷ drop (suc i) l) i (length-take-le i l (omega arith))
 
   -- ---- filled
 
@@ -144,6 +162,10 @@ module _ {ℓ} {A : Type ℓ} where
   unfolding filled
   filled-all n f l e =
       ap (λ (r : List A). tabulate n f ++ r) (ap (λ (k : ℕ). drop k l) (sym e) ∙ drop-length l) ∙ append-nil (tabulate n f)
+
+  -- the end of a loop that filled all
+  pub filled-end : (n : ℕ) (f : ℕ → A) (l m : List A) (k : ℕ) → length l ≡ n → k ≤ n → n ≤ k → m ≡ filled k f l → m ≡ tabulate n f
+  filled-end n f l m k e i j h = h ∙ ap (λ (x : ℕ). filled x f l) (le-antisymm i j) ∙ filled-all n f l e
 
   pub length-filled : (n : ℕ) (f : ℕ → A) (l : List A) → n ≤ length l → length (filled n f l) ≡ length l
   unfolding filled
@@ -175,6 +197,22 @@ module _ {ℓ} {A : Type ℓ} where
       ext-getD d m (filled n f l) (e ∙ sym (length-filled n f l h))
       (λ k i. ⊎-elim (λ j. low k j ∙ sym (getD-filled n f l k d j)) (λ j. high k j ∙ sym (getD-filled-rest n f l k d j)) (lt-or-le k n))
 
+  -- ---- an array made by `[v; n]` and filled from the front
+
+  module _ (n : ℕ) (v : A) (f : ℕ → A) where
+    pub fill-start : replicate n v ≡ filled 0 f (replicate n v)
+    fill-start = sym (filled-none f (replicate n v))
+
+    pub fill-turn : (i : ℕ) (m : List A) (w : A) → i < n → m ≡ filled i f (replicate n v) → w ≡ f i → set m i w ≡ filled (i + 1) f (replicate n v)
+    fill-turn i m w l e d = filled-turn i f (replicate n v) m w (omega (arith, length-replicate n v)) e d
+
+    pub fill-end : (i : ℕ) (m : List A) → i ≤ n → n ≤ i → m ≡ filled i f (replicate n v) → m ≡ tabulate n f
+    fill-end i m l k e = filled-end n f (replicate n v) m i (length-replicate n v) l k e
+
+    -- a table of one value
+    pub tabulate-same : ((k : ℕ) → k < n → v ≡ f k) → replicate n v ≡ tabulate n f
+    tabulate-same h = tabulate-ext v n f (replicate n v) (length-replicate n v) (λ k l. getD-replicate n k v v l ∙ h k l)
+
   -- ---- part
 
   pub length-part : (a e : ℕ) (l : List A) → e ≤ length l → length (part a e l) ≡ e - a
@@ -186,6 +224,16 @@ module _ {ℓ} {A : Type ℓ} where
   pub part-tabulate : (d : A) (a e : ℕ) (l : List A) → e ≤ length l → part a e l ≡ tabulate (e - a) (λ k. getD l (a + k) d)
   part-tabulate d a e l h =
       tabulate-ext d (e - a) (λ k. getD l (a + k) d) (part a e l) (length-part a e l h) (λ k i. getD-part a e l k d i)
+
+  -- a part from 0 on, and a part as the end of the front
+  pub part-front : (n : ℕ) (l : List A) → part 0 n l ≡ take n l
+  part-front n l = let e : n - 0 ≡ n = omega arith in rw e
+
+  pub part-end : (a e : ℕ) (l : List A) → part a e l ≡ drop a (take e l)
+  part-end zero e l = part-front e l
+  part-end (suc a) e [] = take-nil (e - suc a) ∙ sym (ap (drop (suc a)) (take-nil e))
+  part-end (suc a) zero (x ∷ l) = let d : 0 - suc a ≡ 0 = omega arith in rw d
+  part-end (suc a) (suc e) (x ∷ l) = let d : suc e - suc a ≡ e - a = omega arith in rw d (part-end a e l)
 
   -- a part lent by its start and its length
   pub part-of : (d : A) (a n : ℕ) (l : List A) → a + n ≤ length l → take n (drop a l) ≡ tabulate n (λ k. getD l (a + k) d)
@@ -297,3 +345,81 @@ padded-append n ws h =
 pub padded-padded : (m n : ℕ) (ws : List ℕ) → length ws ≤ m → padded n (padded m ws) ≡ padded n ws
 unfolding padded
 padded-padded m n ws h = tabulate-cong n (λ k. getD (padded m ws) k 0) (λ k. getD ws k 0) (λ k i. getD-padded-all m ws k h)
+
+-- a loop that stores the words before zeros
+pub padded-stored : (n : ℕ) (ws : List ℕ) (i : ℕ) (l : List ℕ) → length ws ≤ n → i ≤ length ws → length ws ≤ i
+    → l ≡ filled i (λ k. getD ws k 0) (replicate n 0) → l ≡ padded n ws
+padded-stored n ws i l h m k e =
+    padded-ext n ws l (ap length e ∙ length-filled i f (replicate n 0) (omega (arith, size)) ∙ size) at
+  where
+    f : ℕ → ℕ
+    f j = getD ws j 0
+
+    size : length (replicate {A = ℕ} n 0) ≡ n
+    size = length-replicate {A = ℕ} n 0
+
+    at : (j : ℕ) → j < n → getD l j 0 ≡ getD ws j 0
+    at j b =
+        ap (λ (x : List ℕ). getD x j 0) e
+        ∙ ⊎-elim (λ a. getD-filled i f (replicate n 0) j 0 a)
+        (λ a. getD-filled-rest i f (replicate n 0) j 0 a ∙ getD-replicate n j 0 0 b ∙ sym (List·getD-eq-default ws 0 (omega arith)))
+        (lt-or-le j i)
+
+-- the front of padded words is the words
+pub front-padded : (m n : ℕ) (ws : List ℕ) → length ws ≤ m → n ≡ length ws → take n (padded m ws) ≡ ws
+front-padded m n ws h e = ap (take n) (sym (padded-append m ws h)) ∙ take-at ws _ n (sym e)
+
+-- ---- tables of zeros
+
+-- n zeros
+abbrev pub zeros : ℕ → List ℕ
+zeros n = replicate n 0
+
+-- what is left of a list of zeros
+pub zeros-left : (m n : ℕ) → n ≤ m → drop n (zeros m) ≡ zeros (m - n)
+zeros-left m n l =
+    let sum : n + (m - n) ≡ m = omega arith in
+    let parts : zeros n ++ zeros (m - n) ≡ zeros m = replicate-append-replicate n (m - n) 0 ∙ ap zeros sum in
+    ap (drop n) (sym parts) ∙ drop-at (zeros n) (zeros (m - n)) n (length-replicate n 0)
+
+-- zeros with the first elements filled
+pub filled-zeros : (n count : ℕ) (f : ℕ → ℕ) → count ≤ n → filled count f (replicate n 0) ≡ tabulate n (λ k. cond (ltb k count) (f k) 0)
+filled-zeros n count f l =
+    tabulate-ext 0 n (λ k. cond (ltb k count) (f k) 0) (filled count f (replicate n 0))
+    (length-filled count f (replicate n 0) (omega (arith, length-replicate {A = ℕ} n 0)) ∙ length-replicate n 0)
+    (λ k m.
+    ⊎-elim (λ i. getD-filled count f (replicate n 0) k 0 i ∙ rw (lt-ltb k count i))
+    (λ i. getD-filled-rest count f (replicate n 0) k 0 i ∙ getD-replicate n k 0 0 m ∙ rw (le-ltb k count i))
+    (lt-or-le k count))
+
+-- ---- tables of pairs of words
+
+-- the two numbers whose half is s
+halves : (i s : ℕ) → i / 2 ≡ s → (i ≡ 2 * s + 1) ⊎ (i ≡ 2 * s)
+halves i s h = ⊎-elim (λ z. inr (omega arith)) (λ z. inl (odd (lt-of-le-ne zero-le (λ e. z (sym e))))) (eq-or-ne (i % 2) 0)
+  where
+    odd : 0 < i % 2 → i ≡ 2 * s + 1
+    odd l = omega arith
+
+-- the two words of pair s are stored
+pub pair-set : (n : ℕ) (f g : ℕ → ℕ) (s v k : ℕ) → 2 * s + 1 < n → g (2 * s) ≡ v → g (2 * s + 1) ≡ k
+    → ((i : ℕ) → i < n → (i / 2 ≡ s → ⊥) → f i ≡ g i) → set (set (tabulate n f) (2 * s) v) (2 * s + 1) k ≡ tabulate n g
+pair-set n f g s v k l ev ek rest =
+    tabulate-ext 0 n g (set (set (tabulate n f) (2 * s) v) (2 * s + 1) k)
+    (simp length-set (length-tabulate n f))
+    (λ i m. go i m (eq-or-ne i (2 * s + 1)) (eq-or-ne i (2 * s)))
+  where
+    first : List ℕ
+    first = set (tabulate n f) (2 * s) v
+
+    go : (i : ℕ) → i < n → (i ≡ 2 * s + 1) ⊎ (i ≡ 2 * s + 1 → ⊥) → (i ≡ 2 * s) ⊎ (i ≡ 2 * s → ⊥) → getD (set first (2 * s + 1) k) i 0 ≡ g i
+    go i m (inl e) d =
+        rw e (getD-set-same first (2 * s + 1) k 0 (omega (arith, length-set (tabulate n f) (2 * s) v, length-tabulate n f)) ∙ sym ek)
+    go i m (inr a) (inl e) =
+        getD-set-other first (2 * s + 1) i k 0 a
+        ∙ rw e (getD-set-same (tabulate n f) (2 * s) v 0 (omega (arith, length-tabulate n f)) ∙ sym ev)
+    go i m (inr a) (inr d) =
+        getD-set-other first (2 * s + 1) i k 0 a
+        ∙ getD-set-other (tabulate n f) (2 * s) i v 0 d
+        ∙ getD-tabulate n f i 0 m
+        ∙ rest i m (λ h. ⊎-elim a d (halves i s h))

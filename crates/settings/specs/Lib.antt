@@ -1,4 +1,3 @@
--- Settings: what their words mean, when they are right, and the least majority.
+-- Settings: what their words mean, and when they are right.
 pub mod Settings
-pub mod Majority
 pub mod Laws

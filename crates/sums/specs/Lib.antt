@@ -1,3 +1,2 @@
 -- Finite sums over natural numbers, and their laws.
 pub mod Sums
-pub mod Loops

@@ -3,7 +3,7 @@
 use mathlib.Core.Path.{_≡_, refl, sym, ap, ap₂, _∙_}
 use mathlib.Core.Bool.{Bool, true, false, cond}
 use Prim.Native.Nat.{ℕ, zero, suc, _+_, _*_, _≤_, _<_, zero-le}
-use native.Mathlib.Nat.{mul-zero, zero-mul, one-mul, mul-le-mul-right}
+use native.Mathlib.Nat.{le-antisymm, mul-zero, zero-mul, one-mul, mul-le-mul-right}
 use native.Mathlib.Numerals.{add-one}
 use native.Mathlib.Omega.{arith}
 use lib.Dec.{eqb, ltb}
@@ -26,6 +26,13 @@ sum-suc n f = refl
 -- one term more, as a loop's counter has it
 pub sum-next : (n : ℕ) (f : ℕ → ℕ) → sumBelow (n + 1) f ≡ sumBelow n f + f n
 sum-next n f = rw add-one (sum-suc n f)
+
+-- a loop that adds up: a turn, and the end
+pub sum-turn : (n total r : ℕ) (f : ℕ → ℕ) → total ≡ sumBelow n f → r ≡ f n → total + r ≡ sumBelow (n + 1) f
+sum-turn n total r f e d = omega (arith, sum-next n f)
+
+pub sum-done : {n m : ℕ} → n ≤ m → m ≤ n → (total : ℕ) (f : ℕ → ℕ) → total ≡ sumBelow n f → total ≡ sumBelow m f
+sum-done l g total f e = e ∙ ap (λ (k : ℕ). sumBelow k f) (le-antisymm l g)
 
 pub sum-cong : (n : ℕ) (f g : ℕ → ℕ) → ((k : ℕ) → k < n → f k ≡ g k) → sumBelow n f ≡ sumBelow n g
 unfolding sumBelow

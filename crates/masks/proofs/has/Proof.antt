@@ -6,17 +6,8 @@ use Rattle.laws.specs.Masks.{has-past}
 use Rattle.masks.proofs.has.Statement.{statement}
 use Rattle.masks.proofs.has.Tie as tie
 
-cast-result : tie.Need-cast-result
-cast-result c = search needs
-
-shr-result : tie.Need-shr-result
-shr-result c = search needs
-
-returns : tie.Need-returns
-returns c = search needs
-
 returns-2 : tie.Need-returns-2
 returns-2 c = sym (has-past (c .before .args .m) 32 (c .before .args .n) (omega arith) (omega arith))
 
 pub has-spec : {M : Type 1} → statement M
-has-spec = tie.close (tie.spec cast-result shr-result returns returns-2)
+has-spec = tie.close (tie.spec (λ c. search needs) (λ c. search needs) (λ c. search needs) returns-2)

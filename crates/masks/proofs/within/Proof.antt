@@ -8,12 +8,6 @@ use Rattle.laws.specs.Masks.{shl-single, lt-within}
 use Rattle.masks.proofs.within.Statement.{statement}
 use Rattle.masks.proofs.within.Tie as tie
 
-cast-result : tie.Need-cast-result
-cast-result c = search needs
-
-shl-result : tie.Need-shl-result
-shl-result c = search needs
-
 returns : tie.Need-returns
 returns c = rw (shl-single 32 (c .before .args .n) (omega arith))
 
@@ -21,4 +15,4 @@ returns-2 : tie.Need-returns-2
 returns-2 c = sym (lt-within (c .before .args .n) (c .before .args .m) (lt-of-lt-of-le (omega arith) (pow-mono {i = 32} (omega arith))))
 
 pub within-spec : {M : Type 1} → statement M
-within-spec = tie.close (tie.spec cast-result shl-result returns returns-2)
+within-spec = tie.close (tie.spec (λ c. search needs) (λ c. search needs) returns returns-2)

@@ -7,12 +7,6 @@ use Rattle.laws.specs.Masks.{shl-single, single-lt, and-not, without-same, has-
 use Rattle.masks.proofs.without.Statement.{statement}
 use Rattle.masks.proofs.without.Tie as tie
 
-cast-result : tie.Need-cast-result
-cast-result c = search needs
-
-shl-result : tie.Need-shl-result
-shl-result c = search needs
-
 returns : tie.Need-returns
 returns c =
     let n = c .before .args .n in
@@ -25,4 +19,4 @@ returns-2 c =
     let n = c .before .args .n in sym (without-same m n (has-past m 32 n (omega arith) (omega arith)))
 
 pub without-spec : {M : Type 1} → statement M
-without-spec = tie.close (tie.spec cast-result shl-result returns returns-2)
+without-spec = tie.close (tie.spec (λ c. search needs) (λ c. search needs) returns returns-2)

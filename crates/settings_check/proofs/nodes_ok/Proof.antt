@@ -1,4 +1,4 @@
--- `settings::nodes_ok` meets its contract. The invariant: the nodes below i are right.
+-- `settings_check::nodes_ok` meets its contract. The invariant: the nodes below i are right.
 use mathlib.Core.Path.{_≡_, sym}
 use mathlib.Core.Bool.{Bool, true}
 use mathlib.Core.List.{List}
@@ -8,9 +8,9 @@ use lib.Dec.{ltb}
 use borrow.Author.Tests.{le-ltb, lt-ltb}
 use borrow.Author.Needs.{needs}
 use Rattle.laws.specs.Below.{allBelow, all-none, all-more, all-fails, all-fewer}
 use Rattle.settings.specs.Settings.{nodes, sets, setOf, nodesOk}
-use Rattle.settings.proofs.nodes_ok.Statement.{statement}
-use Rattle.settings.proofs.nodes_ok.Tie as tie
+use Rattle.settings_check.proofs.nodes_ok.Statement.{statement}
+use Rattle.settings_check.proofs.nodes_ok.Tie as tie
 
 abbrev ok : List ℕ → ℕ → Bool
 ok σ n = ltb (setOf σ n) (sets σ)
@@ -21,38 +21,14 @@ Inv-loop settings n f i₀ i = (i ≤ nodes settings) × (allBelow i (ok setting
 abbrev μ-loop : tie.MeasureT-loop
 μ-loop settings n f i₀ i = n - i
 
-shared-slice-read-wide : tie.Need-shared-slice-read-wide Inv-loop μ-loop
-shared-slice-read-wide c = search needs
-
-wide-requires : tie.Need-wide-requires Inv-loop μ-loop
-wide-requires c κs = search needs
-
-shared-slice-read-f : tie.Need-shared-slice-read-f Inv-loop μ-loop
-shared-slice-read-f c = search needs
-
 loop-holds : tie.Need-loop-holds Inv-loop μ-loop
 loop-holds c = (search needs, all-none (ok (c .before .before .before .before .args .settings .now)))
-
-add-if1 : tie.Need-add-if1 Inv-loop μ-loop
-add-if1 c = search needs
-
-mul-if1 : tie.Need-mul-if1 Inv-loop μ-loop
-mul-if1 c = search needs
-
-shared-slice-read-if1 : tie.Need-shared-slice-read-if1 Inv-loop μ-loop
-shared-slice-read-if1 c = search needs
 
 returns : tie.Need-returns Inv-loop μ-loop
 unfolding nodesOk
 returns c = let σ = c .before .before .before .before .before .before .before .before .args .settings .now in
     let i = c .before .before .before .loop .i in
     sym (all-fails (nodes σ) (ok σ) i (omega arith) (le-ltb (setOf σ i) (sets σ) (c .if1 .taken)))
-
-add-i : tie.Need-add-i Inv-loop μ-loop
-add-i c = search needs
-
-loop-less : tie.Need-loop-less Inv-loop μ-loop
-loop-less c = search needs
 
 loop-again : tie.Need-loop-again Inv-loop μ-loop
 loop-again c = let σ = c .before .before .before .before .before .before .before .before .args .settings .now in
@@ -68,18 +44,5 @@ returns-2 c = let σ = c .before .before .before .before .before .before .args .
 pub nodes-ok-spec : {M : Type 1} → statement M
 nodes-ok-spec =
     tie.close
-    (tie.spec
-    Inv-loop
-    μ-loop
-    shared-slice-read-wide
-    wide-requires
-    shared-slice-read-f
-    loop-holds
-    add-if1
-    mul-if1
-    shared-slice-read-if1
-    returns
-    add-i
-    loop-less
-    loop-again
-    returns-2)
+    (tie.spec Inv-loop μ-loop (λ c. search needs) (λ c κs. search needs) (λ c. search needs) loop-holds (λ c. search needs) (λ c. search needs)
+    (λ c. search needs) returns (λ c. search needs) (λ c. search needs) loop-again returns-2)

@@ -1,14 +1,11 @@
--- `settings::check` meets its contract. Right sizes are what the other two checks require.
+-- `settings_check::check` meets its contract. Right sizes are what the other two checks require.
 use mathlib.Core.Path.{sym, _∙_}
 use borrow.Author.Tests.{not-true, not-false}
 use borrow.Author.Needs.{needs}
 use Rattle.settings.specs.Laws.{sizes-give}
 use Rattle.settings.specs.Settings.{settingsOk}
-use Rattle.settings.proofs.check.Statement.{statement}
-use Rattle.settings.proofs.check.Tie as tie
-
-sizes-ok-requires : tie.Need-sizes-ok-requires
-sizes-ok-requires c κs = search needs
+use Rattle.settings_check.proofs.check.Statement.{statement}
+use Rattle.settings_check.proofs.check.Tie as tie
 
 returns : tie.Need-returns
 unfolding settingsOk
@@ -30,5 +27,4 @@ returns-3 c = simp (sym (c .before .before .before .before .sizes-ok .ensures), 
 
 pub check-spec : {M : Type 1} → statement M
 check-spec =
-    tie.close
-    (tie.spec sizes-ok-requires returns nodes-ok-requires returns-2 shards-ok-requires returns-3)
+    tie.close (tie.spec (λ c κs. search needs) returns nodes-ok-requires returns-2 shards-ok-requires returns-3)

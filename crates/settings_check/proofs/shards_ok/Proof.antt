@@ -1,4 +1,4 @@
--- `settings::shards_ok` meets its contract. The invariant: the shards below s are right.
+-- `settings_check::shards_ok` meets its contract. The invariant: the shards below s are right.
 use mathlib.Core.Path.{_≡_, sym, _∙_}
 use mathlib.Core.Bool.{true}
 use Prim.Native.Nat.{_≤_, _-_}
@@ -6,9 +6,9 @@ use native.Mathlib.Omega.{arith}
 use borrow.Author.Tests.{not-true, not-false}
 use borrow.Author.Needs.{needs}
 use Rattle.laws.specs.Below.{allBelow, all-none, all-more, all-fails, all-fewer}
 use Rattle.settings.specs.Settings.{shards, shardOk, shardsOk}
-use Rattle.settings.proofs.shards_ok.Statement.{statement}
-use Rattle.settings.proofs.shards_ok.Tie as tie
+use Rattle.settings_check.proofs.shards_ok.Statement.{statement}
+use Rattle.settings_check.proofs.shards_ok.Tie as tie
 
 abbrev Inv-loop : tie.InvT-loop
 Inv-loop settings count s₀ s = (s ≤ shards settings) × (allBelow s (shardOk settings) ≡ true)
@@ -16,17 +16,8 @@ Inv-loop settings count s₀ s = (s ≤ shards settings) × (allBelow s (shardOk
 abbrev μ-loop : tie.MeasureT-loop
 μ-loop settings count s₀ s = count - s
 
-shared-slice-read-wide : tie.Need-shared-slice-read-wide Inv-loop μ-loop
-shared-slice-read-wide c = search needs
-
-wide-requires : tie.Need-wide-requires Inv-loop μ-loop
-wide-requires c κs = search needs
-
 loop-holds : tie.Need-loop-holds Inv-loop μ-loop
 loop-holds c = (search needs, all-none (shardOk (c .before .before .before .args .settings .now)))
-
-shard-ok-requires : tie.Need-shard-ok-requires Inv-loop μ-loop
-shard-ok-requires c κs = search needs
 
 returns : tie.Need-returns Inv-loop μ-loop
 unfolding shardsOk
@@ -34,12 +25,6 @@ returns c = let σ = c .before .before .before .before .before .before .before .
     let s = c .before .before .before .loop .s in
     let k = c .before .shard-ok in
     sym (all-fails (shards σ) (shardOk σ) s (omega arith) (sym (k .ensures) ∙ not-true (k .result) (c .if1 .taken)))
-
-add-s : tie.Need-add-s Inv-loop μ-loop
-add-s c = search needs
-
-loop-less : tie.Need-loop-less Inv-loop μ-loop
-loop-less c = search needs
 
 loop-again : tie.Need-loop-again Inv-loop μ-loop
 loop-again c = let σ = c .before .before .before .before .before .before .before .args .settings .now in
@@ -55,15 +40,5 @@ returns-2 c = let σ = c .before .before .before .before .before .args .settings
 pub shards-ok-spec : {M : Type 1} → statement M
 shards-ok-spec =
     tie.close
-    (tie.spec
-    Inv-loop
-    μ-loop
-    shared-slice-read-wide
-    wide-requires
-    loop-holds
-    shard-ok-requires
-    returns
-    add-s
-    loop-less
-    loop-again
-    returns-2)
+    (tie.spec Inv-loop μ-loop (λ c. search needs) (λ c κs. search needs) loop-holds (λ c κs. search needs) returns (λ c. search needs)
+    (λ c. search needs) loop-again returns-2)

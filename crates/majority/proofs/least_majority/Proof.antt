@@ -1,4 +1,4 @@
--- `settings::least_majority` meets its contract: the table's rule is a test at each entry, which antt computes.
+-- `majority::least_majority` meets its contract: the table's rule is a test at each entry, which antt computes.
 use mathlib.Core.Path.{_≡_, refl, subst}
 use mathlib.Core.Bool.{Bool, true}
 use mathlib.Core.List.{List, [], _∷_}
@@ -9,9 +9,9 @@ use lib.ListN.{getD}
 use borrow.Author.Tests.{eqb-true}
 use borrow.Author.Needs.{needs}
 use Rattle.laws.specs.Below.{allBelow, all-at}
-use Rattle.settings.specs.Majority.{LeastMajority, half-and-one}
-use Rattle.settings.proofs.least_majority.Statement.{statement}
-use Rattle.settings.proofs.least_majority.Tie as tie
+use Rattle.majority.specs.Majority.{LeastMajority, half-and-one}
+use Rattle.majority.proofs.least_majority.Statement.{statement}
+use Rattle.majority.proofs.least_majority.Tie as tie
 
 table : List ℕ
 table =
@@ -24,16 +24,10 @@ all-right : allBelow 33 right ≡ true
 unfolding allBelow right table
 all-right = refl
 
-mul-result : tie.Need-mul-result
-mul-result c = search needs
-
-array-read-result : tie.Need-array-read-result
-array-read-result c = search needs
-
 returns : tie.Need-returns
 unfolding right table
 returns c = let n = c .args .members in
     subst (LeastMajority n) (eqb-true (n / 2 + 1) (getD table n 0) (all-at 33 right all-right n (omega arith))) (half-and-one n)
 
 pub least-majority-spec : {M : Type 1} → statement M
-least-majority-spec = tie.close (tie.spec mul-result array-read-result returns)
+least-majority-spec = tie.close (tie.spec (λ c. search needs) (λ c. search needs) returns)

@@ -1,4 +1,4 @@
--- `settings::sizes_ok` meets its contract. The sum fits, since the ranges hold by then.
+-- `settings_check::sizes_ok` meets its contract. The sum fits, since the ranges hold by then.
 use mathlib.Core.Bool.{true}
 use mathlib.Core.List.{List}
 use mathlib.Core.Path.{_≡_, sym, _∙_}
@@ -8,10 +8,10 @@ use lib.Dec.{eqb, leb}
 use lib.ListN.{length}
 use borrow.Author.Tests.{le-leb, lt-leb, not-true, not-false}
 use borrow.Author.Needs.{needs}
 use Rattle.settings.specs.Settings.{nodes, shards, rangesOk, sizesOk}
 use Rattle.settings.specs.Laws.{ranges-give, range-high}
-use Rattle.settings.proofs.sizes_ok.Statement.{statement}
-use Rattle.settings.proofs.sizes_ok.Tie as tie
+use Rattle.settings_check.proofs.sizes_ok.Statement.{statement}
+use Rattle.settings_check.proofs.sizes_ok.Tie as tie
 
 last : (σ : List ℕ) (n s : ℕ) → leb 4 (length σ) ≡ true → rangesOk σ ≡ true → n ≡ nodes σ → s ≡ shards σ
     → eqb (length σ) (4 + n + s) ≡ sizesOk σ
@@ -22,30 +22,15 @@ returns : tie.Need-returns
 unfolding sizesOk
 returns c = simp (lt-leb _ _ (c .if1 .taken))
 
-ranges-ok-requires : tie.Need-ranges-ok-requires
-ranges-ok-requires c κs = search needs
-
 returns-2 : tie.Need-returns-2
 unfolding sizesOk
 returns-2 c = simp (le-leb _ _ (c .before .before .if1 .left), sym (c .before .ranges-ok .ensures), not-true (c .before .ranges-ok .result) (c .if2 .taken))
-
-shared-slice-read-wide : tie.Need-shared-slice-read-wide
-shared-slice-read-wide c = search needs
-
-wide-requires : tie.Need-wide-requires
-wide-requires c κs = search needs
 
 add-result : tie.Need-add-result
 add-result c = let k = c .before .before .before .ranges-ok in
     let σ = c .before .before .before .before .before .before .args .settings .now in
     let r = ranges-give σ (sym (k .ensures) ∙ not-false (k .result) (c .before .before .if2 .left)) in
     omega (arith, range-high 1 32 (nodes σ) (r .nodes-range))
-
-shared-slice-read-wide-2 : tie.Need-shared-slice-read-wide-2
-shared-slice-read-wide-2 c = search needs
-
-wide-requires-2 : tie.Need-wide-requires-2
-wide-requires-2 c κs = search needs
 
 add-result-2 : tie.Need-add-result-2
 add-result-2 c = let k = c .before .before .before .before .before .ranges-ok in
@@ -64,14 +49,5 @@ returns-3 c = let k = c .before .before .before .before .before .ranges-ok in
 pub sizes-ok-spec : {M : Type 1} → statement M
 sizes-ok-spec =
     tie.close
-    (tie.spec
-    returns
-    ranges-ok-requires
-    returns-2
-    shared-slice-read-wide
-    wide-requires
-    add-result
-    shared-slice-read-wide-2
-    wide-requires-2
-    add-result-2
-    returns-3)
+    (tie.spec returns (λ c κs. search needs) returns-2 (λ c. search needs) (λ c κs. search needs) add-result (λ c. search needs)
+    (λ c κs. search needs) add-result-2 returns-3)

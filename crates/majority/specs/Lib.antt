@@ -1,0 +1,2 @@
+-- The least number of members that is more than half of them.
+pub mod Majority

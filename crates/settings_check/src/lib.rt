@@ -1,0 +1,94 @@
+// Row 2: whether the words of the settings are right.
+ghost use mathlib.Core.Bool.{true};
+ghost use mathlib.Core.Path.{_≡_};
+ghost use Prim.Native.Nat.{_<_, _≤_};
+ghost use lib.ListN.{length};
+ghost use Rattle.settings.specs.Settings.{rangesOk, sizesOk, nodesOk, shardOk, shardsOk, settingsOk, Sizes, shards, need};
+
+// The first four words are in their ranges.
+fn ranges_ok(settings: &[u32]) -> bool
+    requires { ⌜ 4 ≤ length (now settings) ⌝ }
+    ensures { λ r. ⌜ r ≡ rangesOk (now (settings .entry)) ⌝ }
+{
+    if !settings::from_to(1, 32, settings[0]) {
+        return false;
+    }
+    if !settings::from_to(1, 16, settings[1]) {
+        return false;
+    }
+    if !settings::from_to(1, settings[0], settings[2]) {
+        return false;
+    }
+    settings::from_to(1, 16, settings[3])
+}
+
+// The first four words are in their ranges, and the length is what they say.
+fn sizes_ok(settings: &[u32]) -> bool
+    ensures { λ r. ⌜ r ≡ sizesOk (now (settings .entry)) ⌝ }
+{
+    if settings.len() < 4 {
+        return false;
+    }
+    if !ranges_ok(settings) {
+        return false;
+    }
+    settings.len() == 4 + ids::wide(settings[0]) + ids::wide(settings[3])
+}
+
+// Each node's failure set is one of them.
+fn nodes_ok(settings: &[u32]) -> bool
+    requires { ⌜ Sizes (now settings) ⌝ }
+    ensures { λ r. ⌜ r ≡ nodesOk (now (settings .entry)) ⌝ }
+{
+    let n = ids::wide(settings[0]);
+    let f = settings[1];
+    let mut i: usize = 0;
+    while i < n {
+        if f <= settings[4 + i] {
+            return false;
+        }
+        i += 1;
+    }
+    true
+}
+
+// Subgroup 0 to 3, and a need from 1 to F.
+fn shard_ok(settings: &[u32], s: usize) -> bool
+    requires { ⌜ Sizes (now settings) ⌝ }
+    requires { ⌜ s < shards (now settings) ⌝ }
+    ensures { λ r. ⌜ r ≡ shardOk (now (settings .entry)) s ⌝ }
+{
+    let word = settings::shard_word(settings, s);
+    if 3 < word / 256 {
+        return false;
+    }
+    settings::from_to(1, settings[1], word % 256)
+}
+
+fn shards_ok(settings: &[u32]) -> bool
+    requires { ⌜ Sizes (now settings) ⌝ }
+    ensures { λ r. ⌜ r ≡ shardsOk (now (settings .entry)) ⌝ }
+{
+    let count = ids::wide(settings[3]);
+    let mut s: usize = 0;
+    while s < count {
+        if !shard_ok(settings, s) {
+            return false;
+        }
+        s += 1;
+    }
+    true
+}
+
+// Row 2: the words are right settings.
+pub fn check(settings: &[u32]) -> bool
+    ensures { λ r. ⌜ r ≡ settingsOk (now (settings .entry)) ⌝ }
+{
+    if !sizes_ok(settings) {
+        return false;
+    }
+    if !nodes_ok(settings) {
+        return false;
+    }
+    shards_ok(settings)
+}
