@@ -8,18 +8,12 @@ pub struct Reader<'a> {
     pub at: usize,
 }
 
-fn wide(x: u32) -> usize
-    ensures { λ r. ⌜ r ≡ x ⌝ }
-{
-    x as usize
-}
-
 // The next index that record i names; 0 where the message has no such record.
 fn named_by(words: &[u32], i: usize) -> usize
     ensures { λ r. ⌜ r ≡ next (now (words .entry)) i ⌝ }
 {
     if i < words.len() / 4 {
-        return wide(words[4 * i + 3]);
+        return ids::wide(words[4 * i + 3]);
     }
     0
 }

@@ -9,12 +9,12 @@ use mathlib.Core.Path.{_≡_, refl, sym, _∙_}
 use lib.Dec.{ltb}
 use lib.ListN.{getD}
 use borrow.Author.Tests.{lt-ltb, le-leb}
-use Rattle.laws.specs.Below.{all-cong, lowest-le}
+use Rattle.laws.specs.Below.{all-cong}
 use Rattle.laws.specs.Tables.{getD-tabulate, tabulate-cong}
 use Rattle.ids.specs.Refusals.{none}
 use Rattle.format.specs.declared.Form.{Form}
 use Rattle.format.specs.declared.Contents.{Contents}
-use Rattle.format.specs.Chain.{ends, place, following}
+use Rattle.format.specs.Chain.{place, following, following-le}
 use Rattle.format.specs.Records.{membersOf}
 use Rattle.format.specs.Rows.{kindAt, shardAt, sequenceAt, row11At}
 use Rattle.format.specs.Messages.{bodyWord, bodyOf, contentsOf, messageRefusal, contentsRefusal, messageLength, messageOf, tidy}
@@ -80,11 +80,6 @@ message-reads form σ c h =
 pub buffer-reads : (form : Form) (σ : List ℕ) (c : Contents) → contentsRefusal form σ c ≡ none → ReadsAs form σ (messageOf c 512) (tidy c)
 buffer-reads form σ c h =
     written-reads form σ c 128 h (omega (arith, contents-few form σ c h)) (le-refl 128)
-
--- what a message says has at most 127 records after the head
-pub following-le : (w : List ℕ) → following w ≤ 127
-unfolding following
-following-le w = lowest-le 127 (λ j. ends w (place w j))
 
 -- T2: the contents of a message that the reader takes are taken by the writer
 pub read-writes : (form : Form) (σ w : List ℕ) → messageRefusal form σ w ≡ none → contentsRefusal form σ (contentsOf w) ≡ none

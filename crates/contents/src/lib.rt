@@ -1,7 +1,5 @@
 // Rows 6, 7 and 9 to 11 of document 01's table over the contents of a report or an order, for the reader, the writer and
 // the slots of the desk.
-mod passes;
-
 use format::Contents;
 use format::Form;
 use ids::Node;
@@ -63,7 +61,7 @@ pub fn records_refusal(
         return Refusal { number: 9 };
     }
     let masks = records::masks_of(settings, body);
-    if !rows::row10(settings, members, &masks) {
+    if !shard_masks::row10(settings, members, &masks) {
         return Refusal { number: 10 };
     }
     if passes::positions(form, view, members, body, len) < len {

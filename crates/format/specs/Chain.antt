@@ -1,11 +1,11 @@
 -- A message is a list of words, four to a record. Word 3 of a record is the index of the next one on the chain; 0 ends it.
 -- Records off the chain carry nothing: no definition here looks at them.
-use Prim.Native.Nat.{ℕ, zero, suc, _+_, _*_, _/_, _%_}
+use Prim.Native.Nat.{ℕ, zero, suc, _+_, _*_, _/_, _%_, _≤_}
 use mathlib.Core.Bool.{Bool, _&&_, _||_}
 use mathlib.Core.List.{List}
 use lib.Dec.{eqb, leb, ltb}
 use lib.ListN.{length, getD}
-use Rattle.laws.specs.Below.{allBelow, lowest}
+use Rattle.laws.specs.Below.{allBelow, lowest, lowest-le}
 
 abbrev pub records : List ℕ → ℕ
 records w = length w / 4
@@ -38,3 +38,8 @@ row5 w = leb 1 (length w) && leb (length w) 512 && eqb (length w % 4) 0
 -- row 8: every record on the chain is linked
 unfoldable pub row8 : List ℕ → Bool
 row8 w = allBelow (suc (following w)) (λ j. linked w (place w j))
+
+-- a law: at most 127 records follow the head
+pub following-le : (w : List ℕ) → following w ≤ 127
+unfolding following
+following-le w = lowest-le 127 (λ j. ends w (place w j))

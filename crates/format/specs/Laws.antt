@@ -221,3 +221,8 @@ module _ (form : Form) (σ : List ℕ) (node : ℕ) (b : List ℕ) (len : ℕ)
 
     pub position-below : (shardsOf 2 b len ≡ 0 → ⊥) → (s : ℕ) → s < shards σ → shards σ + s < len
     position-below z s l = positions-block z s l .0
+
+    -- there is a termination where some record is of kind 2
+    pub some-position : (j : ℕ) → j < len → kind b j ≡ 2 → shardsOf 2 b len ≡ 0 → ⊥
+    some-position j l e z =
+        clash (where-at (λ i. eqb (kind b i) 2) b len j l (eq-eqb (kind b j) 2 e)) (ap (λ (x : ℕ). has x (shard b j)) z ∙ has-zero (shard b j))

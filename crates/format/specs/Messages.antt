@@ -1,12 +1,12 @@
 -- What a message says, when reader and writer refuse, and the words that the writer makes.
-use Prim.Native.Nat.{ℕ, suc, _+_, _*_, _-_, _/_, _%_}
-use mathlib.Core.Bool.{Bool, cond}
+use Prim.Native.Nat.{ℕ, _+_, _*_, _-_, _/_, _%_}
+use mathlib.Core.Bool.{cond}
 use mathlib.Core.List.{List}
 use lib.Dec.{eqb, leb, ltb}
 use lib.ListN.{length, getD, replicate}
 use Rattle.laws.specs.Below.{allBelow}
 use Rattle.laws.specs.Tables.{tabulate}
-use Rattle.settings.specs.Settings.{shards, settingsOk}
+use Rattle.settings.specs.Settings.{settingsOk}
 use Rattle.ids.specs.Refusals.{none, accepted, unless, firstOf}
 use Rattle.ids.specs.declared.Refusal.{Refusal}
 use Rattle.format.specs.declared.Form.{Form}

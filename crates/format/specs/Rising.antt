@@ -1,14 +1,14 @@
 -- In contents that pass row 9's third pass every record precedes all later ones, so tags never fall and the runs of a shard
 -- rise by view.
-use Prim.Native.Nat.{ℕ, zero, suc, _+_, _*_, _-_, _/_, _<_, _≤_}
-use mathlib.Core.Bool.{Bool, true, false, not, _&&_, _||_}
+use Prim.Native.Nat.{ℕ, zero, suc, _-_, _<_, _≤_}
+use mathlib.Core.Bool.{true, not, _&&_, _||_}
 use mathlib.Core.List.{List}
 use mathlib.Core.Logic.{_⊎_, inl, inr, ⊎-elim}
-use mathlib.Core.Path.{_≡_, refl, sym, ap, _∙_, subst}
+use mathlib.Core.Path.{_≡_, sym, _∙_, subst}
 use native.Mathlib.Omega.{arith}
-use lib.Dec.{eqb, leb, ltb}
-use borrow.Author.Tests.{ltb-true, eqb-true, lt-ltb, eq-eqb, ne-eqb}
-use Rattle.laws.specs.Bools.{and-both, and-left, and-right, or-left, or-right, or-holds, clash, eq-or-ne}
+use lib.Dec.{eqb, ltb}
+use borrow.Author.Tests.{ltb-true, eqb-true, lt-ltb, eq-eqb}
+use Rattle.laws.specs.Bools.{and-both, and-left, and-right, or-left, or-right, or-holds, eq-or-ne}
 use Rattle.laws.specs.Below.{allBelow, all-at}
 use Rattle.format.specs.Records.{tag, word1, kind, precedes}
 use Rattle.format.specs.Rows.{surplus, sequenceAt}

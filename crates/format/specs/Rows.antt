@@ -1,15 +1,15 @@
 -- Rows 6, 7, 9, 10 and 11 of document 01's table over the settings σ and the contents of a report or an order: each says
 -- that the row finds nothing wrong.
-use Prim.Native.Nat.{ℕ, _+_, _*_, _-_, _^_}
-use mathlib.Core.Bool.{Bool, true, false, cond, not, _&&_, _||_}
+use Prim.Native.Nat.{ℕ, _-_, _^_}
+use mathlib.Core.Bool.{Bool, true, cond, not, _&&_, _||_}
 use mathlib.Core.List.{List}
 use lib.Dec.{eqb, leb, ltb}
-use Rattle.laws.specs.Below.{allBelow, lowest}
+use Rattle.laws.specs.Below.{allBelow}
 use Rattle.laws.specs.Masks.{has, within, subset, disjoint}
 use Rattle.settings.specs.Settings.{nodes, shards, subgroup, from-to}
 use Rattle.format.specs.declared.Form.{Form}
 use Rattle.format.specs.declared.Form.the-variants.{Report, Order}
-use Rattle.format.specs.Records.{tag, word1, word2, kind, shard, precedes, shardsOf, carriedBy, membersOf}
+use Rattle.format.specs.Records.{word1, word2, kind, shard, precedes, shardsOf, carriedBy}
 
 -- row 6: the node is below N
 unfoldable pub row6 : List ℕ → ℕ → Bool

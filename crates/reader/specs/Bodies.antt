@@ -1,21 +1,20 @@
 -- The body of a message's contents, gathered record by record along the chain.
-use mathlib.Core.Path.{_≡_, refl, sym, ap, ap₂, _∙_, subst, subst⁻¹}
+use mathlib.Core.Path.{_≡_, sym, ap, ap₂, _∙_, subst⁻¹}
 use mathlib.Core.Logic.{⊎-elim}
-use mathlib.Core.Bool.{Bool, true, false, cond}
+use mathlib.Core.Bool.{true}
 use mathlib.Core.List.{List}
-use Prim.Native.Nat.{ℕ, zero, suc, _+_, _*_, _/_, _%_, _≤_, _<_, zero-le}
+use Prim.Native.Nat.{ℕ, _+_, _*_, _/_, _%_, _≤_, _<_, zero-le}
 use native.Mathlib.Nat.{add-zero}
 use native.Mathlib.Omega.{arith}
-use lib.Dec.{eqb, ltb}
-use lib.ListN.{length, getD, set, replicate, length-replicate, getD-replicate, List·getD-eq-default}
+use lib.ListN.{length, getD, set, replicate, length-replicate, getD-replicate}
 use borrow.Author.Tests.{lt-ltb, le-ltb, eq-eqb, eqb-true}
 use Rattle.laws.specs.Bools.{lt-or-le}
 use Rattle.laws.specs.Below.{any-none-of}
-use Rattle.laws.specs.Tables.{tabulate, filled, filled-none, filled-more, tabulate-ext, length-filled, getD-filled, getD-filled-rest}
-use Rattle.format.specs.Chain.{records, next, place, ends, following, row8}
+use Rattle.laws.specs.Tables.{filled, filled-none, filled-more, tabulate-ext, length-filled, getD-filled, getD-filled-rest}
+use Rattle.format.specs.Chain.{records, next, place, ends, following, row8, following-le}
 use Rattle.format.specs.Messages.{bodyWord, bodyOf, contentsOf}
 use Rattle.format.specs.declared.Contents.{Contents}
-use Rattle.reader.specs.Walks.{Sized, endsAt, place-next, place-inside, following-at, following-le, following-open, following-ends}
+use Rattle.reader.specs.Walks.{Sized, endsAt, place-next, place-inside, following-at, following-open, following-ends}
 
 -- word k of the records that follow the head on the chain, three words a record
 unfoldable pub chainWord : List ℕ → ℕ → ℕ

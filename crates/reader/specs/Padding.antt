@@ -2,22 +2,22 @@
 -- passed. (The converse does not hold: with zeros after it a next index may come to lie inside the message.)
 use mathlib.Core.Path.{_≡_, refl, sym, ap, ap₂, _∙_, subst⁻¹}
 use mathlib.Core.Logic.{⊎-elim}
-use mathlib.Core.Bool.{Bool, true, false, cond, _&&_, _||_}
+use mathlib.Core.Bool.{true, cond}
 use mathlib.Core.List.{List}
 use Prim.Native.Nat.{ℕ, zero, suc, _+_, _*_, _/_, _%_, _≤_, _<_}
 use native.Mathlib.Omega.{arith}
-use lib.Dec.{eqb, leb, ltb}
+use lib.Dec.{eqb, ltb}
 use lib.ListN.{length, getD}
 use borrow.Author.Tests.{lt-ltb}
 use Rattle.laws.specs.Bools.{either, and-both, or-left, or-right}
-use Rattle.laws.specs.Below.{allBelow, all-at, all-of, lowest-cong}
+use Rattle.laws.specs.Below.{all-at, all-of, lowest-cong}
 use Rattle.laws.specs.Tables.{tabulate-cong, padded, length-padded, getD-padded-all}
 use Rattle.ids.specs.Refusals.{none}
 use Rattle.format.specs.declared.Form.{Form}
 use Rattle.format.specs.Chain.{records, next, place, ends, following, linked, row5, row8}
 use Rattle.format.specs.Messages.{bodyWord, bodyOf, contentsOf, messageRefusal}
-use Rattle.format.specs.Passed.{MessagePasses, message-given, message-none}
-use Rattle.reader.specs.Walks.{Sized, row5-gives, endsAt, linkedAt, linked-on}
+use Rattle.format.specs.Passed.{message-given, message-none}
+use Rattle.reader.specs.Walks.{row5-gives, endsAt, linkedAt, linked-on}
 
 -- ---- two lists that have the same word at every index, and zeros past their ends
 

@@ -1,6 +1,6 @@
 -- What reading a message gives under right settings, and how its rows lead there.
 use mathlib.Core.Path.{_≡_, refl, sym, ap, ap₂, _∙_}
-use mathlib.Core.Bool.{Bool, true, false, cond}
+use mathlib.Core.Bool.{true, false, cond}
 use mathlib.Core.List.{List}
 use Prim.Native.Nat.{ℕ, _≤_}
 use native.Mathlib.Omega.{arith}
@@ -12,9 +12,8 @@ use Rattle.settings.specs.Settings.{settingsOk}
 use Rattle.format.specs.declared.Form.{Form}
 use Rattle.format.specs.declared.Contents.{Contents}
 use Rattle.format.specs.declared.Reading.{Reading}
-use Rattle.format.specs.Chain.{following, row5, row8}
+use Rattle.format.specs.Chain.{following, row5, row8, following-le}
 use Rattle.format.specs.Messages.{contentsOf, blank, headRefusal, recordsRefusal, messageRefusal, readRefusal, readingOf}
-use Rattle.reader.specs.Walks.{following-le}
 
 -- the contents, or blank ones beside a refusal
 abbrev pub answer : Refusal → Contents → Reading

@@ -1,16 +1,16 @@
 -- The walk along a message's chain: what a reader knows at each step, and what it knows at the end.
 use mathlib.Core.Path.{_≡_, refl, sym, ap, _∙_, subst, subst⁻¹}
-use mathlib.Core.Logic.{_⊎_, inl, inr, ⊎-elim}
-use mathlib.Core.Bool.{Bool, true, false, _&&_, _||_}
+use mathlib.Core.Logic.{_⊎_, ⊎-elim}
+use mathlib.Core.Bool.{Bool, true, false, _&&_}
 use mathlib.Core.List.{List}
-use Prim.Native.Nat.{ℕ, zero, suc, _+_, _*_, _/_, _%_, _≤_, _<_, zero-le, suc-le-suc}
+use Prim.Native.Nat.{ℕ, zero, suc, _+_, _*_, _%_, _≤_, _<_, zero-le, suc-le-suc}
 use native.Mathlib.Numerals.{add-one}
 use native.Mathlib.Omega.{arith}
 use lib.Dec.{eqb, leb, ltb}
-use lib.ListN.{length, getD}
-use borrow.Author.Tests.{eq-eqb, ne-eqb, eqb-true, eqb-false, lt-ltb, le-ltb, ltb-true, leb-true}
-use Rattle.laws.specs.Bools.{either, clash, no-false, and-both, and-left, and-right, and-fails-left, and-fails-right, or-left, or-right, or-neither, eq-or-ne, lt-or-le}
-use Rattle.laws.specs.Below.{allBelow, anyBelow, lowest, all-none, all-step, all-more, all-at, all-of, all-fails, any-none, any-more, any-fails, any-none-of, lowest-at, lowest-none, lowest-le, lowest-first, lowest-holds, lowest-some}
+use lib.ListN.{length}
+use borrow.Author.Tests.{eq-eqb, ne-eqb, eqb-true, lt-ltb, le-ltb, ltb-true, leb-true}
+use Rattle.laws.specs.Bools.{clash, no-false, and-both, and-left, and-right, and-fails-left, and-fails-right, or-left, or-right, or-neither, lt-or-le}
+use Rattle.laws.specs.Below.{allBelow, anyBelow, lowest, all-none, all-more, all-at, all-fails, any-none, any-more, any-fails, lowest-at, lowest-none, lowest-first, lowest-holds, lowest-some}
 use Rattle.format.specs.Chain.{records, next, place, ends, following, linked, row5, row8}
 
 -- record j steps along the chain ends it
@@ -61,10 +61,6 @@ following-at w j l h e =
     (λ m. let last : j ≡ 127 = omega arith in
     lowest-none 127 (endsAt w) (subst (λ (x : ℕ). anyBelow x (endsAt w) ≡ false) last h) ∙ sym last)
     (lt-or-le j 127)
-
-pub following-le : (w : List ℕ) → following w ≤ 127
-unfolding following
-following-le w = lowest-le 127 (endsAt w)
 
 -- no record before the last on the chain ends it
 pub following-open : (w : List ℕ) (j : ℕ) → j < following w → endsAt w j ≡ false

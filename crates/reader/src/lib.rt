@@ -166,7 +166,7 @@ pub fn message_refusal(form: Form, settings: &[u32], words: &[u32]) -> Refusal
 pub fn read(form: Form, settings: &[u32], words: &[u32]) -> Reading
     ensures { λ r. ⌜ r ≡ readingOf form (now (settings .entry)) (now (words .entry)) ⌝ }
 {
-    if !settings::check(settings) {
+    if !settings_check::check(settings) {
         return refuse(Refusal { number: 2 });
     }
     read_under(form, settings, words)

@@ -1,15 +1,11 @@
 -- Document 01's small examples of rows 2 and 5 to 11, each around one right report and one right order, computed.
-use Prim.Native.Nat.{ℕ, zero, suc}
-use mathlib.Core.Bool.{Bool, true, false}
+use Prim.Native.Nat.{ℕ}
 use mathlib.Core.List.{List, [], _∷_, _++_}
 use mathlib.Core.Path.{_≡_, refl}
-use lib.Dec.{eqb, leb, ltb}
-use lib.ListN.{length, getD, replicate}
 use Rattle.laws.specs.Below.{allBelow, anyBelow, lowest}
-use Rattle.laws.specs.Masks.{has, within, subset, disjoint}
 use Rattle.laws.specs.Tables.{tabulate}
 use Rattle.settings.specs.Settings.{sizesOk, nodesOk, shardOk, shardsOk, settingsOk}
-use Rattle.ids.specs.Refusals.{none, refused, accepted, unless, firstOf}
+use Rattle.ids.specs.Refusals.{none, refused, unless, firstOf}
 use Rattle.format.specs.declared.Form.the-variants.{Report, Order}
 use Rattle.format.specs.Chain.{place, following, row5, row8}
 use Rattle.format.specs.Records.{precedes, shardsWhere}

@@ -68,7 +68,7 @@ fn write_refusal(form: Form, settings: &[u32], c: Contents, buffer: &[u32]) -> R
     if buffer.len() != 512 {
         return Refusal { number: 1 };
     }
-    if !settings::check(settings) {
+    if !settings_check::check(settings) {
         return Refusal { number: 2 };
     }
     contents::contents_refusal(form, settings, c)

@@ -8,16 +8,10 @@ returns : tie.Need-returns
 returns c = let a = c .before .before .args in
     contents-5 (a .form) (a .settings .now) (a .t3) (c .if1 .taken)
 
-head-refusal-requires : tie.Need-head-refusal-requires
-head-refusal-requires c κs = search needs
-
 returns-2 : tie.Need-returns-2
 returns-2 c = let a = c .before .before .before .before .before .before .before .args in
     let head = c .before .before .head-refusal in
     contents-head (a .form) (a .settings .now) (a .t3) (head .result) (c .before .before .before .before .before .if1 .left) (head .ensures) (c .if2 .taken)
-
-records-refusal-requires : tie.Need-records-refusal-requires
-records-refusal-requires c κs = search needs
 
 returns-3 : tie.Need-returns-3
 returns-3 c = let a = c .before .before .before .before .before .before .before .before .before .before .before .before .args in
@@ -27,4 +21,4 @@ returns-3 c = let a = c .before .before .before .before .before .before .before 
 
 pub contents-refusal-spec : {M : Type 1} → statement M
 contents-refusal-spec =
-    tie.close (tie.spec returns head-refusal-requires returns-2 records-refusal-requires returns-3)
+    tie.close (tie.spec returns (λ c κs. search needs) returns-2 (λ c κs. search needs) returns-3)

@@ -8,15 +8,9 @@ use Rattle.format.specs.Messages.{headRefusal}
 use Rattle.contents.proofs.head_refusal.Statement.{statement}
 use Rattle.contents.proofs.head_refusal.Tie as tie
 
-nodes-requires : tie.Need-nodes-requires
-nodes-requires c κs = search needs
-
 returns : tie.Need-returns
 unfolding headRefusal row6 unless
 returns c = simp (sym (c .before .before .nodes .ensures), le-leb _ _ (c .if1 .taken), le-ltb _ _ (c .if1 .taken))
-
-row7-requires : tie.Need-row7-requires
-row7-requires c κs = search needs
 
 returns-2 : tie.Need-returns-2
 unfolding headRefusal row6 unless
@@ -27,4 +21,4 @@ unfolding headRefusal row6 unless
 returns-3 c = simp (sym (c .before .before .before .before .nodes .ensures), lt-leb _ _ (c .before .before .if1 .left), lt-ltb _ _ (c .before .before .if1 .left), sym (c .before .row7 .ensures), not-false (c .before .row7 .result) (c .if2 .left))
 
 pub head-refusal-spec : {M : Type 1} → statement M
-head-refusal-spec = tie.close (tie.spec nodes-requires returns row7-requires returns-2 returns-3)
+head-refusal-spec = tie.close (tie.spec (λ c κs. search needs) returns (λ c κs. search needs) returns-2 returns-3)

@@ -11,7 +11,7 @@ use Rattle.format.specs.Records.{membersOf}
 use Rattle.format.specs.Rows.{row10, row11At}
 use Rattle.records.specs.Gathered.{shardMasks}
 use Rattle.records.specs.Laws.{masks-row10}
-use Rattle.contents.specs.FirstBad.{bad-fails, bad-holds}
+use Rattle.laws.specs.Loops.{bad-fails, bad-holds}
 use Rattle.contents.specs.Row9.{records-9, records-10, records-11, records-pass}
 use Rattle.contents.proofs.records_refusal.Statement.{statement}
 use Rattle.contents.proofs.records_refusal.Tie as tie
@@ -22,19 +22,10 @@ masks-by : (σ : List ℕ) (members : ℕ) (b table : List ℕ) (r : Bool) → S
 masks-by σ members b table r g e f =
     sym (f ∙ ap (λ (t : List ℕ). row10 σ members (λ i. getD t i 0)) e ∙ masks-row10 σ members b g)
 
-row9-requires : tie.Need-row9-requires
-row9-requires c κs = search needs
-
 returns : tie.Need-returns
 returns c = let a = c .before .before .before .args in
     records-9 (a .form) (a .settings .now) (a .node .0) (a .view .0) (a .members) (a .body .now) (a .len)
     (sym (c .before .row9 .ensures) ∙ not-true (c .before .row9 .result) (c .if1 .taken))
-
-masks-of-requires : tie.Need-masks-of-requires
-masks-of-requires c κs = search needs
-
-row10-requires : tie.Need-row10-requires
-row10-requires c κs = search needs
 
 returns-2 : tie.Need-returns-2
 returns-2 c = let s = c .before .before .before .before .before .before .before in
@@ -46,9 +37,6 @@ returns-2 c = let s = c .before .before .before .before .before .before .before 
     (sym (nine .ensures) ∙ not-false (nine .result) (c .before .before .before .before .if1 .left))
     (masks-by (a .settings .now) (a .members) (a .body .now) (table .result) (ten .result) (s .pre .0) (table .ensures) (ten .ensures)
     ∙ not-true (ten .result) (c .if2 .taken))
-
-positions-requires : tie.Need-positions-requires
-positions-requires c κs = search needs
 
 returns-3 : tie.Need-returns-3
 returns-3 c = let s = c .before .before .before .before .before .before .before .before .before in
@@ -77,12 +65,4 @@ returns-4 c = let s = c .before .before .before .before .before .before .before 
 pub records-refusal-spec : {M : Type 1} → statement M
 records-refusal-spec =
     tie.close
-    (tie.spec
-    row9-requires
-    returns
-    masks-of-requires
-    row10-requires
-    returns-2
-    positions-requires
-    returns-3
-    returns-4)
+    (tie.spec (λ c κs. search needs) returns (λ c κs. search needs) (λ c κs. search needs) returns-2 (λ c κs. search needs) returns-3 returns-4)

@@ -2,21 +2,15 @@
 use borrow.Author.Needs.{needs}
 use Rattle.format.specs.Rows.{kindAt, shardAt, sequenceAt}
 use Rattle.records.specs.Laws.{shards-small}
-use Rattle.contents.specs.FirstBad.{bad-fails, bad-holds}
+use Rattle.laws.specs.Loops.{bad-fails, bad-holds}
 use Rattle.contents.specs.Row9.{row9}
 use Rattle.contents.proofs.row9.Statement.{statement}
 use Rattle.contents.proofs.row9.Tie as tie
-
-kinds-requires : tie.Need-kinds-requires
-kinds-requires c κs = search needs
 
 returns : tie.Need-returns
 unfolding row9
 returns c = let a = c .before .before .before .args in
     rw (bad-fails (a .len) (kindAt (a .form) (a .body .now)) (c .before .kinds .result) (c .before .kinds .ensures) (c .if1 .taken))
-
-shards-requires : tie.Need-shards-requires
-shards-requires c κs = search needs
 
 returns-2 : tie.Need-returns-2
 unfolding row9
@@ -72,13 +66,4 @@ returns-4 c = let a = c .before .before .before .before .before .before .before 
 
 pub row9-spec : {M : Type 1} → statement M
 row9-spec =
-    tie.close
-    (tie.spec
-    kinds-requires
-    returns
-    shards-requires
-    returns-2
-    sequence-requires
-    returns-3
-    complete-requires
-    returns-4)
+    tie.close (tie.spec (λ c κs. search needs) returns (λ c κs. search needs) returns-2 sequence-requires returns-3 complete-requires returns-4)

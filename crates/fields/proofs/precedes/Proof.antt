@@ -6,12 +6,6 @@ use Rattle.format.specs.Records.{precedes}
 use Rattle.fields.proofs.precedes.Statement.{statement}
 use Rattle.fields.proofs.precedes.Tie as tie
 
-tag-requires : tie.Need-tag-requires
-tag-requires c κs = search needs
-
-tag-requires-2 : tie.Need-tag-requires-2
-tag-requires-2 c κs = search needs
-
 returns : tie.Need-returns
 unfolding precedes
 returns c = simp (sym (c .before .before .tag .ensures), sym (c .before .tag2 .ensures), lt-ltb _ _ (c .if1 .taken), lt-leb _ _ (c .if1 .taken))
@@ -24,12 +18,6 @@ returns-3 : tie.Need-returns-3
 unfolding precedes
 returns-3 c = simp (sym (c .before .before .before .before .tag .ensures), sym (c .before .before .before .tag2 .ensures), le-ltb _ _ (c .before .before .if1 .left), le-leb _ _ (c .before .before .if1 .left), eq-eqb _ _ (c .before .if2 .left), ne-eqb _ _ (c .if3 .taken))
 
-word1-requires : tie.Need-word1-requires
-word1-requires c κs = search needs
-
-word1-requires-2 : tie.Need-word1-requires-2
-word1-requires-2 c κs = search needs
-
 returns-4 : tie.Need-returns-4
 unfolding precedes
 returns-4 c = simp (sym (c .before .before .before .before .before .before .tag .ensures), sym (c .before .before .before .before .before .tag2 .ensures), le-ltb _ _ (c .before .before .before .before .if1 .left), le-leb _ _ (c .before .before .before .before .if1 .left), eq-eqb _ _ (c .before .before .before .if2 .left), eq-eqb _ _ (c .before .before .if3 .left), sym (c .before .word1 .ensures), sym (c .word12 .ensures))
@@ -37,12 +25,4 @@ returns-4 c = simp (sym (c .before .before .before .before .before .before .tag 
 pub precedes-spec : {M : Type 1} → statement M
 precedes-spec =
     tie.close
-    (tie.spec
-    tag-requires
-    tag-requires-2
-    returns
-    returns-2
-    returns-3
-    word1-requires
-    word1-requires-2
-    returns-4)
+    (tie.spec (λ c κs. search needs) (λ c κs. search needs) returns returns-2 returns-3 (λ c κs. search needs) (λ c κs. search needs) returns-4)

@@ -5,9 +5,6 @@ use borrow.Author.Tests.{eq-eqb, ne-eqb}
 use Rattle.reader.proofs.answer_with.Statement.{statement}
 use Rattle.reader.proofs.answer_with.Tie as tie
 
-refuse-requires : tie.Need-refuse-requires
-refuse-requires c κs = search needs
-
 returns : tie.Need-returns
 returns c = c .refuse .ensures ∙ rw (ne-eqb _ _ (c .before .if1 .taken))
 
@@ -15,4 +12,4 @@ returns-2 : tie.Need-returns-2
 returns-2 c = rw (eq-eqb _ _ (c .if1 .left))
 
 pub answer-with-spec : {M : Type 1} → statement M
-answer-with-spec = tie.close (tie.spec refuse-requires returns returns-2)
+answer-with-spec = tie.close (tie.spec (λ c κs. search needs) returns returns-2)

@@ -3,7 +3,6 @@ use Prim.Native.Nat.{_-_}
 use mathlib.Core.Path.{sym}
 use mathlib.Core.Logic.{inl, inr}
 use native.Mathlib.Omega.{arith}
-use borrow.Author.Needs.{needs}
 use Rattle.format.specs.Chain.{records}
 use Rattle.reader.specs.Walks.{Walk, walk-start, walk-on, walk-end, walk-broken}
 use Rattle.reader.proofs.chain_ok.Statement.{statement}

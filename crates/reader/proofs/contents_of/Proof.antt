@@ -3,8 +3,7 @@
 use Prim.Native.Nat.{_-_, _<_}
 use native.Mathlib.Omega.{arith}
 use borrow.Author.Needs.{needs}
-use Rattle.format.specs.Chain.{following, records}
-use Rattle.reader.specs.Walks.{following-le}
+use Rattle.format.specs.Chain.{following, records, following-le}
 use Rattle.reader.specs.Bodies.{Gathering, gathering-start, gathering-room, gathering-more, gathering-contents}
 use Rattle.reader.proofs.contents_of.Statement.{statement}
 use Rattle.reader.proofs.contents_of.Tie as tie
@@ -50,15 +49,6 @@ loop-again c =
     gathering-more _ _ _ _ (p .0) (p .1) (l .inv) (c .before .before .before .loop-test .taken) _ _
     (c .before .store .ensures) (c .step-from2 .ensures)
 
-shared-slice-read-t9 : tie.Need-shared-slice-read-t9 Inv-loop μ-loop
-shared-slice-read-t9 c = search needs
-
-shared-slice-read-t12 : tie.Need-shared-slice-read-t12 Inv-loop μ-loop
-shared-slice-read-t12 c = search needs
-
-shared-slice-read-t15 : tie.Need-shared-slice-read-t15 Inv-loop μ-loop
-shared-slice-read-t15 c = search needs
-
 returns : tie.Need-returns Inv-loop μ-loop
 returns c =
     let p = c .before .before .before .before .before .before .before .pre in
@@ -67,17 +57,5 @@ returns c =
 pub contents-of-spec : {M : Type 1} → statement M
 contents-of-spec =
     tie.close
-    (tie.spec
-    Inv-loop
-    μ-loop
-    step-from-requires
-    loop-holds
-    store-requires
-    add-len
-    step-from-requires-2
-    loop-less
-    loop-again
-    shared-slice-read-t9
-    shared-slice-read-t12
-    shared-slice-read-t15
-    returns)
+    (tie.spec Inv-loop μ-loop step-from-requires loop-holds store-requires add-len step-from-requires-2 loop-less loop-again (λ c. search needs)
+    (λ c. search needs) (λ c. search needs) returns)

@@ -6,12 +6,9 @@ use Rattle.reader.specs.Readings.{readingUnder}
 use Rattle.reader.proofs.message_refusal.Statement.{statement}
 use Rattle.reader.proofs.message_refusal.Tie as tie
 
-read-under-requires : tie.Need-read-under-requires
-read-under-requires c κs = search needs
-
 returns : tie.Need-returns
 unfolding readingUnder
 returns c = ap (λ (r : Reading). r .refusal) (c .before .read-under .ensures)
 
 pub message-refusal-spec : {M : Type 1} → statement M
-message-refusal-spec = tie.close (tie.spec read-under-requires returns)
+message-refusal-spec = tie.close (tie.spec (λ c κs. search needs) returns)

@@ -13,12 +13,6 @@ use Rattle.reader.proofs.read.Tie as tie
 right : (c : tie.Else1) → settingsOk (c .before .before .before .before .args .settings .now) ≡ true
 right c = sym (c .before .check .ensures) ∙ not-false _ (c .if1 .left)
 
-check-requires : tie.Need-check-requires
-check-requires c κs = search needs
-
-refuse-requires : tie.Need-refuse-requires
-refuse-requires c κs = search needs
-
 returns : tie.Need-returns
 returns c =
     c .refuse .ensures ∙ reading-settings _ _ _ (sym (c .before .before .check .ensures) ∙ not-true _ (c .before .if1 .taken))
@@ -30,4 +24,4 @@ returns-2 : tie.Need-returns-2
 returns-2 c = c .read-under .ensures ∙ reading-message _ _ _ (right (c .before))
 
 pub read-spec : {M : Type 1} → statement M
-read-spec = tie.close (tie.spec check-requires refuse-requires returns read-under-requires returns-2)
+read-spec = tie.close (tie.spec (λ c κs. search needs) (λ c κs. search needs) returns read-under-requires returns-2)

@@ -26,21 +26,12 @@ head-passes c = number-zero _ _ (c .before .before .head-of .ensures) (c .if2 .l
 linked : (c : tie.Else3) → row8 (c .before .before .before .before .before .before .before .before .before .args .words .now) ≡ true
 linked c = sym (c .before .chain-ok .ensures) ∙ not-false _ (c .if3 .left)
 
-length-ok-requires : tie.Need-length-ok-requires
-length-ok-requires c κs = search needs
-
-refuse-requires : tie.Need-refuse-requires
-refuse-requires c κs = search needs
-
 returns : tie.Need-returns
 returns c =
     c .refuse .ensures ∙ reading-length _ _ _ (sym (c .before .before .length-ok .ensures) ∙ not-true _ (c .before .if1 .taken))
 
 head-of-requires : tie.Need-head-of-requires
 head-of-requires c κs = (c .before .before .before .before .pre, row5-gives _ (sized c))
-
-refuse-requires-2 : tie.Need-refuse-requires-2
-refuse-requires-2 c κs = search needs
 
 returns-2 : tie.Need-returns-2
 returns-2 c =
@@ -49,9 +40,6 @@ returns-2 c =
 
 chain-ok-requires : tie.Need-chain-ok-requires
 chain-ok-requires c κs = row5-gives _ (sized (c .before .before .before))
-
-refuse-requires-3 : tie.Need-refuse-requires-3
-refuse-requires-3 c κs = search needs
 
 returns-3 : tie.Need-returns-3
 returns-3 c =
@@ -65,9 +53,6 @@ contents-of-requires c κs = (row5-gives _ (sized (c .before .before .before .be
 records-of-requires : tie.Need-records-of-requires
 records-of-requires c κs = (c .before .before .before .before .before .before .before .before .before .before .pre, contents-few _ _ (c .contents-of .ensures))
 
-answer-with-requires : tie.Need-answer-with-requires
-answer-with-requires c κs = search needs
-
 returns-4 : tie.Need-returns-4
 returns-4 c =
     c .answer-with .ensures
@@ -77,17 +62,5 @@ returns-4 c =
 pub read-under-spec : {M : Type 1} → statement M
 read-under-spec =
     tie.close
-    (tie.spec
-    length-ok-requires
-    refuse-requires
-    returns
-    head-of-requires
-    refuse-requires-2
-    returns-2
-    chain-ok-requires
-    refuse-requires-3
-    returns-3
-    contents-of-requires
-    records-of-requires
-    answer-with-requires
-    returns-4)
+    (tie.spec (λ c κs. search needs) (λ c κs. search needs) returns head-of-requires (λ c κs. search needs) returns-2 chain-ok-requires
+    (λ c κs. search needs) returns-3 contents-of-requires records-of-requires (λ c κs. search needs) returns-4)

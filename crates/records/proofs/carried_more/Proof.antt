@@ -5,29 +5,11 @@ use borrow.Author.Needs.{needs}
 use Rattle.records.proofs.carried_more.Statement.{statement}
 use Rattle.records.proofs.carried_more.Tie as tie
 
-kind-requires : tie.Need-kind-requires
-kind-requires c κs = search needs
-
 returns : tie.Need-returns
 returns c = simp (sym (c .before .kind .ensures), ne-eqb _ _ (c .if1 .taken))
 
-word1-requires : tie.Need-word1-requires
-word1-requires c κs = search needs
-
-cast-has : tie.Need-cast-has
-cast-has c = search needs
-
-has-requires : tie.Need-has-requires
-has-requires c κs = search needs
-
 returns-2 : tie.Need-returns-2
 returns-2 c = simp (sym (c .before .before .before .before .before .kind .ensures), eq-eqb _ _ (c .before .before .before .before .if1 .left), sym (c .before .before .before .word1 .ensures), sym (c .before .has .ensures), not-true (c .before .has .result) (c .if2 .taken))
-
-shard-requires : tie.Need-shard-requires
-shard-requires c κs = search needs
-
-with-requires : tie.Need-with-requires
-with-requires c κs = search needs
 
 returns-3 : tie.Need-returns-3
 returns-3 c = simp (sym (c .before .before .before .before .before .before .before .kind .ensures), eq-eqb _ _ (c .before .before .before .before .before .before .if1 .left), sym (c .before .before .before .before .before .word1 .ensures), sym (c .before .before .before .has .ensures), not-false (c .before .before .before .has .result) (c .before .before .if2 .left), sym (c .before .shard .ensures), sym (c .with .ensures))
@@ -35,13 +17,5 @@ returns-3 c = simp (sym (c .before .before .before .before .before .before .befo
 pub carried-more-spec : {M : Type 1} → statement M
 carried-more-spec =
     tie.close
-    (tie.spec
-    kind-requires
-    returns
-    word1-requires
-    cast-has
-    has-requires
-    returns-2
-    shard-requires
-    with-requires
-    returns-3)
+    (tie.spec (λ c κs. search needs) returns (λ c κs. search needs) (λ c. search needs) (λ c κs. search needs) returns-2 (λ c κs. search needs)
+    (λ c κs. search needs) returns-3)

@@ -8,15 +8,6 @@ use Rattle.records.proofs.complete.Tie as tie
 enum-told : tie.Need-enum-told
 enum-told c = search needs
 
-complete-report-requires : tie.Need-complete-report-requires
-complete-report-requires c κs = search needs
-
-enum-told-2 : tie.Need-enum-told-2
-enum-told-2 c = search needs
-
-complete-order-requires : tie.Need-complete-order-requires
-complete-order-requires c κs = search needs
-
 returns : tie.Need-returns
 unfolding complete
 returns c = simp (c .before .enum-told .given .1, sym (c .complete-report .ensures))
@@ -27,11 +18,4 @@ returns-2 c = simp (c .before .enum-told2 .given .1, sym (c .complete-order .ens
 
 pub complete-spec : {M : Type 1} → statement M
 complete-spec =
-    tie.close
-    (tie.spec
-    enum-told
-    complete-report-requires
-    enum-told-2
-    complete-order-requires
-    returns
-    returns-2)
+    tie.close (tie.spec enum-told (λ c κs. search needs) (λ c. search needs) (λ c κs. search needs) returns returns-2)

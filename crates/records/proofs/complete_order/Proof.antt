@@ -6,35 +6,17 @@ use Rattle.format.specs.Rows.{complete}
 use Rattle.records.proofs.complete_order.Statement.{statement}
 use Rattle.records.proofs.complete_order.Tie as tie
 
-every-shard-requires : tie.Need-every-shard-requires
-every-shard-requires c κs = search needs
-
-covered-requires : tie.Need-covered-requires
-covered-requires c κs = search needs
-
 returns : tie.Need-returns
 unfolding complete
 returns c = simp (sym (c .before .before .every-shard .ensures), sym (c .before .covered .ensures), not-true (c .before .covered .result) (c .if1 .taken))
-
-covered-requires-2 : tie.Need-covered-requires-2
-covered-requires-2 c κs = search needs
 
 returns-2 : tie.Need-returns-2
 unfolding complete
 returns-2 c = simp (sym (c .before .before .before .before .every-shard .ensures), sym (c .before .before .before .covered .ensures), not-false (c .before .before .before .covered .result) (c .before .before .if1 .left), sym (c .before .covered2 .ensures), not-true (c .before .covered2 .result) (c .if2 .taken))
 
-carried-by-requires : tie.Need-carried-by-requires
-carried-by-requires c κs = search needs
-
-covered-requires-3 : tie.Need-covered-requires-3
-covered-requires-3 c κs = search needs
-
 returns-3 : tie.Need-returns-3
 unfolding complete
 returns-3 c = simp (sym (c .before .before .before .before .before .before .before .every-shard .ensures), sym (c .before .before .before .before .before .before .covered .ensures), not-false (c .before .before .before .before .before .before .covered .result) (c .before .before .before .before .before .if1 .left), sym (c .before .before .before .before .covered2 .ensures), not-false (c .before .before .before .before .covered2 .result) (c .before .before .before .if2 .left), sym (c .before .before .carried-by .ensures), sym (c .before .covered3 .ensures), not-true (c .before .covered3 .result) (c .if3 .taken))
-
-covered-requires-4 : tie.Need-covered-requires-4
-covered-requires-4 c κs = search needs
 
 returns-4 : tie.Need-returns-4
 unfolding complete
@@ -43,14 +25,5 @@ returns-4 c = simp (sym (c .before .before .before .before .before .before .befo
 pub complete-order-spec : {M : Type 1} → statement M
 complete-order-spec =
     tie.close
-    (tie.spec
-    every-shard-requires
-    covered-requires
-    returns
-    covered-requires-2
-    returns-2
-    carried-by-requires
-    covered-requires-3
-    returns-3
-    covered-requires-4
-    returns-4)
+    (tie.spec (λ c κs. search needs) (λ c κs. search needs) returns (λ c κs. search needs) returns-2 (λ c κs. search needs) (λ c κs. search needs)
+    returns-3 (λ c κs. search needs) returns-4)

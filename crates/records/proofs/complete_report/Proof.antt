@@ -6,25 +6,13 @@ use Rattle.format.specs.Rows.{complete}
 use Rattle.records.proofs.complete_report.Statement.{statement}
 use Rattle.records.proofs.complete_report.Tie as tie
 
-every-shard-requires : tie.Need-every-shard-requires
-every-shard-requires c κs = search needs
-
-covered-requires : tie.Need-covered-requires
-covered-requires c κs = search needs
-
 returns : tie.Need-returns
 unfolding complete
 returns c = simp (sym (c .before .before .every-shard .ensures), sym (c .before .covered .ensures), not-true (c .before .covered .result) (c .if1 .taken))
 
-shards-of-requires : tie.Need-shards-of-requires
-shards-of-requires c κs = search needs
-
 returns-2 : tie.Need-returns-2
 unfolding complete
 returns-2 c = simp (sym (c .before .before .before .before .every-shard .ensures), sym (c .before .before .before .covered .ensures), not-false (c .before .before .before .covered .result) (c .before .before .if1 .left), sym (c .before .shards-of .ensures), eq-eqb _ _ (c .if2 .taken))
-
-subset-requires : tie.Need-subset-requires
-subset-requires c κs = search needs
 
 returns-3 : tie.Need-returns-3
 unfolding complete
@@ -32,12 +20,4 @@ returns-3 c = simp (sym (c .before .before .before .before .before .every-shard 
 
 pub complete-report-spec : {M : Type 1} → statement M
 complete-report-spec =
-    tie.close
-    (tie.spec
-    every-shard-requires
-    covered-requires
-    returns
-    shards-of-requires
-    returns-2
-    subset-requires
-    returns-3)
+    tie.close (tie.spec (λ c κs. search needs) (λ c κs. search needs) returns (λ c κs. search needs) returns-2 (λ c κs. search needs) returns-3)

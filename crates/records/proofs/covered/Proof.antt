@@ -6,14 +6,8 @@ use Rattle.laws.specs.Masks.{subset}
 use Rattle.records.proofs.covered.Statement.{statement}
 use Rattle.records.proofs.covered.Tie as tie
 
-shards-of-requires : tie.Need-shards-of-requires
-shards-of-requires c κs = search needs
-
-subset-requires : tie.Need-subset-requires
-subset-requires c κs = search needs
-
 returns : tie.Need-returns
 returns c = c .subset .ensures ∙ ap (λ (m : ℕ). subset (c .before .before .args .mask) m) (c .before .shards-of .ensures)
 
 pub covered-spec : {M : Type 1} → statement M
-covered-spec = tie.close (tie.spec shards-of-requires subset-requires returns)
+covered-spec = tie.close (tie.spec (λ c κs. search needs) (λ c κs. search needs) returns)

@@ -8,12 +8,6 @@ use Rattle.laws.specs.Masks.{shl-single}
 use Rattle.records.proofs.every_shard.Statement.{statement}
 use Rattle.records.proofs.every_shard.Tie as tie
 
-shards-requires : tie.Need-shards-requires
-shards-requires c κs = search needs
-
-shl-result : tie.Need-shl-result
-shl-result c = search needs
-
 sub-result : tie.Need-sub-result
 sub-result c = rw (shl-single 32 (c .shards .result) (omega arith)) (pow-pos (c .shards .result))
 
@@ -21,4 +15,4 @@ returns : tie.Need-returns
 returns c = rw (shl-single 32 (c .shards .result) (omega arith)) (ap (λ (n : ℕ). 2 ^ n - 1) (c .shards .ensures))
 
 pub every-shard-spec : {M : Type 1} → statement M
-every-shard-spec = tie.close (tie.spec shards-requires shl-result sub-result returns)
+every-shard-spec = tie.close (tie.spec (λ c κs. search needs) (λ c. search needs) sub-result returns)

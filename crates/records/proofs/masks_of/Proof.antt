@@ -17,29 +17,8 @@ Inv-loop settings body count masks₀ s₀ masks s = (s ≤ shards settings) × 
 abbrev μ-loop : tie.MeasureT-loop
 μ-loop settings body count masks₀ s₀ masks s = count - s
 
-shards-requires : tie.Need-shards-requires Inv-loop μ-loop
-shards-requires c κs = search needs
-
-cast-count : tie.Need-cast-count Inv-loop μ-loop
-cast-count c = search needs
-
 loop-holds : tie.Need-loop-holds Inv-loop μ-loop
 loop-holds c = (search needs, sym (filled-none (membersOf (c .before .before .args .body .now)) (replicate 16 0)))
-
-word1-requires : tie.Need-word1-requires Inv-loop μ-loop
-word1-requires c κs = search needs
-
-mul-masks : tie.Need-mul-masks Inv-loop μ-loop
-mul-masks c = search needs
-
-array-write-masks : tie.Need-array-write-masks Inv-loop μ-loop
-array-write-masks c = search needs
-
-add-s : tie.Need-add-s Inv-loop μ-loop
-add-s c = search needs
-
-loop-less : tie.Need-loop-less Inv-loop μ-loop
-loop-less c = search needs
 
 loop-again : tie.Need-loop-again Inv-loop μ-loop
 loop-again c = let l = c .before .before .loop in (
@@ -59,16 +38,5 @@ returns c = let a = c .before .before .before .before .args in
 pub masks-of-spec : {M : Type 1} → statement M
 masks-of-spec =
     tie.close
-    (tie.spec
-    Inv-loop
-    μ-loop
-    shards-requires
-    cast-count
-    loop-holds
-    word1-requires
-    mul-masks
-    array-write-masks
-    add-s
-    loop-less
-    loop-again
-    returns)
+    (tie.spec Inv-loop μ-loop (λ c κs. search needs) (λ c. search needs) loop-holds (λ c κs. search needs) (λ c. search needs) (λ c. search needs)
+    (λ c. search needs) (λ c. search needs) loop-again returns)

@@ -5,21 +5,12 @@ use borrow.Author.Needs.{needs}
 use Rattle.records.proofs.shards_more.Statement.{statement}
 use Rattle.records.proofs.shards_more.Tie as tie
 
-kind-requires : tie.Need-kind-requires
-kind-requires c κs = search needs
-
 returns : tie.Need-returns
 returns c = simp (sym (c .before .kind .ensures), ne-eqb _ _ (c .if1 .taken))
-
-shard-requires : tie.Need-shard-requires
-shard-requires c κs = search needs
-
-with-requires : tie.Need-with-requires
-with-requires c κs = search needs
 
 returns-2 : tie.Need-returns-2
 returns-2 c = simp (sym (c .before .before .before .kind .ensures), eq-eqb _ _ (c .before .before .if1 .left), sym (c .before .shard .ensures), sym (c .with .ensures))
 
 pub shards-more-spec : {M : Type 1} → statement M
 shards-more-spec =
-    tie.close (tie.spec kind-requires returns shard-requires with-requires returns-2)
+    tie.close (tie.spec (λ c κs. search needs) returns (λ c κs. search needs) (λ c κs. search needs) returns-2)

@@ -21,12 +21,6 @@ loop-holds c = (search needs, sym (where-none (ofKind (c .args .k) (c .args .bod
 shards-more-requires : tie.Need-shards-more-requires Inv-loop μ-loop
 shards-more-requires c κs = (omega arith, c .before .before .pre .1 (c .before .loop .j) (omega arith))
 
-add-j : tie.Need-add-j Inv-loop μ-loop
-add-j c = search needs
-
-loop-less : tie.Need-loop-less Inv-loop μ-loop
-loop-less c = search needs
-
 loop-again : tie.Need-loop-again Inv-loop μ-loop
 loop-again c = let a = c .before .before .before .args in
     let b = a .body .now in
@@ -45,5 +39,4 @@ returns c = let a = c .before .before .args in
 
 pub shards-of-spec : {M : Type 1} → statement M
 shards-of-spec =
-    tie.close
-    (tie.spec Inv-loop μ-loop loop-holds shards-more-requires add-j loop-less loop-again returns)
+    tie.close (tie.spec Inv-loop μ-loop loop-holds shards-more-requires (λ c. search needs) (λ c. search needs) loop-again returns)

@@ -8,21 +8,9 @@ use Rattle.rows.proofs.kind_ok.Tie as tie
 enum-told : tie.Need-enum-told
 enum-told c = search needs
 
-from-to-requires : tie.Need-from-to-requires
-from-to-requires c κs = search needs
-
-enum-told-2 : tie.Need-enum-told-2
-enum-told-2 c = search needs
-
-from-to-requires-2 : tie.Need-from-to-requires-2
-from-to-requires-2 c κs = search needs
-
 returns : tie.Need-returns
 unfolding kindOk
 returns c = simp (c .before .before .enum-told2 .given .1, sym (c .before .from-to2 .ensures), c .if1 .taken)
-
-from-to-requires-3 : tie.Need-from-to-requires-3
-from-to-requires-3 c κs = search needs
 
 returns-2 : tie.Need-returns-2
 unfolding kindOk
@@ -35,12 +23,4 @@ returns-3 c = simp (c .before .before .before .enum-told2 .given .1, sym (c .bef
 pub kind-ok-spec : {M : Type 1} → statement M
 kind-ok-spec =
     tie.close
-    (tie.spec
-    enum-told
-    from-to-requires
-    enum-told-2
-    from-to-requires-2
-    returns
-    from-to-requires-3
-    returns-2
-    returns-3)
+    (tie.spec enum-told (λ c κs. search needs) (λ c. search needs) (λ c κs. search needs) returns (λ c κs. search needs) returns-2 returns-3)

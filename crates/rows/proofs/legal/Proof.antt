@@ -20,15 +20,9 @@ returns : tie.Need-returns
 unfolding legal
 returns c = simp (eq-eqb _ _ (c .if1 .taken))
 
-run-requires : tie.Need-run-requires
-run-requires c κs = search needs
-
 returns-2 : tie.Need-returns-2
 unfolding legal
 returns-2 c = simp (ne-eqb _ _ (c .before .before .if1 .left), eq-eqb _ _ (c .before .if2 .taken), sym (c .run .ensures))
-
-has-requires : tie.Need-has-requires
-has-requires c κs = search needs
 
 returns-3 : tie.Need-returns-3
 unfolding legal
@@ -36,15 +30,9 @@ returns-3 c = let a = c .before .before .before .before .args in
     simp (ne-eqb _ _ (c .before .before .before .if1 .left), ne-eqb _ _ (c .before .before .if2 .left), eq-eqb _ _ (c .before .if3 .taken))
     (c .has .ensures ∙ holder (a .members) (a .a) (c .before .before .before .before .fits .members .fits))
 
-position-requires : tie.Need-position-requires
-position-requires c κs = search needs
-
 returns-4 : tie.Need-returns-4
 unfolding legal
 returns-4 c = simp (ne-eqb _ _ (c .before .before .before .before .if1 .left), ne-eqb _ _ (c .before .before .before .if2 .left), ne-eqb _ _ (c .before .before .if3 .left), sym (c .before .position .ensures), not-true (c .before .position .result) (c .if4 .taken))
-
-view-fits-requires : tie.Need-view-fits-requires
-view-fits-requires c κs = search needs
 
 returns-5 : tie.Need-returns-5
 unfolding legal
@@ -53,13 +41,5 @@ returns-5 c = simp (ne-eqb _ _ (c .before .before .before .before .before .if1 .
 pub legal-spec : {M : Type 1} → statement M
 legal-spec =
     tie.close
-    (tie.spec
-    returns
-    run-requires
-    returns-2
-    has-requires
-    returns-3
-    position-requires
-    returns-4
-    view-fits-requires
+    (tie.spec returns (λ c κs. search needs) returns-2 (λ c κs. search needs) returns-3 (λ c κs. search needs) returns-4 (λ c κs. search needs)
     returns-5)

@@ -14,12 +14,9 @@ returns-2 : tie.Need-returns-2
 unfolding legal
 returns-2 c = simp (le-ltb _ _ (c .before .if1 .left), le-leb _ _ (c .before .if1 .left), lt-ltb _ _ (c .if2 .taken), lt-leb _ _ (c .if2 .taken))
 
-view-fits-requires : tie.Need-view-fits-requires
-view-fits-requires c κs = search needs
-
 returns-3 : tie.Need-returns-3
 unfolding legal
 returns-3 c = simp (le-ltb _ _ (c .before .before .if1 .left), le-leb _ _ (c .before .before .if1 .left), le-ltb _ _ (c .before .if2 .left), le-leb _ _ (c .before .if2 .left), sym (c .view-fits .ensures))
 
 pub run-spec : {M : Type 1} → statement M
-run-spec = tie.close (tie.spec returns returns-2 view-fits-requires returns-3)
+run-spec = tie.close (tie.spec returns returns-2 (λ c κs. search needs) returns-3)

@@ -7,9 +7,6 @@ use Rattle.rows.proofs.view_fits.Tie as tie
 enum-told : tie.Need-enum-told
 enum-told c = search needs
 
-enum-told-2 : tie.Need-enum-told-2
-enum-told-2 c = search needs
-
 returns : tie.Need-returns
 unfolding viewFits
 returns c = simp (c .before .enum-told .given .1)
@@ -19,4 +16,4 @@ unfolding viewFits
 returns-2 c = simp (c .before .enum-told2 .given .1)
 
 pub view-fits-spec : {M : Type 1} → statement M
-view-fits-spec = tie.close (tie.spec enum-told enum-told-2 returns returns-2)
+view-fits-spec = tie.close (tie.spec enum-told (λ c. search needs) returns returns-2)

@@ -8,15 +8,6 @@ use Rattle.rows.proofs.view_ok.Tie as tie
 enum-told : tie.Need-enum-told
 enum-told c = search needs
 
-from-to-requires : tie.Need-from-to-requires
-from-to-requires c κs = search needs
-
-enum-told-2 : tie.Need-enum-told-2
-enum-told-2 c = search needs
-
-from-to-requires-2 : tie.Need-from-to-requires-2
-from-to-requires-2 c κs = search needs
-
 returns : tie.Need-returns
 unfolding viewOk
 returns c = simp (c .before .enum-told .given .1, sym (c .from-to .ensures))
@@ -27,5 +18,4 @@ returns-2 c = simp (c .before .enum-told2 .given .1, sym (c .from-to2 .ensures))
 
 pub view-ok-spec : {M : Type 1} → statement M
 view-ok-spec =
-    tie.close
-    (tie.spec enum-told from-to-requires enum-told-2 from-to-requires-2 returns returns-2)
+    tie.close (tie.spec enum-told (λ c κs. search needs) (λ c. search needs) (λ c κs. search needs) returns returns-2)

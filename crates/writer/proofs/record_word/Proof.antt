@@ -18,21 +18,6 @@ returns-3 : tie.Need-returns-3
 unfolding recordWord headWord
 returns-3 c = simp (eq-eqb _ _ (c .before .before .if1 .taken), ne-eqb _ _ (c .before .if2 .left), ne-eqb _ _ (c .if3 .left))
 
-sub-result : tie.Need-sub-result
-sub-result c = search needs
-
-mul-result : tie.Need-mul-result
-mul-result c = search needs
-
-add-result : tie.Need-add-result
-add-result c = search needs
-
-mul-result-2 : tie.Need-mul-result-2
-mul-result-2 c = search needs
-
-element-copy-out-result : tie.Need-element-copy-out-result
-element-copy-out-result c = search needs
-
 returns-4 : tie.Need-returns-4
 unfolding recordWord headWord
 returns-4 c = simp (ne-eqb _ _ (c .before .if1 .left))
@@ -40,13 +25,5 @@ returns-4 c = simp (ne-eqb _ _ (c .before .if1 .left))
 pub record-word-spec : {M : Type 1} → statement M
 record-word-spec =
     tie.close
-    (tie.spec
-    returns
-    returns-2
-    returns-3
-    sub-result
-    mul-result
-    add-result
-    mul-result-2
-    element-copy-out-result
+    (tie.spec returns returns-2 returns-3 (λ c. search needs) (λ c. search needs) (λ c. search needs) (λ c. search needs) (λ c. search needs)
     returns-4)

@@ -11,18 +11,9 @@ returns : tie.Need-returns
 unfolding messageWord
 returns c = simp (lt-ltb _ _ (c .if1 .taken))
 
-record-word-requires : tie.Need-record-word-requires
-record-word-requires c κs = search needs
-
 returns-2 : tie.Need-returns-2
 unfolding messageWord recordWord headWord
 returns-2 c = simp (le-ltb _ _ (c .before .before .if1 .left), lt-ltb _ _ (c .before .if2 .taken), sym (c .record-word .ensures))
-
-add-result : tie.Need-add-result
-add-result c = search needs
-
-cast-result : tie.Need-cast-result
-cast-result c = search needs
 
 returns-3 : tie.Need-returns-3
 unfolding messageWord
@@ -34,5 +25,4 @@ returns-4 c = simp (le-ltb _ _ (c .before .before .if1 .left), le-ltb _ _ (c .be
 
 pub word-spec : {M : Type 1} → statement M
 word-spec =
-    tie.close
-    (tie.spec returns record-word-requires returns-2 add-result cast-result returns-3 returns-4)
+    tie.close (tie.spec returns (λ c κs. search needs) returns-2 (λ c. search needs) (λ c. search needs) returns-3 returns-4)

@@ -49,12 +49,6 @@ module _ (form : Form) (σ : List ℕ) (c : Contents) (buffer : List ℕ) (r : R
     taken-few : c .len ≤ 127
     taken-few = contents-few form σ c (write-given form σ c buffer taken .contents-pass)
 
-write-refusal-requires : tie.Need-write-refusal-requires
-write-refusal-requires c κs = search needs
-
-same-length : tie.Need-same-length
-same-length c = search needs
-
 returns : tie.Need-returns
 returns c = (
   refused-answer _ _ _ _ _ (c .before .before .write-refusal .ensures) (c .if1 .taken),
@@ -77,9 +71,6 @@ mul-t13 c =
     let few = taken-few _ _ _ _ _ (c .before .before .before .before .before .before .before .write-refusal .ensures) (c .before .before .before .before .before .if1 .left) in
     omega arith
 
-same-length-2 : tie.Need-same-length-2
-same-length-2 c = search needs
-
 returns-2 : tie.Need-returns-2
 returns-2 c = (
   taken-answer _ _ _ _ _ (c .before .before .before .before .before .before .before .write-refusal .ensures) (c .before .before .before .before .before .if1 .left),
@@ -88,13 +79,4 @@ returns-2 c = (
 
 pub write-spec : {M : Type 1} → statement M
 write-spec =
-    tie.close
-    (tie.spec
-    write-refusal-requires
-    same-length
-    returns
-    fill-requires
-    add-t12
-    mul-t13
-    same-length-2
-    returns-2)
+    tie.close (tie.spec (λ c κs. search needs) (λ c. search needs) returns fill-requires add-t12 mul-t13 (λ c. search needs) returns-2)

@@ -13,9 +13,6 @@ returns : tie.Need-returns
 unfolding writeRefusal
 returns c = sym (unless-false _ _ _ (ne-eqb _ _ (c .if1 .taken)))
 
-check-requires : tie.Need-check-requires
-check-requires c κs = search needs
-
 returns-2 : tie.Need-returns-2
 unfolding writeRefusal
 returns-2 c =
@@ -37,4 +34,4 @@ returns-3 c =
 
 pub write-refusal-spec : {M : Type 1} → statement M
 write-refusal-spec =
-    tie.close (tie.spec returns check-requires returns-2 contents-refusal-requires returns-3)
+    tie.close (tie.spec returns (λ c κs. search needs) returns-2 contents-refusal-requires returns-3)

@@ -1,0 +1,2 @@
+-- The parts of the third pass.
+pub mod Sequence
