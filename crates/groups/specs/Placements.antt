@@ -4,7 +4,7 @@ use Prim.Native.Nat.{ℕ, _≤_}
 use mathlib.Core.Bool.{Bool, true, cond, not, _&&_, _||_}
 use mathlib.Core.List.{List}
 use mathlib.Core.Path.{_≡_}
-use lib.Dec.{eqb, leb}
+use lib.Dec.{eqb}
 use Rattle.laws.specs.Below.{allBelow}
 use Rattle.laws.specs.Masks.{has, count, subset, minus}
 use Rattle.sums.specs.Sums.{sumBelow}

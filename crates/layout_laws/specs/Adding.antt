@@ -15,7 +15,7 @@ use Rattle.settings.specs.Settings.{shards, Settings}
 use Rattle.groups.specs.Placements.{groupMoves}
 use Rattle.placement.specs.Tables.{ownersOf}
 use Rattle.layout_laws.specs.Cases.{ofGroup, group-past, group-other, shard-below}
-use Rattle.layout_laws.specs.Gathered.{maskBelow, mask-lt, has-mask}
+use Rattle.laws.specs.Picked.{maskBelow, mask-lt, mask-at}
 use Rattle.layout_laws.specs.Owners.{Masked}
 use Rattle.layout_laws.specs.Local.{Alike, moves-local}
 
@@ -58,8 +58,8 @@ module _ (σ : List ℕ) (g : ℕ) (o masks : List ℕ) where
     unfolding ownedBy
     with-masked =
         record {
-          bits = λ s p n l. ap (λ (m : ℕ). has m n) (with-ours s (shard-below σ g right s p) p) ∙ has-mask 32 (λ i. eqb (ownersOf o i) s) n l;
-          small = λ s p. subst (λ (m : ℕ). m < 2 ^ 32) (sym (with-ours s (shard-below σ g right s p) p)) (mask-lt 32 (λ i. eqb (ownersOf o i) s));
+          bits = λ s p n l. ap (λ (m : ℕ). has m n) (with-ours s (shard-below σ g right s p) p) ∙ mask-at 32 (λ i. eqb (ownersOf o i) s) n l;
+          small = λ s p. subst (λ (m : ℕ). m < 2 ^ 32) (sym (with-ours s (shard-below σ g right s p) p)) (mask-lt 32 32 (λ i. eqb (ownersOf o i) s) (omega arith));
         }
 
     pub with-alike : (h : ℕ) → (h ≡ g → ⊥) → Alike σ h (masksOf masks) (masksOf (masksWith σ g o masks))

@@ -4,120 +4,120 @@ use crate::change;
 use crate::least;
 use crate::start;
 ghost use Prim.Native.Nat.{_≤_};
-use crate::memory;
-use crate::reach;
 
-pub(crate) const TAKEN: u32 = 0;
+const TAKEN: u32 = 0;
 
-pub(crate) const BLOCKED: u32 = 1;
+const BLOCKED: u32 = 1;
 
-pub(crate) const EXCLUDED: u32 = 2;
+const EXCLUDED: u32 = 2;
 
-pub(crate) const GIVEN_UP: u32 = 3;
+const GIVEN_UP: u32 = 3;
 
 // Above this level the placement is made anew, so that all weights stay within a byte.
 const HIGH: u32 = 30;
 
 // Shard i has node n for good.
-fn fix(masks: &mut [u32; 256], marks: &mut [u8; 256], i: u32, n: u32) {
-    let others = !memory::bit(n);
-    let was_open = memory::open(masks);
-    memory::set_open(masks, was_open & others);
-    let had = memory::has(masks, i);
-    memory::set_has(masks, i, had & others);
-    let outside = !memory::peers(masks, n);
-    let stay = memory::stay(masks, i);
-    memory::set_stay(masks, i, stay & outside);
-    let moved = memory::moved(masks, i);
-    memory::set_moved(masks, i, moved & outside);
-    let c = memory::open_need(marks, i);
-    memory::set_open_need(marks, i, c + 255);
+fn fix(mem: &mut [u32; 512], i: u32, n: u32) {
+    memory::drop_nodes(mem, memory::OPEN, 0, memory::bit(n));
+    memory::drop_nodes(mem, memory::HAS, i, memory::bit(n));
+    let peers = memory::nodes(mem, memory::PEERS, n);
+    memory::drop_nodes(mem, memory::STAY, i, peers);
+    memory::drop_nodes(mem, memory::MOVED, i, peers);
+    memory::add_number(mem, memory::OPEN_NEED, i, 255);
 }
 
 // Whether what is taken for good leaves no room for the pair.
-fn blocked(masks: &[u32; 256], marks: &[u8; 256], i: u32, n: u32) -> bool {
-    let free = memory::open(masks) & (memory::stay(masks, i) | memory::moved(masks, i));
-    memory::open_need(marks, i) == 0 || !memory::has_bit(free, n)
+fn blocked(mem: &[u32; 512], i: u32, n: u32) -> bool {
+    let nodes = memory::nodes(mem, memory::STAY, i) | memory::nodes(mem, memory::MOVED, i);
+    let free = memory::nodes(mem, memory::OPEN, 0) & nodes & memory::bit(n);
+    free == 0 || memory::number(mem, memory::OPEN_NEED, i) == 0
 }
 
 // The node that the shard has of the node's set, as a mask.
-fn rival(masks: &[u32; 256], i: u32, n: u32) -> u32 {
-    memory::has(masks, i) & memory::peers(masks, n)
+fn rival(mem: &[u32; 512], i: u32, n: u32) -> u32 {
+    memory::nodes(mem, memory::HAS, i) & memory::nodes(mem, memory::PEERS, n)
 }
 
 // The level from which the pair's reduced cost counts: the rival's, or else the shard's.
-fn from_level(masks: &[u32; 256], marks: &[u8; 256], i: u32, n: u32) -> u32 {
-    let m = rival(masks, i, n);
+fn from_level(mem: &[u32; 512], i: u32, n: u32) -> u32
+    ensures { λ r. ⌜ r ≤ 256 ⌝ }
+{
+    let m = rival(mem, i, n);
     if m == 0 {
-        return memory::shard_level(marks, i);
+        return memory::number(mem, memory::SHARD_LEVEL, i);
     }
-    let x = memory::lowest(m);
-    memory::level(marks, x) + memory::price(masks, i, x)
+    changes::held_level(mem, i, memory::lowest(m))
 }
 
 // Whether the pair costs more than the moves allow.
-fn too_dear(masks: &[u32; 256], marks: &[u8; 256], i: u32, n: u32, most: u32) -> bool {
-    let from = from_level(masks, marks, i, n) % 1024;
-    let to = memory::level(marks, n) + memory::price(masks, i, n);
-    most % 1024 + from < to + memory::moves(marks)
+fn too_dear(mem: &[u32; 512], i: u32, n: u32, most: u32) -> bool {
+    let from = from_level(mem, i, n);
+    let to = changes::held_level(mem, i, n);
+    most % 1024 + from < to + memory::number(mem, memory::MOVES, 0)
 }
 
 // The nodes by whose loss the shard gets room for the node.
-fn goal(masks: &[u32; 256], marks: &[u8; 256], i: u32, n: u32) -> u32 {
-    let m = rival(masks, i, n);
+fn goal(mem: &[u32; 512], i: u32, n: u32) -> u32 {
+    let m = rival(mem, i, n);
     if m != 0 {
         return m;
     }
-    memory::has(masks, i) & memory::tight(masks, i, memory::shard_level(marks, i))
+    let l = memory::number(mem, memory::SHARD_LEVEL, i);
+    memory::nodes(mem, memory::HAS, i) & changes::tight(mem, i, l)
 }
 
 // Changes the placement so that the shard has the node.
-fn reroute(masks: &mut [u32; 256], marks: &mut [u8; 256], i: u32, n: u32, most: u32) -> u32
+fn reroute(mem: &mut [u32; 512], i: u32, n: u32, most: u32) -> u32
     ensures { λ r. ⌜ r ≤ 3 ⌝ }
 {
     let mut round: u32 = 0;
     while round < 64 {
-        if too_dear(masks, marks, i, n, most) {
+        if too_dear(mem, i, n, most) {
             return EXCLUDED;
         }
-        reach::spread(masks, marks);
-        let ends = goal(masks, marks, i, n);
-        let x = reach::follow(masks, marks, ends);
+        let ends = goal(mem, i, n);
+        let x = reach::search(mem, ends);
         if x < 32 {
-            change::change(masks, marks, x);
+            change::change(mem, x);
             return TAKEN;
         }
-        change::raise(masks, marks, 1);
+        change::raise(mem, 1);
         round += 1;
     }
     GIVEN_UP
 }
 
 // Lowers the levels where they are high.
-fn settle(masks: &mut [u32; 256], marks: &mut [u8; 256]) {
-    if HIGH < memory::highest(marks) {
-        start::again(masks, marks);
-        least::complete(masks, marks);
+fn settle(mem: &mut [u32; 512]) {
+    if HIGH < memory::number(mem, memory::HIGHEST, 0) {
+        start::again(mem);
+        least::complete(mem);
     }
 }
 
+// Begins a search from node n, which shard i would take.
+fn begin(mem: &mut [u32; 512], i: u32, n: u32) {
+    memory::set(mem, memory::SEEN, 0, memory::bit(n));
+    memory::set(mem, memory::REACHED, 0, 0);
+    memory::set(mem, memory::TAKER, n, i);
+    memory::set(mem, memory::LOST, n, memory::NO_NODE);
+}
+
 // Takes the pair for good if it can.
-pub(crate) fn claim(masks: &mut [u32; 256], marks: &mut [u8; 256], i: u32, n: u32, most: u32) -> u32
+pub(crate) fn claim(mem: &mut [u32; 512], i: u32, n: u32, most: u32) -> u32
     ensures { λ r. ⌜ r ≤ 3 ⌝ }
 {
-    if blocked(masks, marks, i, n) {
+    if blocked(mem, i, n) {
         return BLOCKED;
     }
-    settle(masks, marks);
-    if memory::owner(marks, n) != i {
-        memory::set_seen(masks, memory::bit(n));
-        memory::set_reached(masks, 0);
-        memory::set_way(marks, n, i, memory::NO_NODE);
-        let a = reroute(masks, marks, i, n, most);
+    settle(mem);
+    if memory::number(mem, memory::OWNER, n) != i {
+        begin(mem, i, n);
+        let a = reroute(mem, i, n, most);
         if a != TAKEN {
             return a;
         }
     }
-    fix(masks, marks, i, n);
+    fix(mem, i, n);
     TAKEN
 }

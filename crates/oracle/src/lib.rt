@@ -1,28 +1,17 @@
-// The placement oracle: it keeps a placement of one subgroup with the least moves and its dual
-// weights, as a minimum cost flow by shortest paths. It is proved safe and ending, and its answers
-// are claims: the search that asks believes none of them, and proves each by the weights.
+// The placement oracle: it keeps a placement of one subgroup with the least moves, and levels that
+// say why they are the least, as a minimum cost flow by shortest paths. It is proved safe and
+// ending, and its answers are claims: the search that asks believes none of them, and proves each
+// by the weights.
 //
 // The flow gives each shard nodes of different failure sets, no node twice. A level of each shard
 // and of each node (the dual) keeps every reduced cost at 0 or above; a pair whose reduced cost is
 // 0 is tight, and ways along tight pairs change the placement without leaving the least moves.
-mod memory; // memory.rt: what the oracle keeps, by name
-mod reach; // reach.rt: what tight pairs reach
 mod change; // change.rt: owners changed along a way, levels raised
 mod start; // start.rt: the first placement, from nodes that stay
 mod least; // least.rt: a unit more for the shards that lack nodes
 mod claim; // claim.rt: a pair that is to be taken
-mod dual; // dual.rt: the weights
 
 ghost use Prim.Native.Nat.{_≤_};
-ghost use Rattle.oracle.specs.Weighed.{Weighed};
-
-// The dual weights of the present placement, counted from 64: of shards, of nodes, and of pairs of
-// a shard and a failure set at shard * 16 + set.
-pub struct Weights {
-    pub shards: [u8; 16],
-    pub nodes: [u8; 32],
-    pub pairs: [u8; 256],
-}
 
 // The claim that no valid placement exists.
 const NO_PLACEMENT: u32 = 64;
@@ -40,18 +29,12 @@ fn claimed(moves: u32) -> u32
 
 // Finds a placement with the least moves, whatever the memory held. The answer claims the least
 // moves, or, by 64, that no valid placement exists.
-pub fn solve(
-    masks: &mut [u32; 256],
-    marks: &mut [u8; 256],
-    sets: &[u8; 32],
-    needs: &[u8; 16],
-    costs: &[u8; 512],
-) -> u32
+pub fn solve(mem: &mut [u32; 512], sets: &[u8; 32], needs: &[u8; 16], costs: &[u8; 512]) -> u32
     ensures { λ r. ⌜ r ≤ 64 ⌝ }
 {
-    start::start(masks, marks, sets, needs, costs);
-    if least::complete(masks, marks) {
-        return claimed(memory::moves(marks));
+    start::start(mem, sets, needs, costs);
+    if least::complete(mem) {
+        return claimed(memory::number(mem, memory::MOVES, 0));
     }
     NO_PLACEMENT
 }
@@ -59,19 +42,8 @@ pub fn solve(
 // Changes the placement so that the shard has the node, with all pairs taken before and at most
 // `most` moves. 0: the pair is taken for good. 1: claims that what is taken leaves no room for it.
 // 2: claims that the weights exclude it. 3: neither.
-pub fn take(masks: &mut [u32; 256], marks: &mut [u8; 256], shard: u32, node: u32, most: u32) -> u32
+pub fn take(mem: &mut [u32; 512], shard: u32, node: u32, most: u32) -> u32
     ensures { λ r. ⌜ r ≤ 3 ⌝ }
 {
-    claim::claim(masks, marks, shard % 16, node % 32, most)
-}
-
-// The dual weights of the present placement.
-pub fn weigh(masks: &[u32; 256], marks: &[u8; 256], sets: &[u8; 32], costs: &[u8; 512]) -> Weights
-    ensures { λ r. ⌜ Weighed (r .shards) (r .nodes) ⌝ }
-{
-    Weights {
-        shards: dual::shards(marks),
-        nodes: dual::nodes(masks, marks),
-        pairs: dual::pairs(masks, marks, sets, costs),
-    }
+    claim::claim(mem, shard % 16, node % 32, most)
 }

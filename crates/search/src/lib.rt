@@ -20,8 +20,7 @@ fn prune(
     needs: &[u8; 16],
     costs: &mut [u8; 512],
     owner: &[u8; 32],
-    masks: &[u32; 256],
-    marks: &[u8; 256],
+    mem: &[u32; 512],
     t: usize,
     k: usize,
 ) -> Verdict
@@ -32,7 +31,7 @@ fn prune(
     ensures { λ r. ⌜ (r .good ≡ true → Sound (caseOf (now (sets .entry)) (now (needs .entry)) (now (costs .entry))) k (r .floor) (ownersOf (now (owner .entry))) t (now (costs .exit))) ⌝ }
     ensures { λ r. ⌜ length (now (costs .exit)) ≡ 512 ⌝ }
 {
-    let q = oracle::weigh(masks, marks, sets, costs);
+    let q = weights::weigh(mem, sets, costs);
     let shards = q.shards;
     let nodes = q.nodes;
     let pairs = q.pairs;
@@ -58,8 +57,7 @@ fn step(
     prices: &[u8; 512],
     costs: &mut [u8; 512],
     owner: &mut [u8; 32],
-    masks: &mut [u32; 256],
-    marks: &mut [u8; 256],
+    mem: &mut [u32; 512],
     t: usize,
     k: usize,
 ) -> bool
@@ -71,7 +69,7 @@ fn step(
     if costs[t] >= 2 {
         return true;
     }
-    let hint = oracle::take(masks, marks, (t / 32) as u32, (t % 32) as u32, k as u32);
+    let hint = oracle::take(mem, (t / 32) as u32, (t % 32) as u32, k as u32);
     if hint == 0 {
         return take(owner, t);
     }
@@ -79,7 +77,7 @@ fn step(
         return judge::barred(sets, needs, prices, owner, t);
     }
     if hint == 2 {
-        let v = prune(sets, needs, costs, owner, masks, marks, t, k);
+        let v = prune(sets, needs, costs, owner, mem, t, k);
         if v.good {
             return costs[t] >= 2;
         }
@@ -109,8 +107,7 @@ fn follow(
     needs: &[u8; 16],
     prices: &[u8; 512],
     costs: &mut [u8; 512],
-    masks: &mut [u32; 256],
-    marks: &mut [u8; 256],
+    mem: &mut [u32; 512],
     k: usize,
 ) -> Quick
     requires { ⌜ k ≤ 32 ⌝ }
@@ -121,7 +118,7 @@ fn follow(
     let mut owner = [16u8; 32];
     let mut t: usize = 0;
     while t < 512 {
-        if !step(sets, needs, prices, costs, &mut owner, masks, marks, t, k) {
+        if !step(sets, needs, prices, costs, &mut owner, mem, t, k) {
             return unsure();
         }
         t += 1;
@@ -168,12 +165,11 @@ pub fn quick_within(sets: &[u8; 32], needs: &[u8; 16], prices: &[u8; 512], k: us
         return unsure();
     }
     let most = capped(k);
-    let mut masks = [0u32; 256];
-    let mut marks = [0u8; 256];
+    let mut mem = [0u32; 512];
     let mut costs = *prices;
     let owner = [16u8; 32];
-    oracle::solve(&mut masks, &mut marks, sets, needs, prices);
-    let v = prune(sets, needs, &mut costs, &owner, &masks, &marks, 0, most);
+    oracle::solve(&mut mem, sets, needs, prices);
+    let v = prune(sets, needs, &mut costs, &owner, &mem, 0, most);
     if !v.good {
         return unsure();
     }
@@ -183,15 +179,7 @@ pub fn quick_within(sets: &[u8; 32], needs: &[u8; 16], prices: &[u8; 512], k: us
             answer: seek::nothing(),
         };
     }
-    follow(
-        sets,
-        needs,
-        prices,
-        &mut costs,
-        &mut masks,
-        &mut marks,
-        most,
-    )
+    follow(sets, needs, prices, &mut costs, &mut mem, most)
 }
 
 // The first of the valid placements of least moves, or that there is none, where the hints lead to it.
@@ -201,13 +189,12 @@ pub fn quick_least(sets: &[u8; 32], needs: &[u8; 16], prices: &[u8; 512]) -> Qui
     if !fit(sets, prices) {
         return unsure();
     }
-    let mut masks = [0u32; 256];
-    let mut marks = [0u8; 256];
+    let mut mem = [0u32; 512];
     let mut costs = *prices;
     let owner = [16u8; 32];
-    let claim = oracle::solve(&mut masks, &mut marks, sets, needs, prices);
+    let claim = oracle::solve(&mut mem, sets, needs, prices);
     let most = capped(claim as usize);
-    let v = prune(sets, needs, &mut costs, &owner, &masks, &marks, 0, most);
+    let v = prune(sets, needs, &mut costs, &owner, &mem, 0, most);
     if !v.good {
         return unsure();
     }
@@ -220,15 +207,7 @@ pub fn quick_least(sets: &[u8; 32], needs: &[u8; 16], prices: &[u8; 512]) -> Qui
     if v.floor != most {
         return unsure();
     }
-    follow(
-        sets,
-        needs,
-        prices,
-        &mut costs,
-        &mut masks,
-        &mut marks,
-        most,
-    )
+    follow(sets, needs, prices, &mut costs, &mut mem, most)
 }
 
 // The first valid placement of at most k moves, or that there is none.

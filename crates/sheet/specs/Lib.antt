@@ -1,4 +1,3 @@
 -- The placement sheet.
 pub mod Sheet
 pub mod Laws
-pub mod Fills

@@ -1,7 +1,7 @@
 // Whether a subgroup's placement is valid, and its moves, from the masks alone.
 use ids::Node;
 use ids::Shard;
-ghost use mathlib.Core.Bool.{true, _||_, not};
+ghost use mathlib.Core.Bool.{true, not};
 ghost use mathlib.Core.Path.{_≡_};
 ghost use Prim.Native.Nat.{_<_, _≤_, _^_};
 ghost use lib.ListN.{getD};
@@ -83,7 +83,7 @@ fn group_valid_at(settings: &[u32], held: u32, masks: &[u32; 16], g: u32, s: u32
     if !shard_valid(settings, held, masks, s) {
         return false;
     }
-    rows::apart_below(settings, masks, s)
+    shard_masks::apart_below(settings, masks, s)
 }
 
 // The placement of subgroup g is valid.

@@ -7,7 +7,7 @@ use mathlib.Core.List.{[]}
 use native.Mathlib.Omega.{arith}
 use borrow.Author.Tests.{not-true, not-false}
 use Rattle.laws.specs.Below.{allBelow, all-none, all-more, all-fails}
-use Rattle.sums.specs.Loops.{all-done}
+use Rattle.laws.specs.Loops.{all-done}
 use Rattle.placement.specs.Tables.{caseOf, ownersOf}
 use Rattle.cut.specs.Post.{steady, weightsOf}
 use Rattle.cut.proofs.all_steady.Statement.{statement}

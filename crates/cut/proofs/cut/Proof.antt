@@ -64,4 +64,6 @@ returns-3 c =
 
 pub cut-spec : {M : Type 1} → statement M
 cut-spec =
-    tie.close (tie.spec Inv-loop μ-loop all-steady-requires returns (λ c κs. search needs) (λ c. search needs) (λ c κs. search needs) loop-holds visit-requires returns-2 (λ c. search needs) (λ c. search needs) loop-again (λ c. search needs) (λ c κs. search needs) returns-3)
+    tie.close
+    (tie.spec Inv-loop μ-loop all-steady-requires returns (λ c κs. search needs) (λ c. search needs) (λ c κs. search needs) loop-holds visit-requires
+    returns-2 (λ c. search needs) (λ c. search needs) loop-again (λ c. search needs) (λ c κs. search needs) returns-3)

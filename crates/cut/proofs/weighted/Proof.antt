@@ -4,8 +4,7 @@ use Prim.Native.Nat.{_≤_, _-_, _*_}
 use mathlib.Core.Path.{_≡_, sym}
 use native.Mathlib.Omega.{arith}
 use lib.ListN.{getD}
-use Rattle.sums.specs.Sums.{sumBelow, sum-zero}
-use Rattle.sums.specs.Loops.{sum-turn, sum-done}
+use Rattle.sums.specs.Sums.{sumBelow, sum-zero, sum-turn, sum-done}
 use Rattle.cut.proofs.weighted.Statement.{statement}
 use Rattle.cut.proofs.weighted.Tie as tie
 
@@ -26,4 +25,6 @@ returns c = (sum-done (c .before .loop .inv .0) (c .loop-test .left) _ _ (c .bef
 
 pub weighted-spec : {M : Type 1} → statement M
 weighted-spec =
-    tie.close (tie.spec Inv-loop μ-loop loop-holds (λ c. search needs) (λ c. search needs) (λ c κs. search needs) (λ c. search needs) (λ c. search needs) (λ c. search needs) loop-again returns)
+    tie.close
+    (tie.spec Inv-loop μ-loop loop-holds (λ c. search needs) (λ c. search needs) (λ c κs. search needs) (λ c. search needs) (λ c. search needs)
+    (λ c. search needs) loop-again returns)

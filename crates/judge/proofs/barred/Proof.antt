@@ -43,4 +43,6 @@ returns-5 c = frees (c .before .before .before .before .before .before .before .
 
 pub barred-spec : {M : Type 1} → statement M
 barred-spec =
-    tie.close (tie.spec (λ c. search needs) returns (λ c. search needs) returns-2 (λ c κs. search needs) (λ c. search needs) (λ c κs. search needs) returns-3 (λ c κs. search needs) (λ c. search needs) (λ c κs. search needs) returns-4 returns-5)
+    tie.close
+    (tie.spec (λ c. search needs) returns (λ c. search needs) returns-2 (λ c κs. search needs) (λ c. search needs) (λ c κs. search needs) returns-3
+    (λ c κs. search needs) (λ c. search needs) (λ c κs. search needs) returns-4 returns-5)

@@ -6,5 +6,4 @@ use Rattle.judge.proofs.equal.Tie as tie
 
 pub equal-spec : {M : Type 1} → statement M
 equal-spec =
-    tie.close
-    (tie.spec (λ c. (simp (eq-eqb _ _ (c .if1 .taken)), omega arith)) (λ c. (simp (ne-eqb _ _ (c .if1 .left)), omega arith)))
+    tie.close (tie.spec (λ c. (simp (eq-eqb _ _ (c .if1 .taken)), omega arith)) (λ c. (simp (ne-eqb _ _ (c .if1 .left)), omega arith)))

@@ -7,7 +7,7 @@ use mathlib.Core.List.{[]}
 use native.Mathlib.Omega.{arith}
 use borrow.Author.Tests.{eq-eqb, ne-eqb}
 use Rattle.laws.specs.Below.{allBelow, all-none, all-more, all-fails}
-use Rattle.sums.specs.Loops.{all-done}
+use Rattle.laws.specs.Loops.{all-done}
 use Rattle.placement.specs.Tables.{caseOf, ownersOf}
 use Rattle.placement.specs.Tests.{filled}
 use Rattle.judge.proofs.filled.Statement.{statement}
@@ -40,4 +40,6 @@ returns-2 c = sym (all-done (c .before .loop .inv .0) (c .loop-test .left) true 
 
 pub filled-spec : {M : Type 1} → statement M
 filled-spec =
-    tie.close (tie.spec Inv-loop μ-loop loop-holds (λ c κs. search needs) (λ c. search needs) (λ c κs. search needs) returns (λ c. search needs) (λ c. search needs) loop-again returns-2)
+    tie.close
+    (tie.spec Inv-loop μ-loop loop-holds (λ c κs. search needs) (λ c. search needs) (λ c κs. search needs) returns (λ c. search needs)
+    (λ c. search needs) loop-again returns-2)

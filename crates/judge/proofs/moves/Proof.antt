@@ -6,8 +6,7 @@ use native.Mathlib.Omega.{arith}
 use borrow.Author.Needs.{needs}
 use lib.Dec.{ltb}
 use lib.ListN.{getD}
-use Rattle.sums.specs.Sums.{sumBelow, sum-zero}
-use Rattle.sums.specs.Loops.{sum-turn, sum-done}
+use Rattle.sums.specs.Sums.{sumBelow, sum-zero, sum-turn, sum-done}
 use Rattle.placement.specs.Case.{moves}
 use Rattle.placement.specs.Tables.{ownersOf}
 use Rattle.judge.proofs.moves.Statement.{statement}
@@ -40,5 +39,5 @@ returns c = sum-done (c .before .loop .inv .0) (c .loop-test .left) _ _ (c .befo
 pub moves-spec : {M : Type 1} → statement M
 moves-spec =
     tie.close
-    (tie.spec Inv-loop μ-loop loop-holds (λ c. search needs) (λ c κs. search needs) (λ c κs. search needs) (λ c. search needs)
-    (λ c. search needs) (λ c. search needs) loop-again returns)
+    (tie.spec Inv-loop μ-loop loop-holds (λ c. search needs) (λ c κs. search needs) (λ c κs. search needs) (λ c. search needs) (λ c. search needs)
+    (λ c. search needs) loop-again returns)

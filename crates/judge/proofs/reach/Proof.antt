@@ -9,7 +9,7 @@ use lib.Dec.{eqb, ltb, leb}
 use lib.ListN.{getD}
 use Rattle.placement.specs.Tests.{reach, reaches}
 use Rattle.laws.specs.Below.{countBelow, count-zero}
-use Rattle.sums.specs.Loops.{count-turn, count-done}
+use Rattle.laws.specs.Loops.{count-turn, count-done}
 use Rattle.placement.specs.Tables.{caseOf, ownersOf}
 use Rattle.judge.proofs.reach.Statement.{statement}
 use Rattle.judge.proofs.reach.Tie as tie
@@ -41,5 +41,5 @@ returns c = count-done (c .before .loop .inv .0) (c .loop-test .left) _ _ (c .be
 pub reach-spec : {M : Type 1} → statement M
 reach-spec =
     tie.close
-    (tie.spec Inv-loop μ-loop loop-holds (λ c. search needs) (λ c κs. search needs) (λ c κs. search needs) (λ c. search needs)
-    (λ c. search needs) (λ c. search needs) loop-again returns)
+    (tie.spec Inv-loop μ-loop loop-holds (λ c. search needs) (λ c κs. search needs) (λ c κs. search needs) (λ c. search needs) (λ c. search needs)
+    (λ c. search needs) loop-again returns)

@@ -9,7 +9,7 @@ use borrow.Author.Tests.{lt-ltb, le-ltb}
 use lib.Dec.{ltb}
 use lib.ListN.{getD}
 use Rattle.laws.specs.Below.{anyBelow, any-none, any-more, any-at}
-use Rattle.sums.specs.Loops.{any-done}
+use Rattle.laws.specs.Loops.{any-done}
 use Rattle.placement.specs.Tables.{caseOf, ownersOf}
 use Rattle.placement.specs.Tests.{reach}
 use Rattle.judge.proofs.short.Statement.{statement}
@@ -43,4 +43,6 @@ returns-2 c = sym (any-done (c .before .loop .inv .0) (c .loop-test .left) false
 
 pub short-spec : {M : Type 1} → statement M
 short-spec =
-    tie.close (tie.spec Inv-loop μ-loop loop-holds (λ c κs. search needs) (λ c. search needs) (λ c κs. search needs) returns (λ c. search needs) (λ c. search needs) loop-again returns-2)
+    tie.close
+    (tie.spec Inv-loop μ-loop loop-holds (λ c κs. search needs) (λ c. search needs) (λ c κs. search needs) returns (λ c. search needs)
+    (λ c. search needs) loop-again returns-2)

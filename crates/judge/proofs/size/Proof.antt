@@ -6,7 +6,7 @@ use native.Mathlib.Omega.{arith}
 use borrow.Author.Needs.{needs}
 use lib.Dec.{eqb}
 use Rattle.laws.specs.Below.{countBelow, count-zero}
-use Rattle.sums.specs.Loops.{count-turn, count-done}
+use Rattle.laws.specs.Loops.{count-turn, count-done}
 use Rattle.placement.specs.Tables.{ownersOf}
 use Rattle.judge.proofs.size.Statement.{statement}
 use Rattle.judge.proofs.size.Tie as tie
@@ -34,5 +34,5 @@ returns c = count-done (c .before .loop .inv .0) (c .loop-test .left) _ _ (c .be
 pub size-spec : {M : Type 1} → statement M
 size-spec =
     tie.close
-    (tie.spec Inv-loop μ-loop loop-holds (λ c. search needs) (λ c κs. search needs) (λ c κs. search needs) (λ c. search needs)
-    (λ c. search needs) (λ c. search needs) loop-again returns)
+    (tie.spec Inv-loop μ-loop loop-holds (λ c. search needs) (λ c κs. search needs) (λ c κs. search needs) (λ c. search needs) (λ c. search needs)
+    (λ c. search needs) loop-again returns)

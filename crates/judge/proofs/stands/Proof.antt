@@ -9,7 +9,7 @@ use borrow.Author.Tests.{not-true, not-false}
 use lib.Dec.{ltb}
 use lib.ListN.{getD}
 use Rattle.laws.specs.Below.{allBelow, all-none, all-more, all-fails}
-use Rattle.sums.specs.Loops.{all-done}
+use Rattle.laws.specs.Loops.{all-done}
 use Rattle.placement.specs.Tables.{caseOf, ownersOf}
 use Rattle.placement.specs.Tests.{stands}
 use Rattle.judge.proofs.stands.Statement.{statement}
@@ -52,4 +52,6 @@ returns-2 c = sym (all-done (c .before .loop .inv .0) (c .loop-test .left) true 
 
 pub stands-spec : {M : Type 1} → statement M
 stands-spec =
-    tie.close (tie.spec Inv-loop μ-loop loop-holds (λ c. search needs) (λ c κs. search needs) (λ c κs. search needs) returns (λ c. search needs) (λ c. search needs) loop-again returns-2)
+    tie.close
+    (tie.spec Inv-loop μ-loop loop-holds (λ c. search needs) (λ c κs. search needs) (λ c κs. search needs) returns (λ c. search needs)
+    (λ c. search needs) loop-again returns-2)

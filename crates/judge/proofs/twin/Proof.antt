@@ -7,7 +7,7 @@ use native.Mathlib.Omega.{arith}
 use lib.Dec.{eqb}
 use lib.ListN.{getD}
 use Rattle.laws.specs.Below.{anyBelow, any-none, any-more, any-at}
-use Rattle.sums.specs.Loops.{any-done}
+use Rattle.laws.specs.Loops.{any-done}
 use Rattle.placement.specs.Tests.{twin}
 use Rattle.judge.proofs.twin.Statement.{statement}
 use Rattle.judge.proofs.twin.Tie as tie
@@ -36,4 +36,6 @@ returns-2 c = sym (any-done (c .before .loop .inv .0) (c .loop-test .left) false
 
 pub twin-spec : {M : Type 1} → statement M
 twin-spec =
-    tie.close (tie.spec Inv-loop μ-loop loop-holds (λ c. search needs) (λ c. search needs) (λ c κs. search needs) returns (λ c. search needs) (λ c. search needs) loop-again returns-2)
+    tie.close
+    (tie.spec Inv-loop μ-loop loop-holds (λ c. search needs) (λ c. search needs) (λ c κs. search needs) returns (λ c. search needs)
+    (λ c. search needs) loop-again returns-2)

@@ -5,8 +5,7 @@ use mathlib.Core.List.{List}
 use native.Mathlib.Omega.{arith}
 use lib.ListN.{getD, replicate}
 use borrow.Author.Needs.{needs}
-use Rattle.laws.specs.Tables.{filled}
-use Rattle.sheet.specs.Fills.{fill-start, fill-turn, fill-end}
+use Rattle.laws.specs.Tables.{filled, fill-start, fill-turn, fill-end}
 use Rattle.layout_laws.specs.Adding.{maskWith, masksWith}
 use Rattle.layout.proofs.masks_with.Statement.{statement}
 use Rattle.layout.proofs.masks_with.Tie as tie
@@ -42,4 +41,6 @@ returns c =
 
 pub masks-with-spec : {M : Type 1} → statement M
 masks-with-spec =
-    tie.close (tie.spec Inv-loop μ-loop loop-holds (λ c. search needs) (λ c. search needs) (λ c. search needs) (λ c κs. search needs) (λ c. search needs) (λ c. search needs) (λ c. search needs) (λ c. search needs) (λ c. search needs) loop-again returns)
+    tie.close
+    (tie.spec Inv-loop μ-loop loop-holds (λ c. search needs) (λ c. search needs) (λ c. search needs) (λ c κs. search needs) (λ c. search needs)
+    (λ c. search needs) (λ c. search needs) (λ c. search needs) (λ c. search needs) loop-again returns)

@@ -1,6 +1,6 @@
 -- `layout::owned_by` meets its contract. The invariant: the mask has the nodes below n that the shard owns. Assumes nothing.
 use Prim.Native.Nat.{ℕ, _≤_, _-_}
-use mathlib.Core.Path.{_≡_, ap, _∙_}
+use mathlib.Core.Path.{_≡_, sym, ap, _∙_}
 use mathlib.Core.Bool.{Bool}
 use mathlib.Core.List.{List}
 use native.Mathlib.Nat.{le-antisymm}
@@ -8,7 +8,7 @@ use native.Mathlib.Omega.{arith}
 use lib.Dec.{eqb}
 use borrow.Author.Needs.{needs}
 use Rattle.placement.specs.Tables.{ownersOf}
-use Rattle.layout_laws.specs.Gathered.{maskBelow, mask-none, mask-turn}
+use Rattle.laws.specs.Picked.{maskBelow, mask-none, mask-turn}
 use Rattle.layout_laws.specs.Adding.{ownedBy}
 use Rattle.layout.proofs.owned_by.Statement.{statement}
 use Rattle.layout.proofs.owned_by.Tie as tie
@@ -24,7 +24,7 @@ abbrev μ-loop : tie.MeasureT-loop
 μ-loop owners s mask₀ n₀ mask n = 32 - n
 
 loop-holds : tie.Need-loop-holds Inv-loop μ-loop
-loop-holds c = let a = c .args in (omega arith, mask-none (owns (a .owners .now) (a .s)))
+loop-holds c = let a = c .args in (omega arith, sym (mask-none (owns (a .owners .now) (a .s))))
 
 loop-again : tie.Need-loop-again Inv-loop μ-loop
 loop-again c =
@@ -38,4 +38,5 @@ returns c =
     let l = c .before .loop in l .inv .1 ∙ ap (λ (k : ℕ). maskBelow k (owns (a .owners .now) (a .s))) (le-antisymm (omega arith) (omega arith))
 
 pub owned-by-spec : {M : Type 1} → statement M
-owned-by-spec = tie.close (tie.spec Inv-loop μ-loop loop-holds (λ c. search needs) (λ c κs. search needs) (λ c. search needs) (λ c. search needs) loop-again returns)
+owned-by-spec = tie.close
+    (tie.spec Inv-loop μ-loop loop-holds (λ c. search needs) (λ c κs. search needs) (λ c. search needs) (λ c. search needs) loop-again returns)

@@ -52,4 +52,6 @@ returns-2 c =
 
 pub place-spec : {M : Type 1} → statement M
 place-spec =
-    tie.close (tie.spec Inv-loop μ-loop (λ c κs. search needs) loop-holds place-group-requires returns (λ c. search needs) (λ c. search needs) loop-again returns-2)
+    tie.close
+    (tie.spec Inv-loop μ-loop (λ c κs. search needs) loop-holds place-group-requires returns (λ c. search needs) (λ c. search needs) loop-again
+    returns-2)

@@ -2,14 +2,12 @@
 use mathlib.Core.Path.{refl}
 use native.Mathlib.Omega.{arith}
 use Rattle.laws.specs.Bools.{clash}
-use Rattle.placement_c.specs.Number.{Number}
 use Rattle.placement_c.proofs.number.Statement.{statement}
 use Rattle.placement_c.proofs.number.Tie as tie
 
 pub number-spec : {M : Type 1} → statement M
 number-spec =
     tie.close
-    (tie.spec
-    (λ c. record { fits = omega (arith, c .before .pre (c .if1 .taken)) })
+    (tie.spec (λ c. record { fits = omega (arith, c .before .pre (c .if1 .taken)) })
     (λ c. record { some = λ e. (refl, c .before .pre e); none = λ e. clash (c .if1 .taken) e })
     (λ c. record { some = λ e. clash e (c .if1 .left); none = λ e. refl }))

@@ -28,4 +28,6 @@ returns-2 c = least-last (c .before .loop-test .left) (c .before .before .loop .
 
 pub plain-least-spec : {M : Type 1} → statement M
 plain-least-spec =
-    tie.close (tie.spec Inv-loop μ-loop loop-holds (λ c κs. search needs) returns (λ c. search needs) (λ c. search needs) loop-again (λ c κs. search needs) returns-2)
+    tie.close
+    (tie.spec Inv-loop μ-loop loop-holds (λ c κs. search needs) returns (λ c. search needs) (λ c. search needs) loop-again (λ c κs. search needs)
+    returns-2)

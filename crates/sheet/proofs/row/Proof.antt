@@ -4,9 +4,8 @@ use mathlib.Core.Path.{_≡_}
 use native.Mathlib.Omega.{arith}
 use lib.ListN.{replicate}
 use borrow.Author.Needs.{needs}
-use Rattle.laws.specs.Tables.{filled}
+use Rattle.laws.specs.Tables.{filled, fill-start, fill-turn, fill-end}
 use Rattle.sheet.specs.Laws.{entryBy}
-use Rattle.sheet.specs.Fills.{fill-start, fill-turn, fill-end}
 use Rattle.sheet.proofs.row.Statement.{statement}
 use Rattle.sheet.proofs.row.Tie as tie
 
@@ -37,4 +36,5 @@ array-write-r c = omega arith
 pub row-spec : {M : Type 1} → statement M
 row-spec =
     tie.close
-    (tie.spec Inv-loop μ-loop loop-holds (λ c κs. search needs) (λ c. search needs) array-write-r (λ c. search needs) (λ c. search needs) loop-again returns)
+    (tie.spec Inv-loop μ-loop loop-holds (λ c κs. search needs) (λ c. search needs) array-write-r (λ c. search needs) (λ c. search needs) loop-again
+    returns)

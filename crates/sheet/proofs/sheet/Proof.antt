@@ -6,10 +6,9 @@ use mathlib.Core.List.{List}
 use native.Mathlib.Omega.{arith}
 use lib.ListN.{getD, replicate}
 use borrow.Author.Needs.{needs}
-use Rattle.laws.specs.Tables.{filled, tabulate}
+use Rattle.laws.specs.Tables.{filled, tabulate, fill-start, fill-turn, fill-end}
 use Rattle.sheet.specs.Sheet.{sheetAt, sheetOf}
 use Rattle.sheet.specs.Laws.{row-is}
-use Rattle.sheet.specs.Fills.{fill-start, fill-turn, fill-end}
 use Rattle.sheet.proofs.sheet.Statement.{statement}
 use Rattle.sheet.proofs.sheet.Tie as tie
 

@@ -4,8 +4,7 @@ use mathlib.Core.Path.{_≡_}
 use native.Mathlib.Omega.{arith}
 use lib.ListN.{replicate}
 use borrow.Author.Needs.{needs}
-use Rattle.laws.specs.Tables.{filled}
-use Rattle.sheet.specs.Fills.{fill-start, fill-turn, fill-end}
+use Rattle.laws.specs.Tables.{filled, fill-start, fill-turn, fill-end}
 use Rattle.layout_laws.specs.Cases.{needIn}
 use Rattle.tables.proofs.needs.Statement.{statement}
 use Rattle.tables.proofs.needs.Tie as tie
@@ -32,4 +31,6 @@ returns c =
 
 pub needs-spec : {M : Type 1} → statement M
 needs-spec =
-    tie.close (tie.spec Inv-loop μ-loop loop-holds (λ c κs. search needs) (λ c. search needs) (λ c. search needs) (λ c. search needs) (λ c. search needs) loop-again returns)
+    tie.close
+    (tie.spec Inv-loop μ-loop loop-holds (λ c κs. search needs) (λ c. search needs) (λ c. search needs) (λ c. search needs) (λ c. search needs)
+    loop-again returns)

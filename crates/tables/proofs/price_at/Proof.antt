@@ -75,4 +75,5 @@ returns-6 c =
 pub price-at-spec : {M : Type 1} → statement M
 price-at-spec =
     tie.close
-    (tie.spec (λ c κs. search needs) returns (λ c κs. search needs) returns-2 entry-requires returns-3 (λ c. search needs) element-copy-out-was (λ c κs. search needs) returns-4 (λ c κs. search needs) returns-5 returns-6)
+    (tie.spec (λ c κs. search needs) returns (λ c κs. search needs) returns-2 entry-requires returns-3 (λ c. search needs) element-copy-out-was
+    (λ c κs. search needs) returns-4 (λ c κs. search needs) returns-5 returns-6)

@@ -1,25 +1,13 @@
 use Rattle.groups.specs.Spread.{clashes}
-use mathlib.Core.Path.{_≡_, refl, sym, ap, _∙_}
+use mathlib.Core.Path.{sym}
 use borrow.Author.Tests.{not-true, not-false}
 use borrow.Author.Needs.{needs}
 use Rattle.validity.proofs.clash.Statement.{statement}
 use Rattle.validity.proofs.clash.Tie as tie
 
-has-requires : tie.Need-has-requires
-has-requires c κs = search needs
-
 returns : tie.Need-returns
 unfolding clashes
 returns c = simp (sym (c .before .has .ensures), not-true (c .before .has .result) (c .if1 .taken))
-
-set-of-requires : tie.Need-set-of-requires
-set-of-requires c κs = search needs
-
-cast-has : tie.Need-cast-has
-cast-has c = search needs
-
-has-requires-2 : tie.Need-has-requires-2
-has-requires-2 c κs = search needs
 
 returns-2 : tie.Need-returns-2
 unfolding clashes
@@ -27,4 +15,4 @@ returns-2 c = simp (sym (c .before .before .before .has .ensures), not-false (c 
 
 pub clash-spec : {M : Type 1} → statement M
 clash-spec =
-    tie.close (tie.spec has-requires returns set-of-requires cast-has has-requires-2 returns-2)
+    tie.close (tie.spec (λ c κs. search needs) returns (λ c κs. search needs) (λ c. search needs) (λ c κs. search needs) returns-2)

@@ -1,8 +1,8 @@
 -- `validity::group_moves` meets its contract. The invariant: the total is the sum over the shards below s, of at most 32 each.
 -- Assumes nothing.
-use Prim.Native.Nat.{ℕ, _≤_, _-_, _+_, _*_}
+use Prim.Native.Nat.{ℕ, _≤_, _-_, _*_}
 use mathlib.Core.List.{List}
-use mathlib.Core.Path.{_≡_, refl, sym, ap, _∙_}
+use mathlib.Core.Path.{_≡_, sym, ap, _∙_}
 use native.Mathlib.Omega.{arith}
 use lib.ListN.{getD}
 use Rattle.sums.specs.Sums.{sumBelow, sum-zero, sum-next}
@@ -21,23 +21,11 @@ Inv-loop settings old masks g count total₀ s₀ total s = (s ≤ shards settin
 abbrev μ-loop : tie.MeasureT-loop
 μ-loop settings old masks g count total₀ s₀ total s = shards settings - s
 
-shards-requires : tie.Need-shards-requires Inv-loop μ-loop
-shards-requires c κs = search needs
-
 loop-holds : tie.Need-loop-holds Inv-loop μ-loop
 loop-holds c = let a = c .before .before .args in (search needs, sym (sum-zero (at (a .settings .now) (a .old .now) (a .masks .now) (a .g))), search needs)
 
-moves-at-requires : tie.Need-moves-at-requires Inv-loop μ-loop
-moves-at-requires c κs = search needs
-
 add-total : tie.Need-add-total Inv-loop μ-loop
 add-total c = omega (arith, c .before .before .before .shards .ensures, c .before .before .before .before .before .pre .sizes .shards-to, c .moves-at .ensures .1)
-
-add-s : tie.Need-add-s Inv-loop μ-loop
-add-s c = search needs
-
-loop-less : tie.Need-loop-less Inv-loop μ-loop
-loop-less c = search needs
 
 loop-again : tie.Need-loop-again Inv-loop μ-loop
 loop-again c = let a = c .before .before .before .before .before .args in
@@ -59,14 +47,5 @@ returns c = let a = c .before .before .before .before .args in
 pub group-moves-spec : {M : Type 1} → statement M
 group-moves-spec =
     tie.close
-    (tie.spec
-    Inv-loop
-    μ-loop
-    shards-requires
-    loop-holds
-    moves-at-requires
-    add-total
-    add-s
-    loop-less
-    loop-again
+    (tie.spec Inv-loop μ-loop (λ c κs. search needs) loop-holds (λ c κs. search needs) add-total (λ c. search needs) (λ c. search needs) loop-again
     returns)

@@ -22,14 +22,8 @@ Inv-loop settings held masks g count s₀ s = (s ≤ shards settings) × (allBel
 abbrev μ-loop : tie.MeasureT-loop
 μ-loop settings held masks g count s₀ s = shards settings - s
 
-shards-requires : tie.Need-shards-requires Inv-loop μ-loop
-shards-requires c κs = search needs
-
 loop-holds : tie.Need-loop-holds Inv-loop μ-loop
 loop-holds c = let a = c .before .before .args in (search needs, all-none (ok (a .settings .now) (a .held) (a .masks .now) (a .g)))
-
-group-valid-at-requires : tie.Need-group-valid-at-requires Inv-loop μ-loop
-group-valid-at-requires c κs = search needs
 
 returns : tie.Need-returns Inv-loop μ-loop
 unfolding groupValid
@@ -38,12 +32,6 @@ returns c = let a = c .before .before .before .before .before .before .args in
     sym (all-fails (shards (a .settings .now)) (ok (a .settings .now) (a .held) (a .masks .now) (a .g)) (c .before .before .before .loop .s)
     (omega (arith, c .before .before .before .before .shards .ensures))
     (sym (k .ensures) ∙ not-true (k .result) (c .if1 .taken)))
-
-add-s : tie.Need-add-s Inv-loop μ-loop
-add-s c = search needs
-
-loop-less : tie.Need-loop-less Inv-loop μ-loop
-loop-less c = search needs
 
 loop-again : tie.Need-loop-again Inv-loop μ-loop
 loop-again c = let a = c .before .before .before .before .before .before .args in
@@ -62,14 +50,5 @@ returns-2 c = let a = c .before .before .before .before .args in
 pub group-valid-spec : {M : Type 1} → statement M
 group-valid-spec =
     tie.close
-    (tie.spec
-    Inv-loop
-    μ-loop
-    shards-requires
-    loop-holds
-    group-valid-at-requires
-    returns
-    add-s
-    loop-less
-    loop-again
+    (tie.spec Inv-loop μ-loop (λ c κs. search needs) loop-holds (λ c κs. search needs) returns (λ c. search needs) (λ c. search needs) loop-again
     returns-2)

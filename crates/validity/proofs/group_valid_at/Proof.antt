@@ -1,26 +1,17 @@
 use Rattle.groups.specs.Placements.{groupValidAt}
-use mathlib.Core.Path.{_≡_, refl, sym, ap, _∙_}
+use mathlib.Core.Path.{sym}
 use borrow.Author.Tests.{eq-eqb, ne-eqb, not-true, not-false}
 use borrow.Author.Needs.{needs}
 use Rattle.validity.proofs.group_valid_at.Statement.{statement}
 use Rattle.validity.proofs.group_valid_at.Tie as tie
 
-subgroup-requires : tie.Need-subgroup-requires
-subgroup-requires c κs = search needs
-
 returns : tie.Need-returns
 unfolding groupValidAt
 returns c = simp (sym (c .before .subgroup .ensures), ne-eqb _ _ (c .if1 .taken))
 
-shard-valid-requires : tie.Need-shard-valid-requires
-shard-valid-requires c κs = search needs
-
 returns-2 : tie.Need-returns-2
 unfolding groupValidAt
 returns-2 c = simp (sym (c .before .before .before .subgroup .ensures), eq-eqb _ _ (c .before .before .if1 .left), sym (c .before .shard-valid .ensures), not-true (c .before .shard-valid .result) (c .if2 .taken))
-
-apart-below-requires : tie.Need-apart-below-requires
-apart-below-requires c κs = search needs
 
 returns-3 : tie.Need-returns-3
 unfolding groupValidAt
@@ -28,11 +19,4 @@ returns-3 c = simp (sym (c .before .before .before .before .subgroup .ensures), 
 
 pub group-valid-at-spec : {M : Type 1} → statement M
 group-valid-at-spec =
-    tie.close
-    (tie.spec
-    subgroup-requires
-    returns
-    shard-valid-requires
-    returns-2
-    apart-below-requires
-    returns-3)
+    tie.close (tie.spec (λ c κs. search needs) returns (λ c κs. search needs) returns-2 (λ c κs. search needs) returns-3)

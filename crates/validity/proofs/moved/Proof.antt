@@ -6,12 +6,6 @@ use borrow.Author.Needs.{needs}
 use Rattle.validity.proofs.moved.Statement.{statement}
 use Rattle.validity.proofs.moved.Tie as tie
 
-minus-requires : tie.Need-minus-requires
-minus-requires c κs = search needs
-
-count-requires : tie.Need-count-requires
-count-requires c κs = search needs
-
 returns : tie.Need-returns
 returns c =
     let a = c .before .before .args in (
@@ -20,4 +14,4 @@ returns c =
     )
 
 pub moved-spec : {M : Type 1} → statement M
-moved-spec = tie.close (tie.spec minus-requires count-requires returns)
+moved-spec = tie.close (tie.spec (λ c κs. search needs) (λ c κs. search needs) returns)

@@ -1,23 +1,14 @@
 use native.Mathlib.Omega.{arith}
 use Rattle.groups.specs.Spread.{seenWith}
-use mathlib.Core.Path.{_≡_, refl, sym, ap, _∙_}
+use mathlib.Core.Path.{sym}
 use borrow.Author.Tests.{not-true, not-false}
 use borrow.Author.Needs.{needs}
 use Rattle.validity.proofs.seen_with.Statement.{statement}
 use Rattle.validity.proofs.seen_with.Tie as tie
 
-has-requires : tie.Need-has-requires
-has-requires c κs = search needs
-
 returns : tie.Need-returns
 unfolding seenWith
 returns c = simp (sym (c .before .has .ensures), not-true (c .before .has .result) (c .if1 .taken))
-
-set-of-requires : tie.Need-set-of-requires
-set-of-requires c κs = search needs
-
-cast-with : tie.Need-cast-with
-cast-with c = search needs
 
 with-requires : tie.Need-with-requires
 with-requires c κs =
@@ -30,4 +21,4 @@ returns-2 c = simp (sym (c .before .before .before .has .ensures), not-false (c 
 
 pub seen-with-spec : {M : Type 1} → statement M
 seen-with-spec =
-    tie.close (tie.spec has-requires returns set-of-requires cast-with with-requires returns-2)
+    tie.close (tie.spec (λ c κs. search needs) returns (λ c κs. search needs) (λ c. search needs) with-requires returns-2)

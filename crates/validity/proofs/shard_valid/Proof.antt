@@ -3,30 +3,15 @@ use mathlib.Core.Bool.{true}
 use lib.ListN.{getD}
 use Rattle.laws.specs.Masks.{subset, subset-le}
 use Rattle.groups.specs.Placements.{shardValid}
-use mathlib.Core.Path.{_≡_, refl, sym, ap, _∙_}
+use mathlib.Core.Path.{_≡_, sym, _∙_}
 use borrow.Author.Tests.{eq-eqb, ne-eqb, not-true, not-false}
 use borrow.Author.Needs.{needs}
 use Rattle.validity.proofs.shard_valid.Statement.{statement}
 use Rattle.validity.proofs.shard_valid.Tie as tie
 
-mul-mask : tie.Need-mul-mask
-mul-mask c = search needs
-
-element-copy-out-mask : tie.Need-element-copy-out-mask
-element-copy-out-mask c = search needs
-
-subset-requires : tie.Need-subset-requires
-subset-requires c κs = search needs
-
 returns : tie.Need-returns
 unfolding shardValid
 returns c = simp (sym (c .before .subset .ensures), not-true (c .before .subset .result) (c .if1 .taken))
-
-count-requires : tie.Need-count-requires
-count-requires c κs = search needs
-
-need-requires : tie.Need-need-requires
-need-requires c κs = search needs
 
 returns-2 : tie.Need-returns-2
 unfolding shardValid
@@ -47,13 +32,5 @@ returns-3 c = simp (sym (c .before .before .before .before .before .subset .ensu
 pub shard-valid-spec : {M : Type 1} → statement M
 shard-valid-spec =
     tie.close
-    (tie.spec
-    mul-mask
-    element-copy-out-mask
-    subset-requires
-    returns
-    count-requires
-    need-requires
-    returns-2
-    spread-requires
-    returns-3)
+    (tie.spec (λ c. search needs) (λ c. search needs) (λ c κs. search needs) returns (λ c κs. search needs) (λ c κs. search needs) returns-2
+    spread-requires returns-3)

@@ -1,9 +1,9 @@
 -- `validity::spread` meets its contract. The invariant: the sets seen are those of the nodes below n in the mask, and none of
 -- these nodes clashes with a lower one. Assumes nothing.
-use Prim.Native.Nat.{ℕ, _≤_, _-_, _+_, _<_}
-use mathlib.Core.Bool.{Bool, true, false}
+use Prim.Native.Nat.{ℕ, _≤_, _-_}
+use mathlib.Core.Bool.{Bool, true}
 use mathlib.Core.List.{List}
-use mathlib.Core.Path.{_≡_, refl, sym, ap, _∙_}
+use mathlib.Core.Path.{_≡_, sym, ap, _∙_}
 use native.Mathlib.Omega.{arith}
 use Rattle.laws.specs.Below.{allBelow, all-none, all-more, all-fewer}
 use Rattle.settings.specs.Settings.{nodes}
@@ -21,14 +21,8 @@ Inv-loop settings mask count seen₀ n₀ seen n = (n ≤ nodes settings) × (se
 abbrev μ-loop : tie.MeasureT-loop
 μ-loop settings mask count seen₀ n₀ seen n = nodes settings - n
 
-nodes-requires : tie.Need-nodes-requires Inv-loop μ-loop
-nodes-requires c κs = search needs
-
 loop-holds : tie.Need-loop-holds Inv-loop μ-loop
 loop-holds c = let a = c .before .before .args in (search needs, sets-none (a .settings .now) (a .mask), all-none (clear (a .settings .now) (a .mask)))
-
-clash-requires : tie.Need-clash-requires Inv-loop μ-loop
-clash-requires c κs = search needs
 
 returns : tie.Need-returns Inv-loop μ-loop
 returns c = let a = c .before .before .before .before .before .before .args in
@@ -37,15 +31,6 @@ returns c = let a = c .before .before .before .before .before .before .args in
     let k = c .before .clash in
     sym (spread-fails (a .settings .now) (a .mask) (p .1) (l .n) (omega (arith, p .0 .sizes .nodes-to, c .before .before .before .before .nodes .ensures))
     (clash-holds (a .settings .now) (a .mask) (l .n) (ap (λ (m : ℕ). clashes (a .settings .now) (a .mask) m (l .n)) (sym (l .inv .1)) ∙ (sym (k .ensures) ∙ c .if1 .taken))))
-
-seen-with-requires : tie.Need-seen-with-requires Inv-loop μ-loop
-seen-with-requires c κs = search needs
-
-add-n : tie.Need-add-n Inv-loop μ-loop
-add-n c = search needs
-
-loop-less : tie.Need-loop-less Inv-loop μ-loop
-loop-less c = search needs
 
 loop-again : tie.Need-loop-again Inv-loop μ-loop
 loop-again c = let a = c .before .before .before .before .before .before .before .args in
@@ -67,15 +52,5 @@ returns-2 c = let a = c .before .before .before .before .args in
 pub spread-spec : {M : Type 1} → statement M
 spread-spec =
     tie.close
-    (tie.spec
-    Inv-loop
-    μ-loop
-    nodes-requires
-    loop-holds
-    clash-requires
-    returns
-    seen-with-requires
-    add-n
-    loop-less
-    loop-again
-    returns-2)
+    (tie.spec Inv-loop μ-loop (λ c κs. search needs) loop-holds (λ c κs. search needs) returns (λ c κs. search needs) (λ c. search needs)
+    (λ c. search needs) loop-again returns-2)

@@ -5,23 +5,13 @@ use Rattle.oracle.proofs.change.give_way.Statement.{statement}
 use Rattle.oracle.proofs.change.give_way.Tie as tie
 
 abbrev Inv-loop : tie.InvT-loop
-Inv-loop masks₀ marks₀ x y₀ i₀ round₀ masks marks y i round = round ≤ 33
+Inv-loop mem₀ x y₀ i₀ round₀ mem y i round = round ≤ 33
 
 abbrev μ-loop : tie.MeasureT-loop
-μ-loop masks₀ marks₀ x y₀ i₀ round₀ masks marks y i round = 33 - round
+μ-loop mem₀ x y₀ i₀ round₀ mem y i round = 33 - round
 
 pub give-way-spec : {M : Type 1} → statement M
 give-way-spec =
     tie.close
-    (tie.spec
-    Inv-loop
-    μ-loop
-    (λ c. search needs)
-    (λ c. search needs)
-    (λ c κs. search needs)
-    (λ c κs. search needs)
-    (λ c κs. search needs)
-    (λ c. search needs)
-    (λ c. search needs)
-    (λ c. search needs)
-    (λ c. search needs))
+    (tie.spec Inv-loop μ-loop (λ c. search needs) (λ c. search needs) (λ c κs. search needs) (λ c κs. search needs) (λ c κs. search needs)
+    (λ c. search needs) (λ c. search needs) (λ c. search needs) (λ c. search needs))

@@ -5,27 +5,13 @@ use Rattle.oracle.proofs.claim.reroute.Statement.{statement}
 use Rattle.oracle.proofs.claim.reroute.Tie as tie
 
 abbrev Inv-loop : tie.InvT-loop
-Inv-loop masks₀ marks₀ i n most round₀ masks marks round = round ≤ 64
+Inv-loop mem₀ i n most round₀ mem round = round ≤ 64
 
 abbrev μ-loop : tie.MeasureT-loop
-μ-loop masks₀ marks₀ i n most round₀ masks marks round = 64 - round
+μ-loop mem₀ i n most round₀ mem round = 64 - round
 
 pub reroute-spec : {M : Type 1} → statement M
 reroute-spec =
     tie.close
-    (tie.spec
-    Inv-loop
-    μ-loop
-    (λ c. search needs)
-    (λ c κs. search needs)
-    (λ c. search needs)
-    (λ c κs. search needs)
-    (λ c κs. search needs)
-    (λ c κs. search needs)
-    (λ c κs. search needs)
-    (λ c. search needs)
-    (λ c κs. search needs)
-    (λ c. search needs)
-    (λ c. search needs)
-    (λ c. search needs)
-    (λ c. search needs))
+    (tie.spec Inv-loop μ-loop (λ c. search needs) (λ c κs. search needs) (λ c. search needs) (λ c κs. search needs) (λ c κs. search needs)
+    (λ c κs. search needs) (λ c. search needs) (λ c κs. search needs) (λ c. search needs) (λ c. search needs) (λ c. search needs) (λ c. search needs))

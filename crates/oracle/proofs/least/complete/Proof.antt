@@ -5,22 +5,13 @@ use Rattle.oracle.proofs.least.complete.Statement.{statement}
 use Rattle.oracle.proofs.least.complete.Tie as tie
 
 abbrev Inv-loop : tie.InvT-loop
-Inv-loop masks₀ marks₀ round₀ masks marks round = round ≤ 64
+Inv-loop mem₀ round₀ mem round = round ≤ 64
 
 abbrev μ-loop : tie.MeasureT-loop
-μ-loop masks₀ marks₀ round₀ masks marks round = 64 - round
+μ-loop mem₀ round₀ mem round = 64 - round
 
 pub complete-spec : {M : Type 1} → statement M
 complete-spec =
     tie.close
-    (tie.spec
-    Inv-loop
-    μ-loop
-    (λ c. search needs)
-    (λ c κs. search needs)
-    (λ c. search needs)
-    (λ c. search needs)
-    (λ c. search needs)
-    (λ c. search needs)
-    (λ c. search needs)
-    (λ c. search needs))
+    (tie.spec Inv-loop μ-loop (λ c. search needs) (λ c κs. search needs) (λ c. search needs) (λ c. search needs) (λ c. search needs)
+    (λ c. search needs) (λ c. search needs))

@@ -5,22 +5,13 @@ use Rattle.oracle.proofs.least.lacking.Statement.{statement}
 use Rattle.oracle.proofs.least.lacking.Tie as tie
 
 abbrev Inv-loop : tie.InvT-loop
-Inv-loop marks₀ shards₀ i₀ marks shards i = i ≤ 16
+Inv-loop mem₀ shards₀ i₀ mem shards i = i ≤ 16
 
 abbrev μ-loop : tie.MeasureT-loop
-μ-loop marks₀ shards₀ i₀ marks shards i = 16 - i
+μ-loop mem₀ shards₀ i₀ mem shards i = 16 - i
 
 pub lacking-spec : {M : Type 1} → statement M
 lacking-spec =
     tie.close
-    (tie.spec
-    Inv-loop
-    μ-loop
-    (λ c. search needs)
-    (λ c κs. search needs)
-    (λ c κs. search needs)
-    (λ c κs. search needs)
-    (λ c. search needs)
-    (λ c. search needs)
-    (λ c. search needs)
-    (λ c. search needs))
+    (tie.spec Inv-loop μ-loop (λ c. search needs) (λ c κs. search needs) (λ c κs. search needs) (λ c κs. search needs) (λ c. search needs)
+    (λ c. search needs) (λ c. search needs) (λ c. search needs))

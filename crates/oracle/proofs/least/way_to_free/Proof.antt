@@ -5,28 +5,14 @@ use Rattle.oracle.proofs.least.way_to_free.Statement.{statement}
 use Rattle.oracle.proofs.least.way_to_free.Tie as tie
 
 abbrev Inv-loop : tie.InvT-loop
-Inv-loop masks₀ marks₀ goal round₀ masks marks round = round ≤ 64
+Inv-loop mem₀ goal round₀ mem round = round ≤ 64
 
 abbrev μ-loop : tie.MeasureT-loop
-μ-loop masks₀ marks₀ goal round₀ masks marks round = 64 - round
+μ-loop mem₀ goal round₀ mem round = 64 - round
 
 pub way-to-free-spec : {M : Type 1} → statement M
 way-to-free-spec =
     tie.close
-    (tie.spec
-    Inv-loop
-    μ-loop
-    (λ c κs. search needs)
-    (λ c. search needs)
-    (λ c κs. search needs)
-    (λ c κs. search needs)
-    (λ c. search needs)
-    (λ c κs. search needs)
-    (λ c κs. search needs)
-    (λ c κs. search needs)
-    (λ c. search needs)
-    (λ c κs. search needs)
-    (λ c. search needs)
-    (λ c. search needs)
-    (λ c. search needs)
-    (λ c. search needs))
+    (tie.spec Inv-loop μ-loop (λ c κs. search needs) (λ c. search needs) (λ c κs. search needs) (λ c. search needs) (λ c κs. search needs)
+    (λ c κs. search needs) (λ c κs. search needs) (λ c. search needs) (λ c κs. search needs) (λ c. search needs) (λ c. search needs)
+    (λ c. search needs) (λ c. search needs))

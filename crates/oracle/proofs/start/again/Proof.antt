@@ -5,23 +5,13 @@ use Rattle.oracle.proofs.start.again.Statement.{statement}
 use Rattle.oracle.proofs.start.again.Tie as tie
 
 abbrev Inv-loop : tie.InvT-loop
-Inv-loop masks₀ marks₀ i₀ masks marks i = i ≤ 16
+Inv-loop mem₀ i₀ mem i = i ≤ 16
 
 abbrev μ-loop : tie.MeasureT-loop
-μ-loop masks₀ marks₀ i₀ masks marks i = 16 - i
+μ-loop mem₀ i₀ mem i = 16 - i
 
 pub again-spec : {M : Type 1} → statement M
 again-spec =
     tie.close
-    (tie.spec
-    Inv-loop
-    μ-loop
-    (λ c κs. search needs)
-    (λ c κs. search needs)
-    (λ c. search needs)
-    (λ c κs. search needs)
-    (λ c κs. search needs)
-    (λ c. search needs)
-    (λ c. search needs)
-    (λ c. search needs)
-    (λ c. search needs))
+    (tie.spec Inv-loop μ-loop (λ c κs. search needs) (λ c κs. search needs) (λ c. search needs) (λ c κs. search needs) (λ c κs. search needs)
+    (λ c. search needs) (λ c. search needs) (λ c. search needs) (λ c. search needs))

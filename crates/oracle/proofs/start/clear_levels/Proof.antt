@@ -5,20 +5,13 @@ use Rattle.oracle.proofs.start.clear_levels.Statement.{statement}
 use Rattle.oracle.proofs.start.clear_levels.Tie as tie
 
 abbrev Inv-loop : tie.InvT-loop
-Inv-loop masks₀ l₀ masks l = l ≤ 128
+Inv-loop mem₀ l₀ mem l = l ≤ 128
 
 abbrev μ-loop : tie.MeasureT-loop
-μ-loop masks₀ l₀ masks l = 128 - l
+μ-loop mem₀ l₀ mem l = 128 - l
 
 pub clear-levels-spec : {M : Type 1} → statement M
 clear-levels-spec =
     tie.close
-    (tie.spec
-    Inv-loop
-    μ-loop
-    (λ c. search needs)
-    (λ c κs. search needs)
-    (λ c. search needs)
-    (λ c. search needs)
-    (λ c. search needs)
+    (tie.spec Inv-loop μ-loop (λ c. search needs) (λ c κs. search needs) (λ c. search needs) (λ c. search needs) (λ c. search needs)
     (λ c. search needs))

@@ -5,27 +5,13 @@ use Rattle.oracle.proofs.start.keep.Statement.{statement}
 use Rattle.oracle.proofs.start.keep.Tie as tie
 
 abbrev Inv-loop : tie.InvT-loop
-Inv-loop masks₀ marks₀ i round₀ masks marks round = round ≤ 32
+Inv-loop mem₀ i round₀ mem round = round ≤ 32
 
 abbrev μ-loop : tie.MeasureT-loop
-μ-loop masks₀ marks₀ i round₀ masks marks round = 32 - round
+μ-loop mem₀ i round₀ mem round = 32 - round
 
 pub keep-spec : {M : Type 1} → statement M
 keep-spec =
     tie.close
-    (tie.spec
-    Inv-loop
-    μ-loop
-    (λ c. search needs)
-    (λ c κs. search needs)
-    (λ c κs. search needs)
-    (λ c. search needs)
-    (λ c. search needs)
-    (λ c κs. search needs)
-    (λ c κs. search needs)
-    (λ c. search needs)
-    (λ c κs. search needs)
-    (λ c. search needs)
-    (λ c. search needs)
-    (λ c. search needs)
-    (λ c. search needs))
+    (tie.spec Inv-loop μ-loop (λ c. search needs) (λ c κs. search needs) (λ c κs. search needs) (λ c. search needs) (λ c κs. search needs)
+    (λ c κs. search needs) (λ c κs. search needs) (λ c. search needs) (λ c. search needs) (λ c. search needs) (λ c. search needs))

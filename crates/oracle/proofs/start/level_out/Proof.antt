@@ -5,24 +5,13 @@ use Rattle.oracle.proofs.start.level_out.Statement.{statement}
 use Rattle.oracle.proofs.start.level_out.Tie as tie
 
 abbrev Inv-loop : tie.InvT-loop
-Inv-loop masks marks₀ n₀ marks n = n ≤ 32
+Inv-loop mem₀ n₀ mem n = n ≤ 32
 
 abbrev μ-loop : tie.MeasureT-loop
-μ-loop masks marks₀ n₀ marks n = 32 - n
+μ-loop mem₀ n₀ mem n = 32 - n
 
 pub level-out-spec : {M : Type 1} → statement M
 level-out-spec =
     tie.close
-    (tie.spec
-    Inv-loop
-    μ-loop
-    (λ c κs. search needs)
-    (λ c κs. search needs)
-    (λ c κs. search needs)
-    (λ c κs. search needs)
-    (λ c. search needs)
-    (λ c κs. search needs)
-    (λ c. search needs)
-    (λ c. search needs)
-    (λ c. search needs)
-    (λ c. search needs))
+    (tie.spec Inv-loop μ-loop (λ c κs. search needs) (λ c κs. search needs) (λ c κs. search needs) (λ c κs. search needs) (λ c. search needs)
+    (λ c κs. search needs) (λ c. search needs) (λ c. search needs) (λ c. search needs) (λ c. search needs))

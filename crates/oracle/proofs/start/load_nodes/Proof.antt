@@ -5,28 +5,14 @@ use Rattle.oracle.proofs.start.load_nodes.Statement.{statement}
 use Rattle.oracle.proofs.start.load_nodes.Tie as tie
 
 abbrev Inv-loop : tie.InvT-loop
-Inv-loop masks₀ marks₀ sets nodes n₀ masks marks n = n ≤ 32
+Inv-loop mem₀ sets nodes n₀ mem n = n ≤ 32
 
 abbrev μ-loop : tie.MeasureT-loop
-μ-loop masks₀ marks₀ sets nodes n₀ masks marks n = 32 - n
+μ-loop mem₀ sets nodes n₀ mem n = 32 - n
 
 pub load-nodes-spec : {M : Type 1} → statement M
 load-nodes-spec =
     tie.close
-    (tie.spec
-    Inv-loop
-    μ-loop
-    (λ c κs. search needs)
-    (λ c. search needs)
-    (λ c. search needs)
-    (λ c. search needs)
-    (λ c κs. search needs)
-    (λ c. search needs)
-    (λ c. search needs)
-    (λ c. search needs)
-    (λ c κs. search needs)
-    (λ c κs. search needs)
-    (λ c. search needs)
-    (λ c. search needs)
-    (λ c. search needs)
-    (λ c. search needs))
+    (tie.spec Inv-loop μ-loop (λ c κs. search needs) (λ c. search needs) (λ c. search needs) (λ c. search needs) (λ c κs. search needs)
+    (λ c. search needs) (λ c. search needs) (λ c. search needs) (λ c κs. search needs) (λ c κs. search needs) (λ c. search needs) (λ c. search needs)
+    (λ c. search needs) (λ c. search needs))

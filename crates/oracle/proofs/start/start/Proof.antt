@@ -5,29 +5,14 @@ use Rattle.oracle.proofs.start.start.Statement.{statement}
 use Rattle.oracle.proofs.start.start.Tie as tie
 
 abbrev Inv-loop : tie.InvT-loop
-Inv-loop masks₀ marks₀ sets needs costs i₀ masks marks i = i ≤ 16
+Inv-loop mem₀ sets needs costs i₀ mem i = i ≤ 16
 
 abbrev μ-loop : tie.MeasureT-loop
-μ-loop masks₀ marks₀ sets needs costs i₀ masks marks i = 16 - i
+μ-loop mem₀ sets needs costs i₀ mem i = 16 - i
 
 pub start-spec : {M : Type 1} → statement M
 start-spec =
     tie.close
-    (tie.spec
-    Inv-loop
-    μ-loop
-    (λ c κs. search needs)
-    (λ c κs. search needs)
-    (λ c κs. search needs)
-    (λ c κs. search needs)
-    (λ c κs. search needs)
-    (λ c. search needs)
-    (λ c. search needs)
-    (λ c. search needs)
-    (λ c κs. search needs)
-    (λ c κs. search needs)
-    (λ c κs. search needs)
-    (λ c. search needs)
-    (λ c. search needs)
-    (λ c. search needs)
-    (λ c. search needs))
+    (tie.spec Inv-loop μ-loop (λ c κs. search needs) (λ c κs. search needs) (λ c κs. search needs) (λ c κs. search needs) (λ c κs. search needs)
+    (λ c. search needs) (λ c. search needs) (λ c. search needs) (λ c κs. search needs) (λ c κs. search needs) (λ c κs. search needs)
+    (λ c. search needs) (λ c. search needs) (λ c. search needs) (λ c. search needs))

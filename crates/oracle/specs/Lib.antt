@@ -1,2 +1,0 @@
--- The definitions that the oracle's contracts cite.
-pub mod Weighed

@@ -1,0 +1,2 @@
+-- The definitions that the weights' contracts cite.
+pub mod Weighed
