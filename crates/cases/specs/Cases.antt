@@ -1,7 +1,6 @@
 -- What the cases of document 01 compute to: quorum, holders, targets and cuts. In A and B to F the reports are those of case A; held masks name who is back.
-use Prim.Native.Nat.{ℕ, zero, suc}
-use mathlib.Core.Bool.{Bool, true, false}
-use mathlib.Core.List.{List, [], _∷_}
+use mathlib.Core.Bool.{true}
+use mathlib.Core.List.{[], _∷_}
 use mathlib.Core.Path.{_≡_, refl}
 use lib.Count.{ones, onesIn}
 use Rattle.laws.specs.Below.{allBelow, anyBelow, lowest}
@@ -15,7 +14,8 @@ use Rattle.views.specs.Logs.{pos, endOf, reaches, holds, hasUpdate}
 use Rattle.views.specs.Reports.{slot, reportOf}
 use Rattle.views.specs.Quorums.{candidate, greatest, best, target, able, holder, majority, firstUnheld, quorumOf}
 use Rattle.views.specs.Cuts.{earlier, upTo, eligible, lastUpTo, cutFrom, cut}
-use Rattle.cases.specs.Runs.{settings, settingsWith, desk, view7, sixMembers, noView, noTermination, logOf}
+use Rattle.cases.specs.Runs.{settings, settingsWith, desk, view7, sixMembers, logOf}
+use Rattle.views.specs.Empty.{noView, noTermination}
 
 pub record Cases : Type 0 where
   -- A: nodes 0 to 5

@@ -1,19 +1,19 @@
 -- Cases A and I: every placement of six held nodes is looked through. In A the placement of document 01's plan is the only
 -- valid one with at most two moves; in I none is valid.
-use Prim.Native.Nat.{ℕ, zero, suc, _+_, _^_, _<_, _≤_}
+use Prim.Native.Nat.{ℕ, zero, suc, _<_, _≤_}
 use mathlib.Core.Bool.{Bool, true, false, not, _&&_, _||_}
 use mathlib.Core.List.{List}
 use mathlib.Core.Logic.{⊎-elim}
-use mathlib.Core.Path.{_≡_, refl, sym, ap, _∙_, subst}
+use mathlib.Core.Path.{_≡_, refl, sym, _∙_, subst}
 use native.Mathlib.Omega.{arith}
-use lib.Dec.{eqb, leb, ltb}
+use lib.Dec.{eqb, leb}
 use lib.Count.{ones, onesIn}
 use borrow.Author.Tests.{eqb-true, eq-eqb, le-leb}
 use Rattle.laws.specs.Bools.{clash, and-both, and-left, and-right, or-holds, of-not-true}
 use Rattle.laws.specs.Below.{allBelow, all-at}
-use Rattle.laws.specs.Masks.{has, count, subset, disjoint, minus, subset-le}
+use Rattle.laws.specs.Masks.{count, subset, disjoint, subset-le}
 use Rattle.sums.specs.Sums.{sumBelow}
-use Rattle.settings.specs.Settings.{shards, setOf, subgroup, need}
+use Rattle.settings.specs.Settings.{shards, subgroup, need}
 use Rattle.format.specs.Rows.{shardApart}
 use Rattle.groups.specs.Placements.{spread, shardValid, groupValid, groupValidAt, groupMoves, groupMovesAt, Impossible, LeastMoves}
 use Rattle.views.specs.Reports.{maskAt}

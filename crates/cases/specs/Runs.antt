@@ -1,11 +1,9 @@
 -- What document 01's runs start from: settings, kept view, and a desk with the reports.
-use Prim.Native.Nat.{ℕ, _+_, _*_, _-_}
-use mathlib.Core.Bool.{Bool, true, false}
+use Prim.Native.Nat.{ℕ, _+_, _-_}
 use mathlib.Core.List.{List, [], _∷_, _++_}
 use lib.ListN.{length, replicate}
 use Rattle.format.specs.declared.Contents.{Contents}
 use Rattle.views.specs.declared.Layout.{Layout}
-use Rattle.views.specs.declared.Termination.{Termination}
 
 -- settings with a least group size and the needs of the three shards
 abbrev pub settingsWith : ℕ → ℕ → List ℕ
@@ -49,12 +47,6 @@ view7 = record { number = record { 0 = 7 }; members = 127; masks = 5 ∷ 82 ∷ 
 -- a view of six members
 abbrev pub sixMembers : Layout
 sixMembers = record { number = record { 0 = 7 }; members = 63; masks = 5 ∷ 18 ∷ 32 ∷ replicate 13 0 }
-
-abbrev pub noView : Layout
-noView = record { number = record { 0 = 0 }; members = 0; masks = replicate 16 0 }
-
-abbrev pub noTermination : Termination
-noTermination = record { made = false; positions = replicate 32 0 }
 
 -- contents with two runs of shard 0, or one, or none
 abbrev pub logOf : ℕ → List ℕ → Contents

@@ -1,21 +1,18 @@
 -- What demand 3's claims suppose can be met: in case A the history of one view, logged by all, whose updates are those that
 -- the reports hold.
 use Prim.Native.Nat.{ℕ, zero, suc, _<_}
-use mathlib.Core.Bool.{Bool, true, false}
-use mathlib.Core.List.{List, [], _∷_}
-use mathlib.Core.Path.{_≡_, refl, sym, ap, _∙_, subst}
+use mathlib.Core.Bool.{true}
+use mathlib.Core.List.{[], _∷_}
+use mathlib.Core.Path.{_≡_, refl, ap}
 use native.Mathlib.Omega.{arith}
-use lib.Dec.{eqb}
-use Rattle.laws.specs.Below.{allBelow, anyBelow, lowest}
-use Rattle.laws.specs.Masks.{has, has-below}
+use Rattle.laws.specs.Below.{anyBelow, lowest}
+use Rattle.laws.specs.Masks.{has-below}
 use Rattle.laws.specs.Tables.{tabulate}
-use Rattle.settings.specs.Settings.{shards}
-use Rattle.ids.specs.declared.Position.{Position}
 use Rattle.format.specs.Chain.{place, following}
 use Rattle.format.specs.Messages.{bodyWord, bodyOf, contentsOf}
 use Rattle.views.specs.Logs.{holds}
 use Rattle.views.specs.Reports.{slot, reportOf}
-use Rattle.history.specs.History.{History, KeepsRule, True, SameView, Listed, Supposed}
+use Rattle.history.specs.History.{History, True, SameView, Supposed}
 use Rattle.cases.specs.Runs.{settings, desk, view7}
 
 abbrev historyA : History

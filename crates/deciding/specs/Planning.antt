@@ -16,7 +16,6 @@ use Rattle.views.specs.declared.Plan.{Plan}
 use Rattle.views.specs.declared.Standing.{Standing}
 use Rattle.views.specs.declared.Reason.{Reason}
 use Rattle.views.specs.declared.Reason.the-variants.{NoPlacement}
-use Rattle.views.specs.declared.Quorum.{Quorum}
 use Rattle.views.specs.declared.Quorum.the-variants.{Met, Short}
 use Rattle.views.specs.Reports.{maskAt}
 use Rattle.views.specs.Slots.{slotsOk}

@@ -7,7 +7,6 @@ use mathlib.Core.List.{List}
 use mathlib.Core.Logic.{_⊎_}
 use mathlib.Core.Path.{_≡_}
 use lib.Bits.{bitAnd}
-use lib.ListN.{replicate}
 use Rattle.laws.specs.Masks.{count}
 use Rattle.groups.specs.Placements.{groupValid, Impossible, LeastMoves}
 use Rattle.views.specs.declared.Layout.{Layout}
@@ -16,18 +15,13 @@ use Rattle.views.specs.declared.Plan.{Plan}
 use Rattle.views.specs.declared.Reason.{Reason}
 use Rattle.views.specs.declared.Reason.the-variants.{NoPlacement}
 use Rattle.views.specs.declared.Quorum.the-variants.{Met, Short}
+use Rattle.views.specs.Empty.{noPlan}
 use Rattle.views.specs.Reports.{maskAt}
 use Rattle.views.specs.Quorums.{quorumOf}
 use Rattle.views.specs.Standings.{holdersOf, targetsOf}
 use Rattle.views.specs.Soundness.{layoutTidy, allMoves}
 use Rattle.history.specs.Claims.{Claims}
 use Rattle.deciding.specs.declared.Verdict.{Verdict}
-
-abbrev pub noView : Layout
-noView = record { number = record { 0 = 0 }; members = 0; masks = replicate 16 0 }
-
-abbrev pub noPlan : Plan
-noPlan = record { layout = noView; total = 0; holders = replicate 16 0; targets = replicate 32 0 }
 
 -- a wait for a reason: no plan
 abbrev pub waiting : Reason → Verdict

@@ -12,6 +12,7 @@ ghost use mathlib.Core.Path.{_≡_};
 ghost use Prim.Native.Nat.{_≤_};
 ghost use lib.ListN.{length};
 ghost use Rattle.settings.specs.Settings.{Settings};
+ghost use Rattle.views.specs.Empty.{noView, noPlan};
 ghost use Rattle.views.specs.Slots.{slotsOk};
 ghost use Rattle.views.specs.Soundness.{keptSound};
 ghost use Rattle.deciding.specs.Restarts as Restarts;
@@ -25,7 +26,7 @@ pub struct Verdict {
 
 // No view: number 0, and nothing else.
 pub fn no_view() -> Layout
-    ensures { λ r. ⌜ r ≡ Restarts.noView ⌝ }
+    ensures { λ r. ⌜ r ≡ noView ⌝ }
 {
     Layout {
         number: View(0),
@@ -36,7 +37,7 @@ pub fn no_view() -> Layout
 
 // No plan: every entry is zero.
 pub fn no_plan() -> Plan
-    ensures { λ r. ⌜ r ≡ Restarts.noPlan ⌝ }
+    ensures { λ r. ⌜ r ≡ noPlan ⌝ }
 {
     Plan {
         layout: no_view(),

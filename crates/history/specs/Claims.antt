@@ -4,10 +4,10 @@
 -- soundness of its slot. kept: the holder is a member of the shard and reported truly, so it has the update, which lies no
 -- further than its log's end, and that no further than the target.
 use Prim.Native.Nat.{ℕ, suc, _*_, _^_, _<_, _≤_}
-use mathlib.Core.Bool.{Bool, true, false}
+use mathlib.Core.Bool.{true, false}
 use mathlib.Core.List.{List}
-use mathlib.Core.Logic.{_⊎_, inl, inr, ⊎-elim}
-use mathlib.Core.Path.{_≡_, refl, sym, ap, _∙_, subst}
+use mathlib.Core.Logic.{_⊎_, ⊎-elim}
+use mathlib.Core.Path.{_≡_, sym, ap, _∙_, subst}
 use native.Mathlib.Omega.{arith}
 use lib.Bits.{bitAnd}
 use lib.ListN.{length}
@@ -19,12 +19,11 @@ use Rattle.ids.specs.declared.Position.{Position}
 use Rattle.ids.specs.Order.{notAfter}
 use Rattle.views.specs.declared.Layout.{Layout}
 use Rattle.views.specs.declared.Termination.{Termination}
-use Rattle.views.specs.Reports.{reportOf, viewOf, endAt, holdsAt, maskAt}
+use Rattle.views.specs.Reports.{reportOf, endAt, holdsAt, maskAt}
 use Rattle.views.specs.Slots.{slotsOk}
-use Rattle.views.specs.Quorums.{target, able, holder, candidate}
-use Rattle.views.specs.Best.{Greatest}
-use Rattle.views.specs.Meets.{QuorumMet, SlotSound, Candidate, slot-given, candidate-given, holder-given, able-candidate, target-greatest, log-end}
-use Rattle.history.specs.History.{History, KeepsRule, Full, SameView, True, Listed, Supposed, numberAt, membersAt}
+use Rattle.views.specs.Quorums.{target, holder}
+use Rattle.views.specs.Meets.{QuorumMet, slot-given, candidate-given, holder-given, able-candidate, target-greatest, log-end}
+use Rattle.history.specs.History.{History, Full, Supposed, numberAt, membersAt}
 
 -- the claims, for every history
 pub record Claims (σ : List ℕ) (v : Layout) (t : Termination) (held : ℕ) (d : List ℕ) : Type 0 where

@@ -1,17 +1,18 @@
 -- A history of the group: a list of views, which node has logged which of them, and which updates of each shard a node has
 -- logged.
-use Prim.Native.Nat.{ℕ, suc, _*_, _<_, _≤_}
+use Prim.Native.Nat.{ℕ, suc, _*_, _<_}
 use mathlib.Core.Bool.{Bool, true, false}
-use mathlib.Core.List.{List, [], _∷_}
+use mathlib.Core.List.{List}
 use mathlib.Core.Path.{_≡_}
 use lib.Bits.{bitAnd}
-use lib.ListN.{length, getD, replicate}
+use lib.ListN.{length, getD}
 use Rattle.laws.specs.Masks.{has, count}
 use Rattle.settings.specs.Settings.{shards}
 use Rattle.ids.specs.declared.Position.{Position}
 use Rattle.format.specs.declared.Contents.{Contents}
 use Rattle.format.specs.Records.{membersOf}
 use Rattle.views.specs.declared.Layout.{Layout}
+use Rattle.views.specs.Empty.{noView}
 use Rattle.views.specs.Logs.{holds}
 use Rattle.views.specs.Reports.{reportOf, maskAt}
 
@@ -22,11 +23,7 @@ pub record History : Type 0 where
   -- a node has logged an update of a shard
   pub updated : ℕ → ℕ → Position → Bool
 
--- a view that is in no list
-abbrev pub noView : Layout
-noView = record { number = record { 0 = 0 }; members = 0; masks = replicate 16 0 }
-
--- the view at place i
+-- the view at place i, or none
 abbrev pub viewAt : History → ℕ → Layout
 viewAt H i = getD (H .views) i noView
 

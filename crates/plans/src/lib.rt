@@ -5,7 +5,7 @@ use views::Plan;
 use views::Quorum;
 use views::Standing;
 use views::Termination;
-ghost use mathlib.Core.Bool.{true, _&&_};
+ghost use mathlib.Core.Bool.{true};
 ghost use mathlib.Core.Path.{_≡_};
 ghost use Prim.Native.Nat.{_<_, _^_};
 ghost use lib.ListN.{length};

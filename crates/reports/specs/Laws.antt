@@ -1,17 +1,15 @@
--- The functions' answers as the definitions: a view and a termination from the words of the body, what is kept case by case, and
--- the desk with one slot replaced. What acceptance gives of a report.
-use Prim.Native.Nat.{ℕ, _+_, _*_, _-_, _<_, _≤_}
+-- The functions' answers as the definitions: a view and a termination from the words of the body, what is kept case by
+-- case, and what acceptance gives of a report.
+use Prim.Native.Nat.{ℕ, _-_, _<_, _≤_}
 use mathlib.Core.Bool.{true, false}
-use mathlib.Core.List.{List, _++_, append-assoc}
+use mathlib.Core.List.{List}
 use mathlib.Core.Logic.{⊎-elim}
 use mathlib.Core.Path.{_≡_, refl, sym, ap, _∙_}
-use native.Mathlib.Nat.{le-antisymm}
 use native.Mathlib.Omega.{arith}
-use lib.ListN.{length, getD, take, drop, replicate, length-replicate, getD-replicate}
+use lib.ListN.{getD, replicate}
 use borrow.Author.Tests.{eq-eqb, ne-eqb, lt-ltb, le-ltb, ltb-true}
-use borrow.Rule.Slice.PartMut.{putMid}
 use Rattle.laws.specs.Bools.{either}
-use Rattle.laws.specs.Tables.{tabulate, tabulate-ext, filled, filled-all, padded, length-padded, replaced, put-replaced}
+use Rattle.laws.specs.Tables.{tabulate-same}
 use Rattle.settings.specs.Settings.{nodes, shards, Settings}
 use Rattle.ids.specs.declared.Refusal.{Refusal}
 use Rattle.ids.specs.Refusals.{none, accepted, accepted-none, first-left, first-none, first-refused}
@@ -25,17 +23,8 @@ use Rattle.reader.specs.Readings.{readingUnder}
 use Rattle.views.specs.declared.Layout.{Layout}
 use Rattle.views.specs.declared.Termination.{Termination}
 use Rattle.views.specs.Reports.{terminated}
-use Rattle.reports.specs.Reports.{keptRefusal, refusalBeside, readingBeside, layoutOf, terminationOf, keeps, renewed, deskWith}
+use Rattle.reports.specs.Reports.{keptRefusal, refusalBeside, readingBeside, layoutOf, terminationOf, keeps, renewed}
 use Rattle.reports.specs.Words.{masksIn, positionsIn, madeFirst}
-
--- general: a table of one value
-pub tabulate-same : (n v : ℕ) (f : ℕ → ℕ) → ((k : ℕ) → k < n → v ≡ f k) → replicate n v ≡ tabulate n f
-tabulate-same n v f h =
-    tabulate-ext 0 n f (replicate n v) (length-replicate n v) (λ k l. getD-replicate n k v 0 l ∙ h k l)
-
--- general: the last turn of a loop that stores f k at k
-pub filled-end : (n : ℕ) (f : ℕ → ℕ) (l m : List ℕ) (k : ℕ) → length l ≡ n → k ≤ n → n ≤ k → m ≡ filled k f l → m ≡ tabulate n f
-filled-end n f l m k e i j h = h ∙ ap (λ (x : ℕ). filled x f l) (le-antisymm i j) ∙ filled-all n f l e
 
 -- ---- rows 5 to 13
 
@@ -109,18 +98,3 @@ module _ (σ : List ℕ) (v : Layout) (t : Termination) (c : Contents) where
   renewed-equal h =
       ⊎-elim (λ m. rw (le-ltb (v .number .0) (c .view .0) (omega arith), eq-eqb (v .number .0) (c .view .0) h, m))
       (λ m. rw (le-ltb (v .number .0) (c .view .0) (omega arith), eq-eqb (v .number .0) (c .view .0) h, m)) (either (t .made))
-
--- ---- the desk
-
-pub desk-replaced : (d : List ℕ) (n : ℕ) (w : List ℕ) → deskWith d n w ≡ replaced (512 * n) (padded 512 w) d
-unfolding deskWith replaced
-desk-replaced d n w =
-    append-assoc (take (512 * n) d) (padded 512 w) (drop (512 * n + 512) d)
-    ∙ ap (λ (k : ℕ). take (512 * n) d ++ (padded 512 w ++ drop (512 * n + k) d)) (sym (length-padded 512 w))
-
--- what the loan of node n's slot leaves in the desk
-pub desk-put : (d : List ℕ) (n : ℕ) (w s : List ℕ) → s ≡ padded 512 w → putMid (512 * n) (512 * n + 512 - 512 * n) d s ≡ deskWith d n w
-desk-put d n w s e =
-    ap (putMid (512 * n) (512 * n + 512 - 512 * n) d) e
-    ∙ put-replaced (512 * n) (512 * n + 512 - 512 * n) d (padded 512 w) (omega (arith, length-padded 512 w))
-    ∙ sym (desk-replaced d n w)

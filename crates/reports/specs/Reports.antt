@@ -1,10 +1,9 @@
--- A report taken in: when it is refused beside what is kept, what is kept after it, and the desk with it.
-use Prim.Native.Nat.{ℕ, _+_, _*_, _/_}
+-- A report taken in: when it is refused beside what is kept, and what is kept after it.
+use Prim.Native.Nat.{ℕ, _/_}
 use mathlib.Core.Bool.{cond, not, _&&_}
-use mathlib.Core.List.{List, _++_}
+use mathlib.Core.List.{List}
 use lib.Dec.{eqb, ltb}
-use lib.ListN.{take, drop}
-use Rattle.laws.specs.Tables.{tabulate, padded}
+use Rattle.laws.specs.Tables.{tabulate}
 use Rattle.settings.specs.Settings.{shards}
 use Rattle.ids.specs.declared.Refusal.{Refusal}
 use Rattle.ids.specs.Refusals.{none, unless, firstOf}
@@ -64,7 +63,3 @@ unfoldable pub renewed : List ℕ → Layout → Termination → Contents → Ke
 renewed σ v t c =
     cond (ltb (v .number .0) (c .view .0)) (keeps (layoutOf σ c) (terminationOf σ c))
     (cond (eqb (v .number .0) (c .view .0) && not (t .made)) (keeps v (terminationOf σ c)) (keeps v t))
-
--- the desk with a message, then zeros, in node n's slot
-unfoldable pub deskWith : List ℕ → ℕ → List ℕ → List ℕ
-deskWith d n w = take (512 * n) d ++ padded 512 w ++ drop (512 * n + 512) d

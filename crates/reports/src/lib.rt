@@ -7,8 +7,6 @@ use views::Layout;
 use views::Termination;
 ghost use mathlib.Core.Path.{_≡_};
 ghost use Prim.Native.Nat.{_<_, _≤_};
-ghost use lib.ListN.{length, getD};
-ghost use Rattle.laws.specs.Tables.{padded};
 ghost use Rattle.settings.specs.Settings.{Settings};
 ghost use Rattle.reports.specs.Reports as Reports;
 ghost use Rattle.reports.specs.Words.{maskIn, masksIn, positionIn, positionsIn, madeFirst};
@@ -24,10 +22,10 @@ fn kept_refusal(settings: &[u32], v: Layout, t: Termination, c: Contents) -> Ref
     requires { ⌜ Settings (now settings) ⌝ }
     ensures { λ r. ⌜ r ≡ Reports.keptRefusal (now (settings .entry)) v t c ⌝ }
 {
-    if !slots::row12(settings, v, c) {
+    if !comparisons::row12(settings, v, c) {
         return Refusal { number: 12 };
     }
-    if !slots::row13(settings, v, t, c) {
+    if !comparisons::row13(settings, v, t, c) {
         return Refusal { number: 13 };
     }
     Refusal { number: 0 }
@@ -116,7 +114,7 @@ fn termination_of(settings: &[u32], c: Contents) -> Termination
     requires { ⌜ Settings (now settings) ⌝ }
     ensures { λ r. ⌜ r ≡ Reports.terminationOf (now (settings .entry)) c ⌝ }
 {
-    if !slots::terminated(settings, c) {
+    if !comparisons::terminated(settings, c) {
         return Termination {
             made: false,
             positions: [0u32; 32],
@@ -157,32 +155,4 @@ pub fn renew(settings: &[u32], v: Layout, t: Termination, c: Contents) -> Kept
         return keep(v, made_first(t, own));
     }
     keep(v, t)
-}
-
-// Word k of the message, and 0 past its end.
-fn word(message: &[u32], k: usize) -> u32
-    ensures { λ r. ⌜ r ≡ getD (now (message .entry)) k 0 ⌝ }
-{
-    if k < message.len() { message[k] } else { 0 }
-}
-
-// Copies the message to a slot, and zeros after it.
-fn copy(slot: &mut [u32], message: &[u32])
-    requires { ⌜ length (now slot) ≡ 512 ⌝ }
-    ensures { λ r. ⌜ now (slot .exit) ≡ padded 512 (now (message .entry)) ⌝ }
-{
-    let mut k: usize = 0;
-    while k < 512 {
-        slot[k] = word(message, k);
-        k += 1;
-    }
-}
-
-// Copies the message to node n's slot of the desk.
-pub fn store(desk: &mut [u32], n: usize, message: &[u32])
-    requires { ⌜ (length (now desk) ≡ 16384) × (n < 32) ⌝ }
-    ensures { λ r. ⌜ now (desk .exit) ≡ Reports.deskWith (now (desk .entry)) n (now (message .entry)) ⌝ }
-{
-    let at = 512 * n;
-    copy(&mut desk[at..at + 512], message);
 }

@@ -1,15 +1,17 @@
 -- A slot of a desk of 16,384 words is 512 words long: row 5 passes, and the reader can walk its chain.
-use Prim.Native.Nat.{ℕ, _+_, _*_, _/_, _<_, _≤_}
-use mathlib.Core.Bool.{Bool, true, false, not, _||_}
+use Prim.Native.Nat.{ℕ, _+_, _*_, _<_}
+use mathlib.Core.Bool.{Bool, true, false, not, _&&_, _||_}
 use mathlib.Core.List.{List}
-use mathlib.Core.Path.{_≡_, refl, sym, ap, _∙_}
+use mathlib.Core.Path.{_≡_, sym, ap, _∙_}
 use native.Mathlib.Omega.{arith}
+use lib.Dec.{eqb, leb}
 use lib.ListN.{length, getD}
 use Rattle.laws.specs.Masks.{has}
-use Rattle.laws.specs.Tables.{part, length-part, getD-part}
+use Rattle.laws.specs.Tables.{length-part, getD-part}
 use borrow.Author.Tests.{eq-eqb, ne-eqb}
 use Rattle.ids.specs.Refusals.{accepted}
 use Rattle.format.specs.declared.Form.the-variants.{Report}
+use Rattle.format.specs.declared.Contents.{Contents}
 use Rattle.format.specs.declared.Reading.{Reading}
 use Rattle.format.specs.Messages.{contentsOf, messageRefusal}
 use Rattle.reader.specs.Walks.{Sized}
@@ -17,8 +19,13 @@ use Rattle.reader.specs.Readings.{readingUnder}
 use Rattle.views.specs.declared.Layout.{Layout}
 use Rattle.views.specs.declared.Termination.{Termination}
 use Rattle.views.specs.Reports.{slot, reportOf}
-use Rattle.views.specs.Slots.{slotOk}
-use Rattle.slots.specs.Comparisons.{reportFits, unasked, asked}
+use Rattle.views.specs.Slots.{row12, row13, termKept, slotOk}
+use Rattle.laws.specs.Bools.{unasked, asked}
+
+-- a report fits what is kept as node n's: its own, of no later view, and under rows 12 and 13
+unfoldable pub reportFits : List ℕ → Layout → Termination → Contents → ℕ → Bool
+reportFits σ v t c n =
+    eqb (c .node .0) n && leb (c .view .0) (v .number .0) && row12 σ v c && row13 σ v t c && termKept σ v t c
 
 module _ (d : List ℕ) (n : ℕ) (whole : length d ≡ 16384) (below : n < 32) where
   pub length-slot : length (slot d n) ≡ 512

@@ -1,3 +1,2 @@
--- Comparisons of a report with what is kept, and what a slot of the desk is.
-pub mod Comparisons
+-- What a slot of the desk is.
 pub mod Desk

@@ -8,10 +8,9 @@ use views::Termination;
 ghost use mathlib.Core.Bool.{true, _&&_, _||_};
 ghost use lib.Dec.{eqb, ltb};
 ghost use mathlib.Core.Path.{_≡_};
-ghost use Prim.Native.Nat.{_<_, _≤_, _^_};
-ghost use lib.ListN.{length, getD};
+ghost use Prim.Native.Nat.{_<_};
+ghost use lib.ListN.{length};
 ghost use Rattle.settings.specs.Settings.{Settings, nodes, shards};
-ghost use Rattle.views.specs.Slots.{slotsOk};
 ghost use Rattle.views.specs.Soundness as Soundness;
 
 // Every entry is zero.
@@ -80,7 +79,7 @@ fn view_sound(settings: &[u32], v: Layout) -> bool
     if !masks::within(settings::nodes(settings) as usize, v.members) {
         return false;
     }
-    if !rows::row10(settings, v.members, &v.masks) {
+    if !shard_masks::row10(settings, v.members, &v.masks) {
         return false;
     }
     layout_tidy(settings, v)

@@ -1,22 +1,20 @@
 -- How the code comes to candidates, targets, able nodes and holders: by node, a mask of shards; by shard, the best of the nodes
 -- whose mask has it. Each equals its definition.
 use Prim.Native.Nat.{ℕ, _+_, _*_, _/_, _<_, _≤_}
-use mathlib.Core.Bool.{Bool, true, false, cond, not, _&&_}
+use mathlib.Core.Bool.{Bool, true, false, cond, _&&_}
 use mathlib.Core.List.{List}
 use mathlib.Core.Logic.{_⊎_, inl, inr, ⊎-elim}
 use mathlib.Core.Path.{_≡_, refl, sym, ap, ap₂, _∙_}
 use native.Mathlib.Omega.{arith}
-use lib.Bits.{bitAnd}
-use lib.Dec.{eqb, leb, ltb}
+use lib.Dec.{eqb, ltb}
 use lib.ListN.{length, getD, set, replicate, length-replicate, getD-replicate}
 use borrow.Author.Tests.{lt-ltb, le-ltb, ne-eqb, eq-eqb}
-use Rattle.laws.specs.Below.{lowest, lowest-cong}
+use Rattle.laws.specs.Below.{lowest-cong}
 use Rattle.laws.specs.Bools.{either, and-left, and-fails-left, and-fails-right, lt-or-le}
 use Rattle.laws.specs.Masks.{has, has-zero, count}
-use Rattle.laws.specs.Tables.{tabulate, tabulate-ext, tabulate-cong, getD-tabulate}
+use Rattle.laws.specs.Tables.{tabulate, tabulate-ext, tabulate-cong, getD-tabulate, pair-set}
 use Rattle.ids.specs.declared.Position.{Position}
-use Rattle.settings.specs.Majority.{LeastMajority, enough-is-more}
-use Rattle.settings.specs.Settings.{least, shards, Settings}
+use Rattle.settings.specs.Settings.{shards, Settings}
 use Rattle.format.specs.declared.Contents.{Contents}
 use Rattle.views.specs.Best.{best-cong, best-le, best-given}
 use Rattle.views.specs.Logs.{pos, start, hasUpdate}
@@ -26,12 +24,11 @@ use Rattle.views.specs.Reports.{reportOf, viewOf, endAt, hasAt, maskAt, positio
 use Rattle.views.specs.Standings.{positionWord, holdersOf, targetsOf, standingOf}
 use Rattle.views.specs.declared.Layout.{Layout}
 use Rattle.views.specs.declared.Quorum.{Quorum}
-use Rattle.views.specs.declared.Quorum.the-variants.{Met, Short}
-use Rattle.views.specs.declared.Reason.the-variants.{NoView, NoMajority, TooFew, NoHolder}
 use Rattle.views.specs.declared.Standing.{Standing}
 use Rattle.views.specs.declared.Termination.{Termination}
-use Rattle.standing.specs.Ends.{endsTable, tableEnd, table-end, table-short, table-past, desk-past, word-view, word-k, word-same}
-use Rattle.standing.specs.Lists.{maskBelow, mask-at, mask-cong, mask-empty, pair-set}
+use Rattle.quorum.specs.Quorum.{firstWithout, quorumBy}
+use Rattle.ends.specs.Ends.{endsTable, tableEnd, table-end, table-short, table-past, desk-past, word-view, word-k, word-same}
+use Rattle.laws.specs.Picked.{maskBelow, mask-at, mask-cong, mask-empty}
 
 -- node n's mask has shard s
 abbrev pub picked : List ℕ → ℕ → ℕ → Bool
@@ -66,22 +63,6 @@ ableRow held d candidates targets count n =
 -- the holder of each of the first count shards, then zeros
 unfoldable pub holdersBy : List (List ℕ) → List ℕ → ℕ → List ℕ
 holdersBy table ables count = tabulate 16 (λ s. cond (ltb s count) (best (picked ables s) (tableEnd table s) 32) 0)
-
--- more than half of the members are held
-abbrev pub mostHeld : ℕ → ℕ → Bool
-mostHeld members held = ltb (count members) (2 * count (bitAnd held members))
-
--- the lowest of the first count shards that has no holder
-unfoldable pub firstWithout : List ℕ → ℕ → ℕ
-firstWithout holders n = lowest n (λ s. eqb (getD holders s 0) 32)
-
--- waits 1 to 4, from the holders
-unfoldable pub quorumBy : List ℕ → Layout → ℕ → List ℕ → Quorum
-quorumBy σ v held holders =
-    cond (eqb (v .number .0) 0) (Short NoView)
-    (cond (not (mostHeld (v .members) held)) (Short NoMajority)
-    (cond (ltb (count held) (least σ)) (Short TooFew)
-    (cond (ltb (firstWithout holders (shards σ)) (shards σ)) (Short (NoHolder (record { 0 = firstWithout holders (shards σ) }))) Met)))
 
 -- ---- candidates
 
@@ -143,44 +124,6 @@ module _ (held : ℕ) (d candidates targets : List ℕ) (count n : ℕ) where
       → maskBelow count (hasTarget (c .body) (c .len) (getD candidates n 0) targets) ≡ ableRow held d candidates targets count n
   unfolding ableRow
   able-held h c e = rw (h, e)
-
--- ---- the quorum
-
--- by the least majority
-pub least-held : (members held m c : ℕ) → m ≡ count members → LeastMajority m c → leb c (count (bitAnd held members)) ≡ mostHeld members held
-least-held members held m c e h =
-    enough-is-more h (count (bitAnd held members)) ∙ ap (λ (x : ℕ). ltb x (2 * count (bitAnd held members))) e
-
-module _ (σ : List ℕ) (v : Layout) (held : ℕ) (holders : List ℕ) where
-  pub quorum-view : v .number .0 ≡ 0 → Short NoView ≡ quorumBy σ v held holders
-  unfolding quorumBy
-  quorum-view e = rw (eq-eqb (v .number .0) 0 e)
-
-  module _ (kept : v .number .0 ≡ 0 → ⊥) where
-    pub quorum-most : mostHeld (v .members) held ≡ false → Short NoMajority ≡ quorumBy σ v held holders
-    unfolding quorumBy
-    quorum-most h = rw (ne-eqb (v .number .0) 0 kept, h)
-
-    module _ (most : mostHeld (v .members) held ≡ true) where
-      pub quorum-few : count held < least σ → Short TooFew ≡ quorumBy σ v held holders
-      unfolding quorumBy
-      quorum-few h = rw (ne-eqb (v .number .0) 0 kept, most, lt-ltb (count held) (least σ) h)
-
-      module _ (enough : least σ ≤ count held) (n s : ℕ) (en : n ≡ shards σ) (es : s ≡ firstWithout holders n) where
-        pub quorum-holder : s < n → Short (NoHolder (record { 0 = s })) ≡ quorumBy σ v held holders
-        unfolding quorumBy
-        quorum-holder h =
-            let e : s ≡ firstWithout holders (shards σ) = es ∙ ap (firstWithout holders) en in
-            let l : firstWithout holders (shards σ) < shards σ = omega arith in
-            rw (ne-eqb (v .number .0) 0 kept, most, le-ltb (count held) (least σ) enough, lt-ltb (firstWithout holders (shards σ)) (shards σ) l)
-            (ap (λ (x : ℕ). Short (NoHolder (record { 0 = x }))) e)
-
-        pub quorum-met : n ≤ s → Met ≡ quorumBy σ v held holders
-        unfolding quorumBy
-        quorum-met h =
-            let e : s ≡ firstWithout holders (shards σ) = es ∙ ap (firstWithout holders) en in
-            let l : shards σ ≤ firstWithout holders (shards σ) = omega arith in
-            rw (ne-eqb (v .number .0) 0 kept, most, le-ltb (count held) (least σ) enough, le-ltb (firstWithout holders (shards σ)) (shards σ) l)
 
 -- ---- lists of positions
 

@@ -1,4 +1,2 @@
--- What the code of a standing keeps: ends of logs by node and shard, candidates and able nodes, targets and holders.
-pub mod Lists
-pub mod Ends
+-- What the code of a standing keeps: candidates and able nodes, targets and holders.
 pub mod Choices

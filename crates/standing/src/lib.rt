@@ -4,15 +4,12 @@ use ids::Position;
 use ids::Shard;
 use ids::View;
 use views::Layout;
-use views::Quorum;
-use views::Reason;
 use views::Standing;
 use views::Termination;
 ghost use mathlib.Core.Bool.{true};
-ghost use mathlib.Core.List.{List, []};
 ghost use mathlib.Core.Path.{_≡_};
-ghost use Prim.Native.Nat.{ℕ, _<_, _≤_, _+_, _*_};
-ghost use lib.ListN.{length, getD, set};
+ghost use Prim.Native.Nat.{_<_, _≤_, _+_, _*_};
+ghost use lib.ListN.{length, getD};
 ghost use Rattle.laws.specs.Masks as Masks;
 ghost use Rattle.laws.specs.Tables.{tabulate};
 ghost use Rattle.settings.specs.Settings.{Settings};
@@ -20,92 +17,9 @@ ghost use Rattle.views.specs.Slots.{slotsOk};
 ghost use Rattle.views.specs.Quorums as Quorums;
 ghost use Rattle.views.specs.Best.{bestWith};
 ghost use Rattle.views.specs.Standings.{standingOf};
-ghost use Rattle.standing.specs.Lists.{maskBelow};
-ghost use Rattle.standing.specs.Ends.{endsOf, endNoted, endsRow, endsTable, tableEnd, Readable};
-ghost use Rattle.standing.specs.Choices.{picked, candidateShards, targetBy, positionsBelow, positionFrom, hasTarget, ableRow, holdersBy, mostHeld, firstWithout, quorumBy};
-
-fn wide(x: u32) -> usize
-    ensures { λ r. ⌜ r ≡ x ⌝ }
-{
-    x as usize
-}
-
-// Stores the position of shard s.
-fn put_position(list: &mut [u32; 32], s: usize, view: u32, k: u32)
-    requires { ⌜ s < 16 ⌝ }
-    ensures { λ r. ⌜ now (list .exit) ≡ set (set (now (list .entry)) (2 * s) view) (2 * s + 1) k ⌝ }
-{
-    list[2 * s] = view;
-    list[2 * s + 1] = k;
-}
-
-// Stores the end that record j gives, if it is a run.
-fn note_end(ends: &mut [u32; 32], body: &[u32; 381], j: usize)
-    requires { ⌜ j < 127 ⌝ }
-    ensures { λ r. ⌜ now (ends .exit) ≡ endNoted (now (body .entry)) j (now (ends .entry)) ⌝ }
-{
-    let tag = wide(body[3 * j]);
-    if tag < 768 {
-        return;
-    }
-    if 784 <= tag {
-        return;
-    }
-    put_position(ends, tag - 768, body[3 * j + 1], body[3 * j + 2]);
-}
-
-// The end of each shard's log.
-fn ends_of(body: &[u32; 381], len: usize) -> [u32; 32]
-    requires { ⌜ len ≤ 127 ⌝ }
-    ensures { λ r. ⌜ r ≡ endsOf (now (body .entry)) len ⌝ }
-{
-    let mut ends = [0u32; 32];
-    let mut j: usize = 0;
-    while j < len {
-        note_end(&mut ends, body, j);
-        j += 1;
-    }
-    ends
-}
-
-// The ends of a held node's logs; zeros of a node that is not held.
-fn ends_row(held: u32, desk: &[u32], n: usize) -> [u32; 32]
-    requires { ⌜ Readable held (now desk) ⌝ }
-    requires { ⌜ n < 32 ⌝ }
-    ensures { λ r. ⌜ r ≡ endsRow held (now (desk .entry)) n ⌝ }
-{
-    if !masks::has(held, n) {
-        return [0u32; 32];
-    }
-    let c = slots::report_at(desk, n);
-    let len = c.len;
-    ends_of(&c.body, len)
-}
-
-// The ends of every held node's logs.
-fn ends_table(held: u32, desk: &[u32]) -> [[u32; 32]; 32]
-    requires { ⌜ Readable held (now desk) ⌝ }
-    ensures { λ r. ⌜ r ≡ endsTable held (now (desk .entry)) ⌝ }
-{
-    let mut table = [[0u32; 32]; 32];
-    let mut n: usize = 0;
-    while n < 32 {
-        table[n] = ends_row(held, desk, n);
-        n += 1;
-    }
-    table
-}
-
-// The end of shard s in row n.
-fn end_at(table: &[[u32; 32]; 32], s: usize, n: usize) -> Position
-    requires { ⌜ (s < 16) × (n < 32) ⌝ }
-    ensures { λ r. ⌜ r ≡ tableEnd (now (table .entry)) s n ⌝ }
-{
-    Position {
-        view: View(table[n][2 * s]),
-        k: table[n][2 * s + 1],
-    }
-}
+ghost use Rattle.laws.specs.Picked.{maskBelow};
+ghost use Rattle.ends.specs.Ends.{tableEnd, Readable};
+ghost use Rattle.standing.specs.Choices.{picked, candidateShards, targetBy, positionsBelow, positionFrom, hasTarget, ableRow, holdersBy};
 
 // The shards, of the first count, of which node n is a member.
 fn member_shards(masks: &[u32; 16], count: usize, n: usize) -> u32
@@ -166,7 +80,7 @@ fn better(table: &[[u32; 32]; 32], list: &[u32; 32], s: usize, n: usize, b: usiz
     if 32 <= b {
         return n;
     }
-    if ids::not_after(end_at(table, s, n), end_at(table, s, b)) {
+    if ids::not_after(ends::end_at(table, s, n), ends::end_at(table, s, b)) {
         return b;
     }
     n
@@ -213,7 +127,7 @@ fn target_of(table: &[[u32; 32]; 32], list: &[u32; 32], t: Termination, s: usize
             k: 0,
         };
     }
-    end_at(table, s, b)
+    ends::end_at(table, s, b)
 }
 
 // The targets of the first count shards.
@@ -227,7 +141,7 @@ fn targets_of(table: &[[u32; 32]; 32], list: &[u32; 32], t: Termination, count: 
     while s < count {
         let p = target_of(table, list, t, s);
         let view = p.view;
-        put_position(&mut targets, s, view.0, p.k);
+        ends::put_position(&mut targets, s, view.0, p.k);
         s += 1;
     }
     targets
@@ -321,51 +235,6 @@ fn holders_of(table: &[[u32; 32]; 32], list: &[u32; 32], count: usize) -> [u32; 
     holders
 }
 
-// The lowest of the first count shards that has no holder, or count.
-fn first_without(holders: &[u32; 16], count: usize) -> usize
-    requires { ⌜ count ≤ 16 ⌝ }
-    ensures { λ r. ⌜ r ≡ firstWithout (now (holders .entry)) count ⌝ }
-{
-    let mut s: usize = 0;
-    while s < count {
-        if holders[s] == 32 {
-            return s;
-        }
-        s += 1;
-    }
-    count
-}
-
-// More than half of the members are held.
-fn majority(members: u32, held: u32) -> bool
-    ensures { λ r. ⌜ r ≡ mostHeld members held ⌝ }
-{
-    settings::least_majority(masks::count(members)) <= masks::count(held & members)
-}
-
-// Waits 1 to 4: the first that applies.
-fn quorum(settings: &[u32], v: Layout, held: u32, holders: &[u32; 16]) -> Quorum
-    requires { ⌜ Settings (now settings) ⌝ }
-    ensures { λ r. ⌜ r ≡ quorumBy (now (settings .entry)) v held (now (holders .entry)) ⌝ }
-{
-    let number = v.number;
-    if number.0 == 0 {
-        return Quorum::Short(Reason::NoView);
-    }
-    if !majority(v.members, held) {
-        return Quorum::Short(Reason::NoMajority);
-    }
-    if masks::count(held) < settings::least(settings) {
-        return Quorum::Short(Reason::TooFew);
-    }
-    let count = wide(settings::shards(settings));
-    let s = first_without(holders, count);
-    if s < count {
-        return Quorum::Short(Reason::NoHolder(Shard(s as u32)));
-    }
-    Quorum::Met
-}
-
 // The quorum conditions, and each shard's holder and target, from the held reports.
 pub fn standing(settings: &[u32], v: Layout, t: Termination, held: u32, desk: &[u32]) -> Standing
     requires { ⌜ Settings (now settings) ⌝ }
@@ -373,14 +242,14 @@ pub fn standing(settings: &[u32], v: Layout, t: Termination, held: u32, desk: &[
     requires { ⌜ slotsOk (now settings) v t held (now desk) ≡ true ⌝ }
     ensures { λ r. ⌜ r ≡ standingOf (now (settings .entry)) v t held (now (desk .entry)) ⌝ }
 {
-    let count = wide(settings::shards(settings));
-    let table = ends_table(held, desk);
+    let count = ids::wide(settings::shards(settings));
+    let table = ends::ends_table(held, desk);
     let list = candidates(v, count, held, desk);
     let targets = targets_of(&table, &list, t, count);
     let able = ables(held, desk, &list, &targets, count);
     let holders = holders_of(&table, &able, count);
     Standing {
-        quorum: quorum(settings, v, held, &holders),
+        quorum: quorum::quorum(settings, v, held, &holders),
         holders,
         targets,
     }

@@ -1,19 +1,19 @@
 -- Laws of the cut: it lies no further than the node's end and the target, it is a legal position that the holder's log has,
 -- and the holder's own cut is the target. Before them, what a log's end and its last position up to a target are.
-use Prim.Native.Nat.{ℕ, zero, suc, _+_, _*_, _/_, _<_, _≤_, zero-le, min}
-use mathlib.Core.Bool.{Bool, true, false, cond, _&&_, _||_}
+use Prim.Native.Nat.{ℕ, zero, suc, _+_, _<_, _≤_, zero-le, min}
+use mathlib.Core.Bool.{Bool, true, false, cond, _&&_}
 use mathlib.Core.List.{List}
 use mathlib.Core.Logic.{_⊎_, inl, inr, ⊎-elim}
 use mathlib.Core.Path.{_≡_, refl, sym, ap, ap₂, _∙_, subst}
 use native.Mathlib.Omega.{arith}
 use lib.Dec.{eqb, leb}
 use lib.Arith.{lt-of-le-ne}
-use borrow.Author.Tests.{eqb-true, eqb-false, leb-true, eq-eqb, ne-eqb, le-leb}
+use borrow.Author.Tests.{eqb-true, leb-true, eq-eqb, ne-eqb, le-leb}
 use Rattle.laws.specs.Bools.{either, clash, and-both, and-left, and-right, or-left, or-right, or-holds, eq-or-ne}
-use Rattle.laws.specs.Below.{allBelow, anyBelow, all-at, any-at, any-witness}
-use Rattle.laws.specs.Positions.{not-after-cases, not-after-view, not-after-views, not-after-place, not-after-refl, not-after-trans, not-after-antisym, not-after-total}
+use Rattle.laws.specs.Below.{anyBelow, all-at, any-at, any-witness}
+use Rattle.laws.specs.Positions.{not-after-view, not-after-place, not-after-refl, not-after-total}
 use Rattle.ids.specs.declared.Position.{Position}
-use Rattle.ids.specs.Order.{notAfter}
+use Rattle.ids.specs.Order.{notAfter, same-position, order-trans, order-views, order-places, order-of}
 use Rattle.format.specs.declared.Form.the-variants.{Report}
 use Rattle.format.specs.Records.{tag, word1, word2, kind}
 use Rattle.format.specs.Rows.{position, viewFits, legal, row11At}
@@ -125,7 +125,7 @@ module _ (b : List ℕ) (s : ℕ) (t : Position) (v : ℕ) where
       go false r (inl e) = inl (rw r e)
       go false r (inr w) = inr (w .0, omega (arith, w .1), w .2, rw r (w .3))
 
--- ---- general: the order of positions, over the record
+-- ---- the order of positions
 
 -- (0, 0) is before all
 pub start-first : (p : Position) → notAfter start p ≡ true
@@ -134,26 +134,6 @@ start-first p = go (eq-or-ne (p .view .0) 0)
     go : (p .view .0 ≡ 0) ⊎ (p .view .0 ≡ 0 → ⊥) → notAfter start p ≡ true
     go (inl e) = rw e (not-after-place 0 0 (p .k) zero-le)
     go (inr d) = not-after-view 0 0 (p .view .0) (p .k) (lt-of-le-ne zero-le (λ e. d (sym e)))
-
-pub same-position : (p q : Position) → notAfter p q ≡ true → notAfter q p ≡ true → p ≡ q
-same-position p q l m =
-    let e = not-after-antisym (p .view .0) (p .k) (q .view .0) (q .k) l m in
-    ap₂ (λ (v k : ℕ). pos v k) (e .0) (e .1)
-
-pub order-trans : (p q r : Position) → notAfter p q ≡ true → notAfter q r ≡ true → notAfter p r ≡ true
-order-trans p q r = not-after-trans (p .view .0) (p .k) (q .view .0) (q .k) (r .view .0) (r .k)
-
-pub order-views : (p q : Position) → notAfter p q ≡ true → p .view .0 ≤ q .view .0
-order-views p q = not-after-views (p .view .0) (p .k) (q .view .0) (q .k)
-
-pub order-places : (p q : Position) → p .view .0 ≡ q .view .0 → notAfter p q ≡ true → p .k ≤ q .k
-order-places p q e h =
-    ⊎-elim (λ l. absurd (omega arith)) (λ d. d .1) (not-after-cases (p .view .0) (p .k) (q .view .0) (q .k) h)
-
-pub order-of : (p q : Position) → (p .view .0 < q .view .0) ⊎ ((p .view .0 ≡ q .view .0) × (p .k ≤ q .k)) → notAfter p q ≡ true
-order-of p q (inl l) = not-after-view (p .view .0) (p .k) (q .view .0) (q .k) l
-order-of p q (inr e) =
-    subst (λ (x : ℕ). notAfter p (pos x (q .k)) ≡ true) (e .0) (not-after-place (p .view .0) (p .k) (q .k) (e .1))
 
 -- ---- the last position of run j up to the target
 

@@ -1,13 +1,13 @@
 -- Laws of logs: what a log holds lies no further than its end.
 use Prim.Native.Nat.{ℕ, zero, suc, _+_, _<_, _≤_}
-use mathlib.Core.Bool.{Bool, true, false, not, _&&_, _||_, cond}
+use mathlib.Core.Bool.{Bool, true, false, _&&_, cond}
 use mathlib.Core.List.{List}
 use mathlib.Core.Logic.{_⊎_, inl, inr, ⊎-elim}
-use mathlib.Core.Path.{_≡_, refl, sym, ap, _∙_, subst}
+use mathlib.Core.Path.{_≡_, refl, sym, _∙_, subst}
 use native.Mathlib.Omega.{arith}
 use lib.Dec.{eqb, leb}
 use borrow.Author.Tests.{eqb-true, leb-true, eq-eqb, le-leb}
-use Rattle.laws.specs.Bools.{either, clash, and-both, and-left, and-right, eq-or-ne}
+use Rattle.laws.specs.Bools.{clash, and-both, and-left, and-right, eq-or-ne}
 use Rattle.laws.specs.Below.{allBelow, anyBelow, any-at, any-witness}
 use Rattle.laws.specs.Positions.{not-after-view, not-after-place}
 use Rattle.ids.specs.declared.Position.{Position}
@@ -15,7 +15,7 @@ use Rattle.ids.specs.Order.{notAfter}
 use Rattle.format.specs.Records.{tag, word1, word2}
 use Rattle.format.specs.Rows.{sequenceAt}
 use Rattle.format.specs.Rising.{views-rise}
-use Rattle.views.specs.Logs.{pos, start, run, endOf, reaches, holds}
+use Rattle.views.specs.Logs.{pos, run, endOf, reaches, holds}
 
 -- what it means that run j reaches p
 pub reaches-run : (b : List ℕ) (s : ℕ) (p : Position) (j : ℕ) → reaches b s p j ≡ true → run b s j ≡ true

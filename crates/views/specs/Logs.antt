@@ -1,6 +1,6 @@
 -- A shard's log in a report: its runs are the records of kind 3. Here b is the body of the report's contents, len how many
 -- records it has.
-use Prim.Native.Nat.{ℕ, zero, suc, _+_, _*_}
+use Prim.Native.Nat.{ℕ, zero, suc, _+_}
 use mathlib.Core.Bool.{Bool, cond, _&&_, _||_}
 use mathlib.Core.List.{List}
 use lib.Dec.{eqb, leb}

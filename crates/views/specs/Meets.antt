@@ -1,23 +1,23 @@
 -- What a met quorum, a candidate, a holder and a sound slot give, as records.
 use Prim.Native.Nat.{ℕ, _*_, _<_, _≤_}
-use mathlib.Core.Bool.{Bool, true, false, cond, not, _&&_, _||_, true≢false}
+use mathlib.Core.Bool.{Bool, true, false, cond, not, _&&_, _||_}
 use mathlib.Core.List.{List}
-use mathlib.Core.Logic.{_⊎_, inl, inr, ⊎-elim}
-use mathlib.Core.Path.{_≡_, refl, sym, ap, _∙_, subst}
+use mathlib.Core.Logic.{_⊎_, ⊎-elim}
+use mathlib.Core.Path.{_≡_, refl}
 use native.Mathlib.Omega.{arith}
 use lib.Dec.{eqb, leb, ltb}
 use lib.Arith.{lt-of-le-ne}
 use lib.Bits.{bitAnd}
-use borrow.Author.Tests.{eqb-true, eqb-false, leb-true, ltb-true, ltb-false, ne-eqb}
-use Rattle.laws.specs.Bools.{either, clash, and-left, and-right, or-holds, of-not-true, of-not-false}
-use Rattle.laws.specs.Below.{allBelow, all-at, anyBelow, lowest, lowest-le, lowest-first}
+use borrow.Author.Tests.{eqb-true, eqb-false, leb-true, ltb-true, ltb-false}
+use Rattle.laws.specs.Bools.{clash, and-left, and-right, or-holds, of-not-true, of-not-false}
+use Rattle.laws.specs.Below.{all-at, lowest, lowest-first}
 use Rattle.laws.specs.Masks.{has, count}
 use Rattle.settings.specs.Settings.{least, shards}
 use Rattle.ids.specs.Order.{notAfter}
 use Rattle.ids.specs.Refusals.{accepted, none, accepted-none}
 use Rattle.format.specs.declared.Form.the-variants.{Report}
 use Rattle.format.specs.Messages.{messageRefusal, contentsOf}
-use Rattle.format.specs.Passed.{MessagePasses, RecordsPass, message-given}
+use Rattle.format.specs.Passed.{RecordsPass, message-given}
 use Rattle.ids.specs.declared.Position.{Position}
 use Rattle.views.specs.LogLaws.{holds-end}
 use Rattle.views.specs.declared.Layout.{Layout}
@@ -28,7 +28,7 @@ use Rattle.views.specs.declared.Reason.{Reason}
 use Rattle.views.specs.declared.Reason.the-variants.{NoView, NoMajority, TooFew, NoHolder}
 use Rattle.views.specs.Reports.{slot, reportOf, viewOf, endAt, holdsAt, hasAt, maskAt}
 use Rattle.views.specs.Slots.{row12, row13, termKept, slotOk, slotsOk}
-use Rattle.views.specs.Quorums.{candidate, best, target, able, holder, majority, unheld, firstUnheld, quorumOf}
+use Rattle.views.specs.Quorums.{candidate, target, able, holder, majority, unheld, firstUnheld, quorumOf}
 use Rattle.views.specs.Best.{Greatest, best-found, best-given, best-le}
 
 -- waits 1 to 4 do not apply

@@ -3,11 +3,11 @@
 use Prim.Native.Nat.{ℕ, _+_, _*_, _/_, _%_, _<_}
 use mathlib.Core.Bool.{Bool, true, false, cond, _&&_}
 use mathlib.Core.List.{List}
-use mathlib.Core.Path.{_≡_, refl, sym, ap, ap₂, _∙_}
+use mathlib.Core.Path.{_≡_, refl, _∙_}
 use native.Mathlib.Omega.{arith}
 use lib.Dec.{eqb, ltb}
 use lib.ListN.{getD}
-use Rattle.laws.specs.Tables.{tabulate, getD-tabulate}
+use Rattle.laws.specs.Tables.{getD-tabulate}
 use Rattle.settings.specs.Settings.{shards}
 use Rattle.views.specs.declared.Layout.{Layout}
 use Rattle.views.specs.declared.Termination.{Termination}

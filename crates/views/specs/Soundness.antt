@@ -20,7 +20,6 @@ use Rattle.views.specs.declared.Phase.the-variants.{Gathering, Ordered, 
 use Rattle.views.specs.declared.Quorum.{Quorum}
 use Rattle.views.specs.declared.Quorum.the-variants.{Met, Short}
 use Rattle.views.specs.Reports.{maskAt, positionAt}
-use Rattle.views.specs.Slots.{samePosition, slotsOk}
 use Rattle.views.specs.Quorums.{target, holder, quorumOf}
 
 -- the first n entries of a list are zero

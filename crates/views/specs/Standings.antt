@@ -1,6 +1,6 @@
 -- What the held reports give as one value: the quorum, and each shard's holder and target.
-use Prim.Native.Nat.{ℕ, _*_, _+_, _/_, _%_}
-use mathlib.Core.Bool.{Bool, cond}
+use Prim.Native.Nat.{ℕ, _/_, _%_}
+use mathlib.Core.Bool.{cond}
 use mathlib.Core.List.{List}
 use lib.Dec.{eqb, ltb}
 use Rattle.laws.specs.Tables.{tabulate}

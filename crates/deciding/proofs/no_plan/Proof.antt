@@ -3,11 +3,8 @@ use borrow.Author.Needs.{needs}
 use Rattle.deciding.proofs.no_plan.Statement.{statement}
 use Rattle.deciding.proofs.no_plan.Tie as tie
 
-no-view-requires : tie.Need-no-view-requires
-no-view-requires c κs = search needs
-
 returns : tie.Need-returns
 returns c = simp (c .no-view .ensures)
 
 pub no-plan-spec : {M : Type 1} → statement M
-no-plan-spec = tie.close (tie.spec no-view-requires returns)
+no-plan-spec = tie.close (tie.spec (λ c κs. search needs) returns)

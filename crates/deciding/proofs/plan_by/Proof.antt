@@ -5,12 +5,9 @@ use borrow.Author.Needs.{needs}
 use Rattle.deciding.proofs.plan_by.Statement.{statement}
 use Rattle.deciding.proofs.plan_by.Tie as tie
 
-add-t9 : tie.Need-add-t9
-add-t9 c = search needs
-
 returns : tie.Need-returns
 unfolding planBy
 returns c = refl
 
 pub plan-by-spec : {M : Type 1} → statement M
-plan-by-spec = tie.close (tie.spec add-t9 returns)
+plan-by-spec = tie.close (tie.spec (λ c. search needs) returns)

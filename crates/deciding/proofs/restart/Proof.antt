@@ -11,15 +11,6 @@ use borrow.Author.Needs.{needs}
 use Rattle.deciding.proofs.restart.Statement.{statement}
 use Rattle.deciding.proofs.restart.Tie as tie
 
-standing-requires : tie.Need-standing-requires
-standing-requires c κs = search needs
-
-enum-known-quorum : tie.Need-enum-known-quorum
-enum-known-quorum c = search needs
-
-waiting-requires : tie.Need-waiting-requires
-waiting-requires c κs = search needs
-
 enum-told : tie.Need-enum-told
 enum-told c = search needs
 
@@ -55,12 +46,4 @@ returns-2 c = let s = c .before .before .before .before .before .before .before 
 pub restart-spec : {M : Type 1} → statement M
 restart-spec =
     tie.close
-    (tie.spec
-    standing-requires
-    enum-known-quorum
-    waiting-requires
-    enum-told
-    place-requires
-    verdict-by-requires
-    returns
-    returns-2)
+    (tie.spec (λ c κs. search needs) (λ c. search needs) (λ c κs. search needs) enum-told place-requires verdict-by-requires returns returns-2)

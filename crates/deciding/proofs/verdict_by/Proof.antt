@@ -8,15 +8,9 @@ use borrow.Author.Needs.{needs}
 use Rattle.deciding.proofs.verdict_by.Statement.{statement}
 use Rattle.deciding.proofs.verdict_by.Tie as tie
 
-waiting-requires : tie.Need-waiting-requires
-waiting-requires c κs = search needs
-
 returns : tie.Need-returns
 returns c = let a = c .before .before .before .args in
     c .waiting .ensures ∙ sym (verdict-none (a .kept) (a .held) (a .st) (a .placed) (not-true (a .placed .found) (c .before .if1 .taken)))
-
-plan-by-requires : tie.Need-plan-by-requires
-plan-by-requires c κs = search needs
 
 returns-2 : tie.Need-returns-2
 returns-2 c = let a = c .before .before .before .args in
@@ -24,4 +18,4 @@ returns-2 c = let a = c .before .before .before .args in
     ∙ sym (verdict-plan (a .kept) (a .held) (a .st) (a .placed) (not-false (a .placed .found) (c .before .if1 .left)))
 
 pub verdict-by-spec : {M : Type 1} → statement M
-verdict-by-spec = tie.close (tie.spec waiting-requires returns plan-by-requires returns-2)
+verdict-by-spec = tie.close (tie.spec (λ c κs. search needs) returns (λ c κs. search needs) returns-2)

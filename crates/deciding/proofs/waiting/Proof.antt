@@ -3,11 +3,8 @@ use borrow.Author.Needs.{needs}
 use Rattle.deciding.proofs.waiting.Statement.{statement}
 use Rattle.deciding.proofs.waiting.Tie as tie
 
-no-plan-requires : tie.Need-no-plan-requires
-no-plan-requires c κs = search needs
-
 returns : tie.Need-returns
 returns c = simp (c .no-plan .ensures)
 
 pub waiting-spec : {M : Type 1} → statement M
-waiting-spec = tie.close (tie.spec no-plan-requires returns)
+waiting-spec = tie.close (tie.spec (λ c κs. search needs) returns)

@@ -17,23 +17,11 @@ abbrev μ-loop : tie.MeasureT-loop
 loop-holds : tie.Need-loop-holds Inv-loop μ-loop
 loop-holds c = (omega arith, refl)
 
-sub-n : tie.Need-sub-n Inv-loop μ-loop
-sub-n c = search needs
-
-is-run-requires : tie.Need-is-run-requires Inv-loop μ-loop
-is-run-requires c κs = search needs
-
-run-end-requires : tie.Need-run-end-requires Inv-loop μ-loop
-run-end-requires c κs = search needs
-
 returns : tie.Need-returns Inv-loop μ-loop
 returns c = let b = c .before .before .before .before .before .args .body .now in
     let s = c .before .before .before .before .before .args .s .0 in
     let l = c .before .before .before .before .loop in
     c .run-end .ensures ∙ sym (l .inv .1 ∙ end-hit b s (l .n) (c .before .before .before .loop-test .taken) (sym (c .before .before .is-run .ensures) ∙ c .before .if1 .taken))
-
-loop-less : tie.Need-loop-less Inv-loop μ-loop
-loop-less c = search needs
 
 loop-again : tie.Need-loop-again Inv-loop μ-loop
 loop-again c = let b = c .before .before .before .before .args .body .now in
@@ -51,14 +39,5 @@ returns-2 c = let b = c .before .before .args .body .now in
 pub end-of-spec : {M : Type 1} → statement M
 end-of-spec =
     tie.close
-    (tie.spec
-    Inv-loop
-    μ-loop
-    loop-holds
-    sub-n
-    is-run-requires
-    run-end-requires
-    returns
-    loop-less
-    loop-again
+    (tie.spec Inv-loop μ-loop loop-holds (λ c. search needs) (λ c κs. search needs) (λ c κs. search needs) returns (λ c. search needs) loop-again
     returns-2)

@@ -16,9 +16,6 @@ Inv-loop body len s p j₀ j = (j ≤ len) × (anyBelow j (reaches body (s .0) p
 abbrev μ-loop : tie.MeasureT-loop
 μ-loop body len s p j₀ j = len - j
 
-is-start-requires : tie.Need-is-start-requires Inv-loop μ-loop
-is-start-requires c κs = search needs
-
 returns : tie.Need-returns Inv-loop μ-loop
 returns c = let a = c .before .before .args in
     sym (has-start (a .body .now) (a .len) (a .s .0) (a .p) (sym (c .before .is-start .ensures) ∙ c .if1 .taken))
@@ -31,18 +28,9 @@ loop-holds : tie.Need-loop-holds Inv-loop μ-loop
 loop-holds c = let a = c .before .before .before .before .args in
     (omega arith, any-none (reaches (a .body .now) (a .s .0) (a .p)))
 
-reaches-requires : tie.Need-reaches-requires Inv-loop μ-loop
-reaches-requires c κs = search needs
-
 returns-3 : tie.Need-returns-3 Inv-loop μ-loop
 returns-3 c = let a = c .before .before .before .before .before .before .before .before .args in
     sym (has-reached (a .body .now) (a .len) (a .s .0) (a .p) (c .before .before .before .before .if2 .left) (c .before .before .before .loop .j) (c .before .before .loop-test .taken) (sym (c .before .reaches .ensures) ∙ c .if3 .taken))
-
-add-j : tie.Need-add-j Inv-loop μ-loop
-add-j c = search needs
-
-loop-less : tie.Need-loop-less Inv-loop μ-loop
-loop-less c = search needs
 
 loop-again : tie.Need-loop-again Inv-loop μ-loop
 loop-again c = let a = c .before .before .before .before .before .before .before .before .args in
@@ -58,16 +46,5 @@ returns-4 c = let a = c .before .before .before .before .before .before .args in
 pub has-update-spec : {M : Type 1} → statement M
 has-update-spec =
     tie.close
-    (tie.spec
-    Inv-loop
-    μ-loop
-    is-start-requires
-    returns
-    returns-2
-    loop-holds
-    reaches-requires
-    returns-3
-    add-j
-    loop-less
-    loop-again
-    returns-4)
+    (tie.spec Inv-loop μ-loop (λ c κs. search needs) returns returns-2 loop-holds (λ c κs. search needs) returns-3 (λ c. search needs)
+    (λ c. search needs) loop-again returns-4)

@@ -6,22 +6,13 @@ use Rattle.views.specs.Logs.{reaches}
 use Rattle.logs.proofs.reaches.Statement.{statement}
 use Rattle.logs.proofs.reaches.Tie as tie
 
-is-run-requires : tie.Need-is-run-requires
-is-run-requires c κs = search needs
-
 returns : tie.Need-returns
 unfolding reaches
 returns c = simp (sym (c .before .is-run .ensures), not-true (c .before .is-run .result) (c .if1 .taken))
 
-word1-requires : tie.Need-word1-requires
-word1-requires c κs = search needs
-
 returns-2 : tie.Need-returns-2
 unfolding reaches
 returns-2 c = simp (sym (c .before .before .before .before .before .is-run .ensures), not-false (c .before .before .before .before .before .is-run .result) (c .before .before .before .before .if1 .left), sym (c .before .before .word1 .ensures), ne-eqb _ _ (c .if2 .taken))
-
-word2-requires : tie.Need-word2-requires
-word2-requires c κs = search needs
 
 returns-3 : tie.Need-returns-3
 unfolding reaches
@@ -29,4 +20,4 @@ returns-3 c = simp (sym (c .before .before .before .before .before .before .befo
 
 pub reaches-spec : {M : Type 1} → statement M
 reaches-spec =
-    tie.close (tie.spec is-run-requires returns word1-requires returns-2 word2-requires returns-3)
+    tie.close (tie.spec (λ c κs. search needs) returns (λ c κs. search needs) returns-2 (λ c κs. search needs) returns-3)

@@ -6,14 +6,8 @@ use Rattle.views.specs.Logs.{pos}
 use Rattle.logs.proofs.run_end.Statement.{statement}
 use Rattle.logs.proofs.run_end.Tie as tie
 
-word1-requires : tie.Need-word1-requires
-word1-requires c κs = search needs
-
-word2-requires : tie.Need-word2-requires
-word2-requires c κs = search needs
-
 returns : tie.Need-returns
 returns c = ap₂ (λ (v k : ℕ). pos v k) (c .before .word1 .ensures) (c .word2 .ensures)
 
 pub run-end-spec : {M : Type 1} → statement M
-run-end-spec = tie.close (tie.spec word1-requires word2-requires returns)
+run-end-spec = tie.close (tie.spec (λ c κs. search needs) (λ c κs. search needs) returns)

@@ -5,15 +5,6 @@ use borrow.Author.Needs.{needs}
 use Rattle.plans.proofs.follows.Statement.{statement}
 use Rattle.plans.proofs.follows.Tie as tie
 
-cast-if1 : tie.Need-cast-if1
-cast-if1 c = search needs
-
-cast-if1-2 : tie.Need-cast-if1-2
-cast-if1-2 c = search needs
-
-add-if1 : tie.Need-add-if1
-add-if1 c = search needs
-
 returns : tie.Need-returns
 unfolding follows
 returns c = simp (ne-eqb _ _ (c .if1 .taken))
@@ -23,4 +14,4 @@ unfolding follows
 returns-2 c = simp (eq-eqb _ _ (c .before .if1 .left))
 
 pub follows-spec : {M : Type 1} → statement M
-follows-spec = tie.close (tie.spec cast-if1 cast-if1-2 add-if1 returns returns-2)
+follows-spec = tie.close (tie.spec (λ c. search needs) (λ c. search needs) (λ c. search needs) returns returns-2)

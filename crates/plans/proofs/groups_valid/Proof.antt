@@ -26,20 +26,11 @@ abbrev μ-loop : tie.MeasureT-loop
 loop-holds : tie.Need-loop-holds Inv-loop μ-loop
 loop-holds c = let a = c .before .args in (search needs, all-none (ok (a .settings .now) (a .held) (a .t3)))
 
-group-valid-requires : tie.Need-group-valid-requires Inv-loop μ-loop
-group-valid-requires c κs = search needs
-
 returns : tie.Need-returns Inv-loop μ-loop
 unfolding groupsValid
 returns c = let a = c .before .before .before .before .before .before .before .args in
     let k = c .before .group-valid in
     sym (all-fails 4 (ok (a .settings .now) (a .held) (a .t3)) (c .before .before .before .before .before .loop .g) (omega arith) (sym (k .ensures) ∙ not-true (k .result) (c .if1 .taken)))
-
-add-g : tie.Need-add-g Inv-loop μ-loop
-add-g c = search needs
-
-loop-less : tie.Need-loop-less Inv-loop μ-loop
-loop-less c = search needs
 
 loop-again : tie.Need-loop-again Inv-loop μ-loop
 loop-again c = let a = c .before .before .before .before .before .before .before .args in
@@ -55,14 +46,4 @@ returns-2 c = let a = c .before .before .before .args in
 
 pub groups-valid-spec : {M : Type 1} → statement M
 groups-valid-spec =
-    tie.close
-    (tie.spec
-    Inv-loop
-    μ-loop
-    loop-holds
-    group-valid-requires
-    returns
-    add-g
-    loop-less
-    loop-again
-    returns-2)
+    tie.close (tie.spec Inv-loop μ-loop loop-holds (λ c κs. search needs) returns (λ c. search needs) (λ c. search needs) loop-again returns-2)

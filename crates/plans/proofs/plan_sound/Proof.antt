@@ -6,12 +6,6 @@ use borrow.Author.Needs.{needs}
 use Rattle.plans.proofs.plan_sound.Statement.{statement}
 use Rattle.plans.proofs.plan_sound.Tie as tie
 
-standing-requires : tie.Need-standing-requires
-standing-requires c κs = search needs
-
-matches-requires : tie.Need-matches-requires
-matches-requires c κs = search needs
-
 returns : tie.Need-returns
 returns c = let a = c .before .before .before .before .args in
     c .matches .ensures
@@ -19,4 +13,4 @@ returns c = let a = c .before .before .before .before .args in
     ∙ matches-sound (a .settings .now) (a .v) (a .t) (a .held) (a .desk .now) (a .p)
 
 pub plan-sound-spec : {M : Type 1} → statement M
-plan-sound-spec = tie.close (tie.spec standing-requires matches-requires returns)
+plan-sound-spec = tie.close (tie.spec (λ c κs. search needs) (λ c κs. search needs) returns)

@@ -25,20 +25,11 @@ abbrev μ-loop : tie.MeasureT-loop
 loop-holds : tie.Need-loop-holds Inv-loop μ-loop
 loop-holds c = (search needs, all-none (ok (c .args .p) (c .args .st)))
 
-same-shard-requires : tie.Need-same-shard-requires Inv-loop μ-loop
-same-shard-requires c κs = search needs
-
 returns : tie.Need-returns Inv-loop μ-loop
 unfolding sameShards
 returns c = let a = c .before .before .before .before .args in
     let k = c .before .same-shard in
     sym (all-fails 16 (ok (a .p) (a .st)) (c .before .before .before .loop .s) (omega arith) (sym (k .ensures) ∙ not-true (k .result) (c .if1 .taken)))
-
-add-s : tie.Need-add-s Inv-loop μ-loop
-add-s c = search needs
-
-loop-less : tie.Need-loop-less Inv-loop μ-loop
-loop-less c = search needs
 
 loop-again : tie.Need-loop-again Inv-loop μ-loop
 loop-again c = let a = c .before .before .before .before .args in
@@ -54,14 +45,4 @@ returns-2 c = let a = c .before .before .args in
 
 pub same-shards-spec : {M : Type 1} → statement M
 same-shards-spec =
-    tie.close
-    (tie.spec
-    Inv-loop
-    μ-loop
-    loop-holds
-    same-shard-requires
-    returns
-    add-s
-    loop-less
-    loop-again
-    returns-2)
+    tie.close (tie.spec Inv-loop μ-loop loop-holds (λ c κs. search needs) returns (λ c. search needs) (λ c. search needs) loop-again returns-2)

@@ -5,24 +5,6 @@ use Rattle.slots.specs.Desk.{slot-sized}
 use Rattle.slots.proofs.report_at.Statement.{statement}
 use Rattle.slots.proofs.report_at.Tie as tie
 
-mul-at : tie.Need-mul-at
-mul-at c = search needs
-
-add-contents-of : tie.Need-add-contents-of
-add-contents-of c = search needs
-
-mul-contents-of : tie.Need-mul-contents-of
-mul-contents-of c = search needs
-
-sub-contents-of : tie.Need-sub-contents-of
-sub-contents-of c = search needs
-
-part-contents-of-start : tie.Need-part-contents-of-start
-part-contents-of-start c = search needs
-
-part-contents-of-end : tie.Need-part-contents-of-end
-part-contents-of-end c = search needs
-
 contents-of-requires : tie.Need-contents-of-requires
 unfolding slot
 contents-of-requires c κs = let s = c .before .before in
@@ -35,12 +17,5 @@ returns c = c .contents-of .ensures
 pub report-at-spec : {M : Type 1} → statement M
 report-at-spec =
     tie.close
-    (tie.spec
-    mul-at
-    add-contents-of
-    mul-contents-of
-    sub-contents-of
-    part-contents-of-start
-    part-contents-of-end
-    contents-of-requires
-    returns)
+    (tie.spec (λ c. search needs) (λ c. search needs) (λ c. search needs) (λ c. search needs) (λ c. search needs) (λ c. search needs)
+    contents-of-requires returns)

@@ -2,12 +2,9 @@
 use mathlib.Core.Path.{sym}
 use borrow.Author.Needs.{needs}
 use borrow.Author.Tests.{eq-eqb, ne-eqb, le-leb, lt-leb, not-true, not-false}
-use Rattle.slots.specs.Comparisons.{reportFits}
+use Rattle.slots.specs.Desk.{reportFits}
 use Rattle.slots.proofs.report_fits.Statement.{statement}
 use Rattle.slots.proofs.report_fits.Tie as tie
-
-cast-if1 : tie.Need-cast-if1
-cast-if1 c = search needs
 
 returns : tie.Need-returns
 unfolding reportFits
@@ -17,22 +14,13 @@ returns-2 : tie.Need-returns-2
 unfolding reportFits
 returns-2 c = simp (eq-eqb _ _ (c .before .before .before .before .before .if1 .left), lt-leb _ _ (c .if2 .taken))
 
-row12-requires : tie.Need-row12-requires
-row12-requires c κs = search needs
-
 returns-3 : tie.Need-returns-3
 unfolding reportFits
 returns-3 c = simp (eq-eqb _ _ (c .before .before .before .before .before .before .before .if1 .left), le-leb _ _ (c .before .before .if2 .left), sym (c .before .row12 .ensures), not-true (c .before .row12 .result) (c .if3 .taken))
 
-row13-requires : tie.Need-row13-requires
-row13-requires c κs = search needs
-
 returns-4 : tie.Need-returns-4
 unfolding reportFits
 returns-4 c = simp (eq-eqb _ _ (c .before .before .before .before .before .before .before .before .before .if1 .left), le-leb _ _ (c .before .before .before .before .if2 .left), sym (c .before .before .before .row12 .ensures), not-false (c .before .before .before .row12 .result) (c .before .before .if3 .left), sym (c .before .row13 .ensures), not-true (c .before .row13 .result) (c .if4 .taken))
-
-term-kept-requires : tie.Need-term-kept-requires
-term-kept-requires c κs = search needs
 
 returns-5 : tie.Need-returns-5
 unfolding reportFits
@@ -41,13 +29,5 @@ returns-5 c = simp (eq-eqb _ _ (c .before .before .before .before .before .befor
 pub report-fits-spec : {M : Type 1} → statement M
 report-fits-spec =
     tie.close
-    (tie.spec
-    cast-if1
-    returns
-    returns-2
-    row12-requires
-    returns-3
-    row13-requires
-    returns-4
-    term-kept-requires
+    (tie.spec (λ c. search needs) returns returns-2 (λ c κs. search needs) returns-3 (λ c κs. search needs) returns-4 (λ c κs. search needs)
     returns-5)

@@ -22,12 +22,6 @@ loop-holds : tie.Need-loop-holds Inv-loop μ-loop
 loop-holds c = let a = c .before .before .args in
     (search needs, all-none (nodeOk (a .settings .now) (a .v) (a .t) (a .held) (a .desk .now)))
 
-has-requires : tie.Need-has-requires Inv-loop μ-loop
-has-requires c κs = search needs
-
-slot-ok-requires : tie.Need-slot-ok-requires Inv-loop μ-loop
-slot-ok-requires c κs = search needs
-
 returns : tie.Need-returns Inv-loop μ-loop
 unfolding slotsOk
 returns c = let a = c .before .before .before .before .before .before .before .before .args in
@@ -36,12 +30,6 @@ returns c = let a = c .before .before .before .before .before .before .before .b
     let k = c .before .slot-ok in
     sym (all-fails 32 (nodeOk (a .settings .now) (a .v) (a .t) (a .held) (a .desk .now)) n (c .before .before .before .before .loop-test .taken)
     (held-ok (a .settings .now) (a .v) (a .t) (a .held) (a .desk .now) n false (sym (h .ensures) ∙ c .before .before .if1 .taken) (sym (k .ensures) ∙ not-true (k .result) (c .if2 .taken))))
-
-add-n : tie.Need-add-n Inv-loop μ-loop
-add-n c = search needs
-
-loop-less : tie.Need-loop-less Inv-loop μ-loop
-loop-less c = search needs
 
 loop-again : tie.Need-loop-again Inv-loop μ-loop
 loop-again c = let a = c .before .before .before .before .before .before .args in
@@ -64,14 +52,5 @@ returns-2 c = let l = c .before .loop in
 pub slots-ok-spec : {M : Type 1} → statement M
 slots-ok-spec =
     tie.close
-    (tie.spec
-    Inv-loop
-    μ-loop
-    loop-holds
-    has-requires
-    slot-ok-requires
-    returns
-    add-n
-    loop-less
-    loop-again
+    (tie.spec Inv-loop μ-loop loop-holds (λ c κs. search needs) (λ c κs. search needs) returns (λ c. search needs) (λ c. search needs) loop-again
     returns-2)

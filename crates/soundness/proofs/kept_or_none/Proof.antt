@@ -3,18 +3,12 @@ use borrow.Author.Needs.{needs}
 use Rattle.soundness.proofs.kept_or_none.Statement.{statement}
 use Rattle.soundness.proofs.kept_or_none.Tie as tie
 
-nothing-kept-requires : tie.Need-nothing-kept-requires
-nothing-kept-requires c κs = search needs
-
 returns : tie.Need-returns
 returns c = simp (sym (c .before .nothing-kept .ensures), c .if1 .taken)
-
-view-sound-requires : tie.Need-view-sound-requires
-view-sound-requires c κs = search needs
 
 returns-2 : tie.Need-returns-2
 returns-2 c = simp (sym (c .before .before .nothing-kept .ensures), c .before .if1 .left, sym (c .view-sound .ensures))
 
 pub kept-or-none-spec : {M : Type 1} → statement M
 kept-or-none-spec =
-    tie.close (tie.spec nothing-kept-requires returns view-sound-requires returns-2)
+    tie.close (tie.spec (λ c κs. search needs) returns (λ c κs. search needs) returns-2)

@@ -1,32 +1,17 @@
 use Rattle.views.specs.Soundness.{keptSound}
-use mathlib.Core.Path.{_≡_, refl, sym, ap, _∙_}
+use mathlib.Core.Path.{sym}
 use borrow.Author.Tests.{not-true, not-false}
 use borrow.Author.Needs.{needs}
 use Rattle.soundness.proofs.kept_sound.Statement.{statement}
 use Rattle.soundness.proofs.kept_sound.Tie as tie
 
-kept-or-none-requires : tie.Need-kept-or-none-requires
-kept-or-none-requires c κs = search needs
-
 returns : tie.Need-returns
 unfolding keptSound
 returns c = simp (sym (c .before .kept-or-none .ensures), not-true (c .before .kept-or-none .result) (c .if1 .taken))
 
-term-sound-requires : tie.Need-term-sound-requires
-term-sound-requires c κs = search needs
-
 returns-2 : tie.Need-returns-2
 unfolding keptSound
 returns-2 c = simp (sym (c .before .before .before .kept-or-none .ensures), not-false (c .before .before .before .kept-or-none .result) (c .before .before .if1 .left), sym (c .before .term-sound .ensures), not-true (c .before .term-sound .result) (c .if2 .taken))
-
-nodes-requires : tie.Need-nodes-requires
-nodes-requires c κs = search needs
-
-cast-within : tie.Need-cast-within
-cast-within c = search needs
-
-within-requires : tie.Need-within-requires
-within-requires c κs = search needs
 
 returns-3 : tie.Need-returns-3
 unfolding keptSound
@@ -35,12 +20,5 @@ returns-3 c = simp (sym (c .before .before .before .before .before .kept-or-none
 pub kept-sound-spec : {M : Type 1} → statement M
 kept-sound-spec =
     tie.close
-    (tie.spec
-    kept-or-none-requires
-    returns
-    term-sound-requires
-    returns-2
-    nodes-requires
-    cast-within
-    within-requires
+    (tie.spec (λ c κs. search needs) returns (λ c κs. search needs) returns-2 (λ c κs. search needs) (λ c. search needs) (λ c κs. search needs)
     returns-3)

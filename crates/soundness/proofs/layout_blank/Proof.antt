@@ -1,5 +1,5 @@
 use Rattle.views.specs.Soundness.{layoutBlank, zeros}
-use mathlib.Core.Path.{_≡_, refl, sym, ap, _∙_}
+use mathlib.Core.Path.{ap, _∙_}
 use borrow.Author.Tests.{eq-eqb, ne-eqb}
 use borrow.Author.Needs.{needs}
 use Rattle.soundness.proofs.layout_blank.Statement.{statement}
@@ -13,9 +13,6 @@ returns-2 : tie.Need-returns-2
 unfolding layoutBlank
 returns-2 c = simp (eq-eqb _ _ (c .before .if1 .left), ne-eqb _ _ (c .if2 .taken))
 
-zeros-requires : tie.Need-zeros-requires
-zeros-requires c κs = search needs
-
 returns-3 : tie.Need-returns-3
 unfolding layoutBlank
 returns-3 c =
@@ -24,4 +21,4 @@ returns-3 c =
     (c .zeros .ensures ∙ ap (zeros (a .t1 .masks)) (c .before .zeros-arg2 .given .0))
 
 pub layout-blank-spec : {M : Type 1} → statement M
-layout-blank-spec = tie.close (tie.spec returns returns-2 zeros-requires returns-3)
+layout-blank-spec = tie.close (tie.spec returns returns-2 (λ c κs. search needs) returns-3)

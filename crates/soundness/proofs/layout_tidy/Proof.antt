@@ -5,8 +5,8 @@ use mathlib.Core.List.{List}
 use mathlib.Core.Path.{_≡_, sym, _∙_}
 use native.Mathlib.Omega.{arith}
 use lib.Dec.{eqb, ltb}
-use lib.ListN.{getD, length}
-use borrow.Author.Tests.{not-true, not-false, ne-eqb, eq-eqb}
+use lib.ListN.{getD}
+use borrow.Author.Tests.{not-true, not-false}
 use Rattle.laws.specs.Below.{allBelow, all-none, all-more, all-fails, all-fewer}
 use Rattle.settings.specs.Settings.{shards}
 use Rattle.views.specs.declared.Layout.{Layout}
@@ -27,26 +27,11 @@ abbrev μ-loop : tie.MeasureT-loop
 loop-holds : tie.Need-loop-holds Inv-loop μ-loop
 loop-holds c = let a = c .before .args in (search needs, all-none (ok (a .settings .now) (a .t2)))
 
-mul-tidy-at : tie.Need-mul-tidy-at Inv-loop μ-loop
-mul-tidy-at c = search needs
-
-element-copy-out-tidy-at : tie.Need-element-copy-out-tidy-at Inv-loop μ-loop
-element-copy-out-tidy-at c = search needs
-
-tidy-at-requires : tie.Need-tidy-at-requires Inv-loop μ-loop
-tidy-at-requires c κs = search needs
-
 returns : tie.Need-returns Inv-loop μ-loop
 unfolding layoutTidy
 returns c = let a = c .before .before .before .before .before .before .args in
     let k = c .before .tidy-at in
     sym (all-fails 16 (ok (a .settings .now) (a .t2)) (c .before .before .before .before .loop .s) (omega (arith)) (sym (k .ensures) ∙ not-true (k .result) (c .if1 .taken)))
-
-add-s : tie.Need-add-s Inv-loop μ-loop
-add-s c = search needs
-
-loop-less : tie.Need-loop-less Inv-loop μ-loop
-loop-less c = search needs
 
 loop-again : tie.Need-loop-again Inv-loop μ-loop
 loop-again c = let a = c .before .before .before .before .before .before .args in
@@ -63,15 +48,5 @@ returns-2 c = let a = c .before .before .before .args in
 pub layout-tidy-spec : {M : Type 1} → statement M
 layout-tidy-spec =
     tie.close
-    (tie.spec
-    Inv-loop
-    μ-loop
-    loop-holds
-    mul-tidy-at
-    element-copy-out-tidy-at
-    tidy-at-requires
-    returns
-    add-s
-    loop-less
-    loop-again
-    returns-2)
+    (tie.spec Inv-loop μ-loop loop-holds (λ c. search needs) (λ c. search needs) (λ c κs. search needs) returns (λ c. search needs)
+    (λ c. search needs) loop-again returns-2)

@@ -1,5 +1,5 @@
 use Rattle.views.specs.Soundness.{marksSound}
-use mathlib.Core.Path.{_≡_, refl, sym, ap, _∙_}
+use mathlib.Core.Path.{sym}
 use borrow.Author.Tests.{eq-eqb, ne-eqb, not-true, not-false}
 use borrow.Author.Needs.{needs}
 use Rattle.soundness.proofs.marks_sound.Statement.{statement}
@@ -12,12 +12,6 @@ returns : tie.Need-returns
 unfolding marksSound
 returns c = simp (c .before .enum-told .given .1, ne-eqb _ _ (c .if1 .taken))
 
-enum-told-2 : tie.Need-enum-told-2
-enum-told-2 c = search needs
-
-subset-requires : tie.Need-subset-requires
-subset-requires c κs = search needs
-
 returns-2 : tie.Need-returns-2
 unfolding marksSound
 returns-2 c = simp (c .before .before .enum-told2 .given .1, sym (c .before .subset .ensures), not-true (c .before .subset .result) (c .if2 .taken))
@@ -26,22 +20,13 @@ returns-3 : tie.Need-returns-3
 unfolding marksSound
 returns-3 c = simp (c .before .before .before .enum-told2 .given .1, sym (c .before .before .subset .ensures), not-false (c .before .before .subset .result) (c .before .if2 .left), eq-eqb _ _ (c .if3 .taken))
 
-enum-told-3 : tie.Need-enum-told-3
-enum-told-3 c = search needs
-
 returns-4 : tie.Need-returns-4
 unfolding marksSound
 returns-4 c = simp (c .before .enum-told3 .given .1, ne-eqb _ _ (c .if4 .taken))
 
-subset-requires-2 : tie.Need-subset-requires-2
-subset-requires-2 c κs = search needs
-
 returns-5 : tie.Need-returns-5
 unfolding marksSound
 returns-5 c = simp (c .before .before .before .enum-told3 .given .1, eq-eqb _ _ (c .before .before .if4 .left), sym (c .before .subset2 .ensures), not-true (c .before .subset2 .result) (c .if5 .taken))
-
-enum-told-4 : tie.Need-enum-told-4
-enum-told-4 c = search needs
 
 returns-6 : tie.Need-returns-6
 unfolding marksSound
@@ -66,20 +51,5 @@ returns-10 c = simp (c .before .enum-told4 .given .1, eq-eqb _ _ (c .if6 .left))
 pub marks-sound-spec : {M : Type 1} → statement M
 marks-sound-spec =
     tie.close
-    (tie.spec
-    enum-told
-    returns
-    enum-told-2
-    subset-requires
-    returns-2
-    returns-3
-    enum-told-3
-    returns-4
-    subset-requires-2
-    returns-5
-    enum-told-4
-    returns-6
-    returns-7
-    returns-8
-    returns-9
-    returns-10)
+    (tie.spec enum-told returns (λ c. search needs) (λ c κs. search needs) returns-2 returns-3 (λ c. search needs) returns-4 (λ c κs. search needs)
+    returns-5 (λ c. search needs) returns-6 returns-7 returns-8 returns-9 returns-10)

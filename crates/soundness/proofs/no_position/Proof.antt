@@ -1,6 +1,4 @@
-use mathlib.Core.Path.{_≡_, refl, sym, ap, _∙_}
 use borrow.Author.Tests.{eq-eqb, ne-eqb}
-use borrow.Author.Needs.{needs}
 use Rattle.soundness.proofs.no_position.Statement.{statement}
 use Rattle.soundness.proofs.no_position.Tie as tie
 

@@ -1,12 +1,9 @@
 use Rattle.views.specs.Soundness.{nothingKept}
-use mathlib.Core.Path.{_≡_, refl, sym, ap, _∙_}
+use mathlib.Core.Path.{sym}
 use borrow.Author.Tests.{eq-eqb, ne-eqb, not-true, not-false}
 use borrow.Author.Needs.{needs}
 use Rattle.soundness.proofs.nothing_kept.Statement.{statement}
 use Rattle.soundness.proofs.nothing_kept.Tie as tie
-
-layout-blank-requires : tie.Need-layout-blank-requires
-layout-blank-requires c κs = search needs
 
 returns : tie.Need-returns
 unfolding nothingKept
@@ -21,4 +18,4 @@ unfolding nothingKept
 returns-3 c = simp (sym (c .before .before .before .layout-blank .ensures), not-false (c .before .before .before .layout-blank .result) (c .before .before .if1 .left), eq-eqb _ _ (c .before .if2 .left))
 
 pub nothing-kept-spec : {M : Type 1} → statement M
-nothing-kept-spec = tie.close (tie.spec layout-blank-requires returns returns-2 returns-3)
+nothing-kept-spec = tie.close (tie.spec (λ c κs. search needs) returns returns-2 returns-3)

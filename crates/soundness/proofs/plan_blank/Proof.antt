@@ -1,12 +1,9 @@
 use Rattle.views.specs.Soundness.{planBlank, zeros}
-use mathlib.Core.Path.{_≡_, refl, sym, ap, _∙_}
+use mathlib.Core.Path.{_≡_, sym, ap, _∙_}
 use borrow.Author.Tests.{eq-eqb, ne-eqb, not-true, not-false}
 use borrow.Author.Needs.{needs}
 use Rattle.soundness.proofs.plan_blank.Statement.{statement}
 use Rattle.soundness.proofs.plan_blank.Tie as tie
-
-layout-blank-requires : tie.Need-layout-blank-requires
-layout-blank-requires c κs = search needs
 
 returns : tie.Need-returns
 unfolding planBlank
@@ -16,9 +13,6 @@ returns-2 : tie.Need-returns-2
 unfolding planBlank
 returns-2 c = simp (sym (c .before .before .layout-blank .ensures), not-false (c .before .before .layout-blank .result) (c .before .if1 .left), ne-eqb _ _ (c .if2 .taken))
 
-zeros-requires : tie.Need-zeros-requires
-zeros-requires c κs = search needs
-
 returns-3 : tie.Need-returns-3
 unfolding planBlank
 returns-3 c =
@@ -26,9 +20,6 @@ returns-3 c =
     let k = c .before .before .before .before .before .before .before .layout-blank in
     let z : c .before .zeros .result ≡ zeros (a .t1 .holders) 16 = c .before .zeros .ensures ∙ ap (zeros (a .t1 .holders)) (c .before .before .zeros-arg2 .given .0) in
     simp (sym (k .ensures), not-false (k .result) (c .before .before .before .before .before .before .if1 .left), eq-eqb _ _ (c .before .before .before .before .before .if2 .left), sym z, not-true (c .before .zeros .result) (c .if3 .taken))
-
-zeros-requires-2 : tie.Need-zeros-requires-2
-zeros-requires-2 c κs = search needs
 
 returns-4 : tie.Need-returns-4
 unfolding planBlank
@@ -48,12 +39,4 @@ returns-4 c =
 
 pub plan-blank-spec : {M : Type 1} → statement M
 plan-blank-spec =
-    tie.close
-    (tie.spec
-    layout-blank-requires
-    returns
-    returns-2
-    zeros-requires
-    returns-3
-    zeros-requires-2
-    returns-4)
+    tie.close (tie.spec (λ c κs. search needs) returns returns-2 (λ c κs. search needs) returns-3 (λ c κs. search needs) returns-4)

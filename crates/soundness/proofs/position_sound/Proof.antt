@@ -1,12 +1,9 @@
 use Rattle.views.specs.Soundness.{positionSound}
-use mathlib.Core.Path.{_≡_, refl, sym, ap, _∙_}
+use mathlib.Core.Path.{sym}
 use borrow.Author.Tests.{not-true, not-false}
 use borrow.Author.Needs.{needs}
 use Rattle.soundness.proofs.position_sound.Statement.{statement}
 use Rattle.soundness.proofs.position_sound.Tie as tie
-
-position-requires : tie.Need-position-requires
-position-requires c κs = search needs
 
 returns : tie.Need-returns
 unfolding positionSound
@@ -17,4 +14,4 @@ unfolding positionSound
 returns-2 c = simp (sym (c .before .before .position .ensures), not-false (c .before .before .position .result) (c .before .if1 .left))
 
 pub position-sound-spec : {M : Type 1} → statement M
-position-sound-spec = tie.close (tie.spec position-requires returns returns-2)
+position-sound-spec = tie.close (tie.spec (λ c κs. search needs) returns returns-2)

@@ -25,20 +25,11 @@ abbrev μ-loop : tie.MeasureT-loop
 loop-holds : tie.Need-loop-holds Inv-loop μ-loop
 loop-holds c = let a = c .before .args in (search needs, all-none (ok (a .settings .now) (a .v) (a .t)))
 
-term-sound-at-requires : tie.Need-term-sound-at-requires Inv-loop μ-loop
-term-sound-at-requires c κs = search needs
-
 returns : tie.Need-returns Inv-loop μ-loop
 unfolding termSound
 returns c = let a = c .before .before .before .before .before .args in
     let k = c .before .term-sound-at in
     sym (all-fails 16 (ok (a .settings .now) (a .v) (a .t)) (c .before .before .before .loop .s) (omega (arith)) (sym (k .ensures) ∙ not-true (k .result) (c .if1 .taken)))
-
-add-s : tie.Need-add-s Inv-loop μ-loop
-add-s c = search needs
-
-loop-less : tie.Need-loop-less Inv-loop μ-loop
-loop-less c = search needs
 
 loop-again : tie.Need-loop-again Inv-loop μ-loop
 loop-again c = let a = c .before .before .before .before .before .args in
@@ -54,14 +45,4 @@ returns-2 c = let a = c .before .before .before .args in
 
 pub term-sound-spec : {M : Type 1} → statement M
 term-sound-spec =
-    tie.close
-    (tie.spec
-    Inv-loop
-    μ-loop
-    loop-holds
-    term-sound-at-requires
-    returns
-    add-s
-    loop-less
-    loop-again
-    returns-2)
+    tie.close (tie.spec Inv-loop μ-loop loop-holds (λ c κs. search needs) returns (λ c. search needs) (λ c. search needs) loop-again returns-2)

@@ -1,39 +1,21 @@
 use Rattle.views.specs.Soundness.{viewSound}
-use mathlib.Core.Path.{_≡_, refl, sym, ap, _∙_}
+use mathlib.Core.Path.{sym}
 use borrow.Author.Tests.{not-true, not-false}
 use borrow.Author.Needs.{needs}
 use Rattle.soundness.proofs.view_sound.Statement.{statement}
 use Rattle.soundness.proofs.view_sound.Tie as tie
 
-view-ok-requires : tie.Need-view-ok-requires
-view-ok-requires c κs = search needs
-
 returns : tie.Need-returns
 unfolding viewSound
 returns c = simp (sym (c .before .view-ok .ensures), not-true (c .before .view-ok .result) (c .if1 .taken))
-
-nodes-requires : tie.Need-nodes-requires
-nodes-requires c κs = search needs
-
-cast-within : tie.Need-cast-within
-cast-within c = search needs
-
-within-requires : tie.Need-within-requires
-within-requires c κs = search needs
 
 returns-2 : tie.Need-returns-2
 unfolding viewSound
 returns-2 c = simp (sym (c .before .before .before .before .view-ok .ensures), not-false (c .before .before .before .before .view-ok .result) (c .before .before .before .if1 .left), sym (c .before .before .nodes .ensures), sym (c .before .within .ensures), not-true (c .before .within .result) (c .if2 .taken))
 
-row10-requires : tie.Need-row10-requires
-row10-requires c κs = search needs
-
 returns-3 : tie.Need-returns-3
 unfolding viewSound
 returns-3 c = simp (sym (c .before .before .before .before .before .before .before .before .view-ok .ensures), not-false (c .before .before .before .before .before .before .before .before .view-ok .result) (c .before .before .before .before .before .before .before .if1 .left), sym (c .before .before .before .before .before .before .nodes .ensures), sym (c .before .before .before .before .before .within .ensures), not-false (c .before .before .before .before .before .within .result) (c .before .before .before .before .if2 .left), sym (c .before .row10 .ensures), not-true (c .before .row10 .result) (c .if3 .taken))
-
-layout-tidy-requires : tie.Need-layout-tidy-requires
-layout-tidy-requires c κs = search needs
 
 returns-4 : tie.Need-returns-4
 unfolding viewSound
@@ -42,14 +24,5 @@ returns-4 c = simp (sym (c .before .before .before .before .before .before .befo
 pub view-sound-spec : {M : Type 1} → statement M
 view-sound-spec =
     tie.close
-    (tie.spec
-    view-ok-requires
-    returns
-    nodes-requires
-    cast-within
-    within-requires
-    returns-2
-    row10-requires
-    returns-3
-    layout-tidy-requires
-    returns-4)
+    (tie.spec (λ c κs. search needs) returns (λ c κs. search needs) (λ c. search needs) (λ c κs. search needs) returns-2 (λ c κs. search needs)
+    returns-3 (λ c κs. search needs) returns-4)

@@ -3,23 +3,14 @@ use mathlib.Core.Path.{sym, _∙_}
 use borrow.Author.Needs.{needs}
 use borrow.Author.Tests.{not-true, not-false}
 use Rattle.standing.specs.Choices.{able-unheld, able-held}
-use Rattle.standing.specs.Ends.{report-few}
+use Rattle.ends.specs.Ends.{report-few}
 use Rattle.standing.proofs.able_row.Statement.{statement}
 use Rattle.standing.proofs.able_row.Tie as tie
-
-has-requires : tie.Need-has-requires
-has-requires c κs = search needs
 
 returns : tie.Need-returns
 returns c = let a = c .before .before .before .args in
     let h = c .before .has in
     able-unheld (a .held) (a .desk .now) (a .list .now) (a .targets .now) (a .count) (a .n) (sym (h .ensures) ∙ not-true (h .result) (c .if1 .taken))
-
-mul-mine : tie.Need-mul-mine
-mul-mine c = search needs
-
-element-copy-out-mine : tie.Need-element-copy-out-mine
-element-copy-out-mine c = search needs
 
 report-at-requires : tie.Need-report-at-requires
 report-at-requires c κs = let s = c .before .before .before .before in
@@ -40,12 +31,4 @@ returns-2 c = let a = c .before .before .before .before .before .before .before 
 
 pub able-row-spec : {M : Type 1} → statement M
 able-row-spec =
-    tie.close
-    (tie.spec
-    has-requires
-    returns
-    mul-mine
-    element-copy-out-mine
-    report-at-requires
-    able-shards-requires
-    returns-2)
+    tie.close (tie.spec (λ c κs. search needs) returns (λ c. search needs) (λ c. search needs) report-at-requires able-shards-requires returns-2)

@@ -6,7 +6,7 @@ use native.Mathlib.Omega.{arith}
 use borrow.Author.Needs.{needs}
 use Rattle.laws.specs.Masks.{with}
 use Rattle.standing.specs.Choices.{hasTarget}
-use Rattle.standing.specs.Lists.{maskBelow, mask-none, mask-hit, mask-miss}
+use Rattle.laws.specs.Picked.{maskBelow, mask-none, mask-hit, mask-miss}
 use Rattle.standing.proofs.able_shards.Statement.{statement}
 use Rattle.standing.proofs.able_shards.Tie as tie
 
@@ -19,18 +19,6 @@ abbrev μ-loop : tie.MeasureT-loop
 loop-holds : tie.Need-loop-holds Inv-loop μ-loop
 loop-holds c = let a = c .args in
     (search needs, sym (mask-none (hasTarget (a .body .now) (a .len) (a .mine) (a .targets .now))))
-
-has-target-requires : tie.Need-has-target-requires Inv-loop μ-loop
-has-target-requires c κs = search needs
-
-with-requires : tie.Need-with-requires Inv-loop μ-loop
-with-requires c κs = search needs
-
-add-s : tie.Need-add-s Inv-loop μ-loop
-add-s c = search needs
-
-loop-less : tie.Need-loop-less Inv-loop μ-loop
-loop-less c = search needs
 
 loop-again : tie.Need-loop-again Inv-loop μ-loop
 loop-again c = let a = c .before .before .before .before .args in
@@ -53,13 +41,4 @@ returns c = let a = c .before .before .args in
 pub able-shards-spec : {M : Type 1} → statement M
 able-shards-spec =
     tie.close
-    (tie.spec
-    Inv-loop
-    μ-loop
-    loop-holds
-    has-target-requires
-    with-requires
-    add-s
-    loop-less
-    loop-again
-    returns)
+    (tie.spec Inv-loop μ-loop loop-holds (λ c κs. search needs) (λ c κs. search needs) (λ c. search needs) (λ c. search needs) loop-again returns)

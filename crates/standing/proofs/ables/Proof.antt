@@ -19,21 +19,6 @@ loop-holds : tie.Need-loop-holds Inv-loop μ-loop
 loop-holds c = let a = c .before .args in
     (search needs, sym (filled-none (ableRow (a .held) (a .desk .now) (a .list .now) (a .targets .now) (a .count)) (replicate 32 0)))
 
-able-row-requires : tie.Need-able-row-requires Inv-loop μ-loop
-able-row-requires c κs = search needs
-
-mul-able : tie.Need-mul-able Inv-loop μ-loop
-mul-able c = search needs
-
-array-write-able : tie.Need-array-write-able Inv-loop μ-loop
-array-write-able c = search needs
-
-add-n : tie.Need-add-n Inv-loop μ-loop
-add-n c = search needs
-
-loop-less : tie.Need-loop-less Inv-loop μ-loop
-loop-less c = search needs
-
 loop-again : tie.Need-loop-again Inv-loop μ-loop
 loop-again c = let a = c .before .before .before .before .args in
     let l = c .before .before .loop in
@@ -50,14 +35,5 @@ returns c = let a = c .before .before .before .args in
 pub ables-spec : {M : Type 1} → statement M
 ables-spec =
     tie.close
-    (tie.spec
-    Inv-loop
-    μ-loop
-    loop-holds
-    able-row-requires
-    mul-able
-    array-write-able
-    add-n
-    loop-less
-    loop-again
-    returns)
+    (tie.spec Inv-loop μ-loop loop-holds (λ c κs. search needs) (λ c. search needs) (λ c. search needs) (λ c. search needs) (λ c. search needs)
+    loop-again returns)

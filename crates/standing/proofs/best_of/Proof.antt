@@ -6,7 +6,7 @@ use native.Mathlib.Omega.{arith}
 use borrow.Author.Needs.{needs}
 use Rattle.views.specs.Best.{bestSoFar, bestWith, best-start, best-step, best-all, best-so-far-le}
 use Rattle.standing.specs.Choices.{picked}
-use Rattle.standing.specs.Ends.{tableEnd}
+use Rattle.ends.specs.Ends.{tableEnd}
 use Rattle.standing.proofs.best_of.Statement.{statement}
 use Rattle.standing.proofs.best_of.Tie as tie
 
@@ -26,12 +26,6 @@ better-requires c κs = let a = c .before .before .args in
     let few = best-so-far-le (picked (a .list .now) (a .s)) (tableEnd (a .table .now) (a .s)) 32 (l .n) (l .inv .0) in
     omega (arith, few, l .inv .1)
 
-add-n : tie.Need-add-n Inv-loop μ-loop
-add-n c = search needs
-
-loop-less : tie.Need-loop-less Inv-loop μ-loop
-loop-less c = search needs
-
 loop-again : tie.Need-loop-again Inv-loop μ-loop
 loop-again c = let a = c .before .before .before .args in
     let l = c .before .before .loop in
@@ -49,5 +43,4 @@ returns c = let a = c .before .before .args in
 
 pub best-of-spec : {M : Type 1} → statement M
 best-of-spec =
-    tie.close
-    (tie.spec Inv-loop μ-loop loop-holds better-requires add-n loop-less loop-again returns)
+    tie.close (tie.spec Inv-loop μ-loop loop-holds better-requires (λ c. search needs) (λ c. search needs) loop-again returns)

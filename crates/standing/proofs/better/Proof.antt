@@ -6,18 +6,9 @@ use borrow.Author.Tests.{not-true, not-false}
 use Rattle.ids.specs.Order.{notAfter}
 use Rattle.views.specs.Best.{with-miss, with-first, with-kept, with-later}
 use Rattle.standing.specs.Choices.{picked}
-use Rattle.standing.specs.Ends.{tableEnd}
+use Rattle.ends.specs.Ends.{tableEnd}
 use Rattle.standing.proofs.better.Statement.{statement}
 use Rattle.standing.proofs.better.Tie as tie
-
-mul-has : tie.Need-mul-has
-mul-has c = search needs
-
-element-copy-out-has : tie.Need-element-copy-out-has
-element-copy-out-has c = search needs
-
-has-requires : tie.Need-has-requires
-has-requires c κs = search needs
 
 returns : tie.Need-returns
 returns c = let a = c .before .before .before .args in
@@ -29,15 +20,6 @@ returns-2 c = let a = c .before .before .before .before .args in
     let h = c .before .before .has in
     let e : a .b ≡ 32 = omega arith in
     sym (with-first (picked (a .list .now) (a .s)) (tableEnd (a .table .now) (a .s)) 32 (a .n) (a .b) (sym (h .ensures) ∙ not-false (h .result) (c .before .if1 .left)) e)
-
-end-at-requires : tie.Need-end-at-requires
-end-at-requires c κs = search needs
-
-end-at-requires-2 : tie.Need-end-at-requires-2
-end-at-requires-2 c κs = search needs
-
-not-after-requires : tie.Need-not-after-requires
-not-after-requires c κs = search needs
 
 returns-3 : tie.Need-returns-3
 returns-3 c = let a = c .before .before .before .before .before .before .before .before .args in
@@ -58,14 +40,5 @@ returns-4 c = let a = c .before .before .before .before .before .before .before 
 pub better-spec : {M : Type 1} → statement M
 better-spec =
     tie.close
-    (tie.spec
-    mul-has
-    element-copy-out-has
-    has-requires
-    returns
-    returns-2
-    end-at-requires
-    end-at-requires-2
-    not-after-requires
-    returns-3
-    returns-4)
+    (tie.spec (λ c. search needs) (λ c. search needs) (λ c κs. search needs) returns returns-2 (λ c κs. search needs) (λ c κs. search needs)
+    (λ c κs. search needs) returns-3 returns-4)

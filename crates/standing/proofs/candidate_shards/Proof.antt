@@ -3,37 +3,19 @@ use mathlib.Core.Path.{sym, _∙_}
 use borrow.Author.Needs.{needs}
 use borrow.Author.Tests.{not-true, not-false}
 use Rattle.standing.specs.Choices.{candidates-unheld, candidates-stale, candidates-members}
-use Rattle.standing.specs.Ends.{view-at}
+use Rattle.ends.specs.Ends.{view-at}
 use Rattle.standing.proofs.candidate_shards.Statement.{statement}
 use Rattle.standing.proofs.candidate_shards.Tie as tie
-
-has-requires : tie.Need-has-requires
-has-requires c κs = search needs
 
 returns : tie.Need-returns
 returns c = let a = c .before .before .before .args in
     let h = c .before .has in
     candidates-unheld (a .t1) (a .count) (a .held) (a .desk .now) (a .n) (sym (h .ensures) ∙ not-true (h .result) (c .if1 .taken))
 
-mul-if2 : tie.Need-mul-if2
-mul-if2 c = search needs
-
-add-if2 : tie.Need-add-if2
-add-if2 c = search needs
-
-mul-if2-2 : tie.Need-mul-if2-2
-mul-if2-2 c = search needs
-
-shared-slice-read-if2 : tie.Need-shared-slice-read-if2
-shared-slice-read-if2 c = search needs
-
 returns-2 : tie.Need-returns-2
 returns-2 c = let s = c .before .before .before .before .before .before .before in
     let a = s .args in
     candidates-stale (a .t1) (a .count) (a .held) (a .desk .now) (a .n) (λ e. c .if2 .taken (view-at (a .desk .now) (a .n) (s .pre .0 .0) (s .pre .0 .1) ∙ e))
-
-member-shards-requires : tie.Need-member-shards-requires
-member-shards-requires c κs = search needs
 
 returns-3 : tie.Need-returns-3
 returns-3 c = let s = c .before .before .before .before .before .before .before .before .before .before in
@@ -46,13 +28,5 @@ returns-3 c = let s = c .before .before .before .before .before .before .before 
 pub candidate-shards-spec : {M : Type 1} → statement M
 candidate-shards-spec =
     tie.close
-    (tie.spec
-    has-requires
-    returns
-    mul-if2
-    add-if2
-    mul-if2-2
-    shared-slice-read-if2
-    returns-2
-    member-shards-requires
-    returns-3)
+    (tie.spec (λ c κs. search needs) returns (λ c. search needs) (λ c. search needs) (λ c. search needs) (λ c. search needs) returns-2
+    (λ c κs. search needs) returns-3)

@@ -6,22 +6,10 @@ use Rattle.standing.specs.Choices.{target-others, target-mine}
 use Rattle.standing.proofs.has_target.Statement.{statement}
 use Rattle.standing.proofs.has_target.Tie as tie
 
-has-requires : tie.Need-has-requires
-has-requires c κs = search needs
-
 returns : tie.Need-returns
 returns c = let a = c .before .before .args in
     let h = c .before .has in
     target-others (a .body .now) (a .len) (a .mine) (a .targets .now) (a .s) (sym (h .ensures) ∙ not-true (h .result) (c .if1 .taken))
-
-cast-t8 : tie.Need-cast-t8
-cast-t8 c = search needs
-
-position-from-requires : tie.Need-position-from-requires
-position-from-requires c κs = search needs
-
-has-update-requires : tie.Need-has-update-requires
-has-update-requires c κs = search needs
 
 returns-2 : tie.Need-returns-2
 returns-2 c = let a = c .before .before .before .before .args in
@@ -31,5 +19,4 @@ returns-2 c = let a = c .before .before .before .before .args in
 
 pub has-target-spec : {M : Type 1} → statement M
 has-target-spec =
-    tie.close
-    (tie.spec has-requires returns cast-t8 position-from-requires has-update-requires returns-2)
+    tie.close (tie.spec (λ c κs. search needs) returns (λ c. search needs) (λ c κs. search needs) (λ c κs. search needs) returns-2)

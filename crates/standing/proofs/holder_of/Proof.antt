@@ -3,19 +3,13 @@ use native.Mathlib.Omega.{arith}
 use borrow.Author.Needs.{needs}
 use Rattle.views.specs.Best.{best-le}
 use Rattle.standing.specs.Choices.{picked}
-use Rattle.standing.specs.Ends.{tableEnd}
+use Rattle.ends.specs.Ends.{tableEnd}
 use Rattle.standing.proofs.holder_of.Statement.{statement}
 use Rattle.standing.proofs.holder_of.Tie as tie
-
-best-of-requires : tie.Need-best-of-requires
-best-of-requires c κs = search needs
 
 cast-result : tie.Need-cast-result
 cast-result c = let a = c .before .args in
     omega (arith, c .best-of .ensures, best-le (picked (a .list .now) (a .s)) (tableEnd (a .table .now) (a .s)) 32)
 
-returns : tie.Need-returns
-returns c = search needs
-
 pub holder-of-spec : {M : Type 1} → statement M
-holder-of-spec = tie.close (tie.spec best-of-requires cast-result returns)
+holder-of-spec = tie.close (tie.spec (λ c κs. search needs) cast-result (λ c. search needs))

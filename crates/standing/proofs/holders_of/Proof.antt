@@ -5,11 +5,10 @@ use mathlib.Core.Path.{_≡_, sym, ap, _∙_}
 use native.Mathlib.Omega.{arith}
 use lib.ListN.{replicate, length-replicate}
 use borrow.Author.Needs.{needs}
-use Rattle.laws.specs.Tables.{filled, filled-none, filled-turn}
+use Rattle.laws.specs.Tables.{filled, filled-none, filled-turn, filled-zeros}
 use Rattle.views.specs.Quorums.{best}
 use Rattle.standing.specs.Choices.{picked, holdersBy}
-use Rattle.standing.specs.Ends.{tableEnd}
-use Rattle.standing.specs.Lists.{filled-zeros}
+use Rattle.ends.specs.Ends.{tableEnd}
 use Rattle.standing.proofs.holders_of.Statement.{statement}
 use Rattle.standing.proofs.holders_of.Tie as tie
 
@@ -25,21 +24,6 @@ abbrev μ-loop : tie.MeasureT-loop
 loop-holds : tie.Need-loop-holds Inv-loop μ-loop
 loop-holds c = let a = c .args in
     (search needs, sym (filled-none (chosen (a .table .now) (a .list .now)) (replicate 16 0)))
-
-holder-of-requires : tie.Need-holder-of-requires Inv-loop μ-loop
-holder-of-requires c κs = search needs
-
-mul-holders : tie.Need-mul-holders Inv-loop μ-loop
-mul-holders c = search needs
-
-array-write-holders : tie.Need-array-write-holders Inv-loop μ-loop
-array-write-holders c = search needs
-
-add-s : tie.Need-add-s Inv-loop μ-loop
-add-s c = search needs
-
-loop-less : tie.Need-loop-less Inv-loop μ-loop
-loop-less c = search needs
 
 loop-again : tie.Need-loop-again Inv-loop μ-loop
 loop-again c = let a = c .before .before .before .args in
@@ -58,14 +42,5 @@ returns c = let a = c .before .before .args in
 pub holders-of-spec : {M : Type 1} → statement M
 holders-of-spec =
     tie.close
-    (tie.spec
-    Inv-loop
-    μ-loop
-    loop-holds
-    holder-of-requires
-    mul-holders
-    array-write-holders
-    add-s
-    loop-less
-    loop-again
-    returns)
+    (tie.spec Inv-loop μ-loop loop-holds (λ c κs. search needs) (λ c. search needs) (λ c. search needs) (λ c. search needs) (λ c. search needs)
+    loop-again returns)

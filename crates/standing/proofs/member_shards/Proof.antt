@@ -8,7 +8,7 @@ use native.Mathlib.Omega.{arith}
 use lib.ListN.{getD}
 use borrow.Author.Needs.{needs}
 use Rattle.laws.specs.Masks.{has, with}
-use Rattle.standing.specs.Lists.{maskBelow, mask-none, mask-hit, mask-miss}
+use Rattle.laws.specs.Picked.{maskBelow, mask-none, mask-hit, mask-miss}
 use Rattle.standing.proofs.member_shards.Statement.{statement}
 use Rattle.standing.proofs.member_shards.Tie as tie
 
@@ -24,24 +24,6 @@ abbrev μ-loop : tie.MeasureT-loop
 loop-holds : tie.Need-loop-holds Inv-loop μ-loop
 loop-holds c = let a = c .args in
     (search needs, sym (mask-none (member (a .masks .now) (a .n))))
-
-mul-has : tie.Need-mul-has Inv-loop μ-loop
-mul-has c = search needs
-
-element-copy-out-has : tie.Need-element-copy-out-has Inv-loop μ-loop
-element-copy-out-has c = search needs
-
-has-requires : tie.Need-has-requires Inv-loop μ-loop
-has-requires c κs = search needs
-
-with-requires : tie.Need-with-requires Inv-loop μ-loop
-with-requires c κs = search needs
-
-add-s : tie.Need-add-s Inv-loop μ-loop
-add-s c = search needs
-
-loop-less : tie.Need-loop-less Inv-loop μ-loop
-loop-less c = search needs
 
 loop-again : tie.Need-loop-again Inv-loop μ-loop
 loop-again c = let a = c .before .before .before .before .before .args in
@@ -64,15 +46,5 @@ returns c = let a = c .before .before .args in
 pub member-shards-spec : {M : Type 1} → statement M
 member-shards-spec =
     tie.close
-    (tie.spec
-    Inv-loop
-    μ-loop
-    loop-holds
-    mul-has
-    element-copy-out-has
-    has-requires
-    with-requires
-    add-s
-    loop-less
-    loop-again
-    returns)
+    (tie.spec Inv-loop μ-loop loop-holds (λ c. search needs) (λ c. search needs) (λ c κs. search needs) (λ c κs. search needs) (λ c. search needs)
+    (λ c. search needs) loop-again returns)

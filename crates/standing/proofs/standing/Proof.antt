@@ -3,37 +3,19 @@ use mathlib.Core.Path.{_∙_}
 use native.Mathlib.Omega.{arith}
 use borrow.Author.Needs.{needs}
 use Rattle.standing.specs.Choices.{standing-built}
-use Rattle.standing.specs.Ends.{readable}
+use Rattle.ends.specs.Ends.{readable}
 use Rattle.standing.proofs.standing.Statement.{statement}
 use Rattle.standing.proofs.standing.Tie as tie
-
-shards-requires : tie.Need-shards-requires
-shards-requires c κs = search needs
-
-wide-requires : tie.Need-wide-requires
-wide-requires c κs = search needs
 
 ends-table-requires : tie.Need-ends-table-requires
 ends-table-requires c κs = let s = c .before .before .before .before in
     readable (s .args .settings .now) (s .args .v) (s .args .t) (s .args .held) (s .args .desk .now) (s .pre .1 .0) (s .pre .1 .1)
-
-candidates-requires : tie.Need-candidates-requires
-candidates-requires c κs = search needs
-
-targets-of-requires : tie.Need-targets-of-requires
-targets-of-requires c κs = search needs
 
 ables-requires : tie.Need-ables-requires
 ables-requires c κs = let s = c .before .before .before .before .before .before .before .before .before .before .before in
     let n = c .before .before .before .before .before .before .before .wide in
     let m = c .before .before .before .before .before .before .before .before .shards in
     (readable (s .args .settings .now) (s .args .v) (s .args .t) (s .args .held) (s .args .desk .now) (s .pre .1 .0) (s .pre .1 .1), omega (arith, n .ensures, m .ensures, s .pre .0 .sizes .shards-to))
-
-holders-of-requires : tie.Need-holders-of-requires
-holders-of-requires c κs = search needs
-
-quorum-requires : tie.Need-quorum-requires
-quorum-requires c κs = search needs
 
 returns : tie.Need-returns
 returns c = let x = c .before .before .before .before .before .before .before .before in
@@ -48,13 +30,5 @@ returns c = let x = c .before .before .before .before .before .before .before .b
 pub standing-spec : {M : Type 1} → statement M
 standing-spec =
     tie.close
-    (tie.spec
-    shards-requires
-    wide-requires
-    ends-table-requires
-    candidates-requires
-    targets-of-requires
-    ables-requires
-    holders-of-requires
-    quorum-requires
-    returns)
+    (tie.spec (λ c κs. search needs) (λ c κs. search needs) ends-table-requires (λ c κs. search needs) (λ c κs. search needs) ables-requires
+    (λ c κs. search needs) (λ c κs. search needs) returns)

@@ -5,23 +5,14 @@ use Rattle.standing.specs.Choices.{target-made, target-best, target-none
 use Rattle.standing.proofs.target_of.Statement.{statement}
 use Rattle.standing.proofs.target_of.Tie as tie
 
-position-from-requires : tie.Need-position-from-requires
-position-from-requires c κs = search needs
-
 returns : tie.Need-returns
 returns c = let a = c .before .before .before .before .args in
     c .position-from .ensures ∙ target-made (a .table .now) (a .list .now) (a .t3) (a .s) (c .before .before .before .if1 .taken)
-
-best-of-requires : tie.Need-best-of-requires
-best-of-requires c κs = search needs
 
 returns-2 : tie.Need-returns-2
 returns-2 c = let a = c .before .before .before .args in
     let b = c .before .best-of in
     target-none (a .table .now) (a .list .now) (a .t3) (a .s) (c .before .before .if1 .left) (b .result) (b .ensures) (c .before .before .before .pre .1) (c .if2 .taken)
-
-end-at-requires : tie.Need-end-at-requires
-end-at-requires c κs = search needs
 
 returns-3 : tie.Need-returns-3
 returns-3 c = let a = c .before .before .before .before .args in
@@ -30,5 +21,4 @@ returns-3 c = let a = c .before .before .before .before .args in
 
 pub target-of-spec : {M : Type 1} → statement M
 target-of-spec =
-    tie.close
-    (tie.spec position-from-requires returns best-of-requires returns-2 end-at-requires returns-3)
+    tie.close (tie.spec (λ c κs. search needs) returns (λ c κs. search needs) returns-2 (λ c κs. search needs) returns-3)

@@ -1,0 +1,2 @@
+-- A report against what is kept.
+pub mod Comparisons

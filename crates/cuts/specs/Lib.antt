@@ -1,0 +1,2 @@
+-- One turn of the walk over a holder's log.
+pub mod Walks

@@ -1,0 +1,2 @@
+-- The ends of logs by node and shard.
+pub mod Ends

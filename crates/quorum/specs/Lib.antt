@@ -1,0 +1,2 @@
+-- Waits 1 to 4 from the holders.
+pub mod Quorum
