@@ -27,7 +27,8 @@ use Rattle.views.specs.Reports.{slot, reportOf, maskAt}
 use Rattle.views.specs.Quorums.{candidate, greatest, best, target, able, holder}
 use Rattle.views.specs.Standings.{holdersOf, targetsOf}
 use Rattle.views.specs.Soundness.{layoutTidy, allMoves}
-use Rattle.cases.specs.Runs.{settings, desk, view7, noTermination}
+use Rattle.cases.specs.Runs.{settings, desk, view7}
+use Rattle.views.specs.Empty.{noTermination}
 use Rattle.cases.specs.Cases.{cases}
 use Rattle.cases.specs.Placed.{planA, a-least}
 use Rattle.planner.specs.declared.Decision.{Decision}

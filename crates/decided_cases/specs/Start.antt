@@ -4,7 +4,8 @@ use mathlib.Core.List.{List, [], _∷_, _++_}
 use lib.ListN.{replicate}
 use Rattle.views.specs.declared.Layout.{Layout}
 use Rattle.views.specs.declared.Phase.the-variants.{Gathering}
-use Rattle.cases.specs.Runs.{slotOf, noTermination}
+use Rattle.cases.specs.Runs.{slotOf}
+use Rattle.views.specs.Empty.{noTermination}
 use Rattle.planner.specs.declared.State.{State}
 use Rattle.planner.specs.States.{noPlan}
 

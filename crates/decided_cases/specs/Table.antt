@@ -18,7 +18,8 @@ use Rattle.views.specs.Logs.{pos, endOf, reaches, holds, hasUpdate}
 use Rattle.views.specs.Reports.{slot, reportOf}
 use Rattle.views.specs.Quorums.{candidate, greatest, best, target, able, holder, majority, firstUnheld, quorumOf}
 use Rattle.views.specs.Cuts.{cut}
-use Rattle.cases.specs.Runs.{settings, settingsWith, desk, view7, sixMembers, noTermination, logOf}
+use Rattle.cases.specs.Runs.{settings, settingsWith, desk, view7, sixMembers, logOf}
+use Rattle.views.specs.Empty.{noTermination}
 use Rattle.cases.specs.Cases.{cases}
 use Rattle.cases.specs.Placed.{i-none}
 use Rattle.planner.specs.declared.State.{State}

@@ -31,7 +31,7 @@ use Rattle.planner.specs.States.{sound, planned}
 use Rattle.planner.specs.Refusing.{isGathering, deskOk, decideRefusal}
 use Rattle.planner.specs.Decide.{Decides}
 use Rattle.invariant.specs.Parts.{entry-given}
-use Rattle.invariant.specs.PositionTables.{position-read}
+use Rattle.views.specs.PositionTables.{position-read}
 use Rattle.invariant.specs.AfterPlan.{plan-sound}
 
 -- a holder and a target that are there are the ones asked for, and where there are none they are zero

@@ -9,7 +9,7 @@ use mathlib.Core.Path.{_≡_, refl, sym, ap, _∙_, subst⁻¹}
 use lib.Dec.{eqb, ltb}
 use lib.ListN.{length, getD}
 use borrow.Author.Tests.{eqb-true, leb-true, ltb-true, ltb-false}
-use Rattle.laws.specs.Bools.{and-left, and-right, or-holds, of-not-true, eq-or-ne}
+use Rattle.laws.specs.Bools.{and-left, and-right, or-holds, of-not-true, eq-or-ne, cond-of}
 use Rattle.laws.specs.Masks.{has, with, has-with, with-lt, within-lt, lt-within}
 use Rattle.settings.specs.Settings.{nodes, Settings}
 use Rattle.settings.specs.Laws.{settings-give}
@@ -30,10 +30,11 @@ use Rattle.planner.specs.States.{sound, keeping}
 use Rattle.planner.specs.Refusing.{reportRefusal}
 use Rattle.planner.specs.Events.{afterReport}
 use Rattle.reports.specs.declared.Kept.{Kept}
-use Rattle.reports.specs.Reports.{layoutOf, terminationOf, renewed, deskWith}
+use Rattle.reports.specs.Reports.{layoutOf, terminationOf, renewed}
+use Rattle.desk.specs.Desk.{deskWith}
 use Rattle.reader.specs.Walks.{row5-gives}
 use Rattle.reader.specs.Padding.{padded-contents, padded-passes}
-use Rattle.invariant.specs.Parts.{Sound, sound-given, sound-test, KeptSound, kept-given, kept-test, kept-view, slots-of, gathering-is, marks-still, plan-still, cond-of, ReportTaken, report-given}
+use Rattle.invariant.specs.Parts.{Sound, sound-given, sound-test, KeptSound, kept-given, kept-test, kept-view, slots-of, gathering-is, marks-still, plan-still, ReportTaken, report-given}
 use Rattle.invariant.specs.Keeping.{Passes, view-of-report, term-of-report}
 use Rattle.invariant.specs.Fitting.{Fits, slot-reported, reported-slot, greater-fits, added-fits, known-fits, own-masks, own-fits}
 use Rattle.invariant.specs.Desks.{desk-length, slot-own, slot-other}

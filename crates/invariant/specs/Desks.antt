@@ -8,8 +8,7 @@ use lib.ListN.{length, take, drop}
 use Rattle.laws.specs.Bools.{lt-or-le}
 use Rattle.laws.specs.Tables.{padded, length-padded, length-replaced, part-replaced, part-apart}
 use Rattle.views.specs.Reports.{slot}
-use Rattle.reports.specs.Reports.{deskWith}
-use Rattle.reports.specs.Laws.{desk-replaced}
+use Rattle.desk.specs.Desk.{deskWith, desk-replaced}
 
 module _ (d w : List ℕ) (n : ℕ) (words : length d ≡ 16384) (below : n < 32) where
   pub desk-length : length (deskWith d n w) ≡ 16384

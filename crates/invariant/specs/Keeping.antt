@@ -19,13 +19,13 @@ use Rattle.format.specs.Records.{kind, membersOf}
 use Rattle.format.specs.Rows.{viewOk, row7, viewFits, legal, row11At}
 use Rattle.format.specs.Alike.{row10-same}
 use Rattle.format.specs.Passed.{HeadPasses, RecordsPass}
+use Rattle.format.specs.Laws.{position-record, position-below, some-position}
 use Rattle.views.specs.declared.Layout.{Layout}
 use Rattle.views.specs.Logs.{start}
 use Rattle.views.specs.Reports.{terminated, terminatedAt, maskAt, positionAt}
 use Rattle.views.specs.Soundness.{layoutTidy, viewSound, positionSound, termSoundAt, termSound}
 use Rattle.reports.specs.Reports.{layoutOf, terminationOf}
-use Rattle.invariant.specs.Places.{term-place}
-use Rattle.invariant.specs.PositionTables.{position-read}
+use Rattle.views.specs.PositionTables.{position-read}
 
 -- the report's rows 6 and 7, and 9 to 11
 pub record Passes (σ : List ℕ) (c : Contents) : Type 0 where
@@ -75,9 +75,12 @@ module _ (σ : List ℕ) (c : Contents) where
   position-legal few p made s l =
       let later = ltb-true (shards σ) (c .len) (and-left (ltb (shards σ) (c .len)) (eqb (kind (c .body) (shards σ)) 2) made) in
       let two = eqb-true (kind (c .body) (shards σ)) 2 (and-right (ltb (shards σ) (c .len)) (eqb (kind (c .body) (shards σ)) 2) made) in
-      let place = term-place σ few (c .node .0) (c .view .0) (c .members) (c .body) (c .len) (p .records) later two s l in
-      let e : kind (c .body) (shards σ + s) ≡ 2 = omega (arith, place .1) in
-      rw e at (all-at (c .len) (row11At Report (c .view .0) (c .members) (c .body)) (p .records .positions-pass) (shards σ + s) (place .0))
+      let r = p .records in
+      let made-there = some-position Report σ (c .node .0) (c .body) (c .len) (r .kinds-pass) (r .shards-pass) (r .sequence-passes) (r .complete-passes) (shards σ) later two in
+      let tagged = position-record Report σ (c .node .0) (c .body) (c .len) (r .kinds-pass) (r .shards-pass) (r .sequence-passes) (r .complete-passes) made-there s l in
+      let below = position-below Report σ (c .node .0) (c .body) (c .len) (r .kinds-pass) (r .shards-pass) (r .sequence-passes) (r .complete-passes) made-there s l in
+      let e : kind (c .body) (shards σ + s) ≡ 2 = omega (arith, tagged) in
+      rw e at (all-at (c .len) (row11At Report (c .view .0) (c .members) (c .body)) (r .positions-pass) (shards σ + s) below)
 
   -- a position that is there is sound, and one that is not there is zero
   sound-at : (number : ℕ) (b : Bool) (p q : Position) → p ≡ cond b q start → (b ≡ true → positionSound number (q .view .0) (q .k) ≡ true)

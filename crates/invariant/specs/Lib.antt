@@ -1,11 +1,7 @@
 -- Every accepted event leads from a sound state to a sound one. Parts: what soundness and no refusal mean, part by part.
--- Named, Places: where the records of a report stand. PositionTables, Keeping: what a report gives to be kept. Fitting: which
--- reports fit what is kept. Desks: the desk after a report. Then a theorem for each event, and in Reached one for every state
--- that events lead to from the fresh one.
+-- Keeping: what a report gives to be kept. Fitting: which reports fit what is kept. Desks: the desk after a report. Then a theorem
+-- for each event, and in Reached one for every state that events lead to from the fresh one.
 pub mod Parts
-pub mod Named
-pub mod Places
-pub mod PositionTables
 pub mod Keeping
 pub mod Fitting
 pub mod Desks
@@ -13,8 +9,7 @@ pub mod Fresh
 pub mod AfterReport
 pub mod AfterDrop
 pub mod Marks
-pub mod AfterFetched
-pub mod AfterPrepared
+pub mod AfterMarks
 pub mod AfterPlan
 pub mod AfterDecide
 pub mod Reached

@@ -1,7 +1,7 @@
 -- What no refusal means, part by part: a record for each list of rows. Those of a sound state, of what is kept soundly and of
 -- rows 1 to 4, 6 and 14 are passed on.
 use Prim.Native.Nat.{ℕ, _<_}
-use mathlib.Core.Bool.{Bool, true, false, cond, not, _||_}
+use mathlib.Core.Bool.{true, not, _||_}
 use mathlib.Core.List.{List}
 use mathlib.Core.Logic.{_⊎_, ⊎-elim}
 use mathlib.Core.Path.{_≡_, refl}
@@ -23,11 +23,6 @@ use Rattle.planner.specs.declared.State.{State}
 use Rattle.planner.specs.Refusing.{isGathering, isOrdered, isPreparing, deskOk, entryRefusal, reportRefusal}
 pub use Rattle.deciding.specs.Kept.{KeptSound, kept-given, kept-test, kept-view}
 pub use Rattle.planner.specs.Entry.{Sound, sound-given, sound-test, Entered, entry-given, NodeTaken, node-given}
-
--- general: what holds of either choice holds of the chosen one
-pub cond-of {ℓ κ} : {A : Type ℓ} (P : A → Type κ) (b : Bool) {y z : A} → (b ≡ true → P y) → (b ≡ false → P z) → P (cond b y z)
-cond-of P true f g = f refl
-cond-of P false f g = g refl
 
 -- ---- the held slots
 

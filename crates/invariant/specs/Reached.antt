@@ -17,13 +17,12 @@ use Rattle.planner.specs.declared.Decided.{Decided}
 use Rattle.planner.specs.States.{sound, fresh, planned}
 use Rattle.planner.specs.Refusing.{deskOk, entryRefusal, reportRefusal, dropRefusal, decideRefusal, fetchedRefusal, preparedRefusal}
 use Rattle.planner.specs.Events.{afterReport, afterDrop, afterFetched, afterPrepared}
-use Rattle.reports.specs.Reports.{deskWith}
+use Rattle.desk.specs.Desk.{deskWith}
 use Rattle.planner.specs.Decide.{Decides}
 use Rattle.invariant.specs.Fresh.{fresh-sound}
 use Rattle.invariant.specs.AfterReport.{report-sound, report-desk}
 use Rattle.invariant.specs.AfterDrop.{drop-sound}
-use Rattle.invariant.specs.AfterFetched.{fetched-sound}
-use Rattle.invariant.specs.AfterPrepared.{prepared-sound}
+use Rattle.invariant.specs.AfterMarks.{fetched-sound, prepared-sound}
 use Rattle.invariant.specs.AfterPlan.{plan-sound}
 use Rattle.invariant.specs.AfterDecide.{decided-state}
 

@@ -12,7 +12,7 @@ use Rattle.format.specs.Rows.{row10, position}
 use Rattle.views.specs.declared.Layout.{Layout}
 use Rattle.views.specs.declared.Termination.{Termination}
 use Rattle.views.specs.declared.Plan.{Plan}
-use Rattle.views.specs.Reports.{reportOf, viewOf, endAt, maskAt, positionAt}
+use Rattle.views.specs.Reports.{reportOf, viewOf, endAt, maskAt, positionAt, slot}
 use Rattle.views.specs.Slots.{slotsOk}
 use Rattle.views.specs.Quorums.{candidate, best, target, holder}
 use Rattle.views.specs.Best.{best-found}
@@ -22,13 +22,12 @@ use Rattle.orders.specs.Orders.{plannedTarget, cutOf}
 use Rattle.order_laws.specs.Says.{saying}
 use Rattle.order_laws.specs.Passing.{Fitting}
 use Rattle.order_laws.specs.Sound.{KeptView, PlanSound}
-use Rattle.order_laws.specs.Ends.{Legal, end-legal}
+use Rattle.views.specs.Ends.{Legal, end-legal}
 use lib.ListN.{length}
 use Rattle.format.specs.declared.Form.the-variants.{Report}
 use Rattle.format.specs.Passed.{message-given}
-use Rattle.views.specs.Reports.{slot}
 use Rattle.orders.specs.Readable.{Readable, Holders}
-use Rattle.order_laws.specs.Placed.{placed-passes}
+use Rattle.groups.specs.Placed.{placed-passes}
 
 module _ (σ : List ℕ) (v : Layout) (t : Termination) (held : ℕ) (d : List ℕ) (p : Plan) (w : Settings σ) (k : KeptView σ v t held)
     (slots : slotsOk σ v t held d ≡ true) (ps : PlanSound σ v t held d p) where

@@ -3,7 +3,5 @@ pub mod Parts
 pub mod Passing
 pub mod Says
 pub mod Sound
-pub mod Ends
-pub mod Placed
 pub mod Fits
 pub mod Accepted

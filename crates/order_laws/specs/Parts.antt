@@ -11,7 +11,7 @@ use Rattle.laws.specs.Below.{countBelow, count-longer}
 use Rattle.laws.specs.Masks.{has}
 use Rattle.ids.specs.declared.Position.{Position}
 use Rattle.format.specs.Records.{tag, word1, word2, kind, shard}
-use Rattle.orders.specs.Ranks.{nth, nth-below, nth-holds, rank-nth}
+use Rattle.laws.specs.Ranks.{nth, nth-below, nth-holds, rank-nth}
 
 -- record j of a body has kind k, shard s and words 1 and 2 x and y
 pub record Says (b : List ℕ) (j k s x y : ℕ) : Type 0 where

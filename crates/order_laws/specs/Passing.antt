@@ -18,7 +18,7 @@ use Rattle.format.specs.Rows.{kindOk, plain, kindAt, shardAt, surplus, sequence
 use Rattle.format.specs.Laws.{where-has, where-at}
 use Rattle.format.specs.Passed.{RecordsPass}
 use Rattle.format.specs.Alike.{row10-same}
-use Rattle.orders.specs.Ranks.{rank-rises}
+use Rattle.laws.specs.Ranks.{rank-rises}
 use Rattle.order_laws.specs.Parts.{Saying, carries, rank, OrderBody, Says, Part, a-members, a-target, a-holder, a-cut, kindOf, shardOf, firstOf, secondOf, tagOf, says-kind, says-shard, part-of, shard-below, tags-rise, said}
 
 -- what the masks, targets, holders and cuts are to be for an order of a view to a node

@@ -7,7 +7,7 @@ use lib.ListN.{getD}
 use Rattle.settings.specs.Settings.{shards}
 use Rattle.views.specs.declared.Plan.{Plan}
 use Rattle.views.specs.Reports.{maskAt}
-use Rattle.orders.specs.Ranks.{rank-rises}
+use Rattle.laws.specs.Ranks.{rank-rises}
 use Rattle.orders.specs.Orders.{carries, carriedBelow, own, plannedTarget, cutOf, triple, orderRecord, orderLen, orderBody}
 use Rattle.orders.specs.Recorded.{members-record, target-record, holder-record, cut-record, word-at}
 use Rattle.order_laws.specs.Parts.{Saying, Says, OrderBody}

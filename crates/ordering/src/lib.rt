@@ -18,7 +18,7 @@ fn order_refusal(settings: &[u32], x: State, desk: &[u32], n: u32, buffer: &[u32
         return Refusal { number: 1 };
     }
     let phase = x.phase;
-    let in_phase = planner::is_ordered(phase);
+    let in_phase = entry::is_ordered(phase);
     let known = masks::has(x.held, n as usize);
     planner::event_refusal(settings, x, desk, in_phase, n, known)
 }

@@ -1,5 +1,4 @@
 -- What an order says, and how its records are stored one after another.
-pub mod Ranks
 pub mod Orders
 pub mod Recorded
 pub mod Stores

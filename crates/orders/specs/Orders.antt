@@ -14,7 +14,7 @@ use Rattle.views.specs.declared.Plan.{Plan}
 use Rattle.views.specs.Logs.{pos}
 use Rattle.views.specs.Reports.{reportOf, maskAt}
 use Rattle.views.specs.Cuts.{cutFrom}
-use Rattle.orders.specs.Ranks.{nth}
+use Rattle.laws.specs.Ranks.{nth}
 
 -- the plan gives node n shard s
 abbrev pub carries : Plan → ℕ → ℕ → Bool

@@ -12,7 +12,7 @@ use Rattle.laws.specs.Tables.{getD-tabulate}
 use Rattle.settings.specs.Settings.{shards}
 use Rattle.views.specs.declared.Plan.{Plan}
 use Rattle.views.specs.Reports.{maskAt}
-use Rattle.orders.specs.Ranks.{nth-rank, rank-rises}
+use Rattle.laws.specs.Ranks.{nth-rank, rank-rises}
 use Rattle.orders.specs.Orders.{carries, carriedBelow, own, plannedTarget, triple, placed, holderRecord, cutRecord, orderRecord, orderLen, orderWord, orderBody}
 
 module _ (σ : List ℕ) (p : Plan) (d : List ℕ) (n : ℕ) where

@@ -1,9 +1,8 @@
 -- An order's records stored one after another: each turn of a loop over the shards stores a record, or none where the node does
 -- not carry the shard. The four loops, from a body of zeros, make the body of the order.
-use Prim.Native.Nat.{ℕ, zero, suc, _+_, _*_, _/_, _%_, _<_, _≤_}
+use Prim.Native.Nat.{ℕ, suc, _+_, _*_, _/_, _%_, _<_, _≤_}
 use native.Mathlib.Omega.{arith}
 use native.Mathlib.Nat.{add-zero}
-use native.Mathlib.Numerals.{add-one}
 use mathlib.Core.Bool.{Bool, true, false, cond}
 use mathlib.Core.List.{List}
 use mathlib.Core.Logic.{_⊎_, inl, inr, ⊎-elim}
@@ -13,6 +12,7 @@ use lib.ListN.{length, getD, set, replicate, length-replicate, getD-replicate}
 use borrow.Author.Tests.{lt-ltb, le-ltb}
 use Rattle.laws.specs.Bools.{either, lt-or-le}
 use Rattle.laws.specs.Below.{count-zero, count-suc, count-hit, count-miss, count-le}
+use Rattle.laws.specs.Loops.{turns, turns-none, turned, turns-hold}
 use Rattle.laws.specs.Tables.{filled, filled-none, filled-more, tabulate-ext, length-filled, getD-filled, getD-filled-rest}
 use Rattle.settings.specs.Settings.{shards}
 use Rattle.ids.specs.declared.Position.{Position}
@@ -26,11 +26,6 @@ use Rattle.orders.specs.Recorded.{members-record, target-record, holder-
 -- a body in which record j has the words x, y and z
 abbrev pub stored : List ℕ → ℕ → ℕ → ℕ → ℕ → List ℕ
 stored b j x y z = set (set (set b (3 * j) x) (3 * j + 1) y) (3 * j + 2) z
-
--- general: a list after n turns of a loop, where turn s makes g s l of the list l
-unfoldable pub turns : ℕ → (ℕ → List ℕ → List ℕ) → List ℕ → List ℕ
-turns zero g l = l
-turns (suc n) g l = g n (turns n g l)
 
 -- the members of shard s
 abbrev pub storeMembers : Layout → ℕ → List ℕ → List ℕ
@@ -56,23 +51,6 @@ storeCutOf from p d own len n =
 -- the cut of shard s
 abbrev pub storeCut : ℕ → Plan → List ℕ → ℕ → ℕ → List ℕ → List ℕ
 storeCut from p d n = storeCutOf from p d (reportOf d n .body) (reportOf d n .len) n
-
--- ---- turns
-
-pub turns-none : (g : ℕ → List ℕ → List ℕ) (l : List ℕ) → turns 0 g l ≡ l
-unfolding turns
-turns-none g l = refl
-
-pub turns-more : (n : ℕ) (g : ℕ → List ℕ → List ℕ) (l : List ℕ) → turns (n + 1) g l ≡ g n (turns n g l)
-unfolding turns
-turns-more n g l = ap (λ (k : ℕ). turns k g l) (add-one n)
-
--- a loop whose list is what its turns so far made: one turn more, and the end
-pub turned : (s : ℕ) (g : ℕ → List ℕ → List ℕ) (l₀ l m : List ℕ) → l ≡ turns s g l₀ → m ≡ g s l → m ≡ turns (s + 1) g l₀
-turned s g l₀ l m e d = d ∙ ap (g s) e ∙ sym (turns-more s g l₀)
-
-pub turned-all : (s n : ℕ) (g : ℕ → List ℕ → List ℕ) (l₀ l : List ℕ) → s ≤ n → n ≤ s → l ≡ turns s g l₀ → l ≡ turns n g l₀
-turned-all s n g l₀ l a b e = e ∙ ap (λ (k : ℕ). turns k g l₀) (let h : s ≡ n = omega arith in h)
 
 -- the record of a position that is q
 pub position-stored : (b m : List ℕ) (j x : ℕ) (t q : Position) → t ≡ q → m ≡ stored b j x (t .view .0) (t .k) → m ≡ stored b j x (q .view .0) (q .k)
@@ -146,14 +124,6 @@ module _ (f : ℕ → ℕ) (z : List ℕ) where
       ∙ ap (λ (b : List ℕ). set b (3 * j + 2) w) (word-stored (3 * j + 1) (3 * j + 2) y (omega arith) (omega arith) e)
       ∙ word-stored (3 * j + 2) (3 * k) w h (omega arith) g
 
-  -- before turn s the first `at s` records are stored
-  turns-stored : (at : ℕ → ℕ) (g : ℕ → List ℕ → List ℕ) (n : ℕ)
-      → ((s : ℕ) → s < n → g s (filled (3 * at s) f z) ≡ filled (3 * at (suc s)) f z)
-      → turns n g (filled (3 * at 0) f z) ≡ filled (3 * at n) f z
-  unfolding turns
-  turns-stored at g zero h = refl
-  turns-stored at g (suc n) h = ap (g n) (turns-stored at g n (λ s l. h s (omega arith))) ∙ h n (omega arith)
-
 -- ---- the order of node n
 
 module _ (σ : List ℕ) (p : Plan) (d : List ℕ) (n : ℕ) (few : shards σ ≤ 16) where
@@ -187,8 +157,7 @@ module _ (σ : List ℕ) (p : Plan) (d : List ℕ) (n : ℕ) (few : shards σ �
   -- a loop that stores records of the order
   ordered-turns : (at : ℕ → ℕ) (g : ℕ → List ℕ → List ℕ) → ((s : ℕ) → s < shards σ → g s (ordered (at s)) ≡ ordered (at (suc s)))
       → turns (shards σ) g (ordered (at 0)) ≡ ordered (at (shards σ))
-  unfolding ordered
-  ordered-turns at g h = turns-stored (orderWord σ p d n) (replicate 381 0) at g (shards σ) h
+  ordered-turns at g h = turns-hold (λ s. ordered (at s)) g (shards σ) h
 
   abbrev S : ℕ
   S = shards σ

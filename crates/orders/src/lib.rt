@@ -9,19 +9,14 @@ use views::Layout;
 use views::Plan;
 ghost use mathlib.Core.Path.{_≡_};
 ghost use Prim.Native.Nat.{_+_, _*_, _<_, _≤_};
-ghost use lib.ListN.{length, getD};
+ghost use lib.ListN.{getD};
 ghost use Rattle.laws.specs.Masks.{has};
 ghost use Rattle.views.specs.Reports.{maskAt};
 ghost use Rattle.settings.specs.Settings.{Sizes, shards};
 ghost use Rattle.orders.specs.Orders.{carriedBelow, plannedTarget, cutAgainst, orderContents};
-ghost use Rattle.orders.specs.Stores.{stored, turns, storeMembers, storeTarget, storeHolder, storeCutOf};
+ghost use Rattle.orders.specs.Stores.{stored, storeMembers, storeTarget, storeHolder, storeCutOf};
+ghost use Rattle.laws.specs.Loops.{turns};
 ghost use Rattle.orders.specs.Readable.{Readable, Holders};
-
-fn wide(x: u32) -> usize
-    ensures { λ r. ⌜ r ≡ x ⌝ }
-{
-    x as usize
-}
 
 // Stores the words of record j.
 fn put(body: &mut [u32; 381], j: usize, a: u32, b: u32, c: u32)
@@ -103,9 +98,9 @@ fn cut_for(body: &[u32; 381], len: usize, plan: Plan, desk: &[u32], s: usize) ->
     requires { ⌜ Readable (now desk) (getD (plan .holders) s 0) ⌝ }
     ensures { λ r. ⌜ r ≡ cutAgainst plan (now (desk .entry)) (now (body .entry)) len s ⌝ }
 {
-    let holder = slots::report_at(desk, wide(plan.holders[s]));
+    let holder = slots::report_at(desk, ids::wide(plan.holders[s]));
     let hlen = holder.len;
-    logs::cut(
+    cuts::cut(
         body,
         len,
         &holder.body,
@@ -154,8 +149,8 @@ pub fn order_contents(settings: &[u32], plan: Plan, desk: &[u32], node: Node) ->
     requires { ⌜ Holders (shards (now settings)) plan (now desk) ⌝ }
     ensures { λ r. ⌜ r ≡ orderContents (now (settings .entry)) plan (now (desk .entry)) (node .0) ⌝ }
 {
-    let count = wide(settings[3]);
-    let n = wide(node.0);
+    let count = ids::wide(settings[3]);
+    let n = ids::wide(node.0);
     let layout = plan.layout;
     let number = layout.number;
     let report = slots::report_at(desk, n);

@@ -24,9 +24,16 @@ abbrev pub still : State → Decision → Decided
 still x a = record { state = x; decision = a }
 
 -- what a verdict leads to: a plan to ordered, and a wait changes nothing
-unfoldable pub decidedBy : Quorum → State → Plan → Decided
-decidedBy Met x p = still (planned x p) Decision.Planned
-decidedBy (Short reason) x p = still x (Decision.Wait reason)
+unfoldable pub stateBy : Quorum → State → Plan → State
+stateBy Met x p = planned x p
+stateBy (Short reason) x p = x
+
+unfoldable pub decisionBy : Quorum → Decision
+decisionBy Met = Decision.Planned
+decisionBy (Short reason) = Decision.Wait reason
+
+abbrev pub decidedBy : Quorum → State → Plan → Decided
+decidedBy q x p = still (stateBy q x p) (decisionBy q)
 
 -- a plan stands in the next state
 pub record WithPlan (σ : List ℕ) (x : State) (d : List ℕ) (r : Decided) : Type 0 where

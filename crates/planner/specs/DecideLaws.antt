@@ -20,7 +20,7 @@ use Rattle.planner.specs.declared.Decision.{Decision}
 use Rattle.planner.specs.declared.Decided.{Decided}
 use Rattle.planner.specs.Refusing.{isGathering, deskOk, decideRefusal}
 use Rattle.planner.specs.Entry.{sound-given, Entered, entry-given}
-use Rattle.planner.specs.Decide.{still, decidedBy, Decides}
+use Rattle.planner.specs.Decide.{still, stateBy, decisionBy, decidedBy, Decides}
 
 module _ (σ : List ℕ) (x : State) (d : List ℕ) where
   -- a refusal
@@ -50,7 +50,7 @@ module _ (σ : List ℕ) (x : State) (d : List ℕ) where
     -- a verdict
     pub decides-by : (w : Verdict) → Restarts σ (x .kept) (x .termination) (x .held) d w
         → Decides σ x d (decidedBy (w .quorum) x (w .plan))
-    unfolding decidedBy
+    unfolding stateBy decisionBy
     decides-by w k =
         record {
           refused = λ f. clash taken f;

@@ -10,9 +10,10 @@ use Rattle.settings.specs.Settings.{nodes, settingsOk}
 use Rattle.ids.specs.Refusals.{none, unless-ok, unless-rest, first-left, first-right}
 use Rattle.views.specs.Slots.{slotsOk}
 use Rattle.views.specs.Soundness.{keptSound, marksSound, planFits}
+use Rattle.entry.specs.Rows.{nodeRefusal}
 use Rattle.planner.specs.declared.State.{State}
 use Rattle.planner.specs.States.{sound}
-use Rattle.planner.specs.Refusing.{entryRefusal, nodeRefusal, eventRefusal}
+use Rattle.planner.specs.Refusing.{entryRefusal, eventRefusal}
 
 -- a sound state
 pub record Sound (σ : List ℕ) (x : State) (d : List ℕ) : Type 0 where

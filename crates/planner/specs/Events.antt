@@ -11,7 +11,8 @@ use Rattle.format.specs.declared.Contents.{Contents}
 use Rattle.format.specs.Messages.{contentsOf}
 use Rattle.views.specs.declared.Phase.{Phase}
 use Rattle.views.specs.declared.Phase.the-variants.{Gathering, Ordered, Preparing, Committed}
-use Rattle.reports.specs.Reports.{renewed, deskWith}
+use Rattle.reports.specs.Reports.{renewed}
+use Rattle.desk.specs.Desk.{deskWith}
 use Rattle.planner.specs.declared.State.{State}
 use Rattle.planner.specs.declared.Outcome.{Outcome}
 use Rattle.planner.specs.declared.Answer.{Answer}

@@ -1,54 +1,25 @@
 -- When each event is refused: rows of document 01's table in their order.
 use Prim.Native.Nat.{ℕ}
-use mathlib.Core.Bool.{Bool, true, false, not, _&&_}
+use mathlib.Core.Bool.{Bool, not, _&&_}
 use mathlib.Core.List.{List}
-use lib.Dec.{eqb, ltb}
+use lib.Dec.{eqb}
 use lib.ListN.{length}
 use Rattle.laws.specs.Masks.{has}
-use Rattle.settings.specs.Settings.{nodes, settingsOk}
+use Rattle.settings.specs.Settings.{settingsOk}
 use Rattle.ids.specs.declared.Refusal.{Refusal}
-use Rattle.ids.specs.Refusals.{none, unless, firstOf}
-use Rattle.views.specs.declared.Phase.{Phase}
-use Rattle.views.specs.declared.Phase.the-variants.{Gathering, Ordered, Preparing, Committed}
+use Rattle.ids.specs.Refusals.{firstOf}
+pub use Rattle.entry.specs.Phases.{isGathering, isOrdered, isPreparing, isCommitted}
+pub use Rattle.entry.specs.Rows.{entryRows, nodeRefusal}
 use Rattle.reports.specs.Reports.{refusalBeside}
 use Rattle.planner.specs.declared.State.{State}
 use Rattle.planner.specs.States.{sound}
 
-abbrev pub isGathering : Phase → Bool
-isGathering Gathering = true
-isGathering Ordered = false
-isGathering Preparing = false
-isGathering Committed = false
-
-abbrev pub isOrdered : Phase → Bool
-isOrdered Gathering = false
-isOrdered Ordered = true
-isOrdered Preparing = false
-isOrdered Committed = false
-
-abbrev pub isPreparing : Phase → Bool
-isPreparing Gathering = false
-isPreparing Ordered = false
-isPreparing Preparing = true
-isPreparing Committed = false
-
-abbrev pub isCommitted : Phase → Bool
-isCommitted Gathering = false
-isCommitted Ordered = false
-isCommitted Preparing = false
-isCommitted Committed = true
-
 -- rows 1 to 4, which concern every event: lengths right, settings, state, and the event in its phase
 unfoldable pub entryRefusal : Bool → List ℕ → State → List ℕ → Bool → Refusal
-entryRefusal lengths σ x d inPhase =
-    unless lengths 1 (unless (settingsOk σ) 2 (unless (sound σ x d) 3 (unless inPhase 4 none)))
+entryRefusal lengths σ x d inPhase = entryRows lengths (settingsOk σ) (sound σ x d) inPhase
 
 abbrev pub deskOk : List ℕ → Bool
 deskOk d = eqb (length d) 16384
-
--- row 14, after row 6, for a node that an event names
-unfoldable pub nodeRefusal : List ℕ → ℕ → Bool → Refusal
-nodeRefusal σ n ok = unless (ltb n (nodes σ)) 6 (unless ok 14 none)
 
 -- an event that names node n, in its phase, where n is as it should be
 unfoldable pub eventRefusal : Bool → List ℕ → State → List ℕ → Bool → ℕ → Bool → Refusal

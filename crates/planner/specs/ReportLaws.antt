@@ -12,7 +12,8 @@ use Rattle.ids.specs.Refusals.{refused, accepted, first-none, first-refused}
 use Rattle.format.specs.declared.Contents.{Contents}
 use Rattle.format.specs.declared.Reading.{Reading}
 use Rattle.format.specs.Messages.{contentsOf}
-use Rattle.reports.specs.Reports.{refusalBeside, readingBeside, deskWith}
+use Rattle.reports.specs.Reports.{refusalBeside, readingBeside}
+use Rattle.desk.specs.Desk.{deskWith}
 use Rattle.reports.specs.Laws.{taken-contents, taken-node}
 use Rattle.planner.specs.declared.State.{State}
 use Rattle.planner.specs.declared.Answer.{Answer}

@@ -11,11 +11,8 @@ use views::Plan;
 use views::Quorum;
 use views::Reason;
 use views::Termination;
-ghost use mathlib.Core.Bool.{true, not, _&&_};
 ghost use mathlib.Core.Path.{_≡_};
 ghost use Prim.Native.Nat.{_<_};
-ghost use lib.ListN.{length};
-ghost use Rattle.laws.specs.Masks.{has};
 ghost use Rattle.settings.specs.Settings.{Settings};
 ghost use Rattle.planner.specs.States as States;
 ghost use Rattle.planner.specs.Refusing as Refusing;
@@ -58,56 +55,46 @@ pub struct Decided {
     pub decision: Decision,
 }
 
-// Row 3: the state is sound beside the desk.
-fn is_sound(settings: &[u32], x: State, desk: &[u32]) -> bool
-    requires { ⌜ Settings (now settings) ⌝ }
-    requires { ⌜ length (now desk) ≡ 16384 ⌝ }
-    ensures { λ r. ⌜ r ≡ States.sound (now (settings .entry)) x (now (desk .entry)) ⌝ }
+// A state of its parts.
+fn of_parts(
+    phase: Phase,
+    kept: Layout,
+    termination: Termination,
+    held: u32,
+    fetched: u32,
+    prepared: u32,
+    plan: Plan,
+) -> State
+    ensures { λ r. ⌜ r ≡ States.ofParts phase kept termination held fetched prepared plan ⌝ }
 {
-    if !soundness::kept_sound(settings, x.kept, x.termination, x.held) {
-        return false;
+    State {
+        phase,
+        kept,
+        termination,
+        held,
+        fetched,
+        prepared,
+        plan,
     }
-    if !slots::slots_ok(settings, x.kept, x.termination, x.held, desk) {
-        return false;
-    }
-    let phase = x.phase;
-    if !soundness::marks_sound(phase, x.held, x.fetched, x.prepared) {
-        return false;
-    }
-    plans::plan_fits(phase, settings, x.kept, x.termination, x.held, desk, x.plan)
 }
 
 // Rows 1 to 4.
 fn entry_refusal(settings: &[u32], x: State, desk: &[u32], in_phase: bool) -> Refusal
     ensures { λ r. ⌜ r ≡ Refusing.entryRefusal (Refusing.deskOk (now (desk .entry))) (now (settings .entry)) x (now (desk .entry)) in_phase ⌝ }
 {
-    if desk.len() != 16384 {
-        return Refusal { number: 1 };
-    }
-    if !settings::check(settings) {
-        return Refusal { number: 2 };
-    }
-    if !is_sound(settings, x, desk) {
-        return Refusal { number: 3 };
-    }
-    if !in_phase {
-        return Refusal { number: 4 };
-    }
-    Refusal { number: 0 }
-}
-
-// Rows 6 and 14, for a node that an event names.
-fn node_refusal(settings: &[u32], n: u32, ok: bool) -> Refusal
-    requires { ⌜ Settings (now settings) ⌝ }
-    ensures { λ r. ⌜ r ≡ Refusing.nodeRefusal (now (settings .entry)) n ok ⌝ }
-{
-    if settings::nodes(settings) <= n {
-        return Refusal { number: 6 };
-    }
-    if !ok {
-        return Refusal { number: 14 };
-    }
-    Refusal { number: 0 }
+    let phase = x.phase;
+    entry::entry_refusal(
+        settings,
+        desk,
+        in_phase,
+        phase,
+        x.kept,
+        x.termination,
+        x.held,
+        x.fetched,
+        x.prepared,
+        x.plan,
+    )
 }
 
 // The refusal of an event that names a node.
@@ -121,54 +108,45 @@ pub fn event_refusal(
 ) -> Refusal
     ensures { λ r. ⌜ r ≡ Refusing.eventRefusal (Refusing.deskOk (now (desk .entry))) (now (settings .entry)) x (now (desk .entry)) in_phase n ok ⌝ }
 {
-    let refusal = entry_refusal(settings, x, desk, in_phase);
+    let phase = x.phase;
+    entry::event_refusal(
+        settings,
+        desk,
+        in_phase,
+        n,
+        ok,
+        phase,
+        x.kept,
+        x.termination,
+        x.held,
+        x.fetched,
+        x.prepared,
+        x.plan,
+    )
+}
+
+// The next state, or beside a refusal the state as it was: the outcome of an event that names a node.
+fn settled(
+    settings: &[u32],
+    x: State,
+    desk: &[u32],
+    in_phase: bool,
+    n: u32,
+    ok: bool,
+    next: State,
+) -> Outcome
+    ensures { λ r. ⌜ r ≡ Events.outcome (Refusing.eventRefusal (Refusing.deskOk (now (desk .entry))) (now (settings .entry)) x (now (desk .entry)) in_phase n ok) x next ⌝ }
+{
+    let refusal = event_refusal(settings, x, desk, in_phase, n, ok);
     if refusal.number != 0 {
-        return refusal;
+        return Outcome {
+            state: x,
+            answer: Answer::Refused(refusal),
+        };
     }
-    node_refusal(settings, n, ok)
-}
-
-fn is_gathering(phase: Phase) -> bool
-    ensures { λ r. ⌜ r ≡ Refusing.isGathering phase ⌝ }
-{
-    match phase {
-        Phase::Gathering => true,
-        Phase::Ordered => false,
-        Phase::Preparing => false,
-        Phase::Committed => false,
-    }
-}
-
-pub fn is_ordered(phase: Phase) -> bool
-    ensures { λ r. ⌜ r ≡ Refusing.isOrdered phase ⌝ }
-{
-    match phase {
-        Phase::Gathering => false,
-        Phase::Ordered => true,
-        Phase::Preparing => false,
-        Phase::Committed => false,
-    }
-}
-
-fn is_preparing(phase: Phase) -> bool
-    ensures { λ r. ⌜ r ≡ Refusing.isPreparing phase ⌝ }
-{
-    match phase {
-        Phase::Gathering => false,
-        Phase::Ordered => false,
-        Phase::Preparing => true,
-        Phase::Committed => false,
-    }
-}
-
-fn is_committed(phase: Phase) -> bool
-    ensures { λ r. ⌜ r ≡ Refusing.isCommitted phase ⌝ }
-{
-    match phase {
-        Phase::Gathering => false,
-        Phase::Ordered => false,
-        Phase::Preparing => false,
-        Phase::Committed => true,
+    Outcome {
+        state: next,
+        answer: Answer::Accepted,
     }
 }
 
@@ -176,14 +154,15 @@ fn is_committed(phase: Phase) -> bool
 fn restarted(x: State) -> State
     ensures { λ r. ⌜ r ≡ States.restarted x ⌝ }
 {
-    State {
-        phase: Phase::Gathering,
-        held: 0,
-        fetched: 0,
-        prepared: 0,
-        plan: deciding::no_plan(),
-        ..x
-    }
+    of_parts(
+        Phase::Gathering,
+        x.kept,
+        x.termination,
+        0,
+        0,
+        0,
+        deciding::no_plan(),
+    )
 }
 
 // The node that reports is held, and what is kept is renewed.
@@ -193,100 +172,115 @@ fn after_report(settings: &[u32], x: State, c: Contents) -> State
     ensures { λ r. ⌜ r ≡ Events.afterReport (now (settings .entry)) x c ⌝ }
 {
     let renewed = reports::renew(settings, x.kept, x.termination, c);
-    let kept = renewed.view;
-    let termination = renewed.termination;
     let node = c.node;
-    State {
-        kept,
-        termination,
-        held: masks::with(x.held, node.0 as usize),
-        ..x
-    }
+    let held = masks::with(x.held, node.0 as usize);
+    let phase = x.phase;
+    of_parts(
+        phase,
+        renewed.view,
+        renewed.termination,
+        held,
+        x.fetched,
+        x.prepared,
+        x.plan,
+    )
 }
 
-fn after_drop(x: State, n: usize) -> State
+// While gathering the node is no longer held; while ordered or preparing gathering starts again.
+fn after_drop(x: State, n: u32) -> State
     ensures { λ r. ⌜ r ≡ Events.afterDrop x n ⌝ }
 {
     let phase = x.phase;
     match phase {
-        Phase::Gathering => State {
-            held: masks::without(x.held, n),
-            ..x
-        },
+        Phase::Gathering => {
+            let held = masks::without(x.held, n as usize);
+            of_parts(
+                phase,
+                x.kept,
+                x.termination,
+                held,
+                x.fetched,
+                x.prepared,
+                x.plan,
+            )
+        }
         Phase::Ordered => restarted(x),
         Phase::Preparing => restarted(x),
         Phase::Committed => x,
     }
 }
 
-fn after_fetched(x: State, n: usize) -> State
-    requires { ⌜ n < 32 ⌝ }
-    ensures { λ r. ⌜ r ≡ Events.afterFetched x n ⌝ }
+// The node is marked, and preparing follows when every held node is.
+fn after_fetched(x: State, n: u32) -> State
+    ensures { λ r. ⌜ (n < 32 → r ≡ Events.afterFetched x n) ⌝ }
 {
-    let fetched = masks::with(x.fetched, n);
-    if fetched == x.held {
-        return State {
-            phase: Phase::Preparing,
-            fetched,
-            ..x
-        };
-    }
-    State {
-        phase: Phase::Ordered,
+    let fetched = entry::mark(x.fetched, n);
+    let phase = entry::phase_after(fetched, x.held, Phase::Ordered, Phase::Preparing);
+    of_parts(
+        phase,
+        x.kept,
+        x.termination,
+        x.held,
         fetched,
-        ..x
-    }
+        x.prepared,
+        x.plan,
+    )
 }
 
-fn after_prepared(x: State, n: usize) -> State
-    requires { ⌜ n < 32 ⌝ }
-    ensures { λ r. ⌜ r ≡ Events.afterPrepared x n ⌝ }
+// The node is marked, and committed follows when every held node is.
+fn after_prepared(x: State, n: u32) -> State
+    ensures { λ r. ⌜ (n < 32 → r ≡ Events.afterPrepared x n) ⌝ }
 {
-    let prepared = masks::with(x.prepared, n);
-    if prepared == x.held {
-        return State {
-            phase: Phase::Committed,
-            prepared,
-            ..x
-        };
-    }
-    State {
-        phase: Phase::Preparing,
+    let prepared = entry::mark(x.prepared, n);
+    let phase = entry::phase_after(prepared, x.held, Phase::Preparing, Phase::Committed);
+    of_parts(
+        phase,
+        x.kept,
+        x.termination,
+        x.held,
+        x.fetched,
         prepared,
-        ..x
-    }
+        x.plan,
+    )
 }
 
 // A plan leads to ordered, and a wait changes nothing.
+fn after_quorum(x: State, quorum: Quorum, plan: Plan) -> State
+    ensures { λ r. ⌜ r ≡ Decide.stateBy quorum x plan ⌝ }
+{
+    match quorum {
+        Quorum::Met => of_parts(
+            Phase::Ordered,
+            x.kept,
+            x.termination,
+            x.held,
+            x.fetched,
+            x.prepared,
+            plan,
+        ),
+        Quorum::Short(_) => x,
+    }
+}
+
+// The decision that a quorum leads to.
+fn decision_of(quorum: Quorum) -> Decision
+    ensures { λ r. ⌜ r ≡ Decide.decisionBy quorum ⌝ }
+{
+    match quorum {
+        Quorum::Met => Decision::Planned,
+        Quorum::Short(reason) => Decision::Wait(reason),
+    }
+}
+
+// The next state and the decision that a verdict leads to.
 fn after_verdict(x: State, verdict: Verdict) -> Decided
     ensures { λ r. ⌜ r ≡ Decide.decidedBy (verdict .quorum) x (verdict .plan) ⌝ }
 {
     let quorum = verdict.quorum;
-    let plan = verdict.plan;
-    match quorum {
-        Quorum::Met => Decided {
-            state: State {
-                phase: Phase::Ordered,
-                plan,
-                ..x
-            },
-            decision: Decision::Planned,
-        },
-        Quorum::Short(reason) => Decided {
-            state: x,
-            decision: Decision::Wait(reason),
-        },
+    Decided {
+        state: after_quorum(x, quorum, verdict.plan),
+        decision: decision_of(quorum),
     }
-}
-
-// The node is in one mask and not in the other.
-fn lacks(held: u32, marks: u32, n: usize) -> bool
-    ensures { λ r. ⌜ r ≡ (has held n && not (has marks n)) ⌝ }
-{
-    if !masks::has(held, n) {
-        return false;
-    }
-    !masks::has(marks, n)
 }
 
 impl State {
@@ -314,7 +308,7 @@ impl State {
         ensures desk { λ r. ⌜ now (desk .exit) ≡ Events.deskAfter (now (settings .entry)) self (now (desk .entry)) (now (message .entry)) ⌝ }
     {
         let phase = self.phase;
-        let in_phase = is_gathering(phase);
+        let in_phase = entry::is_gathering(phase);
         let entry = entry_refusal(settings, self, desk, in_phase);
         if entry.number != 0 {
             return Outcome {
@@ -332,7 +326,7 @@ impl State {
         }
         let contents = reading.contents;
         let node = contents.node;
-        reports::store(desk, node.0 as usize, message);
+        desk::store(desk, node.0 as usize, message);
         Outcome {
             state: after_report(settings, self, contents),
             answer: Answer::Accepted,
@@ -345,19 +339,17 @@ impl State {
     {
         let n = node.0;
         let phase = self.phase;
-        let in_phase = !is_committed(phase);
+        let in_phase = !entry::is_committed(phase);
         let known = masks::has(self.held, n as usize);
-        let refusal = event_refusal(settings, self, desk, in_phase, n, known);
-        if refusal.number != 0 {
-            return Outcome {
-                state: self,
-                answer: Answer::Refused(refusal),
-            };
-        }
-        Outcome {
-            state: after_drop(self, n as usize),
-            answer: Answer::Accepted,
-        }
+        settled(
+            settings,
+            self,
+            desk,
+            in_phase,
+            n,
+            known,
+            after_drop(self, n),
+        )
     }
 
     // A node has fetched what it lacked.
@@ -366,19 +358,17 @@ impl State {
     {
         let n = node.0;
         let phase = self.phase;
-        let in_phase = is_ordered(phase);
-        let known = lacks(self.held, self.fetched, n as usize);
-        let refusal = event_refusal(settings, self, desk, in_phase, n, known);
-        if refusal.number != 0 {
-            return Outcome {
-                state: self,
-                answer: Answer::Refused(refusal),
-            };
-        }
-        Outcome {
-            state: after_fetched(self, n as usize),
-            answer: Answer::Accepted,
-        }
+        let in_phase = entry::is_ordered(phase);
+        let known = entry::lacks(self.held, self.fetched, n);
+        settled(
+            settings,
+            self,
+            desk,
+            in_phase,
+            n,
+            known,
+            after_fetched(self, n),
+        )
     }
 
     // A node has prepared the new view.
@@ -387,19 +377,17 @@ impl State {
     {
         let n = node.0;
         let phase = self.phase;
-        let in_phase = is_preparing(phase);
-        let known = lacks(self.held, self.prepared, n as usize);
-        let refusal = event_refusal(settings, self, desk, in_phase, n, known);
-        if refusal.number != 0 {
-            return Outcome {
-                state: self,
-                answer: Answer::Refused(refusal),
-            };
-        }
-        Outcome {
-            state: after_prepared(self, n as usize),
-            answer: Answer::Accepted,
-        }
+        let in_phase = entry::is_preparing(phase);
+        let known = entry::lacks(self.held, self.prepared, n);
+        settled(
+            settings,
+            self,
+            desk,
+            in_phase,
+            n,
+            known,
+            after_prepared(self, n),
+        )
     }
 
     // A plan for the held nodes, or the first reason to wait.
@@ -407,7 +395,7 @@ impl State {
         ensures { λ r. ⌜ Decide.Decides (now (settings .entry)) self (now (desk .entry)) r ⌝ }
     {
         let phase = self.phase;
-        let in_phase = is_gathering(phase);
+        let in_phase = entry::is_gathering(phase);
         let refusal = entry_refusal(settings, self, desk, in_phase);
         if refusal.number != 0 {
             return Decided {

@@ -34,12 +34,6 @@ module _ (σ : List ℕ) (x : State) (d : List ℕ) (n : ℕ) (buffer : List ℕ
   taken : r .number ≡ 0 → orderRefusal σ x d n buffer ≡ none
   taken h = sym e ∙ ap refused h
 
-order-refusal-requires : tie.Need-order-refusal-requires
-order-refusal-requires c κs = search needs
-
-same-length : tie.Need-same-length
-same-length c = search needs
-
 returns : tie.Need-returns
 returns c =
     let e = c .before .before .order-refusal .ensures in
@@ -49,12 +43,6 @@ order-contents-requires : tie.Need-order-contents-requires
 order-contents-requires c κs =
     let h = taken _ _ _ _ _ _ (c .before .before .order-refusal .ensures) (c .if1 .left) in
     (taken-settings _ _ _ _ _ h .sizes, (taken-node _ _ _ _ _ h, taken-holders _ _ _ _ _ h))
-
-write-requires : tie.Need-write-requires
-write-requires c κs = search needs
-
-same-length-2 : tie.Need-same-length-2
-same-length-2 c = search needs
 
 returns-2 : tie.Need-returns-2
 returns-2 c =
@@ -69,11 +57,4 @@ returns-2 c =
 pub order-spec : {M : Type 1} → statement M
 order-spec =
     tie.close
-    (tie.spec
-    order-refusal-requires
-    same-length
-    returns
-    order-contents-requires
-    write-requires
-    same-length-2
-    returns-2)
+    (tie.spec (λ c κs. search needs) (λ c. search needs) returns order-contents-requires (λ c κs. search needs) (λ c. search needs) returns-2)

@@ -11,15 +11,6 @@ use Rattle.ordering.proofs.order_refusal.Tie as tie
 returns : tie.Need-returns
 returns c = sym (buffer-wrong _ _ _ _ _ (ne-eqb _ _ (c .if1 .taken)))
 
-is-ordered-requires : tie.Need-is-ordered-requires
-is-ordered-requires c κs = search needs
-
-has-requires : tie.Need-has-requires
-has-requires c κs = search needs
-
-event-refusal-requires : tie.Need-event-refusal-requires
-event-refusal-requires c κs = search needs
-
 returns-2 : tie.Need-returns-2
 returns-2 c =
     let a = c .before .before .before .before .before .before .before .args in
@@ -29,4 +20,4 @@ returns-2 c =
 
 pub order-refusal-spec : {M : Type 1} → statement M
 order-refusal-spec =
-    tie.close (tie.spec returns is-ordered-requires has-requires event-refusal-requires returns-2)
+    tie.close (tie.spec returns (λ c κs. search needs) (λ c κs. search needs) (λ c κs. search needs) returns-2)

@@ -5,25 +5,10 @@ use borrow.Author.Needs.{needs}
 use Rattle.orders.proofs.cut_for.Statement.{statement}
 use Rattle.orders.proofs.cut_for.Tie as tie
 
-mul-wide : tie.Need-mul-wide
-mul-wide c = search needs
-
-element-copy-out-wide : tie.Need-element-copy-out-wide
-element-copy-out-wide c = search needs
-
-wide-requires : tie.Need-wide-requires
-wide-requires c κs = search needs
-
 report-at-requires : tie.Need-report-at-requires
 report-at-requires c κs =
     let r = subst⁻¹ (Readable (c .before .before .before .args .desk .now)) (c .wide .ensures) (c .before .before .before .pre .1) in
     ((r .words, r .below), r .chained)
-
-cast-t14 : tie.Need-cast-t14
-cast-t14 c = search needs
-
-target-of-requires : tie.Need-target-of-requires
-target-of-requires c κs = search needs
 
 cut-requires : tie.Need-cut-requires
 cut-requires c κs =
@@ -40,12 +25,5 @@ returns c =
 pub cut-for-spec : {M : Type 1} → statement M
 cut-for-spec =
     tie.close
-    (tie.spec
-    mul-wide
-    element-copy-out-wide
-    wide-requires
-    report-at-requires
-    cast-t14
-    target-of-requires
-    cut-requires
-    returns)
+    (tie.spec (λ c. search needs) (λ c. search needs) (λ c κs. search needs) report-at-requires (λ c. search needs) (λ c κs. search needs)
+    cut-requires returns)

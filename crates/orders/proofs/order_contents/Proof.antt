@@ -10,32 +10,11 @@ use borrow.Author.Needs.{needs}
 use Rattle.orders.proofs.order_contents.Statement.{statement}
 use Rattle.orders.proofs.order_contents.Tie as tie
 
-shared-slice-read-wide : tie.Need-shared-slice-read-wide
-shared-slice-read-wide c = search needs
-
-wide-requires : tie.Need-wide-requires
-wide-requires c κs = search needs
-
-wide-requires-2 : tie.Need-wide-requires-2
-wide-requires-2 c κs = search needs
-
 report-at-requires : tie.Need-report-at-requires
 report-at-requires c κs =
     let start = c .before .before .before .before .before .before .before in
     let r = subst⁻¹ (Readable (start .args .desk .now)) (c .before .before .wide2 .ensures) (start .pre .1 .0) in
     ((r .words, r .below), r .chained)
-
-put-members-requires : tie.Need-put-members-requires
-put-members-requires c κs = search needs
-
-put-targets-requires : tie.Need-put-targets-requires
-put-targets-requires c κs = search needs
-
-mul-put-holders : tie.Need-mul-put-holders
-mul-put-holders c = search needs
-
-put-holders-requires : tie.Need-put-holders-requires
-put-holders-requires c κs = search needs
 
 put-cuts-requires : tie.Need-put-cuts-requires
 put-cuts-requires c κs =
@@ -75,14 +54,5 @@ returns c =
 pub order-contents-spec : {M : Type 1} → statement M
 order-contents-spec =
     tie.close
-    (tie.spec
-    shared-slice-read-wide
-    wide-requires
-    wide-requires-2
-    report-at-requires
-    put-members-requires
-    put-targets-requires
-    mul-put-holders
-    put-holders-requires
-    put-cuts-requires
-    returns)
+    (tie.spec (λ c. search needs) (λ c κs. search needs) (λ c κs. search needs) report-at-requires (λ c κs. search needs) (λ c κs. search needs)
+    (λ c. search needs) (λ c κs. search needs) put-cuts-requires returns)

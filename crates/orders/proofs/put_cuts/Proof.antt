@@ -27,23 +27,11 @@ cut-for-requires c κs =
     let l = c .before .before .loop-test .taken in
     ((omega (arith, known .0 .0), known .0 .2), known .1 .holder (c .before .before .before .loop .s) l)
 
-cast-put : tie.Need-cast-put Inv-loop μ-loop
-cast-put c = search needs
-
-add-put : tie.Need-add-put Inv-loop μ-loop
-add-put c = search needs
-
 put-requires : tie.Need-put-requires Inv-loop μ-loop
 put-requires c κs = omega (arith, storing-room (c .before .before .before .before .before .before .loop .inv) (c .before .before .before .before .before .loop-test .taken), c .before .before .before .before .before .before .before .before .before .pre .0 .1)
 
 add-j : tie.Need-add-j Inv-loop μ-loop
 add-j c = omega (arith, storing-room (c .before .before .before .before .before .before .before .loop .inv) (c .before .before .before .before .before .before .loop-test .taken), c .before .before .before .before .before .before .before .before .before .before .pre .0 .1)
-
-add-s : tie.Need-add-s Inv-loop μ-loop
-add-s c = search needs
-
-loop-less : tie.Need-loop-less Inv-loop μ-loop
-loop-less c = search needs
 
 loop-again : tie.Need-loop-again Inv-loop μ-loop
 loop-again c =
@@ -70,17 +58,5 @@ returns c = storing-end (c .before .loop .inv) (c .loop-test .left)
 pub put-cuts-spec : {M : Type 1} → statement M
 put-cuts-spec =
     tie.close
-    (tie.spec
-    Inv-loop
-    μ-loop
-    loop-holds
-    carries-requires
-    cut-for-requires
-    cast-put
-    add-put
-    put-requires
-    add-j
-    add-s
-    loop-less
-    loop-again
-    returns)
+    (tie.spec Inv-loop μ-loop loop-holds carries-requires cut-for-requires (λ c. search needs) (λ c. search needs) put-requires add-j
+    (λ c. search needs) (λ c. search needs) loop-again returns)

@@ -18,32 +18,11 @@ abbrev μ-loop : tie.MeasureT-loop
 loop-holds : tie.Need-loop-holds Inv-loop μ-loop
 loop-holds c = storing-start _ _ _ _ _ _ (c .before .pre .0)
 
-carries-requires : tie.Need-carries-requires Inv-loop μ-loop
-carries-requires c κs = search needs
-
-cast-put : tie.Need-cast-put Inv-loop μ-loop
-cast-put c = search needs
-
-add-put : tie.Need-add-put Inv-loop μ-loop
-add-put c = search needs
-
-mul-put : tie.Need-mul-put Inv-loop μ-loop
-mul-put c = search needs
-
-element-copy-out-put : tie.Need-element-copy-out-put Inv-loop μ-loop
-element-copy-out-put c = search needs
-
 put-requires : tie.Need-put-requires Inv-loop μ-loop
 put-requires c κs = omega (arith, storing-room (c .before .before .before .before .before .loop .inv) (c .before .before .before .before .loop-test .taken), c .before .before .before .before .before .before .before .pre .1)
 
 add-j : tie.Need-add-j Inv-loop μ-loop
 add-j c = omega (arith, storing-room (c .before .before .before .before .before .before .loop .inv) (c .before .before .before .before .before .loop-test .taken), c .before .before .before .before .before .before .before .before .pre .1)
-
-add-s : tie.Need-add-s Inv-loop μ-loop
-add-s c = search needs
-
-loop-less : tie.Need-loop-less Inv-loop μ-loop
-loop-less c = search needs
 
 loop-again : tie.Need-loop-again Inv-loop μ-loop
 loop-again c =
@@ -69,18 +48,5 @@ returns c = storing-end (c .before .loop .inv) (c .loop-test .left)
 pub put-holders-spec : {M : Type 1} → statement M
 put-holders-spec =
     tie.close
-    (tie.spec
-    Inv-loop
-    μ-loop
-    loop-holds
-    carries-requires
-    cast-put
-    add-put
-    mul-put
-    element-copy-out-put
-    put-requires
-    add-j
-    add-s
-    loop-less
-    loop-again
-    returns)
+    (tie.spec Inv-loop μ-loop loop-holds (λ c κs. search needs) (λ c. search needs) (λ c. search needs) (λ c. search needs) (λ c. search needs)
+    put-requires add-j (λ c. search needs) (λ c. search needs) loop-again returns)

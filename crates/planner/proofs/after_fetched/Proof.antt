@@ -1,22 +1,23 @@
--- `planner::after_fetched` meets its contract: by whether all held nodes are marked. Assumes nothing.
-use mathlib.Core.Path.{sym}
-use borrow.Author.Tests.{eq-eqb, ne-eqb}
+-- `planner::after_fetched` meets its contract: the node is marked, and the phase follows from the marks. Assumes nothing.
+use Prim.Native.Nat.{ℕ}
+use mathlib.Core.Bool.{cond}
+use lib.Dec.{eqb}
+use Rattle.views.specs.declared.Phase.{Phase}
+use Rattle.views.specs.declared.Phase.the-variants.{Ordered, Preparing}
 use Rattle.planner.specs.States.{marked}
 use Rattle.planner.specs.Events.{afterFetched}
+use Rattle.planner.specs.EventLaws.{marks-step}
 use borrow.Author.Needs.{needs}
 use Rattle.planner.proofs.after_fetched.Statement.{statement}
 use Rattle.planner.proofs.after_fetched.Tie as tie
 
-with-requires : tie.Need-with-requires
-with-requires c κs = search needs
-
 returns : tie.Need-returns
 unfolding afterFetched marked
-returns c = simp (sym (c .before .before .before .before .before .with .ensures), eq-eqb _ _ (c .before .before .before .if1 .taken))
-
-returns-2 : tie.Need-returns-2
-unfolding afterFetched marked
-returns-2 c = simp (sym (c .before .before .before .before .before .with .ensures), ne-eqb _ _ (c .before .before .before .if1 .left))
+returns c =
+    let a = c .before .before .before .args in
+    λ h.
+    marks-step (λ (p : Phase) (f : ℕ). marked (a .x) p f (a .x .prepared)) (λ (f : ℕ). cond (eqb f (a .x .held)) Preparing Ordered)
+    (c .of-parts .ensures) (c .before .phase-after .ensures) (c .before .before .mark .ensures h)
 
 pub after-fetched-spec : {M : Type 1} → statement M
-after-fetched-spec = tie.close (tie.spec with-requires returns returns-2)
+after-fetched-spec = tie.close (tie.spec (λ c κs. search needs) (λ c κs. search needs) (λ c κs. search needs) returns)

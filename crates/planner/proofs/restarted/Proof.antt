@@ -1,15 +1,17 @@
--- `planner::restarted` meets its contract: field by field. Assumes nothing.
-use Rattle.planner.specs.States.{restarted}
+-- `planner::restarted` meets its contract: part by part. Assumes nothing.
+use mathlib.Core.Path.{ap, _∙_}
+use Rattle.views.specs.declared.Plan.{Plan}
+use Rattle.views.specs.declared.Phase.the-variants.{Gathering}
+use Rattle.planner.specs.States.{ofParts, restarted}
 use borrow.Author.Needs.{needs}
 use Rattle.planner.proofs.restarted.Statement.{statement}
 use Rattle.planner.proofs.restarted.Tie as tie
 
-no-plan-requires : tie.Need-no-plan-requires
-no-plan-requires c κs = search needs
-
 returns : tie.Need-returns
 unfolding restarted
-returns c = simp (c .before .before .no-plan .ensures)
+returns c =
+    let x = c .before .before .args .x in
+    c .of-parts .ensures ∙ ap (λ (p : Plan). ofParts Gathering (x .kept) (x .termination) 0 0 0 p) (c .before .no-plan .ensures)
 
 pub restarted-spec : {M : Type 1} → statement M
-restarted-spec = tie.close (tie.spec no-plan-requires returns)
+restarted-spec = tie.close (tie.spec (λ c κs. search needs) (λ c κs. search needs) returns)

@@ -14,12 +14,6 @@ use borrow.Author.Needs.{needs}
 use Rattle.planner.proofs.State.decide.Statement.{statement}
 use Rattle.planner.proofs.State.decide.Tie as tie
 
-is-gathering-requires : tie.Need-is-gathering-requires
-is-gathering-requires c κs = search needs
-
-entry-refusal-requires : tie.Need-entry-refusal-requires
-entry-refusal-requires c κs = search needs
-
 returns : tie.Need-returns
 unfolding decideRefusal
 returns c = let a = c .before .before .before .before .before .before .args in
@@ -38,9 +32,6 @@ restart-requires c κs = let a = c .before .before .before .before .before .befo
     let t : accepted (decideRefusal (a .settings .now) (a .self) (a .desk .now)) ≡ true = sym (ap accepted e) ∙ eq-eqb _ _ (c .if1 .left) in
     (decide-settings (a .settings .now) (a .self) (a .desk .now) t, (decide-desk (a .settings .now) (a .self) (a .desk .now) t, (decide-kept (a .settings .now) (a .self) (a .desk .now) t, decide-slots (a .settings .now) (a .self) (a .desk .now) t)))
 
-after-verdict-requires : tie.Need-after-verdict-requires
-after-verdict-requires c κs = search needs
-
 returns-2 : tie.Need-returns-2
 unfolding decideRefusal
 returns-2 c = let a = c .before .before .before .before .before .before .before .before .args in
@@ -53,11 +44,4 @@ returns-2 c = let a = c .before .before .before .before .before .before .before 
 
 pub decide-spec : {M : Type 1} → statement M
 decide-spec =
-    tie.close
-    (tie.spec
-    is-gathering-requires
-    entry-refusal-requires
-    returns
-    restart-requires
-    after-verdict-requires
-    returns-2)
+    tie.close (tie.spec (λ c κs. search needs) (λ c κs. search needs) returns restart-requires (λ c κs. search needs) returns-2)

@@ -4,15 +4,9 @@ use borrow.Author.Needs.{needs}
 use Rattle.planner.proofs.State.fresh.Statement.{statement}
 use Rattle.planner.proofs.State.fresh.Tie as tie
 
-no-view-requires : tie.Need-no-view-requires
-no-view-requires c κs = search needs
-
-no-plan-requires : tie.Need-no-plan-requires
-no-plan-requires c κs = search needs
-
 returns : tie.Need-returns
 unfolding fresh
 returns c = simp (c .no-plan .ensures, c .before .no-view .ensures)
 
 pub fresh-spec : {M : Type 1} → statement M
-fresh-spec = tie.close (tie.spec no-view-requires no-plan-requires returns)
+fresh-spec = tie.close (tie.spec (λ c κs. search needs) (λ c κs. search needs) returns)
