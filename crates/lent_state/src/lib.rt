@@ -35,7 +35,7 @@ fn entry_refusal(lengths: bool, settings: &[u8], ok: bool) -> Refusal
     if !lengths {
         return Refusal { number: 1 };
     }
-    if messages_c::restart_check_settings(settings) != 0 {
+    if messages_c::check_settings(settings) != 0 {
         return Refusal { number: 2 };
     }
     if !ok {

@@ -1,17 +1,17 @@
 -- What bytes lent by a C caller mean: little-endian words. Bytes that are no whole words are read as no words at all, which is
 -- as wrong a length. A call that looks at no more than so many words reads a longer list as no words too.
-use mathlib.Core.Path.{_≡_, refl, sym, ap, _∙_}
+use mathlib.Core.Path.{_≡_, sym, ap, _∙_}
 use mathlib.Core.Logic.{_⊎_, inl, inr, ⊎-elim}
-use mathlib.Core.Bool.{true, false, cond}
+use mathlib.Core.Bool.{false, cond}
 use mathlib.Core.List.{List, _++_}
-use Prim.Native.Nat.{ℕ, zero, _+_, _*_, _-_, _/_, _%_, _≤_, _<_, zero-le}
+use Prim.Native.Nat.{ℕ, _+_, _*_, _-_, _/_, _%_, _≤_, _<_, zero-le}
 use native.Mathlib.Omega.{arith}
 use lib.Dec.{eqb, leb}
-use lib.ListN.{length, take, drop, replicate, replicate-append-replicate, length-append, length-take, length-drop, length-replicate}
-use lib.Seq.{take-at, drop-at}
-use borrow.Author.Tests.{leb-true, leb-false, le-leb, lt-leb, eqb-true, eq-eqb}
-use Rattle.laws.specs.Bools.{either, lt-or-le}
-use Rattle.laws.specs.Tables.{padded, padded-append}
+use lib.ListN.{length, take, drop, length-append, length-take, length-drop, length-replicate}
+use lib.Seq.{take-at}
+use borrow.Author.Tests.{leb-true, leb-false, eqb-true, eq-eqb}
+use Rattle.laws.specs.Bools.{either}
+use Rattle.laws.specs.Tables.{padded, padded-append, zeros, zeros-left}
 use Rattle.words.specs.Words.{wordsOf, length-words}
 
 -- how many words n bytes are
@@ -72,17 +72,6 @@ pub record Holds (table : List ℕ) (n most : ℕ) (bytes : List ℕ) : Type 0 w
   pub room : length table ≡ 512
   pub front : take (n - 0) (drop 0 table) ≡ wordsWithin most bytes
   pub whole : table ≡ padded 512 (wordsWithin most bytes)
-
--- n zeros
-abbrev zeros : ℕ → List ℕ
-zeros n = replicate n 0
-
--- what is left of a list of zeros
-zeros-left : (m n : ℕ) → n ≤ m → drop n (zeros m) ≡ zeros (m - n)
-zeros-left m n l =
-    let sum : n + (m - n) ≡ m = omega arith in
-    let parts : zeros n ++ zeros (m - n) ≡ zeros m = replicate-append-replicate n (m - n) 0 ∙ ap zeros sum in
-    ap (drop n) (sym parts) ∙ drop-at (zeros n) (zeros (m - n)) n (length-replicate n 0)
 
 -- the part of a table of zeros into which the words are stored
 module _ (most n : ℕ) (bytes : List ℕ) (e : n ≡ countWithin most (length bytes)) where

@@ -1,16 +1,16 @@
 -- Contents as words, stored word by word: first the head's three, then the records'.
-use mathlib.Core.Path.{_≡_, refl, sym, ap, _∙_}
+use mathlib.Core.Path.{_≡_, refl, ap, _∙_}
 use mathlib.Core.Logic.{⊎-elim}
 use mathlib.Core.Bool.{cond}
 use mathlib.Core.List.{List}
 use Prim.Native.Nat.{ℕ, zero, suc, _+_, _-_, _≤_, _<_}
 use native.Mathlib.Omega.{arith}
-use lib.Dec.{ltb, eqb}
-use lib.ListN.{length, getD, set, replicate, length-replicate, length-set, getD-replicate, List·getD-eq-default}
-use lib.Seq.{getD-set-same, getD-set-other}
+use lib.Dec.{ltb}
+use lib.ListN.{length, getD, set, replicate, length-replicate, length-set, getD-replicate}
+use lib.Seq.{getD-set-other}
 use borrow.Author.Tests.{lt-ltb, le-ltb}
-use Rattle.laws.specs.Bools.{lt-or-le, eq-or-ne}
-use Rattle.laws.specs.Tables.{tabulate, tabulate-ext, filled, filled-more, filled-ext, length-filled, getD-filled, getD-filled-rest}
+use Rattle.laws.specs.Bools.{lt-or-le}
+use Rattle.laws.specs.Tables.{tabulate-ext, filled, filled-more, filled-ext, length-filled, getD-filled, getD-filled-rest}
 use Rattle.format.specs.declared.Contents.{Contents}
 use Rattle.format.specs.Messages.{headWord}
 use Rattle.messages_c.specs.Answers.{contentsWord, contentsWords}

@@ -1,21 +1,21 @@
 -- Contents lent as bytes; and what a call that writes answers and leaves, case by case: the lent buffer is too long or too short,
 -- the contents are refused, the message is written.
-use mathlib.Core.Path.{_≡_, refl, sym, ap, ap₂, _∙_, subst⁻¹}
+use mathlib.Core.Path.{_≡_, refl, sym, ap, ap₂, _∙_}
 use mathlib.Core.Logic.{_⊎_, inl, inr, ⊎-elim}
-use mathlib.Core.Bool.{Bool, true, false, cond, _&&_}
+use mathlib.Core.Bool.{_&&_}
 use mathlib.Core.List.{List}
-use Prim.Native.Nat.{ℕ, _+_, _*_, _-_, _/_, _%_, _≤_, _<_}
+use Prim.Native.Nat.{ℕ, _+_, _-_, _%_, _≤_, _<_}
 use native.Mathlib.Omega.{arith}
 use lib.Dec.{eqb, leb, lit<}
 use lib.ListN.{length, getD}
 use borrow.Author.Tests.{eq-eqb, ne-eqb, lt-leb, leb-true, eqb-true}
-use Rattle.laws.specs.Bools.{either, and-left, and-right}
+use Rattle.laws.specs.Bools.{either, and-right}
 use Rattle.laws.specs.Tables.{tabulate, tabulate-cong, padded, getD-padded-all}
 use Rattle.words.specs.Words.{bytesOf}
 use Rattle.lent_words.specs.Lent.{wordsIn, wordsWithin, within-cases, Holds}
 use Rattle.lent_words.specs.Answers.{withLength, Told, told-refused, told-accepted}
 use Rattle.ids.specs.declared.Refusal.{Refusal}
-use Rattle.ids.specs.Refusals.{refused, none, accepted, accepted-none, unless, unless-ok, unless-rest, unless-true, unless-false}
+use Rattle.ids.specs.Refusals.{refused, none, unless, unless-ok, unless-rest, unless-true, unless-false}
 use Rattle.settings.specs.Settings.{settingsOk}
 use Rattle.format.specs.declared.Form.{Form}
 use Rattle.format.specs.declared.Contents.{Contents}

@@ -1,4 +1,4 @@
-// The C entry points for settings and messages. Lent bytes are little-endian words.
+// The calls on lent bytes for settings and messages. Lent bytes are little-endian words.
 use format::Contents;
 use format::Form;
 use format::Reading;
@@ -16,14 +16,13 @@ ghost use Rattle.messages_c.specs.Answers.{checkAnswer, contentsWords, c
 ghost use Rattle.messages_c.specs.WriteCalls.{contentsWithin};
 
 // 0 where the settings are right, else 2.
-#[no_mangle]
-pub extern "C" fn restart_check_settings(settings: &[u8]) -> u32
+pub fn check_settings(settings: &[u8]) -> u32
     ensures { λ r. ⌜ r ≡ checkAnswer (now (settings .entry)) ⌝ }
 {
     let s = lent_words::words_of(52, settings);
     let n = s.len;
     let words = s.table;
-    if !settings::check(&words[0..n]) {
+    if !settings_check::check(&words[0..n]) {
         return 2;
     }
     0
@@ -69,8 +68,8 @@ fn give(c: Contents, bytes: &mut [u8]) -> u32
     lent_words::with_length(3 + 3 * c.len)
 }
 
-// Reads a message into lent contents.
-fn read_into(form: Form, settings: &[u8], message: &[u8], contents: &mut [u8]) -> u32
+// Reads a message into lent contents: rows 1 (the contents are not 2048 bytes), 2 and 5 to 11.
+pub fn read_into(form: Form, settings: &[u8], message: &[u8], contents: &mut [u8]) -> u32
     ensures answer { λ r. ⌜ r ≡ readAnswer form (now (settings .entry)) (now (message .entry)) (now (contents .entry)) ⌝ }
     ensures bytes { λ r. ⌜ now (contents .exit) ≡ readLeaves form (now (settings .entry)) (now (message .entry)) (now (contents .entry)) ⌝ }
 {
@@ -83,24 +82,6 @@ fn read_into(form: Form, settings: &[u8], message: &[u8], contents: &mut [u8]) -
         return refusal.number;
     }
     give(reading.contents, contents)
-}
-
-// Reads a report: rows 1 (the contents are not 2048 bytes), 2 and 5 to 11.
-#[no_mangle]
-pub extern "C" fn restart_read_report(settings: &[u8], message: &[u8], contents: &mut [u8]) -> u32
-    ensures answer { λ r. ⌜ r ≡ readAnswer Form.Report (now (settings .entry)) (now (message .entry)) (now (contents .entry)) ⌝ }
-    ensures bytes { λ r. ⌜ now (contents .exit) ≡ readLeaves Form.Report (now (settings .entry)) (now (message .entry)) (now (contents .entry)) ⌝ }
-{
-    read_into(Form::Report, settings, message, contents)
-}
-
-// Reads an order: the same rows.
-#[no_mangle]
-pub extern "C" fn restart_read_order(settings: &[u8], message: &[u8], contents: &mut [u8]) -> u32
-    ensures answer { λ r. ⌜ r ≡ readAnswer Form.Order (now (settings .entry)) (now (message .entry)) (now (contents .entry)) ⌝ }
-    ensures bytes { λ r. ⌜ now (contents .exit) ≡ readLeaves Form.Order (now (settings .entry)) (now (message .entry)) (now (contents .entry)) ⌝ }
-{
-    read_into(Form::Order, settings, message, contents)
 }
 
 // How many records so many words of contents are.
@@ -155,8 +136,9 @@ fn write_under(form: Form, settings: &[u8], c: Contents, words: &mut [u32]) -> W
     writer::write(form, &own[0..n], c, words)
 }
 
-// Writes a message into a lent buffer.
-fn write_into(form: Form, settings: &[u8], contents: &[u8], buffer: &mut [u8]) -> u32
+// Writes a message into a lent buffer: rows 1 (the buffer is not 2048 bytes), 2, 5 (the contents' length is wrong, or they have more
+// than 127 records), 6, 7 and 9 to 11.
+pub fn write_into(form: Form, settings: &[u8], contents: &[u8], buffer: &mut [u8]) -> u32
     ensures answer { λ r. ⌜ r ≡ writeAnswer form (now (settings .entry)) (now (contents .entry)) (now (buffer .entry)) ⌝ }
     ensures bytes { λ r. ⌜ now (buffer .exit) ≡ writeLeaves form (now (settings .entry)) (now (contents .entry)) (now (buffer .entry)) ⌝ }
 {
@@ -172,23 +154,4 @@ fn write_into(form: Form, settings: &[u8], contents: &[u8], buffer: &mut [u8]) -
     }
     words::encode(&words, buffer);
     lent_words::with_length(writing.length)
-}
-
-// Writes a report: rows 1 (the buffer is not 2048 bytes), 2, 5 (the contents' length is wrong, or they have more than 127 records),
-// 6, 7 and 9 to 11.
-#[no_mangle]
-pub extern "C" fn restart_write_report(settings: &[u8], contents: &[u8], buffer: &mut [u8]) -> u32
-    ensures answer { λ r. ⌜ r ≡ writeAnswer Form.Report (now (settings .entry)) (now (contents .entry)) (now (buffer .entry)) ⌝ }
-    ensures bytes { λ r. ⌜ now (buffer .exit) ≡ writeLeaves Form.Report (now (settings .entry)) (now (contents .entry)) (now (buffer .entry)) ⌝ }
-{
-    write_into(Form::Report, settings, contents, buffer)
-}
-
-// Writes an order: the same rows.
-#[no_mangle]
-pub extern "C" fn restart_write_order(settings: &[u8], contents: &[u8], buffer: &mut [u8]) -> u32
-    ensures answer { λ r. ⌜ r ≡ writeAnswer Form.Order (now (settings .entry)) (now (contents .entry)) (now (buffer .entry)) ⌝ }
-    ensures bytes { λ r. ⌜ now (buffer .exit) ≡ writeLeaves Form.Order (now (settings .entry)) (now (contents .entry)) (now (buffer .entry)) ⌝ }
-{
-    write_into(Form::Order, settings, contents, buffer)
 }

@@ -1,8 +1,8 @@
 // The C entry points: settings, messages and the planner's events. Lent bytes are little-endian words: 160 of a state, 16384 of a
 // desk, 512 of a buffer. Each call answers a word and changes no lent byte where it refuses.
 use events_c::Event;
+use format::Form;
 ghost use mathlib.Core.Path.{_≡_};
-ghost use Rattle.format.specs.declared.Form.{Form};
 ghost use Rattle.messages_c.specs.Answers.{checkAnswer, readAnswer, readLeaves, writeAnswer, writeLeaves};
 ghost use Rattle.events_c.specs.Events.{freshAnswer, freshLeaves, takeAnswer, takeLeaves};
 ghost use Rattle.report_c.specs.ReportCalls.{reportAnswer, reportLeaves, reportDesk};
@@ -14,7 +14,7 @@ ghost use Rattle.order_c.specs.OrderCalls.{orderAnswer, orderLeaves};
 pub extern "C" fn restart_check_settings(settings: &[u8]) -> u32
     ensures { λ r. ⌜ r ≡ checkAnswer (now (settings .entry)) ⌝ }
 {
-    messages_c::restart_check_settings(settings)
+    messages_c::check_settings(settings)
 }
 
 // Reads a report: rows 1 (the contents are not 2048 bytes), 2 and 5 to 11.
@@ -23,7 +23,7 @@ pub extern "C" fn restart_read_report(settings: &[u8], message: &[u8], contents:
     ensures answer { λ r. ⌜ r ≡ readAnswer Form.Report (now (settings .entry)) (now (message .entry)) (now (contents .entry)) ⌝ }
     ensures bytes { λ r. ⌜ now (contents .exit) ≡ readLeaves Form.Report (now (settings .entry)) (now (message .entry)) (now (contents .entry)) ⌝ }
 {
-    messages_c::restart_read_report(settings, message, contents)
+    messages_c::read_into(Form::Report, settings, message, contents)
 }
 
 // Reads an order: rows 1 (the contents are not 2048 bytes), 2 and 5 to 11.
@@ -32,7 +32,7 @@ pub extern "C" fn restart_read_order(settings: &[u8], message: &[u8], contents: 
     ensures answer { λ r. ⌜ r ≡ readAnswer Form.Order (now (settings .entry)) (now (message .entry)) (now (contents .entry)) ⌝ }
     ensures bytes { λ r. ⌜ now (contents .exit) ≡ readLeaves Form.Order (now (settings .entry)) (now (message .entry)) (now (contents .entry)) ⌝ }
 {
-    messages_c::restart_read_order(settings, message, contents)
+    messages_c::read_into(Form::Order, settings, message, contents)
 }
 
 // Writes a report: rows 1 (the buffer is not 2048 bytes), 2, 5 to 7 and 9 to 11.
@@ -41,7 +41,7 @@ pub extern "C" fn restart_write_report(settings: &[u8], contents: &[u8], buffer:
     ensures answer { λ r. ⌜ r ≡ writeAnswer Form.Report (now (settings .entry)) (now (contents .entry)) (now (buffer .entry)) ⌝ }
     ensures bytes { λ r. ⌜ now (buffer .exit) ≡ writeLeaves Form.Report (now (settings .entry)) (now (contents .entry)) (now (buffer .entry)) ⌝ }
 {
-    messages_c::restart_write_report(settings, contents, buffer)
+    messages_c::write_into(Form::Report, settings, contents, buffer)
 }
 
 // Writes an order: rows 1 (the buffer is not 2048 bytes), 2, 5 to 7 and 9 to 11.
@@ -50,7 +50,7 @@ pub extern "C" fn restart_write_order(settings: &[u8], contents: &[u8], buffer: 
     ensures answer { λ r. ⌜ r ≡ writeAnswer Form.Order (now (settings .entry)) (now (contents .entry)) (now (buffer .entry)) ⌝ }
     ensures bytes { λ r. ⌜ now (buffer .exit) ≡ writeLeaves Form.Order (now (settings .entry)) (now (contents .entry)) (now (buffer .entry)) ⌝ }
 {
-    messages_c::restart_write_order(settings, contents, buffer)
+    messages_c::write_into(Form::Order, settings, contents, buffer)
 }
 
 // Stores the fresh state: row 3 where the bytes are not 640.

@@ -1,16 +1,16 @@
 -- Each state has one representation: what was encoded decodes to the state, and what decodes is what the state encodes to.
 use mathlib.Core.Path.{_≡_, refl, sym, ap, _∙_}
 use mathlib.Core.Logic.{⊎-elim}
-use mathlib.Core.Bool.{Bool, true, false, cond, _&&_}
+use mathlib.Core.Bool.{Bool, true, false, cond}
 use mathlib.Core.List.{List}
 use Prim.Native.Nat.{ℕ, zero, suc, _+_, _-_, _≤_, _<_}
 use native.Mathlib.Omega.{arith}
-use lib.Dec.{eqb, leb, ltb, lit<, lit≤}
+use lib.Dec.{eqb, ltb, lit<, lit≤}
 use lib.ListN.{length, getD}
 use borrow.Author.Tests.{eq-eqb, le-leb, lt-ltb, le-ltb}
 use Rattle.laws.specs.Bools.{lt-or-le, and-both}
 use Rattle.laws.specs.Below.{all-of}
-use Rattle.laws.specs.Tables.{tabulate, tabulate-ext, length-tabulate, getD-tabulate}
+use Rattle.laws.specs.Tables.{tabulate-ext, length-tabulate, getD-tabulate}
 use Rattle.views.specs.declared.Phase.{Phase}
 use Rattle.views.specs.declared.Phase.the-variants.{Gathering, Ordered, Preparing, Committed}
 use Rattle.planner.specs.declared.State.{State}

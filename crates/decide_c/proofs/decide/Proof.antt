@@ -5,12 +5,6 @@ use borrow.Author.Needs.{needs}
 use Rattle.decide_c.proofs.decide.Statement.{statement}
 use Rattle.decide_c.proofs.decide.Tie as tie
 
-enter-requires : tie.Need-enter-requires
-enter-requires c κs = search needs
-
-same-length : tie.Need-same-length
-same-length c = search needs
-
 returns : tie.Need-returns
 returns c = decide-refused _ _ _ _ (c .before .before .before .enter .ensures) (c .if1 .taken)
 
@@ -26,20 +20,9 @@ keep-requires c κs =
     let p = desk-passes (a .settings .now) (a .state .now) (a .desk .now) _ (c .before .before .before .before .before .enter .ensures) (c .before .before .if1 .left) in
     (p .long, decision-small _ _ _ _ (p .settings-ok) (c .before .decided .ensures))
 
-same-length-2 : tie.Need-same-length-2
-same-length-2 c = search needs
-
 returns-2 : tie.Need-returns-2
 returns-2 c = decide-done _ _ _ _ (c .before .before .before .before .before .before .before .before .enter .ensures) (c .before .before .before .before .before .if1 .left) _ (c .before .before .before .before .decided .ensures) _ _ (c .before .before .keep .ensures .0) (c .before .before .keep .ensures .1)
 
 pub decide-spec : {M : Type 1} → statement M
 decide-spec =
-    tie.close
-    (tie.spec
-    enter-requires
-    same-length
-    returns
-    decided-requires
-    keep-requires
-    same-length-2
-    returns-2)
+    tie.close (tie.spec (λ c κs. search needs) (λ c. search needs) returns decided-requires keep-requires (λ c. search needs) returns-2)

@@ -6,20 +6,8 @@ use Rattle.decide_c.proofs.keep.Tie as tie
 enum-told : tie.Need-enum-told
 enum-told c = search needs
 
-store-requires : tie.Need-store-requires
-store-requires c κs = search needs
-
-enum-known-decision : tie.Need-enum-known-decision
-enum-known-decision c = search needs
-
 reason-word-requires : tie.Need-reason-word-requires
 reason-word-requires c κs = rw (c .before .decision .given .1) at (c .before .before .before .before .pre .1)
-
-enum-known-decision-2 : tie.Need-enum-known-decision-2
-enum-known-decision-2 c = search needs
-
-same-length : tie.Need-same-length
-same-length c = search needs
 
 returns : tie.Need-returns
 returns c = (simp (c .before .before .before .before .enum-told .given .1), simp (c .before .before .before .before .enum-told .given .1) (c .before .before .store .ensures))
@@ -33,13 +21,5 @@ returns-3 c = (simp (c .before .decision2 .given .1), simp (c .before .decision2
 pub keep-spec : {M : Type 1} → statement M
 keep-spec =
     tie.close
-    (tie.spec
-    enum-told
-    store-requires
-    enum-known-decision
-    reason-word-requires
-    enum-known-decision-2
-    same-length
-    returns
-    returns-2
+    (tie.spec enum-told (λ c κs. search needs) (λ c. search needs) reason-word-requires (λ c. search needs) (λ c. search needs) returns returns-2
     returns-3)

@@ -8,30 +8,9 @@ use Rattle.decide_c.proofs.reason_word.Tie as tie
 enum-told : tie.Need-enum-told
 enum-told c = search needs
 
-wait-word-requires : tie.Need-wait-word-requires
-wait-word-requires c κs = search needs
-
-enum-told-2 : tie.Need-enum-told-2
-enum-told-2 c = search needs
-
-wait-word-requires-2 : tie.Need-wait-word-requires-2
-wait-word-requires-2 c κs = search needs
-
-enum-told-3 : tie.Need-enum-told-3
-enum-told-3 c = search needs
-
-wait-word-requires-3 : tie.Need-wait-word-requires-3
-wait-word-requires-3 c κs = search needs
-
-enum-known-reason : tie.Need-enum-known-reason
-enum-known-reason c = search needs
-
 wait-word-requires-4 : tie.Need-wait-word-requires-4
 unfolding valueOf
 wait-word-requires-4 c κs = (lit≤ tt, rw (c .before .reason .given .1) at (c .before .before .before .pre))
-
-enum-known-reason-2 : tie.Need-enum-known-reason-2
-enum-known-reason-2 c = search needs
 
 wait-word-requires-5 : tie.Need-wait-word-requires-5
 unfolding valueOf
@@ -60,19 +39,5 @@ returns-5 c = simp (c .before .before .reason2 .given .1) (c .wait-word5 .ensure
 pub reason-word-spec : {M : Type 1} → statement M
 reason-word-spec =
     tie.close
-    (tie.spec
-    enum-told
-    wait-word-requires
-    enum-told-2
-    wait-word-requires-2
-    enum-told-3
-    wait-word-requires-3
-    enum-known-reason
-    wait-word-requires-4
-    enum-known-reason-2
-    wait-word-requires-5
-    returns
-    returns-2
-    returns-3
-    returns-4
-    returns-5)
+    (tie.spec enum-told (λ c κs. search needs) (λ c. search needs) (λ c κs. search needs) (λ c. search needs) (λ c κs. search needs)
+    (λ c. search needs) wait-word-requires-4 (λ c. search needs) wait-word-requires-5 returns returns-2 returns-3 returns-4 returns-5)

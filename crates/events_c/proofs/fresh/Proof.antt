@@ -7,17 +7,8 @@ use Rattle.events_c.proofs.fresh.Tie as tie
 returns : tie.Need-returns
 returns c = fresh-not-640 _ (c .if1 .taken)
 
-fresh-requires : tie.Need-fresh-requires
-fresh-requires c κs = search needs
-
-store-requires : tie.Need-store-requires
-store-requires c κs = search needs
-
-same-length : tie.Need-same-length
-same-length c = search needs
-
 returns-2 : tie.Need-returns-2
 returns-2 c = fresh-stored _ (c .before .before .before .before .before .if1 .left) _ (c .before .before .before .before .fresh .ensures) _ (c .before .before .store .ensures)
 
 pub fresh-spec : {M : Type 1} → statement M
-fresh-spec = tie.close (tie.spec returns fresh-requires store-requires same-length returns-2)
+fresh-spec = tie.close (tie.spec returns (λ c κs. search needs) (λ c κs. search needs) (λ c. search needs) returns-2)

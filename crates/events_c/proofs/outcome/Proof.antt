@@ -6,21 +6,6 @@ use Rattle.events_c.proofs.outcome.Tie as tie
 enum-told : tie.Need-enum-told
 enum-told c = search needs
 
-drop-requires : tie.Need-drop-requires
-drop-requires c κs = search needs
-
-enum-told-2 : tie.Need-enum-told-2
-enum-told-2 c = search needs
-
-fetched-requires : tie.Need-fetched-requires
-fetched-requires c κs = search needs
-
-enum-told-3 : tie.Need-enum-told-3
-enum-told-3 c = search needs
-
-prepared-requires : tie.Need-prepared-requires
-prepared-requires c κs = search needs
-
 returns : tie.Need-returns
 returns c = simp (c .before .enum-told .given .1) (c .drop .ensures)
 
@@ -33,13 +18,5 @@ returns-3 c = simp (c .before .enum-told3 .given .1) (c .prepared .ensures)
 pub outcome-spec : {M : Type 1} → statement M
 outcome-spec =
     tie.close
-    (tie.spec
-    enum-told
-    drop-requires
-    enum-told-2
-    fetched-requires
-    enum-told-3
-    prepared-requires
-    returns
-    returns-2
+    (tie.spec enum-told (λ c κs. search needs) (λ c. search needs) (λ c κs. search needs) (λ c. search needs) (λ c κs. search needs) returns returns-2
     returns-3)

@@ -5,27 +5,6 @@ use borrow.Author.Needs.{needs}
 use Rattle.events_c.proofs.outcome_lent.Statement.{statement}
 use Rattle.events_c.proofs.outcome_lent.Tie as tie
 
-words-of-requires : tie.Need-words-of-requires
-words-of-requires c κs = search needs
-
-desk-words-requires : tie.Need-desk-words-requires
-desk-words-requires c κs = search needs
-
-sub-outcome : tie.Need-sub-outcome
-sub-outcome c = search needs
-
-part-outcome-start : tie.Need-part-outcome-start
-part-outcome-start c = search needs
-
-part-outcome-end : tie.Need-part-outcome-end
-part-outcome-end c = search needs
-
-slice-aggregate-outcome : tie.Need-slice-aggregate-outcome
-slice-aggregate-outcome c = search needs
-
-outcome-requires : tie.Need-outcome-requires
-outcome-requires c κs = search needs
-
 returns : tie.Need-returns
 returns c =
     let a = c .before .before .before .before .before .before .before .before .before .args in
@@ -34,12 +13,5 @@ returns c =
 pub outcome-lent-spec : {M : Type 1} → statement M
 outcome-lent-spec =
     tie.close
-    (tie.spec
-    words-of-requires
-    desk-words-requires
-    sub-outcome
-    part-outcome-start
-    part-outcome-end
-    slice-aggregate-outcome
-    outcome-requires
-    returns)
+    (tie.spec (λ c κs. search needs) (λ c κs. search needs) (λ c. search needs) (λ c. search needs) (λ c. search needs) (λ c. search needs)
+    (λ c κs. search needs) returns)

@@ -5,12 +5,6 @@ use borrow.Author.Needs.{needs}
 use Rattle.events_c.proofs.take.Statement.{statement}
 use Rattle.events_c.proofs.take.Tie as tie
 
-enter-requires : tie.Need-enter-requires
-enter-requires c κs = search needs
-
-same-length : tie.Need-same-length
-same-length c = search needs
-
 returns : tie.Need-returns
 returns c = take-refused _ _ _ _ _ _ (c .before .before .before .enter .ensures) (c .if1 .taken)
 
@@ -25,20 +19,9 @@ keep-requires c κs =
     let a = c .before .before .before .before .before .before .before .before .before .before .args in
     desk-passes (a .settings .now) (a .state .now) (a .desk .now) _ (c .before .before .before .before .before .enter .ensures) (c .before .before .if1 .left) .long
 
-same-length-2 : tie.Need-same-length-2
-same-length-2 c = search needs
-
 returns-2 : tie.Need-returns-2
 returns-2 c = take-done _ _ _ _ _ _ (c .before .before .before .before .before .before .before .before .enter .ensures) (c .before .before .before .before .before .if1 .left) _ (c .before .before .before .before .outcome-lent .ensures) (c .before .before .keep .ensures)
 
 pub take-spec : {M : Type 1} → statement M
 take-spec =
-    tie.close
-    (tie.spec
-    enter-requires
-    same-length
-    returns
-    outcome-lent-requires
-    keep-requires
-    same-length-2
-    returns-2)
+    tie.close (tie.spec (λ c κs. search needs) (λ c. search needs) returns outcome-lent-requires keep-requires (λ c. search needs) returns-2)

@@ -5,14 +5,8 @@ use borrow.Author.Needs.{needs}
 use Rattle.lent_state.proofs.desk_words.Statement.{statement}
 use Rattle.lent_state.proofs.desk_words.Tie as tie
 
-slice-aggregate-decode : tie.Need-slice-aggregate-decode
-slice-aggregate-decode c = search needs
-
-decode-requires : tie.Need-decode-requires
-decode-requires c κs = search needs
-
 returns : tie.Need-returns
 returns c = c .before .decode .ensures ∙ all-words _ 16384 (c .before .before .before .before .pre)
 
 pub desk-words-spec : {M : Type 1} → statement M
-desk-words-spec = tie.close (tie.spec slice-aggregate-decode decode-requires returns)
+desk-words-spec = tie.close (tie.spec (λ c. search needs) (λ c κs. search needs) returns)

@@ -6,17 +6,8 @@ use borrow.Author.Needs.{needs}
 use Rattle.lent_state.proofs.keep.Statement.{statement}
 use Rattle.lent_state.proofs.keep.Tie as tie
 
-refusal-of-requires : tie.Need-refusal-of-requires
-refusal-of-requires c κs = search needs
-
 returns : tie.Need-returns
 returns c = told-refused (c .before .before .refusal-of .result) _ (sym (c .before .before .refusal-of .ensures)) _ _ _ (ne-eqb _ _ (c .if1 .taken))
-
-store-requires : tie.Need-store-requires
-store-requires c κs = search needs
-
-same-length : tie.Need-same-length
-same-length c = search needs
 
 returns-2 : tie.Need-returns-2
 returns-2 c =
@@ -25,4 +16,4 @@ returns-2 c =
     record { answers = t .answers; leaves = c .before .before .store .ensures ∙ t .leaves }
 
 pub keep-spec : {M : Type 1} → statement M
-keep-spec = tie.close (tie.spec refusal-of-requires returns store-requires same-length returns-2)
+keep-spec = tie.close (tie.spec (λ c κs. search needs) returns (λ c κs. search needs) (λ c. search needs) returns-2)

@@ -6,14 +6,8 @@ use Rattle.lent_state.proofs.refusal_of.Tie as tie
 enum-told : tie.Need-enum-told
 enum-told c = search needs
 
-enum-known-answer : tie.Need-enum-known-answer
-enum-known-answer c = search needs
-
 returns : tie.Need-returns
 returns c = simp (c .enum-told .given .1)
 
-returns-2 : tie.Need-returns-2
-returns-2 c = search needs
-
 pub refusal-of-spec : {M : Type 1} → statement M
-refusal-of-spec = tie.close (tie.spec enum-told enum-known-answer returns returns-2)
+refusal-of-spec = tie.close (tie.spec enum-told (λ c. search needs) returns (λ c. search needs))

@@ -7,15 +7,6 @@ use Rattle.lent_words.specs.Lent.{within-le, part-fits, part-holds}
 use Rattle.lent_words.proofs.words_of.Statement.{statement}
 use Rattle.lent_words.proofs.words_of.Tie as tie
 
-count-within-requires : tie.Need-count-within-requires
-count-within-requires c κs = search needs
-
-sub-decode : tie.Need-sub-decode
-sub-decode c = search needs
-
-part-table-start : tie.Need-part-table-start
-part-table-start c = search needs
-
 part-table-end : tie.Need-part-table-end
 part-table-end c = omega (arith, within-le (c .before .before .args .most) (length (c .before .before .args .bytes .now)))
 
@@ -33,4 +24,4 @@ returns c =
 
 pub words-of-spec : {M : Type 1} → statement M
 words-of-spec =
-    tie.close (tie.spec count-within-requires sub-decode part-table-start part-table-end decode-requires returns)
+    tie.close (tie.spec (λ c κs. search needs) (λ c. search needs) (λ c. search needs) part-table-end decode-requires returns)

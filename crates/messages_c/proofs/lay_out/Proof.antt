@@ -16,35 +16,11 @@ Inv-loop words₀ body k₀ words k = (k ≤ 381) × (words ≡ laid words₀ bo
 abbrev μ-loop : tie.MeasureT-loop
 μ-loop words₀ body k₀ words k = 381 - k
 
-array-write-words : tie.Need-array-write-words Inv-loop μ-loop
-array-write-words c = search needs
-
-array-write-words-2 : tie.Need-array-write-words-2 Inv-loop μ-loop
-array-write-words-2 c = search needs
-
-array-write-words-3 : tie.Need-array-write-words-3 Inv-loop μ-loop
-array-write-words-3 c = search needs
-
 loop-holds : tie.Need-loop-holds Inv-loop μ-loop
 loop-holds c = (lit≤ tt, laid-start (headed (c .before .args .c)) (c .before .args .c .body) (lit≤ tt))
 
-mul-words : tie.Need-mul-words Inv-loop μ-loop
-mul-words c = search needs
-
-array-read-words : tie.Need-array-read-words Inv-loop μ-loop
-array-read-words c = search needs
-
-add-words : tie.Need-add-words Inv-loop μ-loop
-add-words c = search needs
-
-mul-words-2 : tie.Need-mul-words-2 Inv-loop μ-loop
-mul-words-2 c = search needs
-
 array-write-words-4 : tie.Need-array-write-words-4 Inv-loop μ-loop
 array-write-words-4 c = omega arith
-
-add-k : tie.Need-add-k Inv-loop μ-loop
-add-k c = search needs
 
 loop-less : tie.Need-loop-less Inv-loop μ-loop
 loop-less c = omega arith
@@ -68,19 +44,5 @@ returns c =
 pub lay-out-spec : {M : Type 1} → statement M
 lay-out-spec =
     tie.close
-    (tie.spec
-    Inv-loop
-    μ-loop
-    array-write-words
-    array-write-words-2
-    array-write-words-3
-    loop-holds
-    mul-words
-    array-read-words
-    add-words
-    mul-words-2
-    array-write-words-4
-    add-k
-    loop-less
-    loop-again
-    returns)
+    (tie.spec Inv-loop μ-loop (λ c. search needs) (λ c. search needs) (λ c. search needs) loop-holds (λ c. search needs) (λ c. search needs)
+    (λ c. search needs) (λ c. search needs) array-write-words-4 (λ c. search needs) loop-less loop-again returns)

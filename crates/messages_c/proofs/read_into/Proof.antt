@@ -1,5 +1,5 @@
 -- Each return is a case of what the call answers and leaves.
-use mathlib.Core.Path.{sym, _∙_}
+use mathlib.Core.Path.{_∙_}
 use borrow.Author.Needs.{needs}
 use Rattle.messages_c.specs.ReadCalls.{read-not-2048, read-refused, read-taken, read-few}
 use Rattle.messages_c.proofs.read_into.Statement.{statement}
@@ -7,9 +7,6 @@ use Rattle.messages_c.proofs.read_into.Tie as tie
 
 returns : tie.Need-returns
 returns c = read-not-2048 _ _ _ _ (c .if1 .taken)
-
-read-lent-requires : tie.Need-read-lent-requires
-read-lent-requires c κs = search needs
 
 returns-2 : tie.Need-returns-2
 returns-2 c =
@@ -20,9 +17,6 @@ give-requires c κs =
     let whole = c .before .before .before .before .before .if1 .left in
     (read-few _ _ _ (c .before .before .before .before .before .before .before .before .before .args .contents .now) whole _ (c .before .before .before .before .read-lent .ensures) (c .before .if2 .left), whole)
 
-same-length : tie.Need-same-length
-same-length c = search needs
-
 returns-3 : tie.Need-returns-3
 returns-3 c =
     let given = c .before .before .give .ensures in
@@ -31,4 +25,4 @@ returns-3 c =
 
 pub read-into-spec : {M : Type 1} → statement M
 read-into-spec =
-    tie.close (tie.spec returns read-lent-requires returns-2 give-requires same-length returns-3)
+    tie.close (tie.spec returns (λ c κs. search needs) returns-2 give-requires (λ c. search needs) returns-3)

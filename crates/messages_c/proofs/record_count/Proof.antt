@@ -13,12 +13,9 @@ returns-2 : tie.Need-returns-2
 unfolding recordCount
 returns-2 c = simp (le-leb _ _ (c .before .if1 .left), ne-eqb _ _ (c .if2 .taken))
 
-sub-result : tie.Need-sub-result
-sub-result c = search needs
-
 returns-3 : tie.Need-returns-3
 unfolding recordCount
 returns-3 c = simp (le-leb _ _ (c .before .if1 .left), eq-eqb _ _ (c .if2 .left))
 
 pub record-count-spec : {M : Type 1} → statement M
-record-count-spec = tie.close (tie.spec returns returns-2 sub-result returns-3)
+record-count-spec = tie.close (tie.spec returns returns-2 (λ c. search needs) returns-3)

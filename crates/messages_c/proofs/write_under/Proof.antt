@@ -5,24 +5,6 @@ use borrow.Author.Needs.{needs}
 use Rattle.messages_c.proofs.write_under.Statement.{statement}
 use Rattle.messages_c.proofs.write_under.Tie as tie
 
-words-of-requires : tie.Need-words-of-requires
-words-of-requires c κs = search needs
-
-sub-write : tie.Need-sub-write
-sub-write c = search needs
-
-part-write-start : tie.Need-part-write-start
-part-write-start c = search needs
-
-part-write-end : tie.Need-part-write-end
-part-write-end c = search needs
-
-write-requires : tie.Need-write-requires
-write-requires c κs = search needs
-
-same-length : tie.Need-same-length
-same-length c = search needs
-
 returns : tie.Need-returns
 returns c =
     let front = c .before .before .before .before .before .before .before .words-of .ensures .front in
@@ -32,11 +14,4 @@ returns c =
 pub write-under-spec : {M : Type 1} → statement M
 write-under-spec =
     tie.close
-    (tie.spec
-    words-of-requires
-    sub-write
-    part-write-start
-    part-write-end
-    write-requires
-    same-length
-    returns)
+    (tie.spec (λ c κs. search needs) (λ c. search needs) (λ c. search needs) (λ c. search needs) (λ c κs. search needs) (λ c. search needs) returns)

@@ -6,19 +6,10 @@ use borrow.Author.Needs.{needs}
 use Rattle.order_c.proofs.order.Statement.{statement}
 use Rattle.order_c.proofs.order.Tie as tie
 
-lengths-ok-requires : tie.Need-lengths-ok-requires
-lengths-ok-requires c κs = search needs
-
-enter-requires : tie.Need-enter-requires
-enter-requires c κs = search needs
-
 returns : tie.Need-returns
 returns c =
     let a = c .before .before .before .before .before .before .before .before .before .args in
     order-not-entered (a .settings .now) (a .state .now) (a .desk .now) (a .node) (a .buffer .now) _ (c .before .before .before .before .lengths-ok .ensures) _ (c .before .before .before .enter .ensures) (c .if1 .taken)
-
-slice-aggregate-order-words : tie.Need-slice-aggregate-order-words
-slice-aggregate-order-words c = search needs
 
 order-words-requires : tie.Need-order-words-requires
 order-words-requires c κs =
@@ -30,9 +21,6 @@ returns-2 c =
     let a = c .before .before .before .before .before .before .before .before .before .before .before .before .before .before .before .args in
     order-refused (a .settings .now) (a .state .now) (a .desk .now) (a .node) (a .buffer .now) _ (c .before .before .before .before .before .before .before .before .before .before .lengths-ok .ensures) _ (c .before .before .before .before .before .before .before .before .before .enter .ensures) (c .before .before .before .before .before .before .if1 .left) _ refl _ (c .before .before .before .before .order-words .ensures .0) (c .if2 .taken)
 
-slice-aggregate-encode : tie.Need-slice-aggregate-encode
-slice-aggregate-encode c = search needs
-
 encode-requires : tie.Need-encode-requires
 encode-requires c κs =
     let a = c .before .before .before .before .before .before .before .before .before .before .before .before .before .before .before .before .before .args in
@@ -43,9 +31,6 @@ with-length-requires c κs =
     let a = c .before .before .before .before .before .before .before .before .before .before .before .before .before .before .before .before .before .before .before .before .args in
     order-few (a .settings .now) (a .state .now) (a .desk .now) (a .node) (a .buffer .now) _ (c .before .before .before .before .before .before .before .before .before .before .before .before .before .before .before .lengths-ok .ensures) _ (c .before .before .before .before .before .before .before .before .before .before .before .before .before .before .enter .ensures) (c .before .before .before .before .before .before .before .before .before .before .before .if1 .left) _ refl _ (c .before .before .before .before .before .before .before .before .before .order-words .ensures .0) (c .before .before .before .before .before .if2 .left)
 
-same-length : tie.Need-same-length
-same-length c = search needs
-
 returns-3 : tie.Need-returns-3
 returns-3 c =
     let a = c .before .before .before .before .before .before .before .before .before .before .before .before .before .before .before .before .before .before .before .before .before .args in
@@ -55,15 +40,5 @@ returns-3 c =
 pub order-spec : {M : Type 1} → statement M
 order-spec =
     tie.close
-    (tie.spec
-    lengths-ok-requires
-    enter-requires
-    returns
-    slice-aggregate-order-words
-    order-words-requires
-    returns-2
-    slice-aggregate-encode
-    encode-requires
-    with-length-requires
-    same-length
-    returns-3)
+    (tie.spec (λ c κs. search needs) (λ c κs. search needs) returns (λ c. search needs) order-words-requires returns-2 (λ c. search needs)
+    encode-requires with-length-requires (λ c. search needs) returns-3)

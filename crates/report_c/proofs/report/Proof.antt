@@ -6,12 +6,6 @@ use borrow.Author.Needs.{needs}
 use Rattle.report_c.proofs.report.Statement.{statement}
 use Rattle.report_c.proofs.report.Tie as tie
 
-enter-requires : tie.Need-enter-requires
-enter-requires c κs = search needs
-
-same-length : tie.Need-same-length
-same-length c = search needs
-
 returns : tie.Need-returns
 returns c =
     let a = c .before .before .before .before .before .before .before .before .before .args in
@@ -22,30 +16,15 @@ desk-words-requires c κs =
     let a = c .before .before .before .before .before .before .before .before .before .before .args in
     desk-long (a .settings .now) (a .state .now) (a .desk .now) _ (c .before .before .before .before .enter .ensures) (c .before .if1 .left)
 
-slice-aggregate-report-words : tie.Need-slice-aggregate-report-words
-slice-aggregate-report-words c = search needs
-
 report-words-requires : tie.Need-report-words-requires
 report-words-requires c κs =
     let a = c .before .before .before .before .before .before .before .before .before .before .before .before .args in
     desk-passes (a .settings .now) (a .state .now) (a .desk .now) _ (c .before .before .before .before .before .before .enter .ensures) (c .before .before .before .if1 .left) .settings-ok
 
-refusal-of-requires : tie.Need-refusal-of-requires
-refusal-of-requires c κs = search needs
-
-same-length-2 : tie.Need-same-length-2
-same-length-2 c = search needs
-
-same-length-3 : tie.Need-same-length-3
-same-length-3 c = search needs
-
 returns-2 : tie.Need-returns-2
 returns-2 c =
     let a = c .before .before .before .before .before .before .before .before .before .before .before .before .before .before .before .before .before .args in
     report-refused (a .settings .now) (a .state .now) (a .desk .now) (a .message .now) _ (c .before .before .before .before .before .before .before .before .before .before .before .enter .ensures) (c .before .before .before .before .before .before .before .before .if1 .left) _ _ (c .before .before .before .before .before .before .desk-words .ensures) (c .before .before .before .before .report-words .ensures .0) _ (c .before .before .refusal-of .ensures) (c .if2 .taken)
-
-slice-aggregate-encode : tie.Need-slice-aggregate-encode
-slice-aggregate-encode c = search needs
 
 encode-requires : tie.Need-encode-requires
 encode-requires c κs =
@@ -57,12 +36,6 @@ store-requires c κs =
     let a = c .before .before .before .before .before .before .before .before .before .before .before .before .before .before .before .before .before .before .before .before .before .before .before .args in
     desk-passes (a .settings .now) (a .state .now) (a .desk .now) _ (c .before .before .before .before .before .before .before .before .before .before .before .before .before .before .before .before .before .enter .ensures) (c .before .before .before .before .before .before .before .before .before .before .before .before .before .before .if1 .left) .long
 
-same-length-4 : tie.Need-same-length-4
-same-length-4 c = search needs
-
-same-length-5 : tie.Need-same-length-5
-same-length-5 c = search needs
-
 returns-3 : tie.Need-returns-3
 returns-3 c =
     let a = c .before .before .before .before .before .before .before .before .before .before .before .before .before .before .before .before .before .before .before .before .before .before .before .before .before .before .args in
@@ -71,20 +44,6 @@ returns-3 c =
 pub report-spec : {M : Type 1} → statement M
 report-spec =
     tie.close
-    (tie.spec
-    enter-requires
-    same-length
-    returns
-    desk-words-requires
-    slice-aggregate-report-words
-    report-words-requires
-    refusal-of-requires
-    same-length-2
-    same-length-3
-    returns-2
-    slice-aggregate-encode
-    encode-requires
-    store-requires
-    same-length-4
-    same-length-5
+    (tie.spec (λ c κs. search needs) (λ c. search needs) returns desk-words-requires (λ c. search needs) report-words-requires (λ c κs. search needs)
+    (λ c. search needs) (λ c. search needs) returns-2 (λ c. search needs) encode-requires store-requires (λ c. search needs) (λ c. search needs)
     returns-3)

@@ -7,12 +7,6 @@ use borrow.Author.Needs.{needs}
 use Rattle.state_words.proofs.decode.Statement.{statement}
 use Rattle.state_words.proofs.decode.Tie as tie
 
-is-state-requires : tie.Need-is-state-requires
-is-state-requires c κs = search needs
-
-fresh-requires : tie.Need-fresh-requires
-fresh-requires c κs = search needs
-
 returns : tie.Need-returns
 unfolding decoded
 returns c = rw (sym (c .before .before .is-state .ensures) ∙ not-true (c .before .before .is-state .result) (c .before .if1 .taken), c .fresh .ensures)
@@ -26,4 +20,4 @@ returns-2 c = rw (sym (c .before .before .is-state .ensures) ∙ not-false (c .b
 
 pub decode-spec : {M : Type 1} → statement M
 decode-spec =
-    tie.close (tie.spec is-state-requires fresh-requires returns state-in-requires returns-2)
+    tie.close (tie.spec (λ c κs. search needs) (λ c κs. search needs) returns state-in-requires returns-2)

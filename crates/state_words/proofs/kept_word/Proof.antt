@@ -6,9 +6,6 @@ use borrow.Author.Needs.{needs}
 use Rattle.state_words.proofs.kept_word.Statement.{statement}
 use Rattle.state_words.proofs.kept_word.Tie as tie
 
-phase-number-requires : tie.Need-phase-number-requires
-phase-number-requires c κs = search needs
-
 returns : tie.Need-returns
 unfolding keptWord
 returns c = simp (lt-ltb _ _ (c .before .if1 .taken), sym (c .phase-number .ensures))
@@ -21,28 +18,13 @@ returns-3 : tie.Need-returns-3
 unfolding keptWord
 returns-3 c = simp (le-ltb _ _ (c .before .before .if1 .left), le-ltb _ _ (c .before .if2 .left), lt-ltb _ _ (c .if3 .taken))
 
-flag-requires : tie.Need-flag-requires
-flag-requires c κs = search needs
-
 returns-4 : tie.Need-returns-4
 unfolding keptWord
 returns-4 c = simp (le-ltb _ _ (c .before .before .before .before .if1 .left), le-ltb _ _ (c .before .before .before .if2 .left), le-ltb _ _ (c .before .before .if3 .left), lt-ltb _ _ (c .before .if4 .taken), sym (c .flag .ensures))
 
-mul-result : tie.Need-mul-result
-mul-result c = search needs
-
-array-read-result : tie.Need-array-read-result
-array-read-result c = search needs
-
 returns-5 : tie.Need-returns-5
 unfolding keptWord
 returns-5 c = simp (le-ltb _ _ (c .before .before .before .before .if1 .left), le-ltb _ _ (c .before .before .before .if2 .left), le-ltb _ _ (c .before .before .if3 .left), le-ltb _ _ (c .before .if4 .left), lt-ltb _ _ (c .if5 .taken))
-
-mul-result-2 : tie.Need-mul-result-2
-mul-result-2 c = search needs
-
-array-read-result-2 : tie.Need-array-read-result-2
-array-read-result-2 c = search needs
 
 returns-6 : tie.Need-returns-6
 unfolding keptWord
@@ -51,16 +33,5 @@ returns-6 c = simp (le-ltb _ _ (c .before .before .before .before .if1 .left), l
 pub kept-word-spec : {M : Type 1} → statement M
 kept-word-spec =
     tie.close
-    (tie.spec
-    phase-number-requires
-    returns
-    returns-2
-    returns-3
-    flag-requires
-    returns-4
-    mul-result
-    array-read-result
-    returns-5
-    mul-result-2
-    array-read-result-2
-    returns-6)
+    (tie.spec (λ c κs. search needs) returns returns-2 returns-3 (λ c κs. search needs) returns-4 (λ c. search needs) (λ c. search needs) returns-5
+    (λ c. search needs) (λ c. search needs) returns-6)

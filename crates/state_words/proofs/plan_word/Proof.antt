@@ -17,31 +17,13 @@ returns-3 : tie.Need-returns-3
 unfolding planWord
 returns-3 c = simp (le-ltb _ _ (c .before .before .if1 .left), le-ltb _ _ (c .before .if2 .left), lt-ltb _ _ (c .if3 .taken))
 
-mul-result : tie.Need-mul-result
-mul-result c = search needs
-
-array-read-result : tie.Need-array-read-result
-array-read-result c = search needs
-
 returns-4 : tie.Need-returns-4
 unfolding planWord
 returns-4 c = simp (le-ltb _ _ (c .before .before .before .if1 .left), le-ltb _ _ (c .before .before .if2 .left), le-ltb _ _ (c .before .if3 .left), lt-ltb _ _ (c .if4 .taken))
 
-mul-result-2 : tie.Need-mul-result-2
-mul-result-2 c = search needs
-
-array-read-result-2 : tie.Need-array-read-result-2
-array-read-result-2 c = search needs
-
 returns-5 : tie.Need-returns-5
 unfolding planWord
 returns-5 c = simp (le-ltb _ _ (c .before .before .before .before .if1 .left), le-ltb _ _ (c .before .before .before .if2 .left), le-ltb _ _ (c .before .before .if3 .left), le-ltb _ _ (c .before .if4 .left), lt-ltb _ _ (c .if5 .taken))
-
-mul-result-3 : tie.Need-mul-result-3
-mul-result-3 c = search needs
-
-array-read-result-3 : tie.Need-array-read-result-3
-array-read-result-3 c = search needs
 
 returns-6 : tie.Need-returns-6
 unfolding planWord
@@ -50,16 +32,5 @@ returns-6 c = simp (le-ltb _ _ (c .before .before .before .before .if1 .left), l
 pub plan-word-spec : {M : Type 1} → statement M
 plan-word-spec =
     tie.close
-    (tie.spec
-    returns
-    returns-2
-    returns-3
-    mul-result
-    array-read-result
-    returns-4
-    mul-result-2
-    array-read-result-2
-    returns-5
-    mul-result-3
-    array-read-result-3
-    returns-6)
+    (tie.spec returns returns-2 returns-3 (λ c. search needs) (λ c. search needs) returns-4 (λ c. search needs) (λ c. search needs) returns-5
+    (λ c. search needs) (λ c. search needs) returns-6)

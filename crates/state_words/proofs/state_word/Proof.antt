@@ -6,9 +6,6 @@ use borrow.Author.Needs.{needs}
 use Rattle.state_words.proofs.state_word.Statement.{statement}
 use Rattle.state_words.proofs.state_word.Tie as tie
 
-kept-word-requires : tie.Need-kept-word-requires
-kept-word-requires c κs = search needs
-
 returns : tie.Need-returns
 unfolding stateWord
 returns c = simp (lt-ltb _ _ (c .before .if1 .taken), sym (c .kept-word .ensures))
@@ -25,9 +22,6 @@ returns-4 : tie.Need-returns-4
 unfolding stateWord
 returns-4 c = simp (le-ltb _ _ (c .before .before .before .if1 .left), le-ltb _ _ (c .before .before .if2 .left), le-ltb _ _ (c .before .if3 .left), lt-ltb _ _ (c .if4 .taken))
 
-plan-word-requires : tie.Need-plan-word-requires
-plan-word-requires c κs = search needs
-
 returns-5 : tie.Need-returns-5
 unfolding stateWord
 returns-5 c = simp (le-ltb _ _ (c .before .before .before .before .before .if1 .left), le-ltb _ _ (c .before .before .before .before .if2 .left), le-ltb _ _ (c .before .before .before .if3 .left), le-ltb _ _ (c .before .before .if4 .left), lt-ltb _ _ (c .before .if5 .taken), sym (c .plan-word .ensures))
@@ -38,13 +32,4 @@ returns-6 c = simp (le-ltb _ _ (c .before .before .before .before .if1 .left), l
 
 pub state-word-spec : {M : Type 1} → statement M
 state-word-spec =
-    tie.close
-    (tie.spec
-    kept-word-requires
-    returns
-    returns-2
-    returns-3
-    returns-4
-    plan-word-requires
-    returns-5
-    returns-6)
+    tie.close (tie.spec (λ c κs. search needs) returns returns-2 returns-3 returns-4 (λ c κs. search needs) returns-5 returns-6)

@@ -5,23 +5,11 @@ use borrow.Author.Needs.{needs}
 use borrow.Author.Tests.{not-true, not-false}
 use Rattle.settings.specs.Settings.{settingsOk}
 use Rattle.messages_c.specs.Limits.{check-wrong, check-right}
-use Rattle.messages_c.proofs.restart_check_settings.Statement.{statement}
-use Rattle.messages_c.proofs.restart_check_settings.Tie as tie
-
-words-of-requires : tie.Need-words-of-requires
-words-of-requires c κs = search needs
-
-sub-check : tie.Need-sub-check
-sub-check c = search needs
-
-part-check-start : tie.Need-part-check-start
-part-check-start c = search needs
+use Rattle.messages_c.proofs.check_settings.Statement.{statement}
+use Rattle.messages_c.proofs.check_settings.Tie as tie
 
 part-check-end : tie.Need-part-check-end
 part-check-end c = let h = c .before .before .words-of .ensures in omega arith
-
-check-requires : tie.Need-check-requires
-check-requires c κs = search needs
 
 returns : tie.Need-returns
 returns c =
@@ -37,6 +25,6 @@ returns-2 c =
     ∙ sym (c .before .check .ensures)
     ∙ not-false _ (c .if1 .left))
 
-pub restart-check-settings-spec : {M : Type 1} → statement M
-restart-check-settings-spec =
-    tie.close (tie.spec words-of-requires sub-check part-check-start part-check-end check-requires returns returns-2)
+pub check-settings-spec : {M : Type 1} → statement M
+check-settings-spec =
+    tie.close (tie.spec (λ c κs. search needs) (λ c. search needs) (λ c. search needs) part-check-end (λ c κs. search needs) returns returns-2)
