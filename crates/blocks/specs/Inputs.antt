@@ -3,7 +3,7 @@ use Prim.Native.Nat.{ℕ, zero, suc, _+_, _*_, _/_, _%_, _^_, _<_}
 use mathlib.Core.Bool.{Bool, true, _&&_}
 use mathlib.Core.Logic.{⊎-elim}
 use mathlib.Core.List.{List, [], _∷_, _++_}
-use mathlib.Core.Path.{_≡_, refl, sym, ap, ap₂, _∙_}
+use mathlib.Core.Path.{_≡_, sym, ap, ap₂, _∙_}
 use native.Mathlib.Nat.{zero-lt-suc}
 use native.Mathlib.Omega.{arith}
 use lib.Dec.{ltb}
@@ -13,7 +13,7 @@ use borrow.Author.Tests.{ltb-true}
 use Rattle.laws.specs.Bools.{lt-or-le, and-left, and-right}
 use Rattle.laws.specs.Below.{allBelow, all-at}
 use Rattle.laws.specs.Tables.{tabulate, tabulate-add, tabulate-cong, length-tabulate}
-use Rattle.words.specs.Words.{wordAt, wordsOf, byteAt, bytesOf, length-bytes, getD-words, words-bytes}
+use Rattle.words.specs.Words.{wordsOf, byteAt, bytesOf, length-bytes, getD-words, words-bytes}
 use Rattle.blocks.specs.Blocks.{count, blocks, wholeWords, blocks-none, blocks-whole}
 
 -- the blocks, each preceded by its word count, as bytes

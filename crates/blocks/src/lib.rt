@@ -11,12 +11,6 @@ pub struct Block {
     pub table: [u32; 513],
 }
 
-fn wide(x: u32) -> usize
-    ensures { λ r. ⌜ r ≡ x ⌝ }
-{
-    x as usize
-}
-
 // How many bytes the first block takes with its count, as far as they are looked at.
 pub fn needed(bytes: &[u8]) -> usize
     ensures { λ r. ⌜ r ≡ Blocks.needed (now (bytes .entry)) ⌝ }
@@ -26,7 +20,7 @@ pub fn needed(bytes: &[u8]) -> usize
     }
     let count = words::word_at(bytes, 0);
     if count < 513 {
-        return 4 + 4 * wide(count);
+        return 4 + 4 * ids::wide(count);
     }
     2056
 }

@@ -1,8 +1,8 @@
 -- What a run prints: a plan, a wait, or a refusal's number, each line ended by a newline (byte 10). Laws: one shard more, and that
 -- 8,192 bytes are enough.
 use Prim.Native.Nat.{ℕ, zero, suc, _+_, _*_, _≤_}
-use mathlib.Core.List.{List, [], _∷_, _++_}
-use mathlib.Core.Path.{_≡_, ap}
+use mathlib.Core.List.{List, [], _∷_, _++_, append-assoc}
+use mathlib.Core.Path.{_≡_, sym, ap}
 use native.Mathlib.Numerals.{add-one}
 use native.Mathlib.Omega.{arith}
 use lib.ListN.{length, getD, length-append}
@@ -87,7 +87,21 @@ shardLines p (suc n) = shardLines p n ++ shardLine p n
 unfoldable pub planLines : Plan → ℕ → List ℕ
 planLines p n = line viewLabel (p .layout .number .0) ++ (line movesLabel (p .total) ++ shardLines p n)
 
+-- its end, by the mask of the members
+unfoldable pub carriers : ℕ → List ℕ
+carriers m = membersLabel ++ (membersBelow 32 m ++ newline)
+
+-- the line of shard s by its numbers: holder, target and mask
+unfoldable pub shardText : ℕ → ℕ → ℕ → ℕ → ℕ → List ℕ
+shardText s h v k m = (field shardLabel s ++ field holderLabel h) ++ ((field targetLabel v ++ field space k) ++ carriers m)
+
 -- ---- laws
+
+pub shard-text : (p : Plan) (s : ℕ)
+    → shardLine p s
+    ≡ shardText s (getD (p .holders) s 0) (getD (p .targets) (2 * s) 0) (getD (p .targets) (2 * s + 1) 0) (getD (p .layout .masks) s 0)
+unfolding shardLine shardText carriers
+shard-text p s = sym (simp append-assoc)
 
 pub shards-step : (p : Plan) (n : ℕ) → shardLines p (n + 1) ≡ shardLines p n ++ shardLine p n
 unfolding shardLines

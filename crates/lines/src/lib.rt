@@ -3,7 +3,7 @@
 use ids::Refusal;
 use views::Plan;
 use views::Reason;
-ghost use mathlib.Core.List.{[], _∷_};
+ghost use mathlib.Core.List.{[], _∷_, _++_};
 ghost use mathlib.Core.Path.{_≡_};
 ghost use Prim.Native.Nat.{_+_, _≤_, _<_};
 ghost use lib.ListN.{length};
@@ -44,15 +44,21 @@ fn digit(n: u32) -> u8
     48 + n as u8
 }
 
+// The digits are stored from the last one on, then put.
 fn put_decimal(out: &mut [u8], at: usize, n: u32) -> usize
     requires { ⌜ at ≤ length (now out) ⌝ }
     ensures { λ r. ⌜ Puts (now (out .entry)) at (decimal n) (now (out .exit)) r ⌝ }
 {
-    if n < 10 {
-        return put_byte(out, at, digit(n));
+    let mut digits = [0u8; 10];
+    let mut first = 9;
+    let mut left = n / 10;
+    digits[9] = digit(n % 10);
+    while left > 0 {
+        first -= 1;
+        digits[first] = digit(left % 10);
+        left /= 10;
     }
-    let next = put_decimal(out, at, n / 10);
-    put_byte(out, next, digit(n % 10))
+    put_text(out, at, &digits[first..10])
 }
 
 // A label and a number.
@@ -62,6 +68,15 @@ fn put_field(out: &mut [u8], at: usize, label: &[u8], n: u32) -> usize
 {
     let next = put_text(out, at, label);
     put_decimal(out, next, n)
+}
+
+// Two labels, each with its number.
+fn put_fields(out: &mut [u8], at: usize, label: &[u8], n: u32, second: &[u8], m: u32) -> usize
+    requires { ⌜ at ≤ length (now out) ⌝ }
+    ensures { λ r. ⌜ Puts (now (out .entry)) at (Text·field (now (label .entry)) n ++ Text·field (now (second .entry)) m) (now (out .exit)) r ⌝ }
+{
+    let next = put_field(out, at, label, n);
+    put_field(out, next, second, m)
 }
 
 // A node of a mask.
@@ -90,6 +105,34 @@ fn put_members(out: &mut [u8], at: usize, mask: u32) -> usize
     next
 }
 
+// The end of a shard's line.
+fn put_carriers(out: &mut [u8], at: usize, mask: u32) -> usize
+    requires { ⌜ at ≤ length (now out) ⌝ }
+    ensures { λ r. ⌜ Puts (now (out .entry)) at (Lines.carriers mask) (now (out .exit)) r ⌝ }
+{
+    let label = put_text(out, at, b" members");
+    let members = put_members(out, label, mask);
+    put_byte(out, members, b'\n')
+}
+
+// The line of a shard by its numbers.
+fn put_numbers(
+    out: &mut [u8],
+    at: usize,
+    s: u32,
+    holder: u32,
+    view: u32,
+    k: u32,
+    mask: u32,
+) -> usize
+    requires { ⌜ at ≤ length (now out) ⌝ }
+    ensures { λ r. ⌜ Puts (now (out .entry)) at (Lines.shardText s holder view k mask) (now (out .exit)) r ⌝ }
+{
+    let target = put_fields(out, at, b"shard ", s, b" holder ", holder);
+    let members = put_fields(out, target, b" target ", view, b" ", k);
+    put_carriers(out, members, mask)
+}
+
 // The line of a shard.
 fn put_shard(out: &mut [u8], at: usize, plan: Plan, s: usize) -> usize
     requires { ⌜ at ≤ length (now out) ⌝ }
@@ -97,13 +140,15 @@ fn put_shard(out: &mut [u8], at: usize, plan: Plan, s: usize) -> usize
     ensures { λ r. ⌜ Puts (now (out .entry)) at (Lines.shardLine plan s) (now (out .exit)) r ⌝ }
 {
     let layout = plan.layout;
-    let shard = put_field(out, at, b"shard ", s as u32);
-    let holder = put_field(out, shard, b" holder ", plan.holders[s]);
-    let view = put_field(out, holder, b" target ", plan.targets[2 * s]);
-    let k = put_field(out, view, b" ", plan.targets[2 * s + 1]);
-    let label = put_text(out, k, b" members");
-    let members = put_members(out, label, layout.masks[s]);
-    put_byte(out, members, b'\n')
+    put_numbers(
+        out,
+        at,
+        s as u32,
+        plan.holders[s],
+        plan.targets[2 * s],
+        plan.targets[2 * s + 1],
+        layout.masks[s],
+    )
 }
 
 // The lines of the shards below n.

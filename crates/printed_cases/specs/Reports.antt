@@ -1,8 +1,8 @@
 -- What the blocks of document 01's runs lead to, and that decide refuses none of it.
 use Prim.Native.Nat.{ℕ}
 use mathlib.Core.Bool.{true}
-use mathlib.Core.List.{List, [], _∷_, _++_}
-use mathlib.Core.Path.{_≡_, refl}
+use mathlib.Core.List.{List, [], _∷_}
+use mathlib.Core.Path.{_≡_, refl, ap, _∙_}
 use lib.ListN.{replicate}
 use Rattle.laws.specs.Below.{allBelow, anyBelow, lowest}
 use Rattle.laws.specs.Tables.{tabulate, padded}
@@ -12,16 +12,18 @@ use Rattle.format.specs.Chain.{place, following, row5, row8}
 use Rattle.format.specs.Records.{precedes, shardsWhere}
 use Rattle.format.specs.Rows.{row6, viewOk, row7, kindOk, plain, kindAt, shardAt, surplus, sequenceAt, complete, shardApart, row10At, row10, position, viewFits, legal, row11At}
 use Rattle.format.specs.Messages.{bodyWord, bodyOf, contentsOf, recordsRefusal, headRefusal, messageRefusal}
-use Rattle.views.specs.Reports.{slot, reportOf}
-use Rattle.views.specs.Slots.{sameView, row12, sameTermination, row13, termKept, slotOk, slotsOk}
-use Rattle.views.specs.Soundness.{layoutTidy, layoutBlank, viewSound, positionSound, termSoundAt, termSound, nothingKept, keptSound, marksSound, planBlank, planFits}
-use Rattle.reports.specs.Reports.{keptRefusal, refusalBeside, layoutOf, terminationOf, renewed, deskWith}
-use Rattle.cases.specs.Runs.{settings, settingsWith, report, noRuns, run1, slotOf, desk, view7, sixMembers}
-use Rattle.planner.specs.States.{sound, fresh, holding, keeping}
-use Rattle.planner.specs.Refusing.{entryRefusal, reportRefusal, decideRefusal}
-use Rattle.planner.specs.Events.{afterReport, outcome, reported, deskAfter}
+use Rattle.views.specs.Slots.{sameView, row12, sameTermination, row13}
+use Rattle.reports.specs.Reports.{keptRefusal, refusalBeside, layoutOf, terminationOf, renewed}
+use Rattle.desk.specs.Desk.{deskWith}
+use Rattle.cases.specs.Runs.{settings, settingsWith, report, noRuns, run1, desk, view7, sixMembers}
+use Rattle.planner.specs.declared.State.{State}
+use Rattle.planner.specs.States.{fresh, keeping}
+use Rattle.planner.specs.Refusing.{decideRefusal}
+use Rattle.planner.specs.Events.{afterReport}
 use Rattle.decided_cases.specs.Start.{gathered, reportOfSix}
-use Rattle.runs.specs.Runs.{Standing, start, opened, told, next, after}
+use Rattle.runs.specs.Runs.{Standing, start, after}
+use Rattle.run_laws.specs.Reaches.{decide-none}
+use Rattle.run_laws.specs.Accepted.{stateAfter, deskOf, allAccepted, run-leads}
 
 -- the reports of case A: nodes 0 to 2, 0 to 4, and all
 abbrev pub first-three : List (List ℕ) → List (List ℕ)
@@ -40,59 +42,81 @@ three-of-six more = reportOfSix 0 ∷ reportOfSix 1 ∷ reportOfSix 2 ∷ more
 abbrev pub emptyDesk : List ℕ
 emptyDesk = replicate 16384 0
 
--- the desks of cases B, C and F
-unfoldable pub deskOfThree : List ℕ
-deskOfThree = slotOf (report 0 noRuns) ++ slotOf (report 1 (run1 7 5)) ++ slotOf (report 2 noRuns) ++ replicate 14848 0
+-- the settings are right, every report is accepted, and the state after them
+record Come (σ : List ℕ) (ws : List (List ℕ)) (x : State) : Type 0 where
+  right : settingsOk σ ≡ true
+  taken : allAccepted σ fresh ws ≡ true
+  state : stateAfter σ fresh ws ≡ x
 
-unfoldable pub deskOfFive : List ℕ
-deskOfFive =
-    slotOf (report 0 noRuns)
-    ++ slotOf (report 1 (run1 7 5))
-    ++ slotOf (report 2 noRuns)
-    ++ slotOf (report 3 noRuns)
-    ++ slotOf (report 4 (run1 7 4))
-    ++ replicate 13824 0
+-- cases A to F and I
+record Comes : Type 0 where
+  a : Come settings all-six (gathered view7 63)
+  b : Come settings (first-three []) (gathered view7 7)
+  c : Come settings (three-of-six []) (gathered sixMembers 7)
+  d : Come settings [] fresh
+  e : Come (settingsWith 7 2) all-six (gathered view7 63)
+  f : Come settings (first-five []) (gathered view7 31)
+  i : Come (settingsWith 4 3) all-six (gathered view7 63)
 
-unfoldable pub deskOfSixth : List ℕ
-deskOfSixth = slotOf (reportOfSix 0) ++ slotOf (reportOfSix 1) ++ slotOf (reportOfSix 2) ++ replicate 14848 0
+comes : Comes
+unfolding sizesOk nodesOk shardOk shardsOk settingsOk stateAfter allAccepted fresh keeping allBelow anyBelow lowest tabulate padded unless firstOf place following row5 row8 precedes shardsWhere row6 viewOk row7 kindOk plain kindAt shardAt surplus sequenceAt complete shardApart row10At row10 position viewFits legal row11At bodyWord bodyOf contentsOf recordsRefusal headRefusal messageRefusal sameView row12 sameTermination row13 keptRefusal refusalBeside layoutOf terminationOf renewed afterReport
+comes =
+    record {
+      a = record { right = refl; taken = refl; state = refl };
+      b = record { right = refl; taken = refl; state = refl };
+      c = record { right = refl; taken = refl; state = refl };
+      d = record { right = refl; taken = refl; state = refl };
+      e = record { right = refl; taken = refl; state = refl };
+      f = record { right = refl; taken = refl; state = refl };
+      i = record { right = refl; taken = refl; state = refl };
+    }
+
+-- the desk of cases A, E and I
+desk-of-six : deskOf emptyDesk all-six ≡ desk
+unfolding deskOf deskWith padded tabulate desk
+desk-of-six = refl
 
 -- ---- what the blocks lead to
 
+module _ {σ : List ℕ} {ws : List (List ℕ)} {x : State} where
+  leads : Come σ ws x → after start (σ ∷ ws) ≡ Standing σ x (deskOf emptyDesk ws)
+  leads c = run-leads σ ws (c .right) (c .taken) ∙ ap (λ (y : State). Standing σ y (deskOf emptyDesk ws)) (c .state)
+
+  -- decide refuses nothing there
+  decides : Come σ ws x → accepted (decideRefusal σ x (deskOf emptyDesk ws)) ≡ true
+  decides c = ap accepted (decide-none (σ ∷ ws) σ x (deskOf emptyDesk ws) (leads c))
+
+-- with the desk of case A
+with-desk : {σ : List ℕ} {x : State} → Come σ all-six x → after start (σ ∷ all-six) ≡ Standing σ x desk
+with-desk {σ} {x} c = leads c ∙ ap (Standing σ x) desk-of-six
+
 pub leads-a : after start (settings ∷ all-six) ≡ Standing settings (gathered view7 63) desk
-unfolding after deskOfThree deskOfFive deskOfSixth next opened told desk fresh holding keeping allBelow anyBelow lowest tabulate padded sizesOk nodesOk shardOk shardsOk settingsOk unless firstOf place following row5 row8 precedes shardsWhere row6 viewOk row7 kindOk plain kindAt shardAt surplus sequenceAt complete shardApart row10At row10 position viewFits legal row11At bodyWord bodyOf contentsOf recordsRefusal headRefusal messageRefusal slot reportOf sameView row12 sameTermination row13 termKept slotOk slotsOk layoutTidy layoutBlank viewSound positionSound termSoundAt termSound nothingKept keptSound marksSound planBlank planFits sound entryRefusal reportRefusal keptRefusal refusalBeside layoutOf terminationOf renewed deskWith afterReport outcome reported deskAfter
-leads-a = refl
+leads-a = with-desk (comes .a)
 
-pub leads-b : after start (settings ∷ first-three []) ≡ Standing settings (gathered view7 7) deskOfThree
-unfolding after deskOfThree deskOfFive deskOfSixth next opened told desk fresh holding keeping allBelow anyBelow lowest tabulate padded sizesOk nodesOk shardOk shardsOk settingsOk unless firstOf place following row5 row8 precedes shardsWhere row6 viewOk row7 kindOk plain kindAt shardAt surplus sequenceAt complete shardApart row10At row10 position viewFits legal row11At bodyWord bodyOf contentsOf recordsRefusal headRefusal messageRefusal slot reportOf sameView row12 sameTermination row13 termKept slotOk slotsOk layoutTidy layoutBlank viewSound positionSound termSoundAt termSound nothingKept keptSound marksSound planBlank planFits sound entryRefusal reportRefusal keptRefusal refusalBeside layoutOf terminationOf renewed deskWith afterReport outcome reported deskAfter
-leads-b = refl
+pub leads-b : after start (settings ∷ first-three []) ≡ Standing settings (gathered view7 7) (deskOf emptyDesk (first-three []))
+leads-b = leads (comes .b)
 
-pub leads-c : after start (settings ∷ three-of-six []) ≡ Standing settings (gathered sixMembers 7) deskOfSixth
-unfolding after deskOfThree deskOfFive deskOfSixth next opened told desk fresh holding keeping allBelow anyBelow lowest tabulate padded sizesOk nodesOk shardOk shardsOk settingsOk unless firstOf place following row5 row8 precedes shardsWhere row6 viewOk row7 kindOk plain kindAt shardAt surplus sequenceAt complete shardApart row10At row10 position viewFits legal row11At bodyWord bodyOf contentsOf recordsRefusal headRefusal messageRefusal slot reportOf sameView row12 sameTermination row13 termKept slotOk slotsOk layoutTidy layoutBlank viewSound positionSound termSoundAt termSound nothingKept keptSound marksSound planBlank planFits sound entryRefusal reportRefusal keptRefusal refusalBeside layoutOf terminationOf renewed deskWith afterReport outcome reported deskAfter
-leads-c = refl
+pub leads-c : after start (settings ∷ three-of-six []) ≡ Standing settings (gathered sixMembers 7) (deskOf emptyDesk (three-of-six []))
+leads-c = leads (comes .c)
 
-pub leads-d : after start (settings ∷ []) ≡ Standing settings fresh emptyDesk
-unfolding after deskOfThree deskOfFive deskOfSixth next opened told desk fresh holding keeping allBelow anyBelow lowest tabulate padded sizesOk nodesOk shardOk shardsOk settingsOk unless firstOf place following row5 row8 precedes shardsWhere row6 viewOk row7 kindOk plain kindAt shardAt surplus sequenceAt complete shardApart row10At row10 position viewFits legal row11At bodyWord bodyOf contentsOf recordsRefusal headRefusal messageRefusal slot reportOf sameView row12 sameTermination row13 termKept slotOk slotsOk layoutTidy layoutBlank viewSound positionSound termSoundAt termSound nothingKept keptSound marksSound planBlank planFits sound entryRefusal reportRefusal keptRefusal refusalBeside layoutOf terminationOf renewed deskWith afterReport outcome reported deskAfter
-leads-d = refl
+pub leads-d : after start (settings ∷ []) ≡ Standing settings fresh (deskOf emptyDesk [])
+leads-d = leads (comes .d)
 
 pub leads-e : after start (settingsWith 7 2 ∷ all-six) ≡ Standing (settingsWith 7 2) (gathered view7 63) desk
-unfolding after deskOfThree deskOfFive deskOfSixth next opened told desk fresh holding keeping allBelow anyBelow lowest tabulate padded sizesOk nodesOk shardOk shardsOk settingsOk unless firstOf place following row5 row8 precedes shardsWhere row6 viewOk row7 kindOk plain kindAt shardAt surplus sequenceAt complete shardApart row10At row10 position viewFits legal row11At bodyWord bodyOf contentsOf recordsRefusal headRefusal messageRefusal slot reportOf sameView row12 sameTermination row13 termKept slotOk slotsOk layoutTidy layoutBlank viewSound positionSound termSoundAt termSound nothingKept keptSound marksSound planBlank planFits sound entryRefusal reportRefusal keptRefusal refusalBeside layoutOf terminationOf renewed deskWith afterReport outcome reported deskAfter
-leads-e = refl
+leads-e = with-desk (comes .e)
 
-pub leads-f : after start (settings ∷ first-five []) ≡ Standing settings (gathered view7 31) deskOfFive
-unfolding after deskOfThree deskOfFive deskOfSixth next opened told desk fresh holding keeping allBelow anyBelow lowest tabulate padded sizesOk nodesOk shardOk shardsOk settingsOk unless firstOf place following row5 row8 precedes shardsWhere row6 viewOk row7 kindOk plain kindAt shardAt surplus sequenceAt complete shardApart row10At row10 position viewFits legal row11At bodyWord bodyOf contentsOf recordsRefusal headRefusal messageRefusal slot reportOf sameView row12 sameTermination row13 termKept slotOk slotsOk layoutTidy layoutBlank viewSound positionSound termSoundAt termSound nothingKept keptSound marksSound planBlank planFits sound entryRefusal reportRefusal keptRefusal refusalBeside layoutOf terminationOf renewed deskWith afterReport outcome reported deskAfter
-leads-f = refl
+pub leads-f : after start (settings ∷ first-five []) ≡ Standing settings (gathered view7 31) (deskOf emptyDesk (first-five []))
+leads-f = leads (comes .f)
 
 pub leads-i : after start (settingsWith 4 3 ∷ all-six) ≡ Standing (settingsWith 4 3) (gathered view7 63) desk
-unfolding after deskOfThree deskOfFive deskOfSixth next opened told desk fresh holding keeping allBelow anyBelow lowest tabulate padded sizesOk nodesOk shardOk shardsOk settingsOk unless firstOf place following row5 row8 precedes shardsWhere row6 viewOk row7 kindOk plain kindAt shardAt surplus sequenceAt complete shardApart row10At row10 position viewFits legal row11At bodyWord bodyOf contentsOf recordsRefusal headRefusal messageRefusal slot reportOf sameView row12 sameTermination row13 termKept slotOk slotsOk layoutTidy layoutBlank viewSound positionSound termSoundAt termSound nothingKept keptSound marksSound planBlank planFits sound entryRefusal reportRefusal keptRefusal refusalBeside layoutOf terminationOf renewed deskWith afterReport outcome reported deskAfter
-leads-i = refl
+leads-i = with-desk (comes .i)
 
 -- decide refuses none of these
 pub record Taken : Type 0 where
-  pub b : accepted (decideRefusal settings (gathered view7 7) deskOfThree) ≡ true
-  pub c : accepted (decideRefusal settings (gathered sixMembers 7) deskOfSixth) ≡ true
-  pub d : accepted (decideRefusal settings fresh emptyDesk) ≡ true
-  pub f : accepted (decideRefusal settings (gathered view7 31) deskOfFive) ≡ true
+  pub b : accepted (decideRefusal settings (gathered view7 7) (deskOf emptyDesk (first-three []))) ≡ true
+  pub c : accepted (decideRefusal settings (gathered sixMembers 7) (deskOf emptyDesk (three-of-six []))) ≡ true
+  pub d : accepted (decideRefusal settings fresh (deskOf emptyDesk [])) ≡ true
+  pub f : accepted (decideRefusal settings (gathered view7 31) (deskOf emptyDesk (first-five []))) ≡ true
 
 pub taken : Taken
-unfolding deskOfThree deskOfFive deskOfSixth decideRefusal desk fresh holding keeping allBelow anyBelow lowest tabulate padded sizesOk nodesOk shardOk shardsOk settingsOk unless firstOf place following row5 row8 precedes shardsWhere row6 viewOk row7 kindOk plain kindAt shardAt surplus sequenceAt complete shardApart row10At row10 position viewFits legal row11At bodyWord bodyOf contentsOf recordsRefusal headRefusal messageRefusal slot reportOf sameView row12 sameTermination row13 termKept slotOk slotsOk layoutTidy layoutBlank viewSound positionSound termSoundAt termSound nothingKept keptSound marksSound planBlank planFits sound entryRefusal reportRefusal keptRefusal refusalBeside layoutOf terminationOf renewed deskWith afterReport outcome reported deskAfter
-taken = record { b = refl; c = refl; d = refl; f = refl }
+taken = record { b = decides (comes .b); c = decides (comes .c); d = decides (comes .d); f = decides (comes .f) }

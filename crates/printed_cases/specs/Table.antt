@@ -8,7 +8,7 @@ use lib.Count.{ones, onesIn}
 use lib.ListN.{getD}
 use Rattle.laws.specs.Below.{allBelow, anyBelow, lowest}
 use Rattle.laws.specs.Positions.{notAfter}
-use Rattle.laws.specs.Tables.{tabulate}
+use Rattle.laws.specs.Tables.{tabulate, padded}
 use Rattle.format.specs.Chain.{place, following}
 use Rattle.format.specs.Messages.{bodyWord, bodyOf, contentsOf}
 use Rattle.views.specs.declared.Plan.{Plan}
@@ -18,7 +18,9 @@ use Rattle.views.specs.declared.Quorum.the-variants.{Short}
 use Rattle.views.specs.Logs.{endOf, reaches, holds, hasUpdate}
 use Rattle.views.specs.Reports.{slot, reportOf, maskAt}
 use Rattle.views.specs.Quorums.{candidate, greatest, best, target, able, holder, majority, firstUnheld, quorumOf, numberOf, valueOf}
-use Rattle.cases.specs.Runs.{settings, settingsWith, desk, view7, sixMembers, noTermination}
+use Rattle.desk.specs.Desk.{deskWith}
+use Rattle.cases.specs.Runs.{settings, settingsWith, desk, view7, sixMembers}
+use Rattle.views.specs.Empty.{noTermination}
 use Rattle.planner.specs.declared.State.{State}
 use Rattle.planner.specs.declared.Decision.{Decision}
 use Rattle.planner.specs.declared.Decided.{Decided}
@@ -29,9 +31,11 @@ use Rattle.decided_cases.specs.PlanA.{Printed as PlanA}
 use Rattle.decided_cases.specs.Table.{table as decided}
 use Rattle.blocks.specs.Inputs.{inputOf, fits, allFit, blocks-input}
 use Rattle.lines.specs.Text.{digitsBy, decimal, field, line, member, membersBelow}
-use Rattle.lines.specs.Lines.{newline, space, viewLabel, movesLabel, shardLabel, holderLabel, targetLabel, membersLabel, waitFor, waitLine, shardLine, shardLines, planLines}
-use Rattle.runs.specs.Runs.{Progress, Standing, start, after, decisionText, Prints, Printed}
-use Rattle.printed_cases.specs.Reports.{first-three, first-five, all-six, three-of-six, emptyDesk, deskOfThree, deskOfFive, deskOfSixth, leads-a, leads-b, leads-c, leads-d, leads-e, leads-f, leads-i, taken}
+use Rattle.lines.specs.Lines.{viewLabel, movesLabel, waitFor, waitLine, shardLine, carriers, shardText, shard-text, shardLines, planLines}
+use Rattle.decisions.specs.Decisions.{decisionText}
+use Rattle.runs.specs.Runs.{Progress, Standing, start, after, Prints, Printed}
+use Rattle.run_laws.specs.Accepted.{deskOf}
+use Rattle.printed_cases.specs.Reports.{first-three, first-five, all-six, three-of-six, emptyDesk, leads-a, leads-b, leads-c, leads-d, leads-e, leads-f, leads-i, taken}
 
 -- view 8
 abbrev pub view-8 : List ℕ
@@ -124,27 +128,20 @@ from blocks p given h e k text t =
 
 -- ---- case A
 
--- the line of a shard, by its numbers
-shardText : ℕ → ℕ → ℕ → ℕ → ℕ → List ℕ
-shardText s h v k m =
-    field shardLabel s
-    ++ (field holderLabel h ++ (field targetLabel v ++ (field space k ++ (membersLabel ++ (membersBelow 32 m ++ newline)))))
-
 shard-is : (p : Plan) (s h v k m : ℕ) → getD (p .holders) s 0 ≡ h → getD (p .targets) (2 * s) 0 ≡ v → getD (p .targets) (2 * s + 1) 0 ≡ k
     → maskAt (p .layout) s ≡ m → shardLine p s ≡ shardText s h v k m
-unfolding shardLine shardText
-shard-is p s h v k m a b c d = rw (a, b, c, d)
+shard-is p s h v k m a b c d = shard-text p s ∙ rw (a, b, c, d)
 
 text-0 : shardText 0 0 0 0 5 ≡ shard-0
-unfolding shardText field decimal digitsBy membersBelow member
+unfolding shardText carriers field decimal digitsBy membersBelow member
 text-0 = refl
 
 text-1 : shardText 1 1 7 5 50 ≡ shard-1
-unfolding shardText field decimal digitsBy membersBelow member
+unfolding shardText carriers field decimal digitsBy membersBelow member
 text-1 = refl
 
 text-2 : shardText 2 5 0 0 8 ≡ shard-2
-unfolding shardText field decimal digitsBy membersBelow member
+unfolding shardText carriers field decimal digitsBy membersBelow member
 text-2 = refl
 
 planText : ℕ → ℕ → List ℕ → List ℕ → List ℕ → List ℕ
@@ -184,20 +181,20 @@ a-text text p = p .says ∙ a-plan (p .decided) (decided .a (p .decided) (p .dec
 
 -- ---- the waits
 
-b-short : quorumOf settings view7 noTermination 7 deskOfThree ≡ Short NoMajority
+b-short : quorumOf settings view7 noTermination 7 (deskOf emptyDesk (first-three [])) ≡ Short NoMajority
 unfolding ones onesIn majority quorumOf
 b-short = refl
 
-c-short : quorumOf settings sixMembers noTermination 7 deskOfSixth ≡ Short NoMajority
+c-short : quorumOf settings sixMembers noTermination 7 (deskOf emptyDesk (three-of-six [])) ≡ Short NoMajority
 unfolding ones onesIn majority quorumOf
 c-short = refl
 
-d-short : quorumOf settings (fresh .kept) (fresh .termination) (fresh .held) emptyDesk ≡ Short NoView
+d-short : quorumOf settings (fresh .kept) (fresh .termination) (fresh .held) (deskOf emptyDesk []) ≡ Short NoView
 unfolding fresh quorumOf
 d-short = refl
 
-f-short : quorumOf settings view7 noTermination 31 deskOfFive ≡ Short (NoHolder (record { 0 = 2 }))
-unfolding deskOfFive ones onesIn allBelow anyBelow lowest tabulate notAfter place following bodyWord bodyOf contentsOf endOf reaches holds hasUpdate slot reportOf candidate greatest best target able holder majority firstUnheld quorumOf
+f-short : quorumOf settings view7 noTermination 31 (deskOf emptyDesk (first-five [])) ≡ Short (NoHolder (record { 0 = 2 }))
+unfolding deskOf deskWith padded ones onesIn allBelow anyBelow lowest tabulate notAfter place following bodyWord bodyOf contentsOf endOf reaches holds hasUpdate slot reportOf candidate greatest best target able holder majority firstUnheld quorumOf
 f-short = refl
 
 pub table : Table

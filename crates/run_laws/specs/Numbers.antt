@@ -7,7 +7,7 @@ use mathlib.Core.Path.{_≡_, refl, subst⁻¹}
 use native.Mathlib.Omega.{arith}
 use Rattle.laws.specs.Bools.{either}
 use Rattle.ids.specs.declared.Refusal.{Refusal}
-use Rattle.ids.specs.Refusals.{none, refused, accepted, unless, firstOf, unless-true, unless-false, first-none, first-refused, accepted-none}
+use Rattle.ids.specs.Refusals.{none, accepted, unless, firstOf, unless-true, unless-false, first-none, first-refused, accepted-none}
 use Rattle.format.specs.declared.Form.the-variants.{Report}
 use Rattle.format.specs.Messages.{recordsRefusal, headRefusal, messageRefusal}
 use Rattle.views.specs.declared.Layout.{Layout}

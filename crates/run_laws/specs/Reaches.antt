@@ -4,7 +4,7 @@ use Prim.Native.Nat.{ℕ, _≤_}
 use mathlib.Core.Bool.{Bool, true, false, cond}
 use mathlib.Core.Logic.{_⊎_, inl, inr, ⊎-elim}
 use mathlib.Core.List.{List, [], _∷_}
-use mathlib.Core.Path.{_≡_, refl, ap, _∙_, subst, subst⁻¹}
+use mathlib.Core.Path.{_≡_, refl, ap, ap₂, _∙_, subst, subst⁻¹}
 use lib.ListN.{getD, length-replicate}
 use borrow.Author.Tests.{eq-eqb}
 use Rattle.laws.specs.Bools.{either, clash}
@@ -12,7 +12,8 @@ use Rattle.settings.specs.Settings.{settingsOk}
 use Rattle.ids.specs.declared.Refusal.{Refusal}
 use Rattle.ids.specs.Refusals.{none, refused, accepted, accepted-none, first-none, unless-true}
 use Rattle.views.specs.declared.Phase.the-variants.{Gathering}
-use Rattle.reports.specs.Reports.{refusalBeside, deskWith}
+use Rattle.reports.specs.Reports.{refusalBeside}
+use Rattle.desk.specs.Desk.{deskWith}
 use Rattle.planner.specs.declared.State.{State}
 use Rattle.planner.specs.declared.Outcome.{Outcome}
 use Rattle.format.specs.Messages.{contentsOf}
@@ -42,7 +43,7 @@ entry-none σ x d g =
     reached-entry σ x d (g .reached) (isGathering (x .phase))
     ∙ unless-true (isGathering (x .phase)) 4 none (ap isGathering (g .phase))
 
-report-none : (σ : List ℕ) (x : State) (d w : List ℕ) → Gathers σ x d → reportRefusal σ x d w ≡ refusalBeside σ (x .kept) (x .termination) w
+pub report-none : (σ : List ℕ) (x : State) (d w : List ℕ) → Gathers σ x d → reportRefusal σ x d w ≡ refusalBeside σ (x .kept) (x .termination) w
 unfolding reportRefusal
 report-none σ x d w g = first-none _ _ (entry-none σ x d g)
 
@@ -55,21 +56,21 @@ reaches-opened d w h =
     (λ e. subst⁻¹ (λ (b : Bool). Reaches (cond b (Standing w fresh d) (Ended (refused 2)))) e (inl refl))
     (either (settingsOk w))
 
+-- a report that is accepted
+pub told-taken : (σ : List ℕ) (x : State) (d w : List ℕ) → accepted (reportRefusal σ x d w) ≡ true
+    → told σ x d w ≡ Standing σ (afterReport σ x (contentsOf w)) (deskWith d (getD w 0 0) w)
+unfolding told reported deskAfter
+told-taken σ x d w e =
+    ap (λ (b : Bool). cond b (Standing σ (reported σ x d w .state) (deskAfter σ x d w)) (Ended (reportRefusal σ x d w))) e
+    ∙ ap₂ (Standing σ) (ap (λ (o : Outcome). o .state) (outcome-accepted (reportRefusal σ x d w) x (afterReport σ x (contentsOf w)) e))
+    (ap (λ (b : Bool). cond b (deskWith d (getD w 0 0) w) d) e)
+
 -- a report
 module _ (σ : List ℕ) (x : State) (d w : List ℕ) (g : Gathers σ x d) where
-  taken-next : accepted (reportRefusal σ x d w) ≡ true → Gathers σ (reported σ x d w .state) (deskAfter σ x d w)
-  unfolding reported deskAfter afterReport keeping
-  taken-next e =
-      let s : reported σ x d w .state ≡ afterReport σ x (contentsOf w) =
-      ap (λ (o : Outcome). o .state) (outcome-accepted (reportRefusal σ x d w) x (afterReport σ x (contentsOf w)) e) in
-      let k : deskAfter σ x d w ≡ deskWith d (getD w 0 0) w = ap (λ (b : Bool). cond b (deskWith d (getD w 0 0) w) d) e in
-      record {
-        reached =
-            subst⁻¹ (λ (y : State). Reached σ y (deskAfter σ x d w)) s
-            (subst⁻¹ (λ (f : List ℕ). Reached σ (afterReport σ x (contentsOf w)) f) k
-            (reporting x d w (g .reached) (accepted-none (reportRefusal σ x d w) e)));
-        phase = ap (λ (y : State). y .phase) s ∙ g .phase;
-      }
+  pub taken-gathers : accepted (reportRefusal σ x d w) ≡ true → Gathers σ (afterReport σ x (contentsOf w)) (deskWith d (getD w 0 0) w)
+  unfolding afterReport keeping
+  taken-gathers e =
+      record { reached = reporting x d w (g .reached) (accepted-none (reportRefusal σ x d w) e); phase = g .phase }
 
   ended-number : accepted (reportRefusal σ x d w) ≡ false → Reaches (Ended (reportRefusal σ x d w))
   unfolding Reaches
@@ -82,11 +83,11 @@ module _ (σ : List ℕ) (x : State) (d w : List ℕ) (g : Gathers σ x d) where
   reaches-told : Reaches (told σ x d w)
   unfolding Reaches told
   reaches-told =
-      ⊎-elim (λ e. subst⁻¹ (λ (b : Bool). Reaches (choose b)) e (taken-next e)) (λ e. subst⁻¹ (λ (b : Bool). Reaches (choose b)) e (ended-number e))
+      ⊎-elim (λ e. subst⁻¹ (λ (p : Progress). Reaches p) (told-taken σ x d w e) (taken-gathers e))
+      (λ e.
+      subst⁻¹ (λ (b : Bool). Reaches (cond b (Standing σ (reported σ x d w .state) (deskAfter σ x d w)) (Ended (reportRefusal σ x d w)))) e
+      (ended-number e))
       (either (accepted (reportRefusal σ x d w)))
-    where
-      choose : Bool → Progress
-      choose b = cond b (Standing σ (reported σ x d w .state) (deskAfter σ x d w)) (Ended (reportRefusal σ x d w))
 
 reaches-next : (p : Progress) (w : List ℕ) → Reaches p → Reaches (next p w)
 unfolding next Reaches
@@ -99,15 +100,22 @@ unfolding after
 reaches-after p [] h = h
 reaches-after p (w ∷ ws) h = reaches-after (next p w) ws (reaches-next p w h)
 
+-- whatever the blocks
+pub blocks-reach : (ws : List (List ℕ)) → Reaches (after start ws)
+unfolding Reaches
+blocks-reach ws = reaches-after start ws (eq-eqb _ 16384 (length-replicate {A = ℕ} 16384 0))
+
 -- whatever the input
 pub run-reaches : (input : List ℕ) → Reaches (after start (blocks input))
-unfolding Reaches
-run-reaches input = reaches-after start (blocks input) (eq-eqb _ 16384 (length-replicate {A = ℕ} 16384 0))
+run-reaches input = blocks-reach (blocks input)
 
 -- after the last block decide refuses nothing
-pub decide-taken : (input σ : List ℕ) (x : State) (d : List ℕ) → after start (blocks input) ≡ Standing σ x d → decideRefusal σ x d ≡ none
+pub decide-none : (ws : List (List ℕ)) (σ : List ℕ) (x : State) (d : List ℕ) → after start ws ≡ Standing σ x d → decideRefusal σ x d ≡ none
 unfolding Reaches decideRefusal
-decide-taken input σ x d e = entry-none σ x d (subst (λ (p : Progress). Reaches p) e (run-reaches input))
+decide-none ws σ x d e = entry-none σ x d (subst (λ (p : Progress). Reaches p) e (blocks-reach ws))
+
+pub decide-taken : (input σ : List ℕ) (x : State) (d : List ℕ) → after start (blocks input) ≡ Standing σ x d → decideRefusal σ x d ≡ none
+decide-taken input σ x d e = decide-none (blocks input) σ x d e
 
 -- the numbers that end a run
 pub ended-by : (input : List ℕ) (r : Refusal) → after start (blocks input) ≡ Ended r → (r .number ≡ 2) ⊎ ((5 ≤ r .number) × (r .number ≤ 13))

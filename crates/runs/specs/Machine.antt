@@ -53,6 +53,13 @@ pub record Ready (run : Run) (bytes : List ℕ) : Type 0 where
   pub coming : run .pending < needed (take (run .pending) bytes)
   pub few : run .words ≤ length (run .settings)
 
+-- the bytes below `end` are of one block, its count among them
+pub record Comes (run : Run) (bytes : List ℕ) (end : ℕ) : Type 0 where
+  pub room : length bytes ≡ 2056
+  pub count : 4 ≤ end
+  pub within : end ≤ length bytes
+  pub few : run .words ≤ length (run .settings)
+
 -- a block w is taken
 pub record Takes (run : Run) (d w : List ℕ) (r : Run) (e : List ℕ) : Type 0 where
   pub leads : progress r e ≡ next (progress run d) w

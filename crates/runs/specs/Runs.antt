@@ -5,20 +5,18 @@ use mathlib.Core.Bool.{cond}
 use mathlib.Core.List.{List, [], _∷_}
 use mathlib.Core.Path.{_≡_}
 use lib.ListN.{replicate}
-use Rattle.settings.specs.Settings.{shards, settingsOk}
+use Rattle.settings.specs.Settings.{settingsOk}
 use Rattle.ids.specs.declared.Refusal.{Refusal}
 use Rattle.ids.specs.Refusals.{refused, accepted}
-use Rattle.views.specs.declared.Plan.{Plan}
 use Rattle.planner.specs.declared.State.{State}
-use Rattle.planner.specs.declared.Decision.{Decision}
-use Rattle.planner.specs.declared.Decision.the-variants.{Planned, Wait, Refused}
 use Rattle.planner.specs.declared.Decided.{Decided}
 use Rattle.planner.specs.States.{fresh}
 use Rattle.planner.specs.Refusing.{reportRefusal}
 use Rattle.planner.specs.Events.{reported, deskAfter}
 use Rattle.planner.specs.Decide.{Decides}
 use Rattle.blocks.specs.Blocks.{blocks}
-use Rattle.lines.specs.Lines.{numberLine, waitLine, planLines}
+use Rattle.lines.specs.Lines.{numberLine}
+use Rattle.decisions.specs.Decisions.{decisionText}
 
 -- what a run has come to
 pub data Progress : Type 0 where
@@ -48,12 +46,6 @@ next (Ended r) w = Ended r
 unfoldable pub after : Progress → List (List ℕ) → Progress
 after p [] = p
 after p (w ∷ ws) = after (next p w) ws
-
--- the text of a decision, whose plan stands beside it
-unfoldable pub decisionText : List ℕ → Decision → Plan → List ℕ
-decisionText σ Planned p = planLines p (shards σ)
-decisionText σ (Wait reason) p = waitLine reason
-decisionText σ (Refused r) p = numberLine r
 
 -- the text is that of a decision of decide, which is free only in the choice among placements of equal moves
 pub record DecisionPrinted (σ : List ℕ) (x : State) (d text : List ℕ) : Type 0 where

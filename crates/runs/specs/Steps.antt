@@ -1,20 +1,19 @@
 -- What each step of a Run in memory leads to, over plain arguments.
-use Prim.Native.Nat.{ℕ, zero, suc, _+_, _-_, _≤_, _<_}
+use Prim.Native.Nat.{ℕ, _+_, _-_, _≤_, _<_}
 use mathlib.Core.Bool.{true, false}
 use mathlib.Core.Logic.{⊎-elim}
 use mathlib.Core.List.{List, [], _∷_, _++_, append-assoc}
 use mathlib.Core.Path.{_≡_, refl, sym, ap, ap₂, _∙_, subst}
 use native.Mathlib.Numerals.{add-one}
 use native.Mathlib.Omega.{arith}
-use lib.ListN.{length, take, drop, getD, replicate, length-replicate, set, getD-replicate, length-append, length-take, length-set, List·getD-eq-default}
-use lib.Seq.{take-nil, take-all, take-suc, take-suc-set, append-snoc, length-take-le}
-use Rattle.laws.specs.Bools.{either, lt-or-le}
-use Rattle.laws.specs.Tables.{padded, filled, length-padded, padded-ext, length-filled, getD-filled, getD-filled-rest}
-use Rattle.settings.specs.Settings.{shards, settingsOk, Settings}
+use lib.ListN.{length, take, drop, getD, set, length-append, length-take, length-set}
+use lib.Seq.{take-all, take-suc, take-suc-set, append-snoc, length-take-le}
+use Rattle.laws.specs.Bools.{either}
+use Rattle.laws.specs.Tables.{part-front, part-end, padded, length-padded, front-padded}
+use Rattle.settings.specs.Settings.{settingsOk, Settings}
 use Rattle.settings.specs.Laws.{settings-give}
 use Rattle.ids.specs.declared.Refusal.{Refusal}
 use Rattle.ids.specs.Refusals.{refused, accepted}
-use Rattle.views.specs.declared.Reason.{Reason}
 use Rattle.planner.specs.declared.State.{State}
 use Rattle.planner.specs.declared.Answer.{Answer}
 use Rattle.planner.specs.declared.Outcome.{Outcome}
@@ -28,19 +27,16 @@ use Rattle.planner.specs.States.{fresh}
 use Rattle.format.specs.Messages.{contentsOf}
 use Rattle.blocks.specs.declared.Block.{Block}
 use Rattle.blocks.specs.Blocks.{blocks, needed, wholeWords, length-whole, needed-ends, needed-more}
-use Rattle.blocks.specs.Held.{held, front-padded}
-use Rattle.lines.specs.Lines.{numberLine, waitLine, planLines, number-length, wait-length, plan-length}
+use Rattle.blocks.specs.Held.{held}
+use Rattle.lines.specs.Lines.{numberLine, number-length}
 use Rattle.lines.specs.Puts.{Puts}
+use Rattle.decisions.specs.Decisions.{decisionText, Says}
 use Rattle.runs.specs.declared.Stage.{Stage}
 use Rattle.runs.specs.declared.Stage.the-variants.{Opening, Open, Closed}
 use Rattle.runs.specs.declared.Run.{Run}
-use Rattle.runs.specs.Runs.{Progress, Standing, Ended, opened, told, next, after, decisionText, Prints}
+use Rattle.runs.specs.Runs.{Progress, Standing, Ended, opened, told, next, after, Prints}
 use Rattle.runs.specs.RunLaws.{after-block, after-cut, after-none}
-use Rattle.runs.specs.Machine.{progress, progressAt, closedBy, emptied, ahead, Ready, Takes, Opens, Feeds, Closes, Writes}
-
--- the settings as they are lent
-part-front : (n : ℕ) (l : List ℕ) → take (n - 0) l ≡ take n l
-part-front n l = let e : n - 0 ≡ n = omega arith in rw e
+use Rattle.runs.specs.Machine.{progress, progressAt, closedBy, emptied, ahead, Ready, Comes, Takes, Opens, Feeds, Closes, Writes}
 
 -- ---- a report
 
@@ -165,37 +161,11 @@ pub block-fits : (b : Block) (bytes : List ℕ) → length bytes ≤ 2052 → b 
 block-fits b bytes h e =
     omega (arith, length-whole bytes, ap (λ (x : Block). x .len) e, ap (λ (x : Block). length (x .table)) e, length-padded 513 (wholeWords bytes))
 
--- ---- words stored before zeros
-
-pub padded-stored : (ws : List ℕ) (i : ℕ) (l : List ℕ) → length ws ≤ 52 → i ≤ length ws → length ws ≤ i
-    → l ≡ filled i (λ k. getD ws k 0) (replicate 52 0) → l ≡ padded 52 ws
-padded-stored ws i l h m k e =
-    padded-ext 52 ws l (ap length e ∙ length-filled i f zeros (omega (arith, size)) ∙ size) at ∙ refl
-  where
-    f : ℕ → ℕ
-    f k = getD ws k 0
-
-    zeros : List ℕ
-    zeros = replicate 52 0
-
-    size : length zeros ≡ 52
-    size = length-replicate {A = ℕ} 52 0
-
-    at : (j : ℕ) → j < 52 → getD l j 0 ≡ getD ws j 0
-    at j n =
-        ap (λ (x : List ℕ). getD x j 0) e
-        ∙ ⊎-elim (λ a. getD-filled i f zeros j 0 a)
-        (λ a. getD-filled-rest i f zeros j 0 a ∙ getD-replicate 52 j 0 0 n ∙ sym (List·getD-eq-default ws 0 (omega arith)))
-        (lt-or-le j i)
+-- the bytes of a block after its count
+pub comes-size : (run : Run) (bytes : List ℕ) (end : ℕ) → Comes run bytes end → length (take (end - 4) (drop 4 bytes)) ≤ 2052
+comes-size run bytes end c = omega (arith, c .room, c .within, length-take (end - 4) (drop 4 bytes))
 
 -- ---- a byte
-
--- general: a part as the end of the front
-pub part-end : (a m : ℕ) (l : List ℕ) → take (m - a) (drop a l) ≡ drop a (take m l)
-part-end zero m l = part-front m l
-part-end (suc a) m [] = take-nil (m - suc a) ∙ sym (ap (drop (suc a)) (take-nil m))
-part-end (suc a) zero (x ∷ l) = let e : 0 - suc a ≡ 0 = omega arith in rw e
-part-end (suc a) (suc m) (x ∷ l) = let e : suc m - suc a ≡ m - a = omega arith in rw e (part-end a m l)
 
 module _ (run : Run) (bytes : List ℕ) (ready : Ready run bytes) where
   pub pending-room : run .pending < length bytes
@@ -207,14 +177,19 @@ module _ (run : Run) (bytes : List ℕ) (ready : Ready run bytes) where
   come-size : length (take (run .pending) bytes) ≡ run .pending
   come-size = length-take-le (run .pending) bytes (omega (arith, pending-room))
 
-  module _ (d : List ℕ) (x : ℕ) where
+  module _ (d : List ℕ) (x : ℕ) (now : List ℕ) (stored : now ≡ set bytes (run .pending) x) where
     -- the bytes that have come now
     come : List ℕ
     come = take (run .pending) bytes ++ (x ∷ [])
 
-    come-now : take (run .pending + 1) (set bytes (run .pending) x) ≡ come
+    come-now : take (run .pending + 1) now ≡ come
     unfolding come
-    come-now = ap (λ (k : ℕ). take k (set bytes (run .pending) x)) (add-one (run .pending)) ∙ take-suc-set bytes (run .pending) x pending-room
+    come-now =
+        ap (take (run .pending + 1)) stored ∙ ap (λ (k : ℕ). take k (set bytes (run .pending) x)) (add-one (run .pending))
+        ∙ take-suc-set bytes (run .pending) x pending-room
+
+    room-now : length now ≡ 2056
+    room-now = ap length stored ∙ length-set bytes (run .pending) x ∙ ready .room
 
     come-more : length come ≡ run .pending + 1
     unfolding come
@@ -225,57 +200,57 @@ module _ (run : Run) (bytes : List ℕ) (ready : Ready run bytes) where
     come-then rest = append-snoc (take (run .pending) bytes) x rest
 
     -- the block is not whole yet
-    pub push-waits : run .pending + 1 < needed (take (run .pending + 1 - 0) (set bytes (run .pending) x))
+    pub push-waits : run .pending + 1 < needed (take (run .pending + 1 - 0) now)
         → Feeds run d bytes (x ∷ [])
         (record { stage = run .stage; state = run .state; settings = run .settings; words = run .words; pending = run .pending + 1 })
-        d (set bytes (run .pending) x)
+        d now
     unfolding ahead
     push-waits h =
         record {
           ready =
               record {
-                room = length-set bytes (run .pending) x ∙ ready .room;
-                coming = subst (λ (l : List ℕ). run .pending + 1 < needed l) (part-front (run .pending + 1) (set bytes (run .pending) x)) h;
+                room = room-now;
+                coming = subst (λ (l : List ℕ). run .pending + 1 < needed l) (part-front (run .pending + 1) now) h;
                 few = ready .few;
               };
           same = λ rest. ap (λ (l : List ℕ). after (progress run d) (blocks l)) (ap (λ (l : List ℕ). l ++ rest) come-now ∙ come-then rest);
         }
 
     -- the block is whole, and is taken
-    module _ (h : needed (take (run .pending + 1 - 0) (set bytes (run .pending) x)) ≤ run .pending + 1) where
+    module _ (h : needed (take (run .pending + 1 - 0) now) ≤ run .pending + 1) where
       whole : length come ≡ needed come
       unfolding come
       whole =
-          let e : needed (take (run .pending + 1 - 0) (set bytes (run .pending) x)) ≡ needed come =
-          ap needed (part-front (run .pending + 1) (set bytes (run .pending) x) ∙ come-now) in
+          let e : needed (take (run .pending + 1 - 0) now) ≡ needed come =
+          ap needed (part-front (run .pending + 1) now ∙ come-now) in
           let c : run .pending < needed (take (run .pending) bytes) = ready .coming in
           omega (arith, come-more, come-size, needed-more (take (run .pending) bytes) x (omega (arith, come-size)))
 
-      pub whole-from : 4 ≤ run .pending + 1
+      whole-from : 4 ≤ run .pending + 1
       whole-from = omega (arith, whole, come-more, needed-ends come .0)
 
-      pub whole-size : length (take (run .pending + 1 - 4) (drop 4 (set bytes (run .pending) x))) ≤ 2052
-      whole-size =
-          omega (arith, pending-room, ready .room, length-take (run .pending + 1 - 4) (drop 4 (set bytes (run .pending) x)))
+      pub whole-comes : Comes run now (run .pending + 1)
+      whole-comes =
+          record { room = room-now; count = whole-from; within = omega (arith, pending-room, ready .room, room-now); few = ready .few }
 
       pub push-takes : (r : Run) (e : List ℕ)
-          → Takes (emptied run) d (wholeWords (take (run .pending + 1 - 4) (drop 4 (set bytes (run .pending) x)))) r e
-          → Feeds run d bytes (x ∷ []) r e (set bytes (run .pending) x)
+          → Takes (emptied run) d (wholeWords (take (run .pending + 1 - 4) (drop 4 now))) r e
+          → Feeds run d bytes (x ∷ []) r e now
       unfolding ahead
       push-takes r e t =
           let none : r .pending ≡ 0 = t .pending in
-          let block : take (run .pending + 1 - 4) (drop 4 (set bytes (run .pending) x)) ≡ drop 4 come =
-          part-end 4 (run .pending + 1) (set bytes (run .pending) x) ∙ ap (drop 4) come-now in
+          let block : take (run .pending + 1 - 4) (drop 4 now) ≡ drop 4 come =
+          part-end 4 (run .pending + 1) now ∙ ap (drop 4) come-now in
           record {
             ready =
                 record {
-                  room = length-set bytes (run .pending) x ∙ ready .room;
-                  coming = omega (arith, none, needed-ends (take (r .pending) (set bytes (run .pending) x)) .0);
+                  room = room-now;
+                  coming = omega (arith, none, needed-ends (take (r .pending) now) .0);
                   few = t .few;
                 };
             same =
                 λ rest.
-                ap₂ (λ (p : Progress) (k : ℕ). after p (blocks (take k (set bytes (run .pending) x) ++ rest)))
+                ap₂ (λ (p : Progress) (k : ℕ). after p (blocks (take k now ++ rest)))
                 (t .leads ∙ ap (λ (l : List ℕ). next (progress run d) (wholeWords l)) block) none
                 ∙ sym (after-block (progress run d) come rest whole)
                 ∙ ap (λ (l : List ℕ). after (progress run d) (blocks l)) (come-then rest);
@@ -312,8 +287,8 @@ module _ (run : Run) (d bytes : List ℕ) (ready : Ready run bytes) where
   close-none h =
       record { leads = sym (after-none (progress run d) (take (run .pending) bytes) (omega (arith, come-size run bytes ready))); few = ready .few }
 
-  pub cut-size : length (take (run .pending - 4) (drop 4 bytes)) ≤ 2052
-  cut-size = omega (arith, pending-room run bytes ready, ready .room, length-take (run .pending - 4) (drop 4 bytes))
+  pub cut-comes : 4 ≤ run .pending → Comes run bytes (run .pending)
+  cut-comes h = record { room = ready .room; count = h; within = omega (arith, pending-room run bytes ready); few = ready .few }
 
   pub close-cut : 4 ≤ run .pending → (r : Run) (e : List ℕ) → Takes (emptied run) d (wholeWords (take (run .pending - 4) (drop 4 bytes))) r e
       → Closes run d bytes r e
@@ -352,44 +327,26 @@ module _ (run : Run) (d out after : List ℕ) (n : ℕ) where
       }
 
   -- the text of a decision
-  module _ (h : run .stage ≡ Open) (r : Decided) (decides : Decides (take (run .words - 0) (run .settings)) (run .state) d r) where
-    own-decides : Decides (take (run .words) (run .settings)) (run .state) d r
-    own-decides = subst (λ (σ : List ℕ). Decides σ (run .state) d r) (part-front (run .words) (run .settings)) decides
-
-    writes-text : (text : List ℕ) → text ≡ decisionText (take (run .words) (run .settings)) (r .decision) (r .state .plan)
-        → length text ≤ 8192 → Puts out 0 text after n → Writes (progress run d) out after n
-    unfolding progressAt Prints
-    writes-text text says fits p =
-        record {
-          text = text;
-          prints =
-              subst (λ (q : Progress). Prints q text) (sym (progress-is run d Open h))
-              (record { decided = r; decides = own-decides; says = says });
-          fits = fits;
-          puts = p;
-        }
-
-    pub writes-wait : (reason : Reason) → r .decision ≡ Decision.Wait reason → Puts out 0 (waitLine reason) after n
-        → Writes (progress run d) out after n
-    unfolding decisionText
-    writes-wait reason e p =
-        writes-text (waitLine reason)
-        (sym (ap (λ (a : Decision). decisionText (take (run .words) (run .settings)) a (r .state .plan)) e)) (wait-length reason) p
-
-    pub writes-refused : (x : Refusal) → r .decision ≡ Decision.Refused x → Puts out 0 (numberLine x) after n
-        → Writes (progress run d) out after n
-    unfolding decisionText
-    writes-refused x e p =
-        writes-text (numberLine x)
-        (sym (ap (λ (a : Decision). decisionText (take (run .words) (run .settings)) a (r .state .plan)) e)) (number-length x) p
-
-    pub writes-plan : (shards-of : ℕ) → r .decision ≡ Decision.Planned → shards-of ≡ shards (take (run .words - 0) (run .settings)) → shards-of ≤ 16
-        → Puts out 0 (planLines (r .state .plan) shards-of) after n → Writes (progress run d) out after n
-    unfolding decisionText
-    writes-plan k e f few p =
-        writes-text (planLines (r .state .plan) k)
-        (ap (planLines (r .state .plan)) (f ∙ ap shards (part-front (run .words) (run .settings)))
-        ∙ sym (ap (λ (a : Decision). decisionText (take (run .words) (run .settings)) a (r .state .plan)) e)) (plan-length (r .state .plan) k few) p
+  pub writes-decision : (r : Decided) → run .stage ≡ Open → Decides (take (run .words - 0) (run .settings)) (run .state) d r
+      → Says (take (run .words - 0) (run .settings)) (r .decision) (r .state .plan) out after n → Writes (progress run d) out after n
+  unfolding progressAt Prints
+  writes-decision r h decides says =
+      record {
+        text = decisionText (take (run .words - 0) (run .settings)) (r .decision) (r .state .plan);
+        prints =
+            subst (λ (q : Progress). Prints q (decisionText (take (run .words - 0) (run .settings)) (r .decision) (r .state .plan)))
+            (sym (progress-is run d Open h))
+            (record {
+              decided = r;
+              decides = subst (λ (σ : List ℕ). Decides σ (run .state) d r) own decides;
+              says = ap (λ (σ : List ℕ). decisionText σ (r .decision) (r .state .plan)) own;
+            });
+        fits = says .fits;
+        puts = says .puts;
+      }
+    where
+      own : take (run .words - 0) (run .settings) ≡ take (run .words) (run .settings)
+      own = part-front (run .words) (run .settings)
 
 -- where decide plans the settings are right
 pub planned-settings : (σ : List ℕ) (x : State) (d : List ℕ) (r : Decided) → Decides σ x d r → r .decision ≡ Decision.Planned → Settings σ

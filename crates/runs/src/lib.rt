@@ -2,13 +2,11 @@
 // is put into lent bytes.
 use ids::Refusal;
 use planner::Answer;
-use planner::Decision;
 use planner::State;
 ghost use mathlib.Core.List.{_∷_, []};
 ghost use mathlib.Core.Path.{_≡_};
-ghost use Prim.Native.Nat.{_≤_};
-ghost use lib.ListN.{length};
-ghost use Rattle.laws.specs.Tables as Tables;
+ghost use Prim.Native.Nat.{_≤_, _-_};
+ghost use lib.ListN.{length, take, drop};
 ghost use Rattle.blocks.specs.Blocks.{wholeWords};
 ghost use Rattle.runs.specs.Machine as Machine;
 
@@ -33,20 +31,6 @@ pub struct Run {
     pub pending: usize,
 }
 
-// The words with zeros after them.
-fn padded(words: &[u32]) -> [u32; 52]
-    requires { ⌜ length (now words) ≤ 52 ⌝ }
-    ensures { λ r. ⌜ r ≡ Tables.padded 52 (now (words .entry)) ⌝ }
-{
-    let mut table = [0u32; 52];
-    let mut i = 0;
-    while i < words.len() {
-        table[i] = words[i];
-        i += 1;
-    }
-    table
-}
-
 fn closed(run: Run, refusal: Refusal) -> Run
     ensures { λ r. ⌜ r ≡ Machine.closedBy run refusal ⌝ }
 {
@@ -61,13 +45,13 @@ fn begin(run: Run, block: &[u32]) -> Run
     requires { ⌜ run .words ≤ length (run .settings) ⌝ }
     ensures { λ r. ⌜ Machine.Opens run (now (block .entry)) r ⌝ }
 {
-    if !settings::check(block) {
+    if !settings_check::check(block) {
         return closed(run, Refusal { number: 2 });
     }
     Run {
         stage: Stage::Open,
         state: State::fresh(),
-        settings: padded(block),
+        settings: intake::padded(block),
         words: block.len(),
         ..run
     }
@@ -103,15 +87,17 @@ fn take_block(run: Run, desk: &mut [u32], block: &[u32]) -> Run
     }
 }
 
-// The block whose bytes have come in, cut short or not.
-fn take_bytes(run: Run, desk: &mut [u32], bytes: &[u8]) -> Run
-    requires { ⌜ (length (now bytes) ≤ 2052) × (run .words ≤ length (run .settings)) ⌝ }
-    ensures { λ r. ⌜ Machine.Takes (Machine.emptied run) (now (desk .entry)) (wholeWords (now (bytes .entry))) r (now (desk .exit)) ⌝ }
+// The block whose bytes below `end` have come in, cut short or not.
+fn take_bytes(run: Run, desk: &mut [u32], bytes: &[u8], end: usize) -> Run
+    requires { ⌜ Machine.Comes run (now bytes) end ⌝ }
+    ensures { λ r. ⌜ Machine.Takes (Machine.emptied run) (now (desk .entry)) (wholeWords (take (end - 4) (drop 4 (now (bytes .entry))))) r (now (desk .exit)) ⌝ }
 {
-    let block = blocks::words_of(bytes);
+    let block = intake::block_of(bytes, end);
     let len = block.len;
     let table = block.table;
-    take_block(Run { pending: 0, ..run }, desk, &table[0..len])
+    let mut next = run;
+    next.pending = 0;
+    take_block(next, desk, &table[0..len])
 }
 
 // A byte.
@@ -120,15 +106,14 @@ fn push(run: Run, desk: &mut [u32], bytes: &mut [u8], byte: u8) -> Run
     ensures { λ r. ⌜ Machine.Feeds run (now (desk .entry)) (now (bytes .entry)) (byte ∷ []) r (now (desk .exit)) (now (bytes .exit)) ⌝ }
 {
     let at = run.pending;
-    bytes[at] = byte;
+    let needed = intake::keep(bytes, at, byte);
     let end = at + 1;
-    if end < blocks::needed(&bytes[0..end]) {
-        return Run {
-            pending: end,
-            ..run
-        };
+    if end < needed {
+        let mut waiting = run;
+        waiting.pending = end;
+        return waiting;
     }
-    take_bytes(run, desk, &bytes[4..end])
+    take_bytes(run, desk, bytes, end)
 }
 
 // What the decision prints.
@@ -142,14 +127,7 @@ fn print_decision(run: Run, desk: &[u32], out: &mut [u8]) -> usize
     let decided = state.decide(&settings[0..n], desk);
     let decision = decided.decision;
     let next = decided.state;
-    match decision {
-        Decision::Planned => {
-            let shards = settings::shards(&settings[0..n]);
-            lines::plan_lines(out, next.plan, shards as usize)
-        }
-        Decision::Wait(reason) => lines::wait_line(out, reason),
-        Decision::Refused(refusal) => lines::number_line(out, refusal),
-    }
+    decisions::decision_lines(out, &settings[0..n], decision, next.plan)
 }
 
 impl Run {
@@ -201,7 +179,7 @@ impl Run {
         if end < 4 {
             return self;
         }
-        take_bytes(self, desk, &bytes[4..end])
+        take_bytes(self, desk, bytes, end)
     }
 
     // What the run prints after the last block.

@@ -10,18 +10,6 @@ use Rattle.blocks.proofs.needed.Tie as tie
 returns : tie.Need-returns
 returns c = sym (needed-few _ (c .if1 .taken))
 
-word-at-requires : tie.Need-word-at-requires
-word-at-requires c κs = search needs
-
-wide-requires : tie.Need-wide-requires
-wide-requires c κs = search needs
-
-mul-result : tie.Need-mul-result
-mul-result c = search needs
-
-add-result : tie.Need-add-result
-add-result c = search needs
-
 returns-2 : tie.Need-returns-2
 returns-2 c = let n : count (c .before .before .before .before .before .args .bytes .now) < 513 = omega (arith, c .before .before .word-at .ensures) in
     sym (needed-short _ (c .before .before .before .if1 .left) n ∙ ap (λ (k : ℕ). 4 + 4 * k) (sym (c .before .before .word-at .ensures) ∙ sym (c .wide .ensures)))
@@ -32,5 +20,4 @@ returns-3 c = let n : 513 ≤ count (c .before .before .before .before .args .by
 
 pub needed-spec : {M : Type 1} → statement M
 needed-spec =
-    tie.close
-    (tie.spec returns word-at-requires wide-requires mul-result add-result returns-2 returns-3)
+    tie.close (tie.spec returns (λ c κs. search needs) (λ c κs. search needs) (λ c. search needs) (λ c. search needs) returns-2 returns-3)

@@ -6,21 +6,6 @@ use Rattle.lines.specs.Text.{member-in, member-out}
 use Rattle.lines.proofs.put_member.Statement.{statement}
 use Rattle.lines.proofs.put_member.Tie as tie
 
-has-requires : tie.Need-has-requires
-has-requires c κs = search needs
-
-slice-aggregate-put-field : tie.Need-slice-aggregate-put-field
-slice-aggregate-put-field c = search needs
-
-cast-put-field : tie.Need-cast-put-field
-cast-put-field c = search needs
-
-put-field-requires : tie.Need-put-field-requires
-put-field-requires c κs = search needs
-
-same-length : tie.Need-same-length
-same-length c = search needs
-
 returns : tie.Need-returns
 returns c = puts-as (member-in _ _ (sym (c .before .before .before .before .before .before .has .ensures) ∙ c .before .before .before .before .before .if1 .taken)) (c .before .before .put-field .ensures)
 
@@ -29,12 +14,4 @@ returns-2 c = puts-as (member-out _ _ (sym (c .before .has .ensures) ∙ c .if1 
 
 pub put-member-spec : {M : Type 1} → statement M
 put-member-spec =
-    tie.close
-    (tie.spec
-    has-requires
-    slice-aggregate-put-field
-    cast-put-field
-    put-field-requires
-    same-length
-    returns
-    returns-2)
+    tie.close (tie.spec (λ c κs. search needs) (λ c. search needs) (λ c. search needs) (λ c κs. search needs) (λ c. search needs) returns returns-2)

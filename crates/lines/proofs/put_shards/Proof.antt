@@ -18,20 +18,8 @@ loop-holds : tie.Need-loop-holds Inv-loop μ-loop
 unfolding shardLines
 loop-holds c = (search needs, puts-none _ _ (c .before .pre .0))
 
-put-shard-requires : tie.Need-put-shard-requires Inv-loop μ-loop
-put-shard-requires c κs = search needs
-
-add-s : tie.Need-add-s Inv-loop μ-loop
-add-s c = search needs
-
-loop-less : tie.Need-loop-less Inv-loop μ-loop
-loop-less c = search needs
-
 loop-again : tie.Need-loop-again Inv-loop μ-loop
 loop-again c = (search needs, puts-as (shards-step _ _) (then-puts (c .before .before .before .before .before .before .before .pre .0) (c .before .before .before .before .before .loop .inv .1) (c .before .before .put-shard .ensures)))
-
-same-length : tie.Need-same-length Inv-loop μ-loop
-same-length c = search needs
 
 returns : tie.Need-returns Inv-loop μ-loop
 returns c = puts-as (ap (shardLines (c .before .before .before .args .plan)) (omega arith)) (c .before .loop .inv .1)
@@ -39,13 +27,4 @@ returns c = puts-as (ap (shardLines (c .before .before .before .args .plan)) (om
 pub put-shards-spec : {M : Type 1} → statement M
 put-shards-spec =
     tie.close
-    (tie.spec
-    Inv-loop
-    μ-loop
-    loop-holds
-    put-shard-requires
-    add-s
-    loop-less
-    loop-again
-    same-length
-    returns)
+    (tie.spec Inv-loop μ-loop loop-holds (λ c κs. search needs) (λ c. search needs) (λ c. search needs) loop-again (λ c. search needs) returns)

@@ -13,20 +13,8 @@ Inv-loop desk₀ bytes₀ run₀ buffer₀ turns₀ desk bytes run buffer turns 
 abbrev μ-loop : tie.MeasureT-loop
 μ-loop desk₀ bytes₀ run₀ buffer₀ turns₀ desk bytes run buffer turns = turns
 
-start-requires : tie.Need-start-requires Inv-loop μ-loop
-start-requires c κs = search needs
-
-slice-aggregate-buffer : tie.Need-slice-aggregate-buffer Inv-loop μ-loop
-slice-aggregate-buffer c = search needs
-
 loop-holds : tie.Need-loop-holds Inv-loop μ-loop
 loop-holds c = (reads-none _ _ _ (c .before .start .ensures) (c .before .before .before .before .pre), refl)
-
-is-closed-requires : tie.Need-is-closed-requires Inv-loop μ-loop
-is-closed-requires c κs = search needs
-
-read-some-requires : tie.Need-read-some-requires Inv-loop μ-loop
-read-some-requires c κs = search needs
 
 same-length : tie.Need-same-length Inv-loop μ-loop
 same-length c = c .before .before .before .before .before .before .before .before .before .loop .inv .1
@@ -36,12 +24,6 @@ same-length-2 c = c .before .before .before .before .before .before .before .bef
 
 returns : tie.Need-returns Inv-loop μ-loop
 returns c = c .before .before .before .before .before .before .before .before .before .loop .inv .0
-
-sub-feed : tie.Need-sub-feed Inv-loop μ-loop
-sub-feed c = search needs
-
-part-feed-start : tie.Need-part-feed-start Inv-loop μ-loop
-part-feed-start c = search needs
 
 part-feed-end : tie.Need-part-feed-end Inv-loop μ-loop
 part-feed-end c = omega (arith, c .before .before .before .before .before .before .read-some .ensures .0)
@@ -79,27 +61,6 @@ returns-3 c = c .before .before .loop .inv .0
 pub read-all-spec : {M : Type 1} → statement M
 read-all-spec =
     tie.close
-    (tie.spec
-    Inv-loop
-    μ-loop
-    start-requires
-    slice-aggregate-buffer
-    loop-holds
-    is-closed-requires
-    read-some-requires
-    same-length
-    same-length-2
-    returns
-    sub-feed
-    part-feed-start
-    part-feed-end
-    feed-requires
-    sub-turns
-    loop-less
-    loop-again
-    same-length-3
-    same-length-4
-    returns-2
-    same-length-5
-    same-length-6
-    returns-3)
+    (tie.spec Inv-loop μ-loop (λ c κs. search needs) (λ c. search needs) loop-holds (λ c κs. search needs) (λ c κs. search needs) same-length
+    same-length-2 returns (λ c. search needs) (λ c. search needs) part-feed-end feed-requires sub-turns loop-less loop-again same-length-3
+    same-length-4 returns-2 same-length-5 same-length-6 returns-3)

@@ -6,17 +6,8 @@ use Rattle.runs.specs.Steps.{settings-size, open-refused, open-accepted}
 use Rattle.runs.proofs.begin.Statement.{statement}
 use Rattle.runs.proofs.begin.Tie as tie
 
-check-requires : tie.Need-check-requires
-check-requires c κs = search needs
-
-closed-requires : tie.Need-closed-requires
-closed-requires c κs = search needs
-
 returns : tie.Need-returns
 returns c = open-refused (c .before .before .before .before .args .run) _ _ (c .before .before .before .before .pre) (sym (c .before .before .check .ensures) ∙ not-true _ (c .before .if1 .taken)) (c .closed .ensures)
-
-fresh-requires : tie.Need-fresh-requires
-fresh-requires c κs = search needs
 
 padded-requires : tie.Need-padded-requires
 padded-requires c κs = settings-size _ (sym (c .before .before .check .ensures) ∙ not-false _ (c .before .if1 .left))
@@ -26,5 +17,4 @@ returns-2 c = open-accepted (c .before .before .before .before .before .args .ru
 
 pub begin-spec : {M : Type 1} → statement M
 begin-spec =
-    tie.close
-    (tie.spec check-requires closed-requires returns fresh-requires padded-requires returns-2)
+    tie.close (tie.spec (λ c κs. search needs) (λ c κs. search needs) returns (λ c κs. search needs) padded-requires returns-2)

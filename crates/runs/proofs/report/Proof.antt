@@ -4,35 +4,14 @@ use Rattle.runs.specs.Steps.{report-accepted, report-refused}
 use Rattle.runs.proofs.report.Statement.{statement}
 use Rattle.runs.proofs.report.Tie as tie
 
-sub-report : tie.Need-sub-report
-sub-report c = search needs
-
-part-report-start : tie.Need-part-report-start
-part-report-start c = search needs
-
 part-report-end : tie.Need-part-report-end
 part-report-end c = search (needs, c .before .before .before .before .before .pre .1)
-
-report-requires : tie.Need-report-requires
-report-requires c κs = search needs
 
 enum-told : tie.Need-enum-told
 enum-told c = search needs
 
-enum-known-answer : tie.Need-enum-known-answer
-enum-known-answer c = search needs
-
-closed-requires : tie.Need-closed-requires
-closed-requires c κs = search needs
-
-same-length : tie.Need-same-length
-same-length c = search needs
-
 returns : tie.Need-returns
 returns c = report-accepted (c .before .before .before .before .before .before .before .before .before .before .before .before .before .before .args .run) _ _ (c .before .before .before .before .before .before .report .result) _ (c .before .before .before .before .before .before .before .before .before .before .before .before .before .before .pre .0) (c .before .before .before .before .before .before .before .before .before .before .before .before .before .before .pre .1) (c .before .before .before .before .before .before .report .ensures .0) (c .before .before .before .before .before .before .report .ensures .1) (c .before .enum-told .given .1)
-
-same-length-2 : tie.Need-same-length-2
-same-length-2 c = search needs
 
 returns-2 : tie.Need-returns-2
 returns-2 c = report-refused (c .before .before .before .before .before .before .before .before .before .before .before .before .before .before .before .args .run) _ _ (c .before .before .before .before .before .before .before .report .result) _ (c .before .before .before .before .before .before .before .before .before .before .before .before .before .before .before .pre .0) (c .before .before .before .before .before .before .before .before .before .before .before .before .before .before .before .pre .1) (c .before .before .before .before .before .before .before .report .ensures .0) (c .before .before .before .before .before .before .before .report .ensures .1) _ _ (c .before .before .answer .given .1) (c .closed .ensures)
@@ -40,15 +19,5 @@ returns-2 c = report-refused (c .before .before .before .before .before .before 
 pub report-spec : {M : Type 1} → statement M
 report-spec =
     tie.close
-    (tie.spec
-    sub-report
-    part-report-start
-    part-report-end
-    report-requires
-    enum-told
-    enum-known-answer
-    closed-requires
-    same-length
-    returns
-    same-length-2
-    returns-2)
+    (tie.spec (λ c. search needs) (λ c. search needs) part-report-end (λ c κs. search needs) enum-told (λ c. search needs) (λ c κs. search needs)
+    (λ c. search needs) returns (λ c. search needs) returns-2)

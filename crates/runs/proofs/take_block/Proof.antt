@@ -7,26 +7,8 @@ use Rattle.runs.proofs.take_block.Tie as tie
 enum-told : tie.Need-enum-told
 enum-told c = search needs
 
-begin-requires : tie.Need-begin-requires
-begin-requires c κs = search needs
-
-enum-told-2 : tie.Need-enum-told-2
-enum-told-2 c = search needs
-
-report-requires : tie.Need-report-requires
-report-requires c κs = search needs
-
-enum-told-3 : tie.Need-enum-told-3
-enum-told-3 c = search needs
-
 returns : tie.Need-returns
 returns c = takes-first (c .before .before .before .before .before .args .run) _ _ _ (c .before .enum-told .given .1) (c .begin .ensures)
-
-same-length : tie.Need-same-length
-same-length c = search needs
-
-returns-2 : tie.Need-returns-2
-returns-2 c = search needs
 
 returns-3 : tie.Need-returns-3
 returns-3 c = takes-none (c .before .before .before .before .args .run) _ _ _ (c .enum-told3 .given .1) (c .before .before .before .before .pre)
@@ -34,13 +16,5 @@ returns-3 c = takes-none (c .before .before .before .before .args .run) _ _ _ (c
 pub take-block-spec : {M : Type 1} → statement M
 take-block-spec =
     tie.close
-    (tie.spec
-    enum-told
-    begin-requires
-    enum-told-2
-    report-requires
-    enum-told-3
-    returns
-    same-length
-    returns-2
-    returns-3)
+    (tie.spec enum-told (λ c κs. search needs) (λ c. search needs) (λ c κs. search needs) (λ c. search needs) returns (λ c. search needs)
+    (λ c. search needs) returns-3)

@@ -18,17 +18,11 @@ abbrev μ-loop : tie.MeasureT-loop
 loop-holds : tie.Need-loop-holds Inv-loop μ-loop
 loop-holds c = (search needs, (feeds-none (c .before .before .before .pre), search needs))
 
-shared-slice-read-push : tie.Need-shared-slice-read-push Inv-loop μ-loop
-shared-slice-read-push c = search needs
-
 push-requires : tie.Need-push-requires Inv-loop μ-loop
 push-requires c κs = c .before .before .before .before .loop .inv .1 .0 .ready
 
 add-i : tie.Need-add-i Inv-loop μ-loop
 add-i c = omega (arith, c .before .before .before .before .before .before .before .before .before .before .before .before .before .good .1 .1 .1)
-
-loop-less : tie.Need-loop-less Inv-loop μ-loop
-loop-less c = search needs
 
 loop-again : tie.Need-loop-again Inv-loop μ-loop
 loop-again c = (search needs, (feeds-more (c .before .before .before .before .before .before .before .before .before .before .before .before .before .args .fed .now) _ (c .before .before .before .before .before .before .before .before .loop-test .taken) (c .before .before .before .before .before .before .before .before .before .loop .inv .1 .0) (c .before .before .before .before .push .ensures), c .before .before .before .before .push .kept .1 .0 ∙ c .before .before .before .before .before .before .before .before .before .loop .inv .1 .1))
@@ -45,15 +39,4 @@ returns c = feeds-all (c .before .before .before .before .before .args .fed .now
 pub feed-spec : {M : Type 1} → statement M
 feed-spec =
     tie.close
-    (tie.spec
-    Inv-loop
-    μ-loop
-    loop-holds
-    shared-slice-read-push
-    push-requires
-    add-i
-    loop-less
-    loop-again
-    same-length
-    same-length-2
-    returns)
+    (tie.spec Inv-loop μ-loop loop-holds (λ c. search needs) push-requires add-i (λ c. search needs) loop-again same-length same-length-2 returns)

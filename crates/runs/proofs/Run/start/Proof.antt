@@ -7,11 +7,8 @@ use Rattle.runs.specs.declared.Stage.the-variants.{Opening}
 use Rattle.runs.proofs.Run.start.Statement.{statement}
 use Rattle.runs.proofs.Run.start.Tie as tie
 
-fresh-requires : tie.Need-fresh-requires
-fresh-requires c κs = search needs
-
 returns : tie.Need-returns
 returns c = ap (λ (x : State). record { stage = Opening; state = x; settings = replicate 52 0; words = 0; pending = 0 }) (c .fresh .ensures)
 
 pub start-spec : {M : Type 1} → statement M
-start-spec = tie.close (tie.spec fresh-requires returns)
+start-spec = tie.close (tie.spec (λ c κs. search needs) returns)

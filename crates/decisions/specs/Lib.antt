@@ -1,0 +1,2 @@
+-- What a decision prints.
+pub mod Decisions

@@ -1,0 +1,2 @@
+-- What is kept of the bytes and words of a block.
+pub mod Intake
