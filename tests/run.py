@@ -9,13 +9,15 @@ import subprocess
 import sys
 import time
 
+from prove import environment
+
 ROOT = os.path.dirname(os.path.dirname(os.path.abspath(__file__)))
 TARGET = os.path.join(ROOT, "target")
 COUNTS = re.compile(r"^(\d+) passed, (\d+) failed$")
 CARGO = re.compile(r"(\d+) passed; (\d+) failed")
 
 ENVIRONMENT = dict(
-    os.environ,
+    environment(),
     CARGO_TARGET_DIR=os.path.join(TARGET, "cargo"),
     RESTART_LIB_DIR=os.path.join(TARGET, "staticlib"),
 )
@@ -27,6 +29,7 @@ def cargo(folder, *words):
 
 PARTS = [
     ("layout of the sources", ["rt", "fmt", "--check"]),
+    ("crates by layer, definitions by name", ["python3", "tests/layers.py"]),
     ("proofs, wrong programs and runs", ["rt", "ci"]),
     ("wrong programs are refused for a fact", ["python3", "tests/edits.py"]),
     ("names in docs/PROMISES.md", ["python3", "tests/promises.py"]),
@@ -39,7 +42,7 @@ PARTS = [
     ("the program restart against the reference", cargo("tests", "run", "--release", "--bin", "runs", "--", "target/bin/restart", "1", "20000")),
     ("texts and explanations for operators", ["python3", "tools/tests/run.py", "target/bin/restart"]),
     ("the library from C", ["make", "--no-print-directory", "test-c"]),
-    ("the placement for C", ["rt", "staticlib", "placement_c"]),
+    ("the placement for C", ["rt", "staticlib", "c_placement"]),
     ("placements against the reference", cargo("tests/placement", "run", "--release")),
     ("the total search is never entered", ["make", "--no-print-directory", "-C", "bench", "fallback"]),
 ]

@@ -4,7 +4,7 @@ use native.Mathlib.Omega.{arith}
 use mathlib.Core.Bool.{Bool, true}
 use mathlib.Core.Logic.{_⊎_, inl, inr, ⊎-elim}
 use mathlib.Core.Path.{_≡_, ap₂, subst}
-use Rattle.base_laws.specs.Positions.{notAfter as not-after, not-after-antisym, not-after-trans, not-after-views, not-after-view, not-after-place, not-after-cases}
+use Rattle.base_laws.specs.Positions.{pairNotAfter as not-after, not-after-antisym, not-after-trans, not-after-views, not-after-view, not-after-place, not-after-cases}
 use Rattle.base_ids.specs.declared.Position.{Position}
 
 -- p is q or before it

@@ -1,4 +1,4 @@
-// Tests and changes of a mask: a u32 whose bit n stands for node n. Each function gives what its definition in laws says.
+// Tests and changes of a mask: a u32 whose bit n stands for node n. Each function gives what its definition in base_laws says.
 ghost use mathlib.Core.Path.{_≡_};
 ghost use Prim.Native.Nat.{_<_};
 ghost use Rattle.base_laws.specs.Masks as Masks;

@@ -16,30 +16,30 @@ use Rattle.message_format.specs.Messages.{headWord}
 use Rattle.c_messages.specs.Answers.{contentsWord, contentsWords}
 
 -- the head's words, then the body's
-unfoldable pub spread : List ℕ → List ℕ → ℕ → ℕ
-spread head body i = cond (ltb i 3) (getD head i 0) (getD body (i - 3) 0)
+unfoldable pub headThenBody : List ℕ → List ℕ → ℕ → ℕ
+headThenBody head body i = cond (ltb i 3) (getD head i 0) (getD body (i - 3) 0)
 
 -- head with the first k words of body after its first three
 unfoldable pub laid : List ℕ → List ℕ → ℕ → List ℕ
-laid head body k = filled (k + 3) (spread head body) head
+laid head body k = filled (k + 3) (headThenBody head body) head
 
 module _ (head body : List ℕ) where
   pub laid-start : 3 ≤ length head → head ≡ laid head body 0
-  unfolding laid spread
-  laid-start h = filled-ext 0 3 (spread head body) head head h refl (λ i l. rw (lt-ltb i 3 l)) (λ i l. refl)
+  unfolding laid headThenBody
+  laid-start h = filled-ext 0 3 (headThenBody head body) head head h refl (λ i l. rw (lt-ltb i 3 l)) (λ i l. refl)
 
   pub laid-more : (k : ℕ) → k + 3 < length head → set (laid head body k) (k + 3) (getD body k 0) ≡ laid head body (k + 1)
-  unfolding laid spread
+  unfolding laid headThenBody
   laid-more k h =
-      let at : getD body k 0 ≡ spread head body (k + 3) =
+      let at : getD body k 0 ≡ headThenBody head body (k + 3) =
       rw (le-ltb (k + 3) 3 (omega arith)) (ap (λ (i : ℕ). getD body i 0) (omega arith)) in
-      ap (set (filled (k + 3) (spread head body) head) (k + 3)) at
-      ∙ filled-more (k + 3) (spread head body) head h
-      ∙ ap (λ (i : ℕ). filled i (spread head body) head) (omega arith)
+      ap (set (filled (k + 3) (headThenBody head body) head) (k + 3)) at
+      ∙ filled-more (k + 3) (headThenBody head body) head h
+      ∙ ap (λ (i : ℕ). filled i (headThenBody head body) head) (omega arith)
 
   pub length-laid : (k : ℕ) → k + 3 ≤ length head → length (laid head body k) ≡ length head
   unfolding laid
-  length-laid k h = length-filled (k + 3) (spread head body) head h
+  length-laid k h = length-filled (k + 3) (headThenBody head body) head h
 
 -- the head of 512 words
 abbrev pub headed : Contents → List ℕ
@@ -64,14 +64,14 @@ headed-rest c k l h =
 
 -- all words of the body are laid
 pub laid-end : (c : Contents) → laid (headed c) (c .body) 381 ≡ contentsWords c
-unfolding laid contentsWords spread contentsWord
+unfolding laid contentsWords headThenBody contentsWord
 laid-end c =
     tabulate-ext 0 512 (contentsWord c) (laid (headed c) (c .body) 381)
     (length-laid (headed c) (c .body) 381 (omega (arith, length-headed c)) ∙ length-headed c)
     (λ k h. ⊎-elim (front k) (λ l. ⊎-elim (middle k l) (rest k h) (lt-or-le k 384)) (lt-or-le k 3))
   where
-    laid-at : (k : ℕ) → k < 384 → getD (laid (headed c) (c .body) 381) k 0 ≡ spread (headed c) (c .body) k
-    laid-at k l = getD-filled 384 (spread (headed c) (c .body)) (headed c) k 0 l
+    laid-at : (k : ℕ) → k < 384 → getD (laid (headed c) (c .body) 381) k 0 ≡ headThenBody (headed c) (c .body) k
+    laid-at k l = getD-filled 384 (headThenBody (headed c) (c .body)) (headed c) k 0 l
 
     front : (k : ℕ) → k < 3 → getD (laid (headed c) (c .body) 381) k 0 ≡ contentsWord c k
     front k l = laid-at k (omega arith) ∙ rw (lt-ltb k 3 l) (headed-front c k l)
@@ -81,6 +81,6 @@ laid-end c =
 
     rest : (k : ℕ) → k < 512 → 384 ≤ k → getD (laid (headed c) (c .body) 381) k 0 ≡ contentsWord c k
     rest k h m =
-        getD-filled-rest 384 (spread (headed c) (c .body)) (headed c) k 0 m
+        getD-filled-rest 384 (headThenBody (headed c) (c .body)) (headed c) k 0 m
         ∙ headed-rest c k (omega arith) h
         ∙ rw (le-ltb k 3 (omega arith), le-ltb k 384 m)

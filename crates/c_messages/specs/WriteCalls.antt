@@ -12,7 +12,7 @@ use borrow.Author.Tests.{eq-eqb, ne-eqb, lt-leb, leb-true, eqb-true}
 use Rattle.base_laws.specs.Bools.{either, and-right}
 use Rattle.base_laws.specs.Tables.{tabulate, tabulate-cong, padded, getD-padded-all}
 use Rattle.word_bytes.specs.Words.{bytesOf}
-use Rattle.word_lent.specs.Lent.{wordsIn, wordsWithin, within-cases, Holds}
+use Rattle.word_lent.specs.Lent.{wordsIn, wordsWithin, within-cases, HoldsWords}
 use Rattle.word_lent.specs.Answers.{withLength, Told, told-refused, told-accepted}
 use Rattle.base_ids.specs.declared.Refusal.{Refusal}
 use Rattle.base_ids.specs.Refusals.{refused, none, unless, unless-ok, unless-rest, unless-true, unless-false}
@@ -58,7 +58,7 @@ abbrev pub contentsWithin : List ℕ → Contents
 contentsWithin b = contentsIn (wordsWithin 384 b) (length (wordsWithin 384 b))
 
 -- a table that holds their words
-pub contents-held : (table : List ℕ) (n : ℕ) (b : List ℕ) → Holds table n 384 b → contentsIn table n ≡ contentsWithin b
+pub contents-held : (table : List ℕ) (n : ℕ) (b : List ℕ) → HoldsWords table n 384 b → contentsIn table n ≡ contentsWithin b
 contents-held table n b h =
     ap₂ contentsIn (h .whole) (h .count)
     ∙ contents-padded (wordsWithin 384 b) (length (wordsWithin 384 b)) (let few = h .few in omega (arith, h .count))

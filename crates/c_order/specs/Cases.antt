@@ -27,7 +27,7 @@ use Rattle.state_order.specs.Orders.{ordered, orderBuffer}
 use Rattle.state_order.specs.Taken.{writer-takes}
 use Rattle.c_state.specs.declared.Entry.{Entry}
 use Rattle.c_state.specs.Calls.{stateLent, entry}
-use Rattle.c_state.specs.CallLaws.{settings-whole, bytes-of-words, length-test, Passed, entry-refuses, entry-passes}
+use Rattle.c_state.specs.CallLaws.{settings-whole, bytes-of-words, length-test, CallEntered, entry-refuses, entry-passes}
 use Rattle.c_order.specs.OrderCalls.{lengthsOk, orderRefused, orderAnswer, orderLeaves}
 
 module _ (x : State) (settings desk : List ℕ) (node : ℕ) (z s d : List ℕ) (h : settingsOk (wordsIn settings) ≡ true)
@@ -83,7 +83,7 @@ module _ (settings state desk : List ℕ) (node : ℕ) (buffer : List ℕ) where
     order-not-entered h = told (entry-refuses (lengthsOk desk buffer) settings state e from h _ _ _ buffer)
 
     module _ (h : e .refusal .number ≡ 0) where
-      pub order-passes : Passed (lengthsOk desk buffer) settings state (e .state)
+      pub order-passes : CallEntered (lengthsOk desk buffer) settings state (e .state)
       order-passes = entry-passes (lengthsOk desk buffer) settings state e from h
 
       pub desk-long : length desk ≡ 65536

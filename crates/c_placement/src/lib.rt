@@ -4,13 +4,13 @@ ghost use mathlib.Core.Bool.{true};
 ghost use Prim.Native.Nat.{_<_, _≤_};
 ghost use Rattle.search_theory.specs.Tables.{caseOf};
 ghost use Rattle.c_placement.specs.Number.{Number, Answered, AnsweredWithin};
-use search_total::Answer;
+use search_total::Solution;
 
 // The number of a search that is not sure.
 const UNSURE: u32 = 65;
 
 // An answer's number: its moves, or 64 where there is none.
-fn number(a: Answer) -> u32
+fn number(a: Solution) -> u32
     requires { ⌜ (a .exists ≡ true → a .moves ≤ 32) ⌝ }
     ensures { λ r. ⌜ Number a r ⌝ }
 {

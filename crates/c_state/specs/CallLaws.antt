@@ -103,7 +103,7 @@ entry-of lengths settings state d e r f =
 
 module _ (lengths : Bool) (settings state : List ℕ) where
   -- what an entry that does not refuse gives
-  pub record Passed (x : State) : Type 0 where
+  pub record CallEntered (x : State) : Type 0 where
     pub lengths-ok : lengths ≡ true
     pub settings-ok : settingsOk (wordsIn settings) ≡ true
     pub state-ok : isState (wordsIn state) ≡ true
@@ -126,7 +126,7 @@ module _ (lengths : Bool) (settings state : List ℕ) where
         (first-refused (entryRefused lengths settings (isState (wordsIn state))) event (ap accepted (sym refusal-is) ∙ no) ∙ sym refusal-is)
         word made bytes no
 
-    pub entry-passes : e .refusal .number ≡ 0 → Passed (e .state)
+    pub entry-passes : e .refusal .number ≡ 0 → CallEntered (e .state)
     unfolding entry entryRefused called decoded stateLent
     entry-passes h =
         let none-is : entryRefused lengths settings (isState (wordsIn state)) ≡ none =
@@ -147,7 +147,7 @@ module _ (settings state desk : List ℕ) (e : Entry) (given : e ≡ entry (eqb 
   pub desk-entry : e ≡ entry (deskOk (wordsIn desk)) settings state
   desk-entry = given ∙ ap (λ (b : Bool). entry b settings state) (length-test desk 16383)
 
-  pub desk-passes : e .refusal .number ≡ 0 → Passed (deskOk (wordsIn desk)) settings state (e .state)
+  pub desk-passes : e .refusal .number ≡ 0 → CallEntered (deskOk (wordsIn desk)) settings state (e .state)
   desk-passes h = entry-passes (deskOk (wordsIn desk)) settings state e desk-entry h
 
   pub desk-long : e .refusal .number ≡ 0 → length desk ≡ 65536

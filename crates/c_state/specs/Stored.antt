@@ -9,12 +9,12 @@ use Rattle.word_lent.specs.Lent.{wordsIn}
 use Rattle.state_planner.specs.declared.State.{State}
 use Rattle.word_state.specs.StateWords.{stateWords, isState, decoded}
 use Rattle.word_state.specs.Laws.{stated}
-use Rattle.word_state.specs.Inverse.{Sized, decode-encode, encode-decode}
+use Rattle.word_state.specs.Inverse.{SizedState, decode-encode, encode-decode}
 use Rattle.c_state.specs.Calls.{stateLent}
 use Rattle.c_state.specs.CallLaws.{all-words, bytes-of-words}
 
 -- the bytes of a state say that state
-pub stored-read : (x : State) → Sized x → ((k : ℕ) → getD (stateWords x) k 0 < 2 ^ 32)
+pub stored-read : (x : State) → SizedState x → ((k : ℕ) → getD (stateWords x) k 0 < 2 ^ 32)
     → decoded (wordsIn (bytesOf (stateWords x))) ≡ record { ok = true; state = x }
 stored-read x s h =
     ap decoded

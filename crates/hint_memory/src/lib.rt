@@ -7,7 +7,7 @@ ghost use lib.ListN.{getD};
 ghost use lib.ListN as Lists;
 ghost use lib.Bits.{bitAnd, bitOr};
 ghost use lib.Count.{trailingZeros};
-ghost use Rattle.hint_memory.specs.Places.{place};
+ghost use Rattle.hint_memory.specs.Places.{cell};
 
 // Parts of masks, by shard: the nodes that it may have without a move, and with one; those of the
 // failure sets that it uses; those that it has and that are not taken for good.
@@ -94,33 +94,33 @@ pub fn without_lowest(m: u32) -> u32
 
 // The element as a mask of nodes, or of shards.
 pub fn nodes(mem: &[u32; 512], part: u32, i: u32) -> u32
-    ensures { λ r. ⌜ r ≡ getD (now (mem .entry)) (place part i) 0 ⌝ }
+    ensures { λ r. ⌜ r ≡ getD (now (mem .entry)) (cell part i) 0 ⌝ }
 {
     mem[((part % 512 + i % 128) % 512) as usize]
 }
 
 // The element as a number below 256.
 pub fn number(mem: &[u32; 512], part: u32, i: u32) -> u32
-    ensures { λ r. ⌜ (r ≡ getD (now (mem .entry)) (place part i) 0 % 256) × (r < 256) ⌝ }
+    ensures { λ r. ⌜ (r ≡ getD (now (mem .entry)) (cell part i) 0 % 256) × (r < 256) ⌝ }
 {
     mem[((part % 512 + i % 128) % 512) as usize] % 256
 }
 
 pub fn set(mem: &mut [u32; 512], part: u32, i: u32, v: u32)
-    ensures { λ r. ⌜ now (mem .exit) ≡ Lists.set (now (mem .entry)) (place part i) v ⌝ }
+    ensures { λ r. ⌜ now (mem .exit) ≡ Lists.set (now (mem .entry)) (cell part i) v ⌝ }
 {
     mem[((part % 512 + i % 128) % 512) as usize] = v;
 }
 
 pub fn add_nodes(mem: &mut [u32; 512], part: u32, i: u32, nodes: u32)
-    ensures { λ r. ⌜ now (mem .exit) ≡ Lists.set (now (mem .entry)) (place part i) (bitOr (getD (now (mem .entry)) (place part i) 0) nodes) ⌝ }
+    ensures { λ r. ⌜ now (mem .exit) ≡ Lists.set (now (mem .entry)) (cell part i) (bitOr (getD (now (mem .entry)) (cell part i) 0) nodes) ⌝ }
 {
     let at = ((part % 512 + i % 128) % 512) as usize;
     mem[at] = mem[at] | nodes;
 }
 
 pub fn drop_nodes(mem: &mut [u32; 512], part: u32, i: u32, nodes: u32)
-    ensures { λ r. ⌜ now (mem .exit) ≡ Lists.set (now (mem .entry)) (place part i) (bitAnd (getD (now (mem .entry)) (place part i) 0) (4294967295 - nodes)) ⌝ }
+    ensures { λ r. ⌜ now (mem .exit) ≡ Lists.set (now (mem .entry)) (cell part i) (bitAnd (getD (now (mem .entry)) (cell part i) 0) (4294967295 - nodes)) ⌝ }
 {
     let at = ((part % 512 + i % 128) % 512) as usize;
     mem[at] = mem[at] & !nodes;
@@ -128,7 +128,7 @@ pub fn drop_nodes(mem: &mut [u32; 512], part: u32, i: u32, nodes: u32)
 
 // So much more, modulo 256.
 pub fn add_number(mem: &mut [u32; 512], part: u32, i: u32, by: u32)
-    ensures { λ r. ⌜ now (mem .exit) ≡ Lists.set (now (mem .entry)) (place part i) (getD (now (mem .entry)) (place part i) 0 % 256 + by % 256) ⌝ }
+    ensures { λ r. ⌜ now (mem .exit) ≡ Lists.set (now (mem .entry)) (cell part i) (getD (now (mem .entry)) (cell part i) 0 % 256 + by % 256) ⌝ }
 {
     let at = ((part % 512 + i % 128) % 512) as usize;
     mem[at] = mem[at] % 256 + by % 256;

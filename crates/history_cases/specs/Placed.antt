@@ -17,7 +17,7 @@ use Rattle.settings_values.specs.Settings.{shards, subgroup, need}
 use Rattle.message_format.specs.Rows.{shardApart}
 use Rattle.place_groups.specs.Placements.{spread, shardValid, groupValid, groupValidAt, groupMoves, groupMovesAt, Impossible, LeastMoves}
 use Rattle.report_views.specs.Reports.{maskAt}
-use Rattle.history_cases.specs.Runs.{settings, settingsWith, view7}
+use Rattle.history_cases.specs.Runs.{caseSettings, settingsWith, view7}
 
 -- a mask for each of three shards
 abbrev pub three : ℕ → ℕ → ℕ → ℕ → ℕ
@@ -26,39 +26,39 @@ three a b c (suc zero) = b
 three a b c (suc (suc s)) = c
 
 -- a mask that shard s may have
-abbrev fits : List ℕ → ℕ → ℕ → Bool
-fits σ s m = shardValid σ 63 (λ i. m) s
+abbrev shardFits : List ℕ → ℕ → ℕ → Bool
+shardFits σ s m = shardValid σ 63 (λ i. m) s
 
 -- f of every placement whose masks fit and share no node
 abbrev everywhere : List ℕ → (ℕ → ℕ → ℕ → Bool) → Bool
 everywhere σ f =
     allBelow 64
-    (λ a. not (fits σ 0 a)
+    (λ a. not (shardFits σ 0 a)
     || allBelow 64
-    (λ b. not (fits σ 1 b && disjoint a b)
-    || allBelow 64 (λ c. not (fits σ 2 c && (disjoint a c && disjoint b c)) || f a b c)))
+    (λ b. not (shardFits σ 1 b && disjoint a b)
+    || allBelow 64 (λ c. not (shardFits σ 2 c && (disjoint a c && disjoint b c)) || f a b c)))
 
 implied : (p q : Bool) → (not p || q) ≡ true → p ≡ true → q ≡ true
 implied p q h e = ⊎-elim (λ n. clash e (of-not-true p n)) (λ y. y) (or-holds (not p) q h)
 
 module _ (σ : List ℕ) (f : ℕ → ℕ → ℕ → Bool) (test : everywhere σ f ≡ true) where
   -- what the test gives for a placement
-  at : (a b c : ℕ) → a < 64 → b < 64 → c < 64 → fits σ 0 a ≡ true → fits σ 1 b ≡ true → fits σ 2 c ≡ true
+  at : (a b c : ℕ) → a < 64 → b < 64 → c < 64 → shardFits σ 0 a ≡ true → shardFits σ 1 b ≡ true → shardFits σ 2 c ≡ true
       → disjoint a b ≡ true → disjoint a c ≡ true → disjoint b c ≡ true → f a b c ≡ true
   at a b c la lb lc fa fb fc ab ac bc =
-      implied (fits σ 2 c && (disjoint a c && disjoint b c)) (f a b c)
-      (all-at 64 (λ z. not (fits σ 2 z && (disjoint a z && disjoint b z)) || f a b z)
-      (implied (fits σ 1 b && disjoint a b) (allBelow 64 (λ z. not (fits σ 2 z && (disjoint a z && disjoint b z)) || f a b z))
-      (all-at 64 (λ y. not (fits σ 1 y && disjoint a y) || allBelow 64 (λ z. not (fits σ 2 z && (disjoint a z && disjoint y z)) || f a y z))
-      (implied (fits σ 0 a) (allBelow 64 (λ y. not (fits σ 1 y && disjoint a y) || allBelow 64 (λ z. not (fits σ 2 z && (disjoint a z && disjoint y z)) || f a y z)))
-      (all-at 64 (λ x. not (fits σ 0 x) || allBelow 64 (λ y. not (fits σ 1 y && disjoint x y) || allBelow 64 (λ z. not (fits σ 2 z && (disjoint x z && disjoint y z)) || f x y z))) test a la)
+      implied (shardFits σ 2 c && (disjoint a c && disjoint b c)) (f a b c)
+      (all-at 64 (λ z. not (shardFits σ 2 z && (disjoint a z && disjoint b z)) || f a b z)
+      (implied (shardFits σ 1 b && disjoint a b) (allBelow 64 (λ z. not (shardFits σ 2 z && (disjoint a z && disjoint b z)) || f a b z))
+      (all-at 64 (λ y. not (shardFits σ 1 y && disjoint a y) || allBelow 64 (λ z. not (shardFits σ 2 z && (disjoint a z && disjoint y z)) || f a y z))
+      (implied (shardFits σ 0 a) (allBelow 64 (λ y. not (shardFits σ 1 y && disjoint a y) || allBelow 64 (λ z. not (shardFits σ 2 z && (disjoint a z && disjoint y z)) || f a y z)))
+      (all-at 64 (λ x. not (shardFits σ 0 x) || allBelow 64 (λ y. not (shardFits σ 1 y && disjoint x y) || allBelow 64 (λ z. not (shardFits σ 2 z && (disjoint x z && disjoint y z)) || f x y z))) test a la)
       fa) b lb)
       (and-both fb ab)) c lc)
       (and-both fc (and-both ac bc))
 
 -- a placement of the one subgroup: each shard's mask fits, and no two share a node
 pub record Apart (σ : List ℕ) (P : ℕ → ℕ) : Type 0 where
-  pub fit : (s : ℕ) → s < 3 → fits σ s (P s) ≡ true
+  pub fit : (s : ℕ) → s < 3 → shardFits σ s (P s) ≡ true
   pub below : (s : ℕ) → s < 3 → P s < 64
   pub apart : (s t : ℕ) → s < 3 → t < s → disjoint (P t) (P s) ≡ true
 
@@ -112,9 +112,9 @@ one-group (suc (suc (suc n))) P a b c l = absurd (omega arith)
 
 -- case A: the only valid placement of at most two moves
 only : ℕ → ℕ → ℕ → Bool
-only a b c = not (leb (groupMoves settings (maskAt view7) (three a b c) 0) 2) || (eqb a 5 && eqb b 50 && eqb c 8)
+only a b c = not (leb (groupMoves caseSettings (maskAt view7) (three a b c) 0) 2) || (eqb a 5 && eqb b 50 && eqb c 8)
 
-a-test : everywhere settings only ≡ true
+a-test : everywhere caseSettings only ≡ true
 unfolding only allBelow ones onesIn sumBelow spread shardValid groupMoves groupMovesAt
 a-test = refl
 
@@ -126,28 +126,28 @@ i-test = refl
 abbrev pub planA : ℕ → ℕ
 planA = three 5 50 8
 
-pub a-valid : groupValid settings 63 planA 0 ≡ true
+pub a-valid : groupValid caseSettings 63 planA 0 ≡ true
 unfolding allBelow ones onesIn spread shardValid shardApart groupValid groupValidAt
 a-valid = refl
 
-pub a-moves : groupMoves settings (maskAt view7) planA 0 ≡ 2
+pub a-moves : groupMoves caseSettings (maskAt view7) planA 0 ≡ 2
 unfolding ones onesIn sumBelow groupMoves groupMovesAt
 a-moves = refl
 
 -- the moves of a placement depend on its three masks
-three-moves : (P : ℕ → ℕ) → groupMoves settings (maskAt view7) P 0 ≡ groupMoves settings (maskAt view7) (three (P 0) (P 1) (P 2)) 0
+three-moves : (P : ℕ → ℕ) → groupMoves caseSettings (maskAt view7) P 0 ≡ groupMoves caseSettings (maskAt view7) (three (P 0) (P 1) (P 2)) 0
 unfolding sumBelow groupMoves groupMovesAt
 three-moves P = refl
 
 -- case A: a valid placement of at most two moves is that of the plan
-pub a-only : (P : ℕ → ℕ) → groupValid settings 63 P 0 ≡ true → groupMoves settings (maskAt view7) P 0 ≤ 2 → (P 0 ≡ 5) × (P 1 ≡ 50) × (P 2 ≡ 8)
+pub a-only : (P : ℕ → ℕ) → groupValid caseSettings 63 P 0 ≡ true → groupMoves caseSettings (maskAt view7) P 0 ≤ 2 → (P 0 ≡ 5) × (P 1 ≡ 50) × (P 2 ≡ 8)
 unfolding only
 a-only P valid few =
-    let cheap : leb (groupMoves settings (maskAt view7) (three (P 0) (P 1) (P 2)) 0) 2 ≡ true =
-    le-leb (groupMoves settings (maskAt view7) (three (P 0) (P 1) (P 2)) 0) 2 (subst (λ (m : ℕ). m ≤ 2) (three-moves P) few) in
+    let cheap : leb (groupMoves caseSettings (maskAt view7) (three (P 0) (P 1) (P 2)) 0) 2 ≡ true =
+    le-leb (groupMoves caseSettings (maskAt view7) (three (P 0) (P 1) (P 2)) 0) 2 (subst (λ (m : ℕ). m ≤ 2) (three-moves P) few) in
     let same =
-    implied (leb (groupMoves settings (maskAt view7) (three (P 0) (P 1) (P 2)) 0) 2) (eqb (P 0) 5 && eqb (P 1) 50 && eqb (P 2) 8)
-    (placed-at settings only a-test P (group-apart settings P refl (λ s l. one-group s (λ n. subgroup settings n ≡ 0) refl refl refl l) valid))
+    implied (leb (groupMoves caseSettings (maskAt view7) (three (P 0) (P 1) (P 2)) 0) 2) (eqb (P 0) 5 && eqb (P 1) 50 && eqb (P 2) 8)
+    (placed-at caseSettings only a-test P (group-apart caseSettings P refl (λ s l. one-group s (λ n. subgroup caseSettings n ≡ 0) refl refl refl l) valid))
     cheap in
     let two = and-left (eqb (P 0) 5 && eqb (P 1) 50) (eqb (P 2) 8) same in (
       eqb-true (P 0) 5 (and-left (eqb (P 0) 5) (eqb (P 1) 50) two),
@@ -156,7 +156,7 @@ a-only P valid few =
     )
 
 -- case A: so is every placement with the least moves
-pub a-least : (P : ℕ → ℕ) → LeastMoves settings 63 (maskAt view7) P 0 → (P 0 ≡ 5) × (P 1 ≡ 50) × (P 2 ≡ 8)
+pub a-least : (P : ℕ → ℕ) → LeastMoves caseSettings 63 (maskAt view7) P 0 → (P 0 ≡ 5) × (P 1 ≡ 50) × (P 2 ≡ 8)
 a-least P l = a-only P (l .valid) (omega (arith, l .least planA a-valid, a-moves))
 
 -- case I: shard 0 needs 3

@@ -10,12 +10,12 @@ abbrev pub settingsWith : ℕ → ℕ → List ℕ
 settingsWith least need0 =
     7 ∷ 3 ∷ least ∷ 3 ∷ 0 ∷ 0 ∷ 1 ∷ 1 ∷ 1 ∷ 2 ∷ 2 ∷ need0 ∷ 3 ∷ 1 ∷ []
 
-abbrev pub settings : List ℕ
-settings = settingsWith 4 2
+abbrev pub caseSettings : List ℕ
+caseSettings = settingsWith 4 2
 
 -- a report of view 7 with no termination; runs are its records of kind 3
-abbrev pub report : ℕ → List ℕ → List ℕ
-report node runs =
+abbrev pub caseReport : ℕ → List ℕ → List ℕ
+caseReport node runs =
     node ∷ 7 ∷ 127 ∷ 1 ∷ 256 ∷ 5 ∷ 0 ∷ 2 ∷ 257 ∷ 82 ∷ 0 ∷ 3 ∷ 258 ∷ 32 ∷ 0 ∷ runs
 
 -- no runs, and a run of shard 1
@@ -32,12 +32,12 @@ slotOf w = w ++ replicate (512 - length w) 0
 -- the desk of case A: nodes 0 to 5 report; logs are empty but for shard 1 of nodes 1 and 4
 unfoldable pub desk : List ℕ
 desk =
-    slotOf (report 0 noRuns)
-    ++ slotOf (report 1 (run1 7 5))
-    ++ slotOf (report 2 noRuns)
-    ++ slotOf (report 3 noRuns)
-    ++ slotOf (report 4 (run1 7 4))
-    ++ slotOf (report 5 noRuns)
+    slotOf (caseReport 0 noRuns)
+    ++ slotOf (caseReport 1 (run1 7 5))
+    ++ slotOf (caseReport 2 noRuns)
+    ++ slotOf (caseReport 3 noRuns)
+    ++ slotOf (caseReport 4 (run1 7 4))
+    ++ slotOf (caseReport 5 noRuns)
     ++ replicate 13312 0
 
 -- view 7 of the runs

@@ -13,7 +13,7 @@ use Rattle.message_format.specs.Messages.{bodyWord, bodyOf, contentsOf}
 use Rattle.report_views.specs.Logs.{holds}
 use Rattle.report_views.specs.Reports.{slot, reportOf}
 use Rattle.history_claims.specs.History.{History, True, SameView, Supposed}
-use Rattle.history_cases.specs.Runs.{settings, desk, view7}
+use Rattle.history_cases.specs.Runs.{caseSettings, desk, view7}
 
 abbrev historyA : History
 historyA =
@@ -37,10 +37,10 @@ own : (n : ℕ) → n < 6 → reportOf desk n .node .0 ≡ n
 unfolding desk slot reportOf contentsOf
 own = six (λ n. reportOf desk n .node .0 ≡ n) refl refl refl refl refl refl
 
-same : (n : ℕ) → n < 6 → SameView settings historyA (reportOf desk n) 0
+same : (n : ℕ) → n < 6 → SameView caseSettings historyA (reportOf desk n) 0
 unfolding desk slot reportOf contentsOf bodyOf bodyWord tabulate place following lowest anyBelow
 same =
-    six (λ n. SameView settings historyA (reportOf desk n) 0)
+    six (λ n. SameView caseSettings historyA (reportOf desk n) 0)
     (record { number = refl; members = refl; masks = masks 0 refl refl refl })
     (record { number = refl; members = refl; masks = masks 1 refl refl refl })
     (record { number = refl; members = refl; masks = masks 2 refl refl refl })
@@ -57,7 +57,7 @@ same =
     masks n a b c (suc (suc zero)) l = c
     masks n a b c (suc (suc (suc s))) l = absurd (omega arith)
 
-true-report : (n : ℕ) → n < 6 → True settings historyA (reportOf desk n)
+true-report : (n : ℕ) → n < 6 → True caseSettings historyA (reportOf desk n)
 true-report n l =
     record {
       at = 0;
@@ -69,7 +69,7 @@ true-report n l =
     }
 
 -- the history of case A is one that the claims speak of
-pub supposedA : Supposed settings view7 63 desk historyA
+pub supposedA : Supposed caseSettings view7 63 desk historyA
 supposedA =
     record {
       rule = record { rises = λ i j k m. absurd (omega arith); overlaps = λ i k. absurd (omega arith) };

@@ -16,37 +16,37 @@ row9 form σ node b len =
     && complete form σ node b len
 
 module _ (form : Form) (σ : List ℕ) (node view members : ℕ) (b : List ℕ) (len : ℕ) where
-  abbrev positions : Bool
-  positions = allBelow len (row11At form view members b)
+  abbrev positionsPass : Bool
+  positionsPass = allBelow len (row11At form view members b)
 
-  abbrev masks : Bool
-  masks = row10 σ members (membersOf b)
+  abbrev masksPass : Bool
+  masksPass = row10 σ members (membersOf b)
 
   records-row9 :
       recordsRefusal form σ node view members b len
-      ≡ unless (row9 form σ node b len) 9 (unless masks 10 (unless positions 11 none))
+      ≡ unless (row9 form σ node b len) 9 (unless masksPass 10 (unless positionsPass 11 none))
   unfolding recordsRefusal row9
   records-row9 =
       let p = allBelow len (kindAt form b) in
       let q = allBelow len (shardAt σ b) in
       let r = allBelow len (sequenceAt node b) in
       let d = complete form σ node b len in
-      let rest = unless masks 10 (unless positions 11 none) in
+      let rest = unless masksPass 10 (unless positionsPass 11 none) in
       unless-and p q 9 (unless r 9 (unless d 9 rest)) ∙ unless-and (p && q) r 9 (unless d 9 rest) ∙ unless-and (p && q && r) d 9 rest
 
   -- the refusal, by the first row that fails
   pub records-9 : row9 form σ node b len ≡ false → refused 9 ≡ recordsRefusal form σ node view members b len
   records-9 h = sym (records-row9 ∙ unless-false (row9 form σ node b len) 9 _ h)
 
-  pub records-10 : row9 form σ node b len ≡ true → masks ≡ false → refused 10 ≡ recordsRefusal form σ node view members b len
-  records-10 h m = sym (records-row9 ∙ unless-true (row9 form σ node b len) 9 _ h ∙ unless-false masks 10 _ m)
+  pub records-10 : row9 form σ node b len ≡ true → masksPass ≡ false → refused 10 ≡ recordsRefusal form σ node view members b len
+  records-10 h m = sym (records-row9 ∙ unless-true (row9 form σ node b len) 9 _ h ∙ unless-false masksPass 10 _ m)
 
-  pub records-11 : row9 form σ node b len ≡ true → masks ≡ true → positions ≡ false
+  pub records-11 : row9 form σ node b len ≡ true → masksPass ≡ true → positionsPass ≡ false
       → refused 11 ≡ recordsRefusal form σ node view members b len
   records-11 h m p =
-      sym (records-row9 ∙ unless-true (row9 form σ node b len) 9 _ h ∙ unless-true masks 10 _ m ∙ unless-false positions 11 none p)
+      sym (records-row9 ∙ unless-true (row9 form σ node b len) 9 _ h ∙ unless-true masksPass 10 _ m ∙ unless-false positionsPass 11 none p)
 
-  pub records-pass : row9 form σ node b len ≡ true → masks ≡ true → positions ≡ true
+  pub records-pass : row9 form σ node b len ≡ true → masksPass ≡ true → positionsPass ≡ true
       → none ≡ recordsRefusal form σ node view members b len
   records-pass h m p =
-      sym (records-row9 ∙ unless-true (row9 form σ node b len) 9 _ h ∙ unless-true masks 10 _ m ∙ unless-true positions 11 none p)
+      sym (records-row9 ∙ unless-true (row9 form σ node b len) 9 _ h ∙ unless-true masksPass 10 _ m ∙ unless-true positionsPass 11 none p)

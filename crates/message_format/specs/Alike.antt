@@ -16,10 +16,10 @@ use Rattle.message_format.specs.Records.{tag, word1, word2, kind, preced
 use Rattle.message_format.specs.Rows.{kindAt, shardAt, surplus, sequenceAt, complete, shardApart, row10At, row10, row11At}
 
 -- b and c have the same words in their first n records
-abbrev pub Alike : List ℕ → List ℕ → ℕ → Type 0
-Alike b c n = (k : ℕ) → k < 3 * n → getD b k 0 ≡ getD c k 0
+abbrev pub SameRecords : List ℕ → List ℕ → ℕ → Type 0
+SameRecords b c n = (k : ℕ) → k < 3 * n → getD b k 0 ≡ getD c k 0
 
-module _ (b c : List ℕ) (n : ℕ) (h : Alike b c n) where
+module _ (b c : List ℕ) (n : ℕ) (h : SameRecords b c n) where
   pub tag-same : (j : ℕ) → j < n → tag b j ≡ tag c j
   tag-same j l = h (3 * j) (omega arith)
 

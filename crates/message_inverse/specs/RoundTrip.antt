@@ -20,7 +20,7 @@ use Rattle.message_format.specs.Rows.{kindAt, shardAt, sequenceAt, row11At}
 use Rattle.message_format.specs.Messages.{bodyWord, bodyOf, contentsOf, messageRefusal, contentsRefusal, messageLength, messageOf, tidy}
 use Rattle.message_format.specs.Passed.{RecordsPass, message-given, message-none, contents-given, contents-few, contents-none}
 use Rattle.message_format.specs.Laws.{members-enough}
-use Rattle.message_format.specs.Alike.{Alike, word1-same, kind-same, shard-same, sequence-same, complete-same, position-same, row10-same}
+use Rattle.message_format.specs.Alike.{SameRecords, word1-same, kind-same, shard-same, sequence-same, complete-same, position-same, row10-same}
 use Rattle.message_inverse.specs.Written.{written-node, written-view, written-members, written-following, written-row5, written-row8, written-body, written-contents}
 
 -- the reader takes w, and w says c
@@ -29,7 +29,7 @@ pub record ReadsAs (form : Form) (σ w : List ℕ) (c : Contents) : Type 0 where
   pub found : contentsOf w ≡ c
 
 -- records that pass, in another body
-alike-passes : (form : Form) (σ : List ℕ) (node view members : ℕ) (b c : List ℕ) (n : ℕ) → Alike b c n
+alike-passes : (form : Form) (σ : List ℕ) (node view members : ℕ) (b c : List ℕ) (n : ℕ) → SameRecords b c n
     → RecordsPass form σ node view members b n → RecordsPass form σ node view members c n
 alike-passes form σ node view members b c n h p =
     let enough = members-enough form σ node b n (p .kinds-pass) (p .shards-pass) (p .sequence-passes) (p .complete-passes) in
@@ -44,7 +44,7 @@ alike-passes form σ node view members b c n h p =
           ∙ p .positions-pass;
     }
 
-tidy-alike : (c : Contents) → c .len ≤ 127 → Alike (c .body) (tidy c .body) (c .len)
+tidy-alike : (c : Contents) → c .len ≤ 127 → SameRecords (c .body) (tidy c .body) (c .len)
 unfolding tidy
 tidy-alike c few k l =
     sym (getD-tabulate 381 (λ j. cond (ltb j (3 * c .len)) (getD (c .body) j 0) 0) k 0 (omega arith) ∙ rw (lt-ltb k (3 * c .len) l))

@@ -14,22 +14,22 @@ use Rattle.base_laws.specs.Tables.{filled, filled-none, filled-more, tabulate-e
 use Rattle.message_format.specs.Chain.{records, next, place, ends, following, row8, following-le}
 use Rattle.message_format.specs.Messages.{bodyWord, bodyOf, contentsOf}
 use Rattle.message_format.specs.declared.Contents.{Contents}
-use Rattle.message_reader.specs.Walks.{Sized, endsAt, place-next, place-inside, following-at, following-open, following-ends}
+use Rattle.message_reader.specs.Walks.{SizedMessage, endsAt, place-next, place-inside, following-at, following-open, following-ends}
 
 -- word k of the records that follow the head on the chain, three words a record
 unfoldable pub chainWord : List ℕ → ℕ → ℕ
 chainWord w k = getD w (4 * place w (k / 3 + 1) + k % 3) 0
 
 -- the body after n records have been stored
-unfoldable pub gathered : List ℕ → ℕ → List ℕ
-gathered w n = filled (3 * n) (chainWord w) (replicate 381 0)
+unfoldable pub bodyRead : List ℕ → ℕ → List ℕ
+bodyRead w n = filled (3 * n) (chainWord w) (replicate 381 0)
 
-pub gathered-none : (w : List ℕ) → replicate 381 0 ≡ gathered w 0
-unfolding gathered
+pub gathered-none : (w : List ℕ) → replicate 381 0 ≡ bodyRead w 0
+unfolding bodyRead
 gathered-none w = sym (filled-none (chainWord w) (replicate 381 0))
 
-pub length-gathered : (w : List ℕ) (n : ℕ) → n ≤ 127 → length (gathered w n) ≡ 381
-unfolding gathered
+pub length-gathered : (w : List ℕ) (n : ℕ) → n ≤ 127 → length (bodyRead w n) ≡ 381
+unfolding bodyRead
 length-gathered w n l =
     length-filled (3 * n) (chainWord w) (replicate 381 0) (omega (arith, length-replicate {A = ℕ} 381 0))
     ∙ length-replicate {A = ℕ} 381 0
@@ -43,14 +43,14 @@ chain-word w n p at l e =
     rw (e, q, r)
 
 -- a body in which record j has the words of the message's record i
-abbrev pub stored : List ℕ → List ℕ → ℕ → ℕ → List ℕ
-stored w b j i =
+abbrev pub recordStored : List ℕ → List ℕ → ℕ → ℕ → List ℕ
+recordStored w b j i =
     set (set (set b (3 * j) (getD w (4 * i) 0)) (3 * j + 1) (getD w (4 * i + 1) 0)) (3 * j + 2) (getD w (4 * i + 2) 0)
 
 -- a turn: the three words of a record are stored
 pub gathered-more : (w : List ℕ) (n at : ℕ) → n < 127 → at ≡ place w (n + 1)
-    → stored w (gathered w n) n at ≡ gathered w (n + 1)
-unfolding gathered
+    → recordStored w (bodyRead w n) n at ≡ bodyRead w (n + 1)
+unfolding bodyRead
 gathered-more w n at l e =
     ap (λ (b : List ℕ). set (set b (3 * n + 1) (getD w (4 * at + 1) 0)) (3 * n + 2) (getD w (4 * at + 2) 0))
     (store (3 * n) (3 * n + 1) (getD w (4 * at) 0) (omega arith) (omega arith) first)
@@ -69,16 +69,16 @@ gathered-more w n at l e =
         ∙ ap (λ (k : ℕ). filled k (chainWord w) (replicate 381 0)) (sym next)
 
 -- all records that follow the head are stored
-pub gathered-all : (w : List ℕ) → gathered w (following w) ≡ bodyOf w
-unfolding gathered bodyOf bodyWord chainWord
+pub gathered-all : (w : List ℕ) → bodyRead w (following w) ≡ bodyOf w
+unfolding bodyRead bodyOf bodyWord chainWord
 gathered-all w =
-    tabulate-ext 0 381 (bodyWord w) (gathered w (following w)) (length-gathered w (following w) (following-le w))
+    tabulate-ext 0 381 (bodyWord w) (bodyRead w (following w)) (length-gathered w (following w) (following-le w))
     (λ k h. ⊎-elim (filled-in k) (blank k h) (lt-or-le k (3 * following w)))
   where
-    filled-in : (k : ℕ) → k < 3 * following w → getD (gathered w (following w)) k 0 ≡ bodyWord w k
+    filled-in : (k : ℕ) → k < 3 * following w → getD (bodyRead w (following w)) k 0 ≡ bodyWord w k
     filled-in k l = getD-filled (3 * following w) (chainWord w) (replicate 381 0) k 0 l ∙ rw (lt-ltb k (3 * following w) l)
 
-    blank : (k : ℕ) → k < 381 → 3 * following w ≤ k → getD (gathered w (following w)) k 0 ≡ bodyWord w k
+    blank : (k : ℕ) → k < 381 → 3 * following w ≤ k → getD (bodyRead w (following w)) k 0 ≡ bodyWord w k
     blank k h l =
         getD-filled-rest (3 * following w) (chainWord w) (replicate 381 0) k 0 l
         ∙ getD-replicate 381 k 0 0 h
@@ -90,18 +90,18 @@ gathered-all w =
 pub record Gathering (w body : List ℕ) (n at : ℕ) : Type 0 where
   pub few : n ≤ following w
   pub here : at ≡ place w (n + 1)
-  pub so-far : body ≡ gathered w n
+  pub so-far : body ≡ bodyRead w n
 
 -- the head of w with a body of n records
-abbrev pub contentsWith : List ℕ → ℕ → List ℕ → Contents
-contentsWith w n b =
+abbrev pub contentsRead : List ℕ → ℕ → List ℕ → Contents
+contentsRead w n b =
     record { node = record { 0 = getD w 0 0 }; view = record { 0 = getD w 1 0 }; members = getD w 2 0; len = n; body = b }
 
 pub gathering-start : (w : List ℕ) (at : ℕ) → at ≡ next w 0 → Gathering w (replicate 381 0) 0 at
 unfolding place
 gathering-start w at e = record { few = zero-le; here = e; so-far = gathered-none w }
 
-module _ (w body : List ℕ) (n at : ℕ) (s : Sized w) (h : row8 w ≡ true) (g : Gathering w body n at) where
+module _ (w body : List ℕ) (n at : ℕ) (s : SizedMessage w) (h : row8 w ≡ true) (g : Gathering w body n at) where
   -- the chain ends at step n just where the next index is 0
   next-at : at ≡ next w (place w n)
   next-at = g .here ∙ place-next w n
@@ -124,18 +124,18 @@ module _ (w body : List ℕ) (n at : ℕ) (s : Sized w) (h : row8 w ≡ true) (g
       (any-none-of n (endsAt w) (λ j l. following-open w j (let few = g .few in omega arith)))
       (eq-eqb (next w (place w n)) 0 (sym next-at ∙ z)))
 
-  pub gathering-more : (at ≡ 0 → ⊥) → (b : List ℕ) (m : ℕ) → b ≡ stored w body n at → m ≡ next w at → Gathering w b (n + 1) m
+  pub gathering-more : (at ≡ 0 → ⊥) → (b : List ℕ) (m : ℕ) → b ≡ recordStored w body n at → m ≡ next w at → Gathering w b (n + 1) m
   gathering-more goes b m d e =
       let room = gathering-room goes .0 in
       record {
         few = omega arith;
         here = e ∙ ap (next w) (g .here) ∙ sym (place-next w (n + 1));
         so-far =
-            d ∙ ap (λ (x : List ℕ). stored w x n at) (g .so-far) ∙ gathered-more w n at (omega (arith, following-le w)) (g .here);
+            d ∙ ap (λ (x : List ℕ). recordStored w x n at) (g .so-far) ∙ gathered-more w n at (omega (arith, following-le w)) (g .here);
       }
 
   -- what the message says, at the end of the chain
-  pub gathering-contents : at ≡ 0 → contentsWith w n body ≡ contentsOf w
+  pub gathering-contents : at ≡ 0 → contentsRead w n body ≡ contentsOf w
   unfolding contentsOf
   gathering-contents z =
-      ap₂ (contentsWith w) (gathering-end z) (g .so-far ∙ ap (gathered w) (gathering-end z) ∙ gathered-all w)
+      ap₂ (contentsRead w) (gathering-end z) (g .so-far ∙ ap (bodyRead w) (gathering-end z) ∙ gathered-all w)

@@ -24,12 +24,12 @@ linkedAt w j = linked w (place w j)
 -- ---- row 5
 
 -- what row 5 gives
-pub record Sized (w : List ℕ) : Type 0 where
+pub record SizedMessage (w : List ℕ) : Type 0 where
   pub some : 1 ≤ records w
   pub few : records w ≤ 128
   pub whole : length w ≡ 4 * records w
 
-pub row5-gives : (w : List ℕ) → row5 w ≡ true → Sized w
+pub row5-gives : (w : List ℕ) → row5 w ≡ true → SizedMessage w
 unfolding row5
 row5-gives w h =
     let least : 1 ≤ length w = leb-true 1 (length w) (and-left (leb 1 (length w)) (leb (length w) 512) (and-left (leb 1 (length w) && leb (length w) 512) (eqb (length w % 4) 0) h)) in
@@ -91,13 +91,13 @@ pub record Walk (w : List ℕ) (at : ℕ) : Type 0 where
   pub unended : anyBelow steps (endsAt w) ≡ false
   pub sound : allBelow steps (linkedAt w) ≡ true
 
-pub walk-start : (w : List ℕ) → Sized w → Walk w 0
+pub walk-start : (w : List ℕ) → SizedMessage w → Walk w 0
 unfolding place
 walk-start w s =
     record { steps = 0; here = refl; inside = s .some; risen = zero-le; unended = any-none (endsAt w); sound = all-none (linkedAt w) }
 
 -- at record at, which names n as the next one
-module _ (w : List ℕ) (at n : ℕ) (s : Sized w) (k : Walk w at) (e : n ≡ next w at) where
+module _ (w : List ℕ) (at n : ℕ) (s : SizedMessage w) (k : Walk w at) (e : n ≡ next w at) where
   steps-le : k .steps ≤ 127
   steps-le = let a = k .inside in let b = k .risen in let c = s .few in omega arith
 
@@ -145,7 +145,7 @@ module _ (w : List ℕ) (at n : ℕ) (s : Sized w) (k : Walk w at) (e : n ≡ ne
 
 -- ---- a chain that passes row 8
 
-module _ (w : List ℕ) (s : Sized w) (h : row8 w ≡ true) where
+module _ (w : List ℕ) (s : SizedMessage w) (h : row8 w ≡ true) where
   -- no record on the chain is broken
   pub linked-at : (j : ℕ) → j ≤ following w → linkedAt w j ≡ true
   unfolding row8

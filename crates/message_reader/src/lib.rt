@@ -10,8 +10,8 @@ ghost use mathlib.Core.Path.{_≡_};
 ghost use Prim.Native.Nat.{_<_, _≤_};
 ghost use Rattle.message_format.specs.Chain.{records, row5, row8};
 ghost use Rattle.message_format.specs.Messages.{contentsOf, messageRefusal, readingOf, recordsRefusal};
-ghost use Rattle.message_reader.specs.Walks.{Sized};
-ghost use Rattle.message_reader.specs.Bodies.{stored};
+ghost use Rattle.message_reader.specs.Walks.{SizedMessage};
+ghost use Rattle.message_reader.specs.Bodies.{recordStored};
 ghost use Rattle.message_reader.specs.Readings.{answer, nothing, headOf, readingUnder};
 ghost use Rattle.settings_values.specs.Settings.{Settings};
 
@@ -30,7 +30,7 @@ pub fn length_ok(words: &[u32]) -> bool
 
 // Row 8: each next index on the chain is larger than its own record's and lies inside the message, or is 0.
 pub fn chain_ok(words: &[u32]) -> bool
-    requires { ⌜ Sized (now words) ⌝ }
+    requires { ⌜ SizedMessage (now words) ⌝ }
     ensures { λ r. ⌜ r ≡ row8 (now (words .entry)) ⌝ }
 {
     let mut at: usize = 0;
@@ -52,7 +52,7 @@ pub fn chain_ok(words: &[u32]) -> bool
 // Stores record i of the message as record j of the body: its words but the next index.
 fn store(body: &mut [u32; 381], j: usize, words: &[u32], i: usize)
     requires { ⌜ (j < 127) × (i < records (now words)) ⌝ }
-    ensures { λ r. ⌜ now (body .exit) ≡ stored (now (words .entry)) (now (body .entry)) j i ⌝ }
+    ensures { λ r. ⌜ now (body .exit) ≡ recordStored (now (words .entry)) (now (body .entry)) j i ⌝ }
 {
     body[3 * j] = words[4 * i];
     body[3 * j + 1] = words[4 * i + 1];
@@ -61,7 +61,7 @@ fn store(body: &mut [u32; 381], j: usize, words: &[u32], i: usize)
 
 // What the head and the records that follow it on the chain say.
 pub fn contents_of(words: &[u32]) -> Contents
-    requires { ⌜ Sized (now words) ⌝ }
+    requires { ⌜ SizedMessage (now words) ⌝ }
     requires { ⌜ row8 (now words) ≡ true ⌝ }
     ensures { λ r. ⌜ r ≡ contentsOf (now (words .entry)) ⌝ }
 {
@@ -114,7 +114,7 @@ fn answer_with(refusal: Refusal, c: Contents) -> Reading
 // Rows 6 and 7 of a message's head.
 fn head_of(form: Form, settings: &[u32], words: &[u32]) -> Refusal
     requires { ⌜ Settings (now settings) ⌝ }
-    requires { ⌜ Sized (now words) ⌝ }
+    requires { ⌜ SizedMessage (now words) ⌝ }
     ensures { λ r. ⌜ r ≡ headOf form (now (settings .entry)) (now (words .entry)) ⌝ }
 {
     message_contents::head_refusal(form, settings, Node(words[0]), View(words[1]), words[2])

@@ -16,8 +16,8 @@ abbrev pub ofKind : ℕ → List ℕ → ℕ → Bool
 ofKind k b j = eqb (kind b j) k
 
 -- record j gives a shard's members, and the node is one of them
-abbrev pub carries : ℕ → List ℕ → ℕ → Bool
-carries node b j = eqb (kind b j) 1 && has (word1 b j) node
+abbrev pub givesShard : ℕ → List ℕ → ℕ → Bool
+givesShard node b j = eqb (kind b j) 1 && has (word1 b j) node
 
 -- the mask, with the shard of record j if that is picked
 abbrev pub withShard : Bool → ℕ → List ℕ → ℕ → ℕ

@@ -8,7 +8,7 @@ ghost use Rattle.base_laws.specs.Masks as Masks;
 ghost use Rattle.settings_values.specs.Settings.{Settings, shards};
 ghost use Rattle.message_format.specs.Records as Records;
 ghost use Rattle.message_format.specs.Rows as Rows;
-ghost use Rattle.message_records.specs.Gathered.{SmallShards, ofKind, carries, withShard, shardMasks};
+ghost use Rattle.message_records.specs.Gathered.{SmallShards, ofKind, givesShard, withShard, shardMasks};
 
 // The mask with the shard of record j, if its kind is k.
 fn shards_more(mask: u32, k: u32, body: &[u32; 381], j: usize) -> u32
@@ -41,7 +41,7 @@ pub fn shards_of(k: u32, body: &[u32; 381], len: usize) -> u32
 pub fn carried_more(mask: u32, node: Node, body: &[u32; 381], j: usize) -> u32
     requires { ⌜ j < 127 ⌝ }
     requires { ⌜ Records.shard (now body) j < 16 ⌝ }
-    ensures { λ r. ⌜ r ≡ withShard (carries (node .0) (now (body .entry)) j) mask (now (body .entry)) j ⌝ }
+    ensures { λ r. ⌜ r ≡ withShard (givesShard (node .0) (now (body .entry)) j) mask (now (body .entry)) j ⌝ }
 {
     if message_fields::kind(body, j) != 1 {
         return mask;

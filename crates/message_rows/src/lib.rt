@@ -1,4 +1,4 @@
-// The tests of rows 7, 9 and 11 of document 01's table on plain numbers. Each gives what its definition in format says.
+// The tests of rows 7, 9 and 11 of document 01's table on plain numbers. Each gives what its definition in message_format says.
 use base_ids::Node;
 use base_ids::View;
 use message_format::Form;

@@ -32,11 +32,11 @@ pub record Placement (σ : List ℕ) (held : ℕ) (old : ℕ → ℕ) (p : Place
   pub unplaced : p .found ≡ false → Unplaced σ held p
 
 -- on the way: the first k subgroups are placed, with at most 32 moves each
-pub record Stage (σ : List ℕ) (held : ℕ) (old : ℕ → ℕ) (k : ℕ) (p : Placed) : Type 0 where
+pub record LaidSoFar (σ : List ℕ) (held : ℕ) (old : ℕ → ℕ) (k : ℕ) (p : Placed) : Type 0 where
   pub laid : Laid σ held old k p
   pub small : p .total ≤ 32 * k
 
 -- one subgroup more, or the lowest without a valid placement
-pub record Next (σ : List ℕ) (held : ℕ) (old : ℕ → ℕ) (g : ℕ) (p : Placed) : Type 0 where
-  pub more : p .found ≡ true → Stage σ held old (g + 1) p
+pub record OneMore (σ : List ℕ) (held : ℕ) (old : ℕ → ℕ) (g : ℕ) (p : Placed) : Type 0 where
+  pub more : p .found ≡ true → LaidSoFar σ held old (g + 1) p
   pub unplaced : p .found ≡ false → Unplaced σ held p

@@ -13,17 +13,17 @@ use Rattle.place_groups.specs.Placements.{groupMoves, Impossible, LeastMoves}
 use Rattle.search_theory.specs.Case.{Least, moves}
 use Rattle.search_theory.specs.Tables.{caseOf, ownersOf}
 use Rattle.search_theory.specs.Least.{moves-most}
-use Rattle.search_total.specs.declared.Answer.{Answer}
+use Rattle.search_total.specs.declared.Solution.{Solution}
 use Rattle.search_total.specs.Post.{LeastAnswer}
 use Rattle.place_owners.specs.Tables.{setsTable, needsTable, pricesTable, groupCase, case-for}
 use Rattle.place_owners.specs.Owners.{moves-same, least-moves, impossible}
 use Rattle.place_owners.specs.Local.{least-local}
 use Rattle.place_owners.specs.Adding.{masksOf, masksWith, with-masked, with-alike, with-rest, with-total}
 use Rattle.place_layout.specs.declared.Placed.{Placed}
-use Rattle.place_layout.specs.Post.{Unplaced, Stage}
+use Rattle.place_layout.specs.Post.{Unplaced, LaidSoFar}
 
 -- the search's answer on the subgroup's tables
-pub answer-for : (σ : List ℕ) (held : ℕ) (old : ℕ → ℕ) (g : ℕ) (sets needs prices : List ℕ) {a : Answer}
+pub answer-for : (σ : List ℕ) (held : ℕ) (old : ℕ → ℕ) (g : ℕ) (sets needs prices : List ℕ) {a : Solution}
     → sets ≡ setsTable σ → needs ≡ needsTable σ g → prices ≡ pricesTable σ held old g
     → LeastAnswer (caseOf sets needs prices) a → LeastAnswer (groupCase σ held old g) a
 answer-for σ held old g sets needs prices {a} p q r w =
@@ -36,7 +36,7 @@ blank-mask s =
     ⊎-elim (λ l. getD-replicate 16 s 0 0 l) (λ l. List·getD-eq-default (replicate 16 0) 0 {n = s} (omega (arith, length-replicate {A = ℕ} 16 0))) (lt-or-le s 16)
 
 -- no subgroup yet
-pub stage-start : {σ : List ℕ} {held : ℕ} {old : ℕ → ℕ} {p : Placed} → p .masks ≡ replicate 16 0 → p .total ≡ 0 → p .group ≡ 0 → Stage σ held old 0 p
+pub stage-start : {σ : List ℕ} {held : ℕ} {old : ℕ → ℕ} {p : Placed} → p .masks ≡ replicate 16 0 → p .total ≡ 0 → p .group ≡ 0 → LaidSoFar σ held old 0 p
 stage-start {σ} {held} {old} {p} m t g =
     record {
       laid =
@@ -49,13 +49,13 @@ stage-start {σ} {held} {old} {p} m t g =
       small = omega arith;
     }
 
-module _ {σ : List ℕ} {held : ℕ} {old : ℕ → ℕ} {g : ℕ} {p : Placed} {a : Answer}
-    (right : Settings σ) (inside : held < 2 ^ nodes σ) (st : Stage σ held old g p) (w : LeastAnswer (groupCase σ held old g) a) where
+module _ {σ : List ℕ} {held : ℕ} {old : ℕ → ℕ} {g : ℕ} {p : Placed} {a : Solution}
+    (right : Settings σ) (inside : held < 2 ^ nodes σ) (st : LaidSoFar σ held old g p) (w : LeastAnswer (groupCase σ held old g) a) where
   pub answer-small : a .exists ≡ true → a .moves ≤ 32
   answer-small e = omega (arith, w .exact e, moves-most (w .found e .is .valid))
 
   pub stage-more : {r : Placed} → a .exists ≡ true → r .masks ≡ masksWith σ g (a .owners) (p .masks) → r .total ≡ p .total + a .moves → r .group ≡ 0
-      → Stage σ held old (g + 1) r
+      → LaidSoFar σ held old (g + 1) r
   stage-more {r} e m t z =
       record {
         laid =

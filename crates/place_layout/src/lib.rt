@@ -1,6 +1,6 @@
 // The placement of all four subgroups: a mask for each shard with the least moves in every subgroup, or the lowest subgroup
 // without a valid placement.
-use search_total::Answer;
+use search_total::Solution;
 ghost use mathlib.Core.Path.{_≡_};
 ghost use mathlib.Core.Bool.{true, cond};
 ghost use Prim.Native.Nat.{_+_, _<_, _^_};
@@ -13,7 +13,7 @@ ghost use Rattle.place_sheet.specs.Sheet.{sheetOf};
 ghost use Rattle.place_owners.specs.Tables.{groupCase};
 ghost use Rattle.place_owners.specs.Adding.{ownedBy, maskWith, masksWith};
 ghost use Rattle.search_total.specs.Post.{LeastAnswer};
-ghost use Rattle.place_layout.specs.Post.{Stage, Next, Placement};
+ghost use Rattle.place_layout.specs.Post.{LaidSoFar, OneMore, Placement};
 
 // Where every subgroup has a valid placement: a mask for each shard, 0 from S up, and the total of the moves. Else the lowest
 // subgroup without one, and nothing placed.
@@ -25,14 +25,14 @@ pub struct Placed {
 }
 
 // The search for one subgroup.
-fn least(sets: &[u8; 32], needs: &[u8; 16], prices: &[u8; 512]) -> Answer
+fn least(sets: &[u8; 32], needs: &[u8; 16], prices: &[u8; 512]) -> Solution
     ensures { λ r. ⌜ LeastAnswer (caseOf (now (sets .entry)) (now (needs .entry)) (now (prices .entry))) r ⌝ }
 {
     search_hinted::least(sets, needs, prices)
 }
 
 // The owners of least moves of subgroup g.
-fn solve(settings: &[u32], held: u32, old: &[u32; 16], sheet: &[[u8; 16]; 16], g: u32) -> Answer
+fn solve(settings: &[u32], held: u32, old: &[u32; 16], sheet: &[[u8; 16]; 16], g: u32) -> Solution
     requires { ⌜ Settings (now settings) ⌝ }
     requires { ⌜ held < 2 ^ nodes (now settings) ⌝ }
     requires { ⌜ now sheet ≡ sheetOf (now settings) held (λ s. getD (now old) s 0) ⌝ }
@@ -106,8 +106,8 @@ fn place_group(
     requires { ⌜ held < 2 ^ nodes (now settings) ⌝ }
     requires { ⌜ now sheet ≡ sheetOf (now settings) held (λ s. getD (now old) s 0) ⌝ }
     requires { ⌜ g < 4 ⌝ }
-    requires { ⌜ Stage (now settings) held (λ s. getD (now old) s 0) g lower ⌝ }
-    ensures { λ r. ⌜ Next (now (settings .entry)) held (λ s. getD (now (old .entry)) s 0) g r ⌝ }
+    requires { ⌜ LaidSoFar (now settings) held (λ s. getD (now old) s 0) g lower ⌝ }
+    ensures { λ r. ⌜ OneMore (now (settings .entry)) held (λ s. getD (now (old .entry)) s 0) g r ⌝ }
 {
     let answer = solve(settings, held, old, sheet, g);
     if !answer.exists {

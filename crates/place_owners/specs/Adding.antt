@@ -17,7 +17,7 @@ use Rattle.search_theory.specs.Tables.{ownersOf}
 use Rattle.place_owners.specs.Cases.{ofGroup, group-past, group-other, shard-below}
 use Rattle.base_laws.specs.Picked.{maskBelow, mask-lt, mask-at}
 use Rattle.place_owners.specs.Owners.{Masked}
-use Rattle.place_owners.specs.Local.{Alike, moves-local}
+use Rattle.place_owners.specs.Local.{AlikeInGroup, moves-local}
 
 -- the nodes that shard s owns
 unfoldable pub ownedBy : List ℕ → ℕ → ℕ
@@ -62,7 +62,7 @@ module _ (σ : List ℕ) (g : ℕ) (o masks : List ℕ) where
           small = λ s p. subst (λ (m : ℕ). m < 2 ^ 32) (sym (with-ours s (shard-below σ g right s p) p)) (mask-lt 32 32 (λ i. eqb (ownersOf o i) s) (omega arith));
         }
 
-    pub with-alike : (h : ℕ) → (h ≡ g → ⊥) → Alike σ h (masksOf masks) (masksOf (masksWith σ g o masks))
+    pub with-alike : (h : ℕ) → (h ≡ g → ⊥) → AlikeInGroup σ h (masksOf masks) (masksOf (masksWith σ g o masks))
     with-alike h d = record { at = λ s p. sym (with-other s (shard-below σ h right s p) (group-other σ g h s d p)) }
 
     -- one subgroup more in the total

@@ -17,10 +17,10 @@ use Rattle.place_owners.specs.Cases.{ofGroup, of-group, group-shard, gro
 use Rattle.place_owners.specs.Shards.{ShardPlaced, group-valid-of, shard-placed}
 
 -- the masks are alike at subgroup g's shards
-pub record Alike (σ : List ℕ) (g : ℕ) (a b : ℕ → ℕ) : Type 0 where
+pub record AlikeInGroup (σ : List ℕ) (g : ℕ) (a b : ℕ → ℕ) : Type 0 where
   pub at : (s : ℕ) → ofGroup σ g s ≡ true → a s ≡ b s
 
-module _ {σ : List ℕ} {g : ℕ} {a b : ℕ → ℕ} (k : Alike σ g a b) where
+module _ {σ : List ℕ} {g : ℕ} {a b : ℕ → ℕ} (k : AlikeInGroup σ g a b) where
   pub valid-local : (held : ℕ) → groupValid σ held a g ≡ true → groupValid σ held b g ≡ true
   valid-local held v = group-valid-of σ held b g (λ s o. moved s o (shard-placed σ held a g v s o))
     where

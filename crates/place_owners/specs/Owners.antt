@@ -16,7 +16,7 @@ use Rattle.base_laws.specs.Masks.{has, count, minus, has-minus, minus-lt, count
 use Rattle.base_sums.specs.Sums.{sumBelow, sum-cong, sum-swap, sum-single, sum-none, count-sum}
 use Rattle.settings_values.specs.Settings.{nodes, shards, setOf, subgroup, Settings}
 use Rattle.place_groups.specs.Placements.{groupValid, groupMovesAt, groupMoves, Impossible, LeastMoves}
-use Rattle.search_theory.specs.Case.{Case, Valid, Least, placed, size, moves}
+use Rattle.search_theory.specs.Case.{Case, Valid, Least, hasOwner, size, moves}
 use Rattle.search_theory.specs.Order.{None}
 use Rattle.place_owners.specs.Cases.{ofGroup, setIn, needIn, CaseFor, of-group, group-shard, group-subgroup, shard-below, need-of, need-none, set-held, price-allowed, price-held, price-low}
 use Rattle.place_owners.specs.Shards.{spread-of, spread-apart, group-valid-of, shard-placed}
@@ -83,7 +83,7 @@ module _ {σ : List ℕ} {held : ℕ} {old : ℕ → ℕ} {g : ℕ} {K : Case} {
   -- ---- moves
 
   -- a node's price, as the one term that is not 0 of a sum over the shards
-  node-price : (n : ℕ) → n < 32 → cond (placed z n) (K .price (z n) n) 0 ≡ sumBelow (shards σ) (λ s. cond (eqb (z n) s) (K .price s n) 0)
+  node-price : (n : ℕ) → n < 32 → cond (hasOwner z n) (K .price (z n) n) 0 ≡ sumBelow (shards σ) (λ s. cond (eqb (z n) s) (K .price s n) 0)
   node-price n l = sym (sum-single (shards σ) (z n) (λ s. K .price s n) ∙ ap (λ (b : Bool). cond b (K .price (z n) n) 0) below)
     where
       below : ltb (z n) (shards σ) ≡ ltb (z n) 16
@@ -142,7 +142,7 @@ module _ {σ : List ℕ} {held : ℕ} {old : ℕ → ℕ} {g : ℕ} {K : Case} {
   pub moves-same : moves K z ≡ groupMoves σ old masks g
   unfolding moves groupMoves
   moves-same =
-      sum-cong 32 (λ n. cond (placed z n) (K .price (z n) n) 0) (λ n. sumBelow (shards σ) (λ s. cond (eqb (z n) s) (K .price s n) 0)) node-price
+      sum-cong 32 (λ n. cond (hasOwner z n) (K .price (z n) n) 0) (λ n. sumBelow (shards σ) (λ s. cond (eqb (z n) s) (K .price s n) 0)) node-price
       ∙ (sum-swap 32 (shards σ) (λ n s. cond (eqb (z n) s) (K .price s n) 0)
       ∙ sum-cong (shards σ) (λ s. sumBelow 32 (λ n. cond (eqb (z n) s) (K .price s n) 0)) (groupMovesAt σ old masks g) shard-moves)
 

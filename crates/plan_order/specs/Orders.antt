@@ -45,15 +45,15 @@ abbrev pub triple : ℕ → ℕ → ℕ → ℕ → ℕ
 triple a b c part = cond (eqb part 0) a (cond (eqb part 1) b c)
 
 -- a record of a position
-abbrev pub placed : ℕ → Position → ℕ → ℕ
-placed tag p part = triple tag (p .view .0) (p .k) part
+abbrev pub positionRecord : ℕ → Position → ℕ → ℕ
+positionRecord tag p part = triple tag (p .view .0) (p .k) part
 
 -- the record of the holder of shard s, and that of the cut
 abbrev pub holderRecord : Plan → ℕ → ℕ → ℕ
 holderRecord p s part = triple (1024 + s) (getD (p .holders) s 0) 0 part
 
 abbrev pub cutRecord : Plan → List ℕ → ℕ → ℕ → ℕ → ℕ
-cutRecord p d n s part = placed (1280 + s) (cutOf p d n s) part
+cutRecord p d n s part = positionRecord (1280 + s) (cutOf p d n s) part
 
 -- how many shards node n carries
 abbrev pub own : List ℕ → Plan → ℕ → ℕ
@@ -63,7 +63,7 @@ own σ p n = carriedBelow p n (shards σ)
 unfoldable pub orderRecord : List ℕ → Plan → List ℕ → ℕ → ℕ → ℕ → ℕ
 orderRecord σ p d n j part =
     cond (ltb j (shards σ)) (triple (256 + j) (maskAt (p .layout) j) 0 part)
-    (cond (ltb j (2 * shards σ)) (placed (512 + (j - shards σ)) (plannedTarget p (j - shards σ)) part)
+    (cond (ltb j (2 * shards σ)) (positionRecord (512 + (j - shards σ)) (plannedTarget p (j - shards σ)) part)
     (cond (ltb j (2 * shards σ + own σ p n)) (holderRecord p (carried σ p n (j - 2 * shards σ)) part)
     (cutRecord p d n (carried σ p n (j - 2 * shards σ - own σ p n)) part)))
 

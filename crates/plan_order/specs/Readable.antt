@@ -15,14 +15,14 @@ use Rattle.report_views.specs.Reports.{slot, reportOf}
 use Rattle.plan_order.specs.Orders.{plannedTarget, cutAgainst}
 
 -- node n's slot can be read: its chain is that of a message
-pub record Readable (d : List ℕ) (n : ℕ) : Type 0 where
+pub record ReadableSlot (d : List ℕ) (n : ℕ) : Type 0 where
   pub words : length d ≡ 16384
   pub below : n < 32
   pub chained : row8 (slot d n) ≡ true
 
 -- so can the slot of each shard's holder, of the given number of shards
 pub record Holders (count : ℕ) (p : Plan) (d : List ℕ) : Type 0 where
-  pub holder : (s : ℕ) → s < count → Readable d (getD (p .holders) s 0)
+  pub holder : (s : ℕ) → s < count → ReadableSlot d (getD (p .holders) s 0)
 
 -- a report has at most 127 records
 pub report-few : (d : List ℕ) (n : ℕ) → reportOf d n .len ≤ 127

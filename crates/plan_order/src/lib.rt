@@ -14,14 +14,14 @@ ghost use Rattle.base_laws.specs.Masks.{has};
 ghost use Rattle.report_views.specs.Reports.{maskAt};
 ghost use Rattle.settings_values.specs.Settings.{Sizes, shards};
 ghost use Rattle.plan_order.specs.Orders.{carriedBelow, plannedTarget, cutAgainst, orderContents};
-ghost use Rattle.plan_order.specs.Stores.{stored, storeMembers, storeTarget, storeHolder, storeCutOf};
+ghost use Rattle.plan_order.specs.Stores.{wordsStored, storeMembers, storeTarget, storeHolder, storeCutOf};
 ghost use Rattle.base_laws.specs.Loops.{turns};
-ghost use Rattle.plan_order.specs.Readable.{Readable, Holders};
+ghost use Rattle.plan_order.specs.Readable.{ReadableSlot, Holders};
 
 // Stores the words of record j.
 fn put(body: &mut [u32; 381], j: usize, a: u32, b: u32, c: u32)
     requires { ⌜ j < 127 ⌝ }
-    ensures { λ r. ⌜ now (body .exit) ≡ stored (now (body .entry)) j a b c ⌝ }
+    ensures { λ r. ⌜ now (body .exit) ≡ wordsStored (now (body .entry)) j a b c ⌝ }
 {
     body[3 * j] = a;
     body[3 * j + 1] = b;
@@ -95,7 +95,7 @@ fn put_holders(body: &mut [u32; 381], plan: Plan, count: usize, n: usize, from: 
 // The cut for shard s of the node whose report has this body and len.
 fn cut_for(body: &[u32; 381], len: usize, plan: Plan, desk: &[u32], s: usize) -> Position
     requires { ⌜ (s < 16) × (len ≤ 127) ⌝ }
-    requires { ⌜ Readable (now desk) (getD (plan .holders) s 0) ⌝ }
+    requires { ⌜ ReadableSlot (now desk) (getD (plan .holders) s 0) ⌝ }
     ensures { λ r. ⌜ r ≡ cutAgainst plan (now (desk .entry)) (now (body .entry)) len s ⌝ }
 {
     let holder = report_slots::report_at(desk, base_ids::wide(plan.holders[s]));
@@ -145,7 +145,7 @@ fn put_cuts(
 // The contents of a node's order under a plan.
 pub fn order_contents(settings: &[u32], plan: Plan, desk: &[u32], node: Node) -> Contents
     requires { ⌜ Sizes (now settings) ⌝ }
-    requires { ⌜ Readable (now desk) (node .0) ⌝ }
+    requires { ⌜ ReadableSlot (now desk) (node .0) ⌝ }
     requires { ⌜ Holders (shards (now settings)) plan (now desk) ⌝ }
     ensures { λ r. ⌜ r ≡ orderContents (now (settings .entry)) plan (now (desk .entry)) (node .0) ⌝ }
 {

@@ -26,7 +26,7 @@ use Rattle.plan_order_laws.specs.Says.{saying, order-body}
 use Rattle.plan_order_laws.specs.Passing.{order-records-pass}
 use Rattle.plan_order_laws.specs.Sound.{KeptView, PlanSound, kept-given, plan-given}
 use lib.ListN.{length}
-use Rattle.plan_order.specs.Readable.{Readable, Holders}
+use Rattle.plan_order.specs.Readable.{ReadableSlot, Holders}
 use Rattle.plan_order_laws.specs.Fits.{node-below, fitting, readable, holders-readable}
 
 module _ (σ : List ℕ) (v : Layout) (t : Termination) (held : ℕ) (d : List ℕ) (p : Plan) (w : Settings σ) (kept : keptSound σ v t held ≡ true)
@@ -44,7 +44,7 @@ module _ (σ : List ℕ) (v : Layout) (t : Termination) (held : ℕ) (d : List �
 
   module _ (n : ℕ) (mine : has held n ≡ true) where
     -- and so can the slot of a held node
-    pub held-readable : length d ≡ 16384 → Readable d n
+    pub held-readable : length d ≡ 16384 → ReadableSlot d n
     held-readable = readable σ v t held d p w k slots ps n mine
 
     -- rows 6 and 7

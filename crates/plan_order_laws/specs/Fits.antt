@@ -26,7 +26,7 @@ use Rattle.report_views.specs.Ends.{Legal, end-legal}
 use lib.ListN.{length}
 use Rattle.message_format.specs.declared.Form.the-variants.{Report}
 use Rattle.message_format.specs.Passed.{message-given}
-use Rattle.plan_order.specs.Readable.{Readable, Holders}
+use Rattle.plan_order.specs.Readable.{ReadableSlot, Holders}
 use Rattle.place_groups.specs.Placed.{placed-passes}
 
 module _ (σ : List ℕ) (v : Layout) (t : Termination) (held : ℕ) (d : List ℕ) (p : Plan) (w : Settings σ) (k : KeptView σ v t held)
@@ -75,7 +75,7 @@ module _ (σ : List ℕ) (v : Layout) (t : Termination) (held : ℕ) (d : List �
       let pass = report-records σ v t d n (slot-given σ v t held d slots n m e) in
       passed-runs σ (reportOf d n .node .0) (viewOf d n) (reportOf d n .members) (reportOf d n .body) (reportOf d n .len) pass s (small s l)
 
-  slot-readable : length d ≡ 16384 → (n : ℕ) → n < 32 → has held n ≡ true → Readable d n
+  slot-readable : length d ≡ 16384 → (n : ℕ) → n < 32 → has held n ≡ true → ReadableSlot d n
   slot-readable e n m h =
       record { words = e; below = m; chained = message-given Report σ (slot d n) (slot-given σ v t held d slots n m h .valid) .chain-passes }
 
@@ -110,7 +110,7 @@ module _ (σ : List ℕ) (v : Layout) (t : Termination) (held : ℕ) (d : List �
         }
 
     -- the slots of the node and of every holder can be read
-    pub readable : length d ≡ 16384 → Readable d n
+    pub readable : length d ≡ 16384 → ReadableSlot d n
     readable e = slot-readable e n (omega (arith, node-below, w .sizes .nodes-to)) mine
 
   pub holders-readable : length d ≡ 16384 → Holders (shards σ) p d

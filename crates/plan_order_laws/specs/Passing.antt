@@ -19,7 +19,7 @@ use Rattle.message_format.specs.Laws.{where-has, where-at}
 use Rattle.message_format.specs.Passed.{RecordsPass}
 use Rattle.message_format.specs.Alike.{row10-same}
 use Rattle.base_laws.specs.Ranks.{rank-rises}
-use Rattle.plan_order_laws.specs.Parts.{Saying, carries, rank, OrderBody, Says, Part, a-members, a-target, a-holder, a-cut, kindOf, shardOf, firstOf, secondOf, tagOf, says-kind, says-shard, part-of, shard-below, tags-rise, said}
+use Rattle.plan_order_laws.specs.Parts.{Saying, carriesBy, rank, OrderBody, RecordSays, Part, a-members, a-target, a-holder, a-cut, kindOf, shardOf, firstWord, secondOf, tagOf, says-kind, says-shard, part-of, shard-below, tags-rise, said}
 
 -- what the masks, targets, holders and cuts are to be for an order of a view to a node
 pub record Fitting (σ : List ℕ) (node view members : ℕ) (a : Saying) : Type 0 where
@@ -28,11 +28,11 @@ pub record Fitting (σ : List ℕ) (node view members : ℕ) (a : Saying) : Type
   pub target-earlier : (s : ℕ) → s < shards σ → a .target s .view .0 < view
   pub holder-node : (s : ℕ) → s < shards σ → a .holder s < 32
   pub holder-member : (s : ℕ) → s < shards σ → has members (a .holder s) ≡ true
-  pub cut-legal : (s : ℕ) → s < shards σ → carries a node s ≡ true → position (a .cut s .view .0) (a .cut s .k) ≡ true
-  pub cut-earlier : (s : ℕ) → s < shards σ → carries a node s ≡ true → a .cut s .view .0 < view
+  pub cut-legal : (s : ℕ) → s < shards σ → carriesBy a node s ≡ true → position (a .cut s .view .0) (a .cut s .k) ≡ true
+  pub cut-earlier : (s : ℕ) → s < shards σ → carriesBy a node s ≡ true → a .cut s .view .0 < view
 
 module _ (σ : List ℕ) (node : ℕ) (a : Saying) (b : List ℕ) (len : ℕ) (o : OrderBody (shards σ) node a b len) where
-  says : {j : ℕ} (q : Part (shards σ) node a j) → Says b j (kindOf q) (shardOf q) (firstOf q) (secondOf q)
+  says : {j : ℕ} (q : Part (shards σ) node a j) → RecordSays b j (kindOf q) (shardOf q) (firstWord q) (secondOf q)
   says q = said (shards σ) node a b len o q
 
   -- the part of a record of the order
@@ -85,7 +85,7 @@ module _ (σ : List ℕ) (node : ℕ) (a : Saying) (b : List ℕ) (len : ℕ) (o
   after-last (suc j) l = or-right (eqb (suc j) 0) (in-order (suc j - 1) (suc j) (omega arith) l)
 
   -- a shard that the node carries is among those that the first n records, all masks among them, say it carries
-  carried-named : (s n : ℕ) → s < shards σ → carries a node s ≡ true → shards σ ≤ n → has (carriedBy node b n) s ≡ true
+  carried-named : (s n : ℕ) → s < shards σ → carriesBy a node s ≡ true → shards σ ≤ n → has (carriedBy node b n) s ≡ true
   unfolding kindOf shardOf
   carried-named s n l p m =
       let q : Part (shards σ) node a s = a-members s l refl in
@@ -116,18 +116,18 @@ module _ (σ : List ℕ) (node : ℕ) (a : Saying) (b : List ℕ) (len : ℕ) (o
       (where-at (λ i. eqb (kind b i) k) b len j l (eq-eqb (kind b j) k (kind-is q ∙ e)))
 
   -- the node carries what the members' records say
-  carried-by : (s : ℕ) → has (carriedBy node b len) s ≡ true → (s < shards σ) × (carries a node s ≡ true)
-  unfolding kindOf shardOf firstOf
+  carried-by : (s : ℕ) → has (carriedBy node b len) s ≡ true → (s < shards σ) × (carriesBy a node s ≡ true)
+  unfolding kindOf shardOf firstWord
   carried-by s h =
       let w = where-has (λ j. eqb (kind b j) 1 && has (word1 b j) node) b len s h in
       let p = and-left (eqb (kind b (w .0)) 1) (has (word1 b (w .0)) node) (w .2) in
       go (w .0) (in-part (w .0) (w .1)) (eqb-true (kind b (w .0)) 1 p) (and-right (eqb (kind b (w .0)) 1) (has (word1 b (w .0)) node) (w .2)) (w .3)
     where
-      go : (j : ℕ) (q : Part (shards σ) node a j) → kind b j ≡ 1 → has (word1 b j) node ≡ true → shard b j ≡ s → (s < shards σ) × (carries a node s ≡ true)
+      go : (j : ℕ) (q : Part (shards σ) node a j) → kind b j ≡ 1 → has (word1 b j) node ≡ true → shard b j ≡ s → (s < shards σ) × (carriesBy a node s ≡ true)
       go j (a-members t l e) k h d =
           let same : t ≡ s = sym (shard-is (a-members t l e)) ∙ d in (
             omega arith,
-            subst (λ (x : ℕ). carries a node x ≡ true) same (ap (λ (x : ℕ). has x node) (sym (says (a-members t l e) .first)) ∙ h),
+            subst (λ (x : ℕ). carriesBy a node x ≡ true) same (ap (λ (x : ℕ). has x node) (sym (says (a-members t l e) .first)) ∙ h),
           )
       go j (a-target t l e) k h d = absurd (omega (arith, kind-is (a-target t l e)))
       go j (a-holder t l p e) k h d = absurd (omega (arith, kind-is (a-holder t l p e)))
@@ -153,7 +153,7 @@ module _ (σ : List ℕ) (node : ℕ) (a : Saying) (b : List ℕ) (len : ℕ) (o
       (λ s m h.
       let c = carried-by s h in
       named-of 4 (2 * shards σ + rank a node s) (a-holder s (c .0) (c .1) refl)
-      (omega (arith, o .count, rank-rises (carries a node) s (shards σ) (c .0) (c .1))) refl)
+      (omega (arith, o .count, rank-rises (carriesBy a node) s (shards σ) (c .0) (c .1))) refl)
 
   all-cuts : subset (carriedBy node b len) (shardsOf 5 b len) ≡ true
   unfolding kindOf shardOf
@@ -162,7 +162,7 @@ module _ (σ : List ℕ) (node : ℕ) (a : Saying) (b : List ℕ) (len : ℕ) (o
       (λ s m h.
       let c = carried-by s h in
       named-of 5 (2 * shards σ + rank a node (shards σ) + rank a node s) (a-cut s (c .0) (c .1) refl)
-      (omega (arith, o .count, rank-rises (carries a node) s (shards σ) (c .0) (c .1))) refl)
+      (omega (arith, o .count, rank-rises (carriesBy a node) s (shards σ) (c .0) (c .1))) refl)
 
   complete-passes : complete Order σ node b len ≡ true
   unfolding complete
@@ -178,8 +178,8 @@ module _ (σ : List ℕ) (node : ℕ) (a : Saying) (b : List ℕ) (len : ℕ) (o
     unfolding viewFits
     earlier x y p l = and-both p (lt-ltb x view l)
 
-    legal-at : {j : ℕ} (q : Part (shards σ) node a j) → legal Order view members (kindOf q) (firstOf q) (secondOf q) ≡ true
-    unfolding legal kindOf firstOf secondOf
+    legal-at : {j : ℕ} (q : Part (shards σ) node a j) → legal Order view members (kindOf q) (firstWord q) (secondOf q) ≡ true
+    unfolding legal kindOf firstWord secondOf
     legal-at (a-members s l e) = refl
     legal-at (a-target s l e) = earlier _ _ (g .target-legal s l) (g .target-earlier s l)
     legal-at (a-holder s l p e) = and-both (lt-ltb (a .holder s) 32 (g .holder-node s l)) (g .holder-member s l)

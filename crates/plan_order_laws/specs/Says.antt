@@ -10,7 +10,7 @@ use Rattle.report_views.specs.Reports.{maskAt}
 use Rattle.base_laws.specs.Ranks.{rank-rises}
 use Rattle.plan_order.specs.Orders.{carries, carriedBelow, own, plannedTarget, cutOf, triple, orderRecord, orderLen, orderBody}
 use Rattle.plan_order.specs.Recorded.{members-record, target-record, holder-record, cut-record, word-at}
-use Rattle.plan_order_laws.specs.Parts.{Saying, Says, OrderBody}
+use Rattle.plan_order_laws.specs.Parts.{Saying, RecordSays, OrderBody}
 
 -- what the order of node n says
 abbrev pub saying : Plan → List ℕ → ℕ → Saying
@@ -25,7 +25,7 @@ saying p d n =
 module _ (σ : List ℕ) (p : Plan) (d : List ℕ) (n : ℕ) (few : shards σ ≤ 16) where
   -- a record that is the one of kind k and shard s
   says : (j k s x y : ℕ) → j < orderLen σ p n → ((part : ℕ) → orderRecord σ p d n j part ≡ triple (256 * k + s) x y part)
-      → Says (orderBody σ p d n) j k s x y
+      → RecordSays (orderBody σ p d n) j k s x y
   says j k s x y l h =
       let e : 3 * j ≡ 3 * j + 0 = omega arith in
       record {

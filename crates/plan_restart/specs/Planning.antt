@@ -28,7 +28,7 @@ use Rattle.place_layout.specs.declared.Placed.{Placed}
 use Rattle.place_layout.specs.Post.{Laid, Unplaced, Placement}
 use Rattle.plan_restart.specs.declared.Verdict.{Verdict}
 use Rattle.plan_restart.specs.Kept.{members-below}
-use Rattle.plan_restart.specs.Restarts.{waiting, Plans, WithPlan, Stuck, Restarts}
+use Rattle.plan_restart.specs.Restarts.{waiting, Plans, FindsPlan, FindsNone, Restarts}
 
 -- the view after the kept one, with all held nodes and their placement
 abbrev pub viewBy : Layout → ℕ → Placed → Layout
@@ -83,7 +83,7 @@ module _ (σ : List ℕ) (v : Layout) (t : Termination) (held : ℕ) (d : List �
           claims = claims σ v t held d (members-below σ v t held right kept) slots q;
         }
 
-    stuck-by : (st : Standing) → p .found ≡ false → Unplaced σ held p → Stuck σ held (verdictBy v held st p)
+    stuck-by : (st : Standing) → p .found ≡ false → Unplaced σ held p → FindsNone σ held (verdictBy v held st p)
     stuck-by st e none =
         record {
           group = p .group;
@@ -92,13 +92,13 @@ module _ (σ : List ℕ) (v : Layout) (t : Termination) (held : ℕ) (d : List �
         }
 
     planned-by : p .found ≡ true → Laid σ held (maskAt v) 4 p
-        → WithPlan σ v t held d (verdictBy v held (standingOf σ v t held d) p)
+        → FindsPlan σ v t held d (verdictBy v held (standingOf σ v t held d) p)
     planned-by e laid =
-        subst⁻¹ (WithPlan σ v t held d) (verdict-plan v held (standingOf σ v t held d) p e) (record { met = refl; plans = plans-by laid })
+        subst⁻¹ (FindsPlan σ v t held d) (verdict-plan v held (standingOf σ v t held d) p e) (record { met = refl; plans = plans-by laid })
 
     -- the verdict from a placement is a plan, or names the lowest subgroup without one
     pub answers-by : Placement σ held (maskAt v) p
-        → WithPlan σ v t held d (verdictBy v held (standingOf σ v t held d) p) ⊎ Stuck σ held (verdictBy v held (standingOf σ v t held d) p)
+        → FindsPlan σ v t held d (verdictBy v held (standingOf σ v t held d) p) ⊎ FindsNone σ held (verdictBy v held (standingOf σ v t held d) p)
     answers-by w =
         ⊎-elim (λ e. inl (planned-by e (w .laid e))) (λ e. inr (stuck-by (standingOf σ v t held d) e (w .unplaced e)))
         (either (p .found))
@@ -116,7 +116,7 @@ module _ (σ : List ℕ) (v : Layout) (t : Termination) (held : ℕ) (d : List �
 
   -- none fails
   pub restart-met : (st : Standing) (r : Verdict) → st ≡ standingOf σ v t held d → st .quorum ≡ Met
-      → (quorumOf σ v t held d ≡ Met → WithPlan σ v t held d r ⊎ Stuck σ held r) → Restarts σ v t held d r
+      → (quorumOf σ v t held d ≡ Met → FindsPlan σ v t held d r ⊎ FindsNone σ held r) → Restarts σ v t held d r
   unfolding standingOf
   restart-met st r e q a =
       let found : quorumOf σ v t held d ≡ Met = sym (ap (λ (s : Standing). s .quorum) e) ∙ q in

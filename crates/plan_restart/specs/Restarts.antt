@@ -52,12 +52,12 @@ pub record Lowest (σ : List ℕ) (held g : ℕ) : Type 0 where
   pub lower : (h : ℕ) → h < g → (P : ℕ → ℕ) × (groupValid σ held P h ≡ true)
 
 -- there is a plan
-pub record WithPlan (σ : List ℕ) (v : Layout) (t : Termination) (held : ℕ) (d : List ℕ) (r : Verdict) : Type 0 where
+pub record FindsPlan (σ : List ℕ) (v : Layout) (t : Termination) (held : ℕ) (d : List ℕ) (r : Verdict) : Type 0 where
   pub met : r .quorum ≡ Met
   pub plans : Plans σ v t held d (r .plan)
 
 -- the lowest subgroup without a valid placement is named
-pub record Stuck (σ : List ℕ) (held : ℕ) (r : Verdict) : Type 0 where
+pub record FindsNone (σ : List ℕ) (held : ℕ) (r : Verdict) : Type 0 where
   pub group : ℕ
   pub given : r ≡ waiting (NoPlacement group)
   pub lowest : Lowest σ held group
@@ -65,4 +65,4 @@ pub record Stuck (σ : List ℕ) (held : ℕ) (r : Verdict) : Type 0 where
 -- the first quorum condition that fails; where none does, a plan or the lowest subgroup without a valid placement
 pub record Restarts (σ : List ℕ) (v : Layout) (t : Termination) (held : ℕ) (d : List ℕ) (r : Verdict) : Type 0 where
   pub waits : (reason : Reason) → quorumOf σ v t held d ≡ Short reason → r ≡ waiting reason
-  pub answers : quorumOf σ v t held d ≡ Met → WithPlan σ v t held d r ⊎ Stuck σ held r
+  pub answers : quorumOf σ v t held d ≡ Met → FindsPlan σ v t held d r ⊎ FindsNone σ held r

@@ -18,7 +18,7 @@ ghost use Rattle.report_views.specs.Quorums as Quorums;
 ghost use Rattle.report_views.specs.Best.{bestWith};
 ghost use Rattle.report_views.specs.Standings.{standingOf};
 ghost use Rattle.base_laws.specs.Picked.{maskBelow};
-ghost use Rattle.report_ends.specs.Ends.{tableEnd, Readable};
+ghost use Rattle.report_ends.specs.Ends.{tableEnd, ReadableDesk};
 ghost use Rattle.plan_standing.specs.Choices.{picked, candidateShards, targetBy, positionsBelow, positionFrom, hasTarget, ableRow, holdersBy};
 
 // The shards, of the first count, of which node n is a member.
@@ -188,7 +188,7 @@ fn able_row(
     count: usize,
     n: usize,
 ) -> u32
-    requires { ⌜ Readable held (now desk) ⌝ }
+    requires { ⌜ ReadableDesk held (now desk) ⌝ }
     requires { ⌜ (count ≤ 16) × (n < 32) ⌝ }
     ensures { λ r. ⌜ r ≡ ableRow held (now (desk .entry)) (now (list .entry)) (now (targets .entry)) count n ⌝ }
 {
@@ -203,7 +203,7 @@ fn able_row(
 
 // The candidates that have the target, by node.
 fn ables(held: u32, desk: &[u32], list: &[u32; 32], targets: &[u32; 32], count: usize) -> [u32; 32]
-    requires { ⌜ Readable held (now desk) ⌝ }
+    requires { ⌜ ReadableDesk held (now desk) ⌝ }
     requires { ⌜ count ≤ 16 ⌝ }
     ensures { λ r. ⌜ r ≡ tabulate 32 (ableRow held (now (desk .entry)) (now (list .entry)) (now (targets .entry)) count) ⌝ }
 {

@@ -14,16 +14,16 @@ use Rattle.base_laws.specs.Bools.{lt-or-le}
 use Rattle.word_bytes.specs.Words.{wordAt, wordsOf, length-words}
 
 -- the word that an input starts with, the word count of its first block
-abbrev pub count : List ℕ → ℕ
-count b = wordAt b 0
+abbrev pub blockCount : List ℕ → ℕ
+blockCount b = wordAt b 0
 
 -- the bytes of the first block: as many as its count says, or what is there
 unfoldable pub block : List ℕ → List ℕ
-block b = take (4 * count b) (drop 4 b)
+block b = take (4 * blockCount b) (drop 4 b)
 
 -- what follows the first block
 unfoldable pub others : List ℕ → List ℕ
-others b = drop (4 * count b) (drop 4 b)
+others b = drop (4 * blockCount b) (drop 4 b)
 
 -- the whole words of some bytes; up to three bytes after them carry nothing
 unfoldable pub wholeWords : List ℕ → List ℕ
@@ -40,13 +40,13 @@ blocks b = blocksBy (length b) b
 
 -- the bytes that the first block takes with its count, as far as they are looked at: 513 words are more than any right block has
 unfoldable pub needed : List ℕ → ℕ
-needed b = cond (ltb (length b) 4) 4 (cond (ltb (count b) 513) (4 + 4 * count b) 2056)
+needed b = cond (ltb (length b) 4) 4 (cond (ltb (blockCount b) 513) (4 + 4 * blockCount b) 2056)
 
 -- ---- laws
 
 others-length : (b : List ℕ) → length (others b) ≤ length b - 4
 unfolding others
-others-length b = omega (arith, length-drop (4 * count b) (drop 4 b), length-drop 4 b)
+others-length b = omega (arith, length-drop (4 * blockCount b) (drop 4 b), length-drop 4 b)
 
 -- enough is enough
 by-more : (j k : ℕ) (b : List ℕ) → length b ≤ j → length b ≤ k → blocksBy j b ≡ blocksBy k b
@@ -73,7 +73,7 @@ blocks-some b h =
     (by-more (length b) (length (others b)) (others b) (omega (arith, others-length b)) (omega arith))
 
 -- a word of the first bytes
-count-append : (b c : List ℕ) → 4 ≤ length b → count (b ++ c) ≡ count b
+count-append : (b c : List ℕ) → 4 ≤ length b → blockCount (b ++ c) ≡ blockCount b
 unfolding wordAt
 count-append b c h =
     rw (List·getD-append b c 0 (4 * 0) (omega arith), List·getD-append b c 0 (4 * 0 + 1) (omega arith), List·getD-append b c 0 (4 * 0 + 2) (omega arith), List·getD-append b c 0 (4 * 0 + 3) (omega arith))
@@ -88,25 +88,25 @@ pub needed-few : (b : List ℕ) → length b < 4 → needed b ≡ 4
 unfolding needed
 needed-few b h = rw (lt-ltb (length b) 4 h)
 
-pub needed-short : (b : List ℕ) → 4 ≤ length b → count b < 513 → needed b ≡ 4 + 4 * count b
+pub needed-short : (b : List ℕ) → 4 ≤ length b → blockCount b < 513 → needed b ≡ 4 + 4 * blockCount b
 unfolding needed
-needed-short b h m = rw (le-ltb (length b) 4 h, lt-ltb (count b) 513 m)
+needed-short b h m = rw (le-ltb (length b) 4 h, lt-ltb (blockCount b) 513 m)
 
-pub needed-long : (b : List ℕ) → 4 ≤ length b → 513 ≤ count b → needed b ≡ 2056
+pub needed-long : (b : List ℕ) → 4 ≤ length b → 513 ≤ blockCount b → needed b ≡ 2056
 unfolding needed
-needed-long b h m = rw (le-ltb (length b) 4 h, le-ltb (count b) 513 m)
+needed-long b h m = rw (le-ltb (length b) 4 h, le-ltb (blockCount b) 513 m)
 
 -- from 4 to 2,056 bytes
 pub needed-ends : (b : List ℕ) → (4 ≤ needed b) × (needed b ≤ 2056)
 needed-ends b =
     ⊎-elim (λ h. let e = needed-few b h in (omega arith, omega arith))
-    (λ h. ⊎-elim (λ m. let e = needed-short b h m in (omega arith, omega arith)) (λ m. let e = needed-long b h m in (omega arith, omega arith)) (lt-or-le (count b) 513))
+    (λ h. ⊎-elim (λ m. let e = needed-short b h m in (omega arith, omega arith)) (λ m. let e = needed-long b h m in (omega arith, omega arith)) (lt-or-le (blockCount b) 513))
     (lt-or-le (length b) 4)
 
 -- no more than the count says
-needed-le : (b : List ℕ) → 4 ≤ length b → needed b ≤ 4 + 4 * count b
+needed-le : (b : List ℕ) → 4 ≤ length b → needed b ≤ 4 + 4 * blockCount b
 needed-le b h =
-    ⊎-elim (λ m. let e = needed-short b h m in omega arith) (λ m. let e = needed-long b h m in omega arith) (lt-or-le (count b) 513)
+    ⊎-elim (λ m. let e = needed-short b h m in omega arith) (λ m. let e = needed-long b h m in omega arith) (lt-or-le (blockCount b) 513)
 
 -- a byte more: no more bytes are there than are needed
 pub needed-more : (b : List ℕ) (x : ℕ) → length b < needed b → length (b ++ (x ∷ [])) ≤ needed (b ++ (x ∷ []))
@@ -131,22 +131,22 @@ needed-more b x h = ⊎-elim few many (lt-or-le (length b) 4)
 pub blocks-cut : (b : List ℕ) → 4 ≤ length b → length b < needed b → blocks b ≡ wholeWords (drop 4 b) ∷ []
 unfolding block others
 blocks-cut b h m =
-    let n : length (drop 4 b) ≤ 4 * count b = omega (arith, length-drop 4 b, needed-le b h) in
+    let n : length (drop 4 b) ≤ 4 * blockCount b = omega (arith, length-drop 4 b, needed-le b h) in
     blocks-some b h
-    ∙ ap₂ (λ (x y : List ℕ). wholeWords x ∷ blocks y) (take-all (4 * count b) (drop 4 b) n) (drop-of-length-le (drop 4 b) n)
+    ∙ ap₂ (λ (x y : List ℕ). wholeWords x ∷ blocks y) (take-all (4 * blockCount b) (drop 4 b) n) (drop-of-length-le (drop 4 b) n)
     ∙ ap (λ (l : List (List ℕ)). wholeWords (drop 4 b) ∷ l) (blocks-none [] (omega arith))
 
 -- a whole block, and the others
-pub blocks-whole : (b c : List ℕ) → length b ≡ 4 + 4 * count b → blocks (b ++ c) ≡ wholeWords (drop 4 b) ∷ blocks c
+pub blocks-whole : (b c : List ℕ) → length b ≡ 4 + 4 * blockCount b → blocks (b ++ c) ≡ wholeWords (drop 4 b) ∷ blocks c
 unfolding block others
 blocks-whole b c h =
-    let e : count (b ++ c) ≡ count b = count-append b c (omega arith) in
+    let e : blockCount (b ++ c) ≡ blockCount b = count-append b c (omega arith) in
     let d : drop 4 (b ++ c) ≡ drop 4 b ++ c = drop-append-le 4 b c (omega arith) in
-    let n : length (drop 4 b) ≡ 4 * count b = omega (arith, length-drop 4 b) in
+    let n : length (drop 4 b) ≡ 4 * blockCount b = omega (arith, length-drop 4 b) in
     blocks-some (b ++ c) (omega (arith, length-append b c))
     ∙ ap₂ (λ (x y : List ℕ). wholeWords x ∷ blocks y)
-    (ap₂ (λ (k : ℕ) (l : List ℕ). take (4 * k) l) e d ∙ take-at (drop 4 b) c (4 * count b) n)
-    (ap₂ (λ (k : ℕ) (l : List ℕ). drop (4 * k) l) e d ∙ drop-at (drop 4 b) c (4 * count b) n)
+    (ap₂ (λ (k : ℕ) (l : List ℕ). take (4 * k) l) e d ∙ take-at (drop 4 b) c (4 * blockCount b) n)
+    (ap₂ (λ (k : ℕ) (l : List ℕ). drop (4 * k) l) e d ∙ drop-at (drop 4 b) c (4 * blockCount b) n)
 
 -- a block of which more is there than is looked at
 pub record Long (l : List (List ℕ)) : Type 0 where
@@ -155,11 +155,11 @@ pub record Long (l : List (List ℕ)) : Type 0 where
   pub is : l ≡ first ∷ rest
   pub long : 512 < length first
 
-pub blocks-long : (b c : List ℕ) → length b ≡ 2056 → 513 ≤ count b → Long (blocks (b ++ c))
+pub blocks-long : (b c : List ℕ) → length b ≡ 2056 → 513 ≤ blockCount b → Long (blocks (b ++ c))
 unfolding block others
 blocks-long b c h m =
-    let e : count (b ++ c) ≡ count b = count-append b c (omega arith) in
-    let n : length (block (b ++ c)) ≡ min (4 * count (b ++ c)) (length (drop 4 (b ++ c))) = length-take (4 * count (b ++ c)) (drop 4 (b ++ c)) in
+    let e : blockCount (b ++ c) ≡ blockCount b = count-append b c (omega arith) in
+    let n : length (block (b ++ c)) ≡ min (4 * blockCount (b ++ c)) (length (drop 4 (b ++ c))) = length-take (4 * blockCount (b ++ c)) (drop 4 (b ++ c)) in
     record {
       first = wholeWords (block (b ++ c));
       rest = blocks (others (b ++ c));

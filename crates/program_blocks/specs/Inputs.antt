@@ -14,7 +14,7 @@ use Rattle.base_laws.specs.Bools.{lt-or-le, and-left, and-right}
 use Rattle.base_laws.specs.Below.{allBelow, all-at}
 use Rattle.base_laws.specs.Tables.{tabulate, tabulate-add, tabulate-cong, length-tabulate}
 use Rattle.word_bytes.specs.Words.{wordsOf, byteAt, bytesOf, length-bytes, getD-words, words-bytes}
-use Rattle.program_blocks.specs.Blocks.{count, blocks, wholeWords, blocks-none, blocks-whole}
+use Rattle.program_blocks.specs.Blocks.{blockCount, blocks, wholeWords, blocks-none, blocks-whole}
 
 -- the blocks, each preceded by its word count, as bytes
 unfoldable pub inputOf : List (List ℕ) → List ℕ
@@ -61,7 +61,7 @@ bytes-after n w =
         rw (q, r)
 
 module _ (w : List ℕ) (h : fits w ≡ true) where
-  count-is : count (bytesOf (length w ∷ w)) ≡ length w
+  count-is : blockCount (bytesOf (length w ∷ w)) ≡ length w
   count-is =
       sym (getD-words (bytesOf (length w ∷ w)) (length (length w ∷ w)) 0 (zero-lt-suc (length w)))
       ∙ ap (λ (l : List ℕ). getD l 0 0) (words-bytes (length w ∷ w) (count-fits w h))
@@ -78,7 +78,7 @@ unfolding inputOf allFit
 blocks-input [] h = blocks-none [] (omega arith)
 blocks-input (w ∷ ws) h =
     let f = and-left (fits w) (allFit ws) h in
-    let size : length (bytesOf (length w ∷ w)) ≡ 4 + 4 * count (bytesOf (length w ∷ w)) =
+    let size : length (bytesOf (length w ∷ w)) ≡ 4 + 4 * blockCount (bytesOf (length w ∷ w)) =
     omega (arith, length-bytes (length w ∷ w), count-is w f) in
     blocks-whole (bytesOf (length w ∷ w)) (inputOf ws) size
     ∙ ap₂ (λ (a : List ℕ) (b : List (List ℕ)). a ∷ b) (ap wholeWords (bytes-after (length w) w) ∙ words-are w f)

@@ -15,25 +15,25 @@ use Rattle.message_format.specs.Messages.{bodyWord, bodyOf, contentsOf, records
 use Rattle.report_views.specs.Slots.{sameView, row12, sameTermination, row13}
 use Rattle.report_kept.specs.Reports.{keptRefusal, refusalBeside, layoutOf, terminationOf, renewed}
 use Rattle.report_desk.specs.Desk.{deskWith}
-use Rattle.history_cases.specs.Runs.{settings, settingsWith, report, noRuns, run1, desk, view7, sixMembers}
+use Rattle.history_cases.specs.Runs.{caseSettings, settingsWith, caseReport, noRuns, run1, desk, view7, sixMembers}
 use Rattle.state_planner.specs.declared.State.{State}
 use Rattle.state_planner.specs.States.{fresh, keeping}
 use Rattle.state_planner.specs.Refusing.{decideRefusal}
 use Rattle.state_planner.specs.Events.{afterReport}
 use Rattle.state_cases.specs.Start.{gathered, reportOfSix}
-use Rattle.program_run.specs.Runs.{Standing, start, after}
+use Rattle.program_run.specs.Runs.{Underway, atStart, after}
 use Rattle.program_run_laws.specs.Reaches.{decide-none}
 use Rattle.program_run_laws.specs.Accepted.{stateAfter, deskOf, allAccepted, run-leads}
 
 -- the reports of case A: nodes 0 to 2, 0 to 4, and all
 abbrev pub first-three : List (List ℕ) → List (List ℕ)
-first-three more = report 0 noRuns ∷ report 1 (run1 7 5) ∷ report 2 noRuns ∷ more
+first-three more = caseReport 0 noRuns ∷ caseReport 1 (run1 7 5) ∷ caseReport 2 noRuns ∷ more
 
 abbrev pub first-five : List (List ℕ) → List (List ℕ)
-first-five more = first-three (report 3 noRuns ∷ report 4 (run1 7 4) ∷ more)
+first-five more = first-three (caseReport 3 noRuns ∷ caseReport 4 (run1 7 4) ∷ more)
 
 abbrev pub all-six : List (List ℕ)
-all-six = first-five (report 5 noRuns ∷ [])
+all-six = first-five (caseReport 5 noRuns ∷ [])
 
 -- the reports of case C: members 0 to 5
 abbrev pub three-of-six : List (List ℕ) → List (List ℕ)
@@ -49,16 +49,16 @@ record Come (σ : List ℕ) (ws : List (List ℕ)) (x : State) : Type 0 where
   state : stateAfter σ fresh ws ≡ x
 
 -- cases A to F and I
-record Comes : Type 0 where
-  a : Come settings all-six (gathered view7 63)
-  b : Come settings (first-three []) (gathered view7 7)
-  c : Come settings (three-of-six []) (gathered sixMembers 7)
-  d : Come settings [] fresh
+record CasesCome : Type 0 where
+  a : Come caseSettings all-six (gathered view7 63)
+  b : Come caseSettings (first-three []) (gathered view7 7)
+  c : Come caseSettings (three-of-six []) (gathered sixMembers 7)
+  d : Come caseSettings [] fresh
   e : Come (settingsWith 7 2) all-six (gathered view7 63)
-  f : Come settings (first-five []) (gathered view7 31)
+  f : Come caseSettings (first-five []) (gathered view7 31)
   i : Come (settingsWith 4 3) all-six (gathered view7 63)
 
-comes : Comes
+comes : CasesCome
 unfolding sizesOk nodesOk shardOk shardsOk settingsOk stateAfter allAccepted fresh keeping allBelow anyBelow lowest tabulate padded unless firstOf place following row5 row8 precedes shardsWhere row6 viewOk row7 kindOk plain kindAt shardAt surplus sequenceAt complete shardApart row10At row10 position viewFits legal row11At bodyWord bodyOf contentsOf recordsRefusal headRefusal messageRefusal sameView row12 sameTermination row13 keptRefusal refusalBeside layoutOf terminationOf renewed afterReport
 comes =
     record {
@@ -79,44 +79,44 @@ desk-of-six = refl
 -- ---- what the blocks lead to
 
 module _ {σ : List ℕ} {ws : List (List ℕ)} {x : State} where
-  leads : Come σ ws x → after start (σ ∷ ws) ≡ Standing σ x (deskOf emptyDesk ws)
-  leads c = run-leads σ ws (c .right) (c .taken) ∙ ap (λ (y : State). Standing σ y (deskOf emptyDesk ws)) (c .state)
+  leads : Come σ ws x → after atStart (σ ∷ ws) ≡ Underway σ x (deskOf emptyDesk ws)
+  leads c = run-leads σ ws (c .right) (c .taken) ∙ ap (λ (y : State). Underway σ y (deskOf emptyDesk ws)) (c .state)
 
   -- decide refuses nothing there
   decides : Come σ ws x → accepted (decideRefusal σ x (deskOf emptyDesk ws)) ≡ true
   decides c = ap accepted (decide-none (σ ∷ ws) σ x (deskOf emptyDesk ws) (leads c))
 
 -- with the desk of case A
-with-desk : {σ : List ℕ} {x : State} → Come σ all-six x → after start (σ ∷ all-six) ≡ Standing σ x desk
-with-desk {σ} {x} c = leads c ∙ ap (Standing σ x) desk-of-six
+with-desk : {σ : List ℕ} {x : State} → Come σ all-six x → after atStart (σ ∷ all-six) ≡ Underway σ x desk
+with-desk {σ} {x} c = leads c ∙ ap (Underway σ x) desk-of-six
 
-pub leads-a : after start (settings ∷ all-six) ≡ Standing settings (gathered view7 63) desk
+pub leads-a : after atStart (caseSettings ∷ all-six) ≡ Underway caseSettings (gathered view7 63) desk
 leads-a = with-desk (comes .a)
 
-pub leads-b : after start (settings ∷ first-three []) ≡ Standing settings (gathered view7 7) (deskOf emptyDesk (first-three []))
+pub leads-b : after atStart (caseSettings ∷ first-three []) ≡ Underway caseSettings (gathered view7 7) (deskOf emptyDesk (first-three []))
 leads-b = leads (comes .b)
 
-pub leads-c : after start (settings ∷ three-of-six []) ≡ Standing settings (gathered sixMembers 7) (deskOf emptyDesk (three-of-six []))
+pub leads-c : after atStart (caseSettings ∷ three-of-six []) ≡ Underway caseSettings (gathered sixMembers 7) (deskOf emptyDesk (three-of-six []))
 leads-c = leads (comes .c)
 
-pub leads-d : after start (settings ∷ []) ≡ Standing settings fresh (deskOf emptyDesk [])
+pub leads-d : after atStart (caseSettings ∷ []) ≡ Underway caseSettings fresh (deskOf emptyDesk [])
 leads-d = leads (comes .d)
 
-pub leads-e : after start (settingsWith 7 2 ∷ all-six) ≡ Standing (settingsWith 7 2) (gathered view7 63) desk
+pub leads-e : after atStart (settingsWith 7 2 ∷ all-six) ≡ Underway (settingsWith 7 2) (gathered view7 63) desk
 leads-e = with-desk (comes .e)
 
-pub leads-f : after start (settings ∷ first-five []) ≡ Standing settings (gathered view7 31) (deskOf emptyDesk (first-five []))
+pub leads-f : after atStart (caseSettings ∷ first-five []) ≡ Underway caseSettings (gathered view7 31) (deskOf emptyDesk (first-five []))
 leads-f = leads (comes .f)
 
-pub leads-i : after start (settingsWith 4 3 ∷ all-six) ≡ Standing (settingsWith 4 3) (gathered view7 63) desk
+pub leads-i : after atStart (settingsWith 4 3 ∷ all-six) ≡ Underway (settingsWith 4 3) (gathered view7 63) desk
 leads-i = with-desk (comes .i)
 
 -- decide refuses none of these
-pub record Taken : Type 0 where
-  pub b : accepted (decideRefusal settings (gathered view7 7) (deskOf emptyDesk (first-three []))) ≡ true
-  pub c : accepted (decideRefusal settings (gathered sixMembers 7) (deskOf emptyDesk (three-of-six []))) ≡ true
-  pub d : accepted (decideRefusal settings fresh (deskOf emptyDesk [])) ≡ true
-  pub f : accepted (decideRefusal settings (gathered view7 31) (deskOf emptyDesk (first-five []))) ≡ true
+pub record CasesTaken : Type 0 where
+  pub b : accepted (decideRefusal caseSettings (gathered view7 7) (deskOf emptyDesk (first-three []))) ≡ true
+  pub c : accepted (decideRefusal caseSettings (gathered sixMembers 7) (deskOf emptyDesk (three-of-six []))) ≡ true
+  pub d : accepted (decideRefusal caseSettings fresh (deskOf emptyDesk [])) ≡ true
+  pub f : accepted (decideRefusal caseSettings (gathered view7 31) (deskOf emptyDesk (first-five []))) ≡ true
 
-pub taken : Taken
+pub taken : CasesTaken
 taken = record { b = decides (comes .b); c = decides (comes .c); d = decides (comes .d); f = decides (comes .f) }

@@ -7,7 +7,7 @@ use mathlib.Core.Path.{_≡_, refl, ap, ap₂, _∙_, subst}
 use lib.Count.{ones, onesIn}
 use lib.ListN.{getD}
 use Rattle.base_laws.specs.Below.{allBelow, anyBelow, lowest}
-use Rattle.base_laws.specs.Positions.{notAfter}
+use Rattle.base_laws.specs.Positions.{pairNotAfter}
 use Rattle.base_laws.specs.Tables.{tabulate, padded}
 use Rattle.message_format.specs.Chain.{place, following}
 use Rattle.message_format.specs.Messages.{bodyWord, bodyOf, contentsOf}
@@ -19,7 +19,7 @@ use Rattle.report_views.specs.Logs.{endOf, reaches, holds, hasUpdate}
 use Rattle.report_views.specs.Reports.{slot, reportOf, maskAt}
 use Rattle.report_views.specs.Quorums.{candidate, greatest, best, target, able, holder, majority, firstUnheld, quorumOf, numberOf, valueOf}
 use Rattle.report_desk.specs.Desk.{deskWith}
-use Rattle.history_cases.specs.Runs.{settings, settingsWith, desk, view7, sixMembers}
+use Rattle.history_cases.specs.Runs.{caseSettings, settingsWith, desk, view7, sixMembers}
 use Rattle.report_views.specs.Empty.{noTermination}
 use Rattle.state_planner.specs.declared.State.{State}
 use Rattle.state_planner.specs.declared.Decision.{Decision}
@@ -27,13 +27,13 @@ use Rattle.state_planner.specs.declared.Decided.{Decided}
 use Rattle.state_planner.specs.States.{fresh, planned}
 use Rattle.state_planner.specs.Decide.{still, Decides}
 use Rattle.state_cases.specs.Start.{gathered}
-use Rattle.state_cases.specs.PlanA.{Printed as PlanA}
+use Rattle.state_cases.specs.PlanA.{PlanOfA as PlanA}
 use Rattle.state_cases.specs.Table.{table as decided}
 use Rattle.program_blocks.specs.Inputs.{inputOf, fits, allFit, blocks-input}
 use Rattle.program_lines.specs.Text.{digitsBy, decimal, field, line, member, membersBelow}
 use Rattle.program_lines.specs.Lines.{viewLabel, movesLabel, waitFor, waitLine, shardLine, carriers, shardText, shard-text, shardLines, planLines}
 use Rattle.program_decision.specs.Decisions.{decisionText}
-use Rattle.program_run.specs.Runs.{Progress, Standing, start, after, Prints, Printed}
+use Rattle.program_run.specs.Runs.{Progress, Underway, atStart, after, Prints, Printed}
 use Rattle.program_run_laws.specs.Accepted.{deskOf}
 use Rattle.program_cases.specs.Reports.{first-three, first-five, all-six, three-of-six, emptyDesk, leads-a, leads-b, leads-c, leads-d, leads-e, leads-f, leads-i, taken}
 
@@ -94,19 +94,19 @@ plan-text = view-8 ++ (moves-2 ++ (shard-0 ++ (shard-1 ++ shard-2)))
 abbrev pub Always : List (List ℕ) → List ℕ → Type 0
 Always blocks given = (text : List ℕ) → Printed (inputOf blocks) text → text ≡ given
 
-pub record Table : Type 0 where
+pub record PrintedTable : Type 0 where
   -- A: nodes 0 to 5 report
-  pub a : Always (settings ∷ all-six) plan-text
+  pub a : Always (caseSettings ∷ all-six) plan-text
   -- B: only 3 of the 7 held
-  pub b : Always (settings ∷ first-three []) wait-2
+  pub b : Always (caseSettings ∷ first-three []) wait-2
   -- C: 3 of 6 members
-  pub c : Always (settings ∷ three-of-six []) wait-2
+  pub c : Always (caseSettings ∷ three-of-six []) wait-2
   -- D: no report
-  pub d : Always (settings ∷ []) wait-1
+  pub d : Always (caseSettings ∷ []) wait-1
   -- E: least size 7, six held
   pub e : Always (settingsWith 7 2 ∷ all-six) wait-3
   -- F: A with node 5 absent
-  pub f : Always (settings ∷ first-five []) wait-4-2
+  pub f : Always (caseSettings ∷ first-five []) wait-4-2
   -- I: A with shard 0 needing 3
   pub i : Always (settingsWith 4 3 ∷ all-six) wait-5-0
 
@@ -114,17 +114,17 @@ pub record Table : Type 0 where
 
 -- where decide can only wait for a reason, its line is printed
 waits : (σ : List ℕ) (x : State) (d : List ℕ) (reason : Reason) → ((r : Decided) → Decides σ x d r → r ≡ still x (Decision.Wait reason))
-    → (text : List ℕ) → Prints (Standing σ x d) text → text ≡ waitLine reason
+    → (text : List ℕ) → Prints (Underway σ x d) text → text ≡ waitLine reason
 unfolding Prints decisionText
 waits σ x d reason w text p =
     p .says ∙ ap (λ (r : Decided). decisionText σ (r .decision) (r .state .plan)) (w (p .decided) (p .decides))
 
 -- the text printed for blocks
-from : (blocks : List (List ℕ)) (p : Progress) (given : List ℕ) → allFit blocks ≡ true → after start blocks ≡ p
+from : (blocks : List (List ℕ)) (p : Progress) (given : List ℕ) → allFit blocks ≡ true → after atStart blocks ≡ p
     → ((text : List ℕ) → Prints p text → text ≡ given) → Always blocks given
 unfolding Printed
 from blocks p given h e k text t =
-    k text (subst (λ (q : Progress). Prints q text) (ap (after start) (blocks-input blocks h) ∙ e) t)
+    k text (subst (λ (q : Progress). Prints q text) (ap (after atStart) (blocks-input blocks h) ∙ e) t)
 
 -- ---- case A
 
@@ -160,13 +160,13 @@ plan-is p v m a b c =
     ∙ ap (planText 8 2 shard-0 shard-1) c
     ∙ whole
 
-a-plan : (r : Decided) → PlanA r → decisionText settings (r .decision) (r .state .plan) ≡ plan-text
+a-plan : (r : Decided) → PlanA r → decisionText caseSettings (r .decision) (r .state .plan) ≡ plan-text
 unfolding decisionText planned
 a-plan r w =
     let p = w .plan in
     let h = w .holders in
     let t = w .targets in
-    ap (λ (x : Decided). decisionText settings (x .decision) (x .state .plan)) (w .given)
+    ap (λ (x : Decided). decisionText caseSettings (x .decision) (x .state .plan)) (w .given)
     ∙ plan-is p (w .view) (w .moves)
     (shard-is p 0 0 0 0 5 (at h 0) (at t 0) (at t 1) (w .shard0) ∙ text-0)
     (shard-is p 1 1 7 5 50 (at h 1) (at t 2) (at t 3) (w .shard1) ∙ text-1)
@@ -175,39 +175,39 @@ a-plan r w =
     at : {l m : List ℕ} → l ≡ m → (k : ℕ) → getD l k 0 ≡ getD m k 0
     at e k = ap (λ (x : List ℕ). getD x k 0) e
 
-a-text : (text : List ℕ) → Prints (Standing settings (gathered view7 63) desk) text → text ≡ plan-text
+a-text : (text : List ℕ) → Prints (Underway caseSettings (gathered view7 63) desk) text → text ≡ plan-text
 unfolding Prints
 a-text text p = p .says ∙ a-plan (p .decided) (decided .a (p .decided) (p .decides))
 
 -- ---- the waits
 
-b-short : quorumOf settings view7 noTermination 7 (deskOf emptyDesk (first-three [])) ≡ Short NoMajority
+b-short : quorumOf caseSettings view7 noTermination 7 (deskOf emptyDesk (first-three [])) ≡ Short NoMajority
 unfolding ones onesIn majority quorumOf
 b-short = refl
 
-c-short : quorumOf settings sixMembers noTermination 7 (deskOf emptyDesk (three-of-six [])) ≡ Short NoMajority
+c-short : quorumOf caseSettings sixMembers noTermination 7 (deskOf emptyDesk (three-of-six [])) ≡ Short NoMajority
 unfolding ones onesIn majority quorumOf
 c-short = refl
 
-d-short : quorumOf settings (fresh .kept) (fresh .termination) (fresh .held) (deskOf emptyDesk []) ≡ Short NoView
+d-short : quorumOf caseSettings (fresh .kept) (fresh .termination) (fresh .held) (deskOf emptyDesk []) ≡ Short NoView
 unfolding fresh quorumOf
 d-short = refl
 
-f-short : quorumOf settings view7 noTermination 31 (deskOf emptyDesk (first-five [])) ≡ Short (NoHolder (record { 0 = 2 }))
-unfolding deskOf deskWith padded ones onesIn allBelow anyBelow lowest tabulate notAfter place following bodyWord bodyOf contentsOf endOf reaches holds hasUpdate slot reportOf candidate greatest best target able holder majority firstUnheld quorumOf
+f-short : quorumOf caseSettings view7 noTermination 31 (deskOf emptyDesk (first-five [])) ≡ Short (NoHolder (record { 0 = 2 }))
+unfolding deskOf deskWith padded ones onesIn allBelow anyBelow lowest tabulate pairNotAfter place following bodyWord bodyOf contentsOf endOf reaches holds hasUpdate slot reportOf candidate greatest best target able holder majority firstUnheld quorumOf
 f-short = refl
 
-pub table : Table
+pub table : PrintedTable
 unfolding inputOf fits allFit allBelow waitLine waitFor numberOf valueOf line field decimal digitsBy
 table =
     record {
-      a = from (settings ∷ all-six) _ plan-text refl leads-a a-text;
-      b = from (settings ∷ first-three []) _ wait-2 refl leads-b (waits _ _ _ NoMajority (λ r w. w .waits (taken .b) NoMajority b-short));
-      c = from (settings ∷ three-of-six []) _ wait-2 refl leads-c (waits _ _ _ NoMajority (λ r w. w .waits (taken .c) NoMajority c-short));
-      d = from (settings ∷ []) _ wait-1 refl leads-d (waits _ _ _ NoView (λ r w. w .waits (taken .d) NoView d-short));
+      a = from (caseSettings ∷ all-six) _ plan-text refl leads-a a-text;
+      b = from (caseSettings ∷ first-three []) _ wait-2 refl leads-b (waits _ _ _ NoMajority (λ r w. w .waits (taken .b) NoMajority b-short));
+      c = from (caseSettings ∷ three-of-six []) _ wait-2 refl leads-c (waits _ _ _ NoMajority (λ r w. w .waits (taken .c) NoMajority c-short));
+      d = from (caseSettings ∷ []) _ wait-1 refl leads-d (waits _ _ _ NoView (λ r w. w .waits (taken .d) NoView d-short));
       e = from (settingsWith 7 2 ∷ all-six) _ wait-3 refl leads-e (waits _ _ _ TooFew (decided .e));
       f =
-          from (settings ∷ first-five []) _ wait-4-2 refl leads-f
+          from (caseSettings ∷ first-five []) _ wait-4-2 refl leads-f
           (waits _ _ _ (NoHolder (record { 0 = 2 })) (λ r w. w .waits (taken .f) (NoHolder (record { 0 = 2 })) f-short));
       i = from (settingsWith 4 3 ∷ all-six) _ wait-5-0 refl leads-i (waits _ _ _ (NoPlacement 0) (decided .i));
     }

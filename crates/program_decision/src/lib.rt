@@ -3,12 +3,12 @@ use report_views::Plan;
 use state_planner::Decision;
 ghost use mathlib.Core.Path.{_≡_};
 ghost use Rattle.settings_values.specs.Settings.{Settings};
-ghost use Rattle.program_decision.specs.Decisions.{Says};
+ghost use Rattle.program_decision.specs.Decisions.{PutsDecision};
 
 // The lines of a decision, whose plan stands beside it.
 pub fn decision_lines(out: &mut [u8], settings: &[u32], decision: Decision, plan: Plan) -> usize
     requires { ⌜ (decision ≡ Decision.Planned → Settings (now settings)) ⌝ }
-    ensures { λ r. ⌜ Says (now (settings .entry)) decision plan (now (out .entry)) (now (out .exit)) r ⌝ }
+    ensures { λ r. ⌜ PutsDecision (now (settings .entry)) decision plan (now (out .entry)) (now (out .exit)) r ⌝ }
 {
     match decision {
         Decision::Planned => {

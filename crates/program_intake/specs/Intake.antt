@@ -6,6 +6,6 @@ use lib.ListN.{take, set}
 use Rattle.program_blocks.specs.Blocks.{needed}
 
 -- the byte is stored, and so many bytes are needed
-pub record Keeps (bytes : List ℕ) (at byte : ℕ) (after : List ℕ) (r : ℕ) : Type 0 where
+pub record TakesByte (bytes : List ℕ) (at byte : ℕ) (after : List ℕ) (r : ℕ) : Type 0 where
   pub stored : after ≡ set bytes at byte
   pub needs : r ≡ needed (take (at + 1 - 0) after)

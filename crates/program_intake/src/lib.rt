@@ -5,7 +5,7 @@ ghost use Prim.Native.Nat.{_≤_, _<_, _-_};
 ghost use lib.ListN.{length, take, drop};
 ghost use Rattle.base_laws.specs.Tables as Tables;
 ghost use Rattle.program_blocks.specs.Held.{held};
-ghost use Rattle.program_intake.specs.Intake.{Keeps};
+ghost use Rattle.program_intake.specs.Intake.{TakesByte};
 
 // The words with zeros after them.
 pub fn padded(words: &[u32]) -> [u32; 52]
@@ -24,7 +24,7 @@ pub fn padded(words: &[u32]) -> [u32; 52]
 // Stores a byte, and answers how many bytes the block takes with its count, as far as they are looked at.
 pub fn keep(bytes: &mut [u8], at: usize, byte: u8) -> usize
     requires { ⌜ (at < length (now bytes)) × (length (now bytes) ≡ 2056) ⌝ }
-    ensures { λ r. ⌜ Keeps (now (bytes .entry)) at byte (now (bytes .exit)) r ⌝ }
+    ensures { λ r. ⌜ TakesByte (now (bytes .entry)) at byte (now (bytes .exit)) r ⌝ }
 {
     bytes[at] = byte;
     let end = at + 1;

@@ -12,7 +12,7 @@ use Rattle.program_lines.specs.Puts.{Puts}
 use Rattle.program_run.specs.declared.Stage.{Stage}
 use Rattle.program_run.specs.declared.Stage.the-variants.{Opening, Open, Closed}
 use Rattle.program_run.specs.declared.Run.{Run}
-use Rattle.program_run.specs.Runs.{Progress, Started, Standing, Ended, opened, next, after, Prints}
+use Rattle.program_run.specs.Runs.{Progress, Started, Underway, Ended, opened, taking, after, Prints}
 
 -- the run before any byte
 abbrev pub started : Run
@@ -21,7 +21,7 @@ started = record { stage = Opening; state = fresh; settings = replicate 52 0; wo
 -- a stage beside settings, state and desk
 unfoldable pub progressAt : Stage → List ℕ → State → List ℕ → Progress
 progressAt Opening σ x d = Started d
-progressAt Open σ x d = Standing σ x d
+progressAt Open σ x d = Underway σ x d
 progressAt (Closed r) σ x d = Ended r
 
 -- what the run has come to, beside the desk d
@@ -48,7 +48,7 @@ emptied run =
     record { stage = run .stage; state = run .state; settings = run .settings; words = run .words; pending = 0 }
 
 -- the block that is coming in is not whole, and the memory for it has room
-pub record Ready (run : Run) (bytes : List ℕ) : Type 0 where
+pub record ReadyRun (run : Run) (bytes : List ℕ) : Type 0 where
   pub room : length bytes ≡ 2056
   pub coming : run .pending < needed (take (run .pending) bytes)
   pub few : run .words ≤ length (run .settings)
@@ -62,7 +62,7 @@ pub record Comes (run : Run) (bytes : List ℕ) (end : ℕ) : Type 0 where
 
 -- a block w is taken
 pub record Takes (run : Run) (d w : List ℕ) (r : Run) (e : List ℕ) : Type 0 where
-  pub leads : progress r e ≡ next (progress run d) w
+  pub leads : progress r e ≡ taking (progress run d) w
   pub pending : r .pending ≡ run .pending
   pub few : r .words ≤ length (r .settings)
 
@@ -74,7 +74,7 @@ pub record Opens (run : Run) (w : List ℕ) (r : Run) : Type 0 where
 
 -- bytes are fed: whatever follows, the run comes to the same
 pub record Feeds (run : Run) (d bytes fed : List ℕ) (r : Run) (e after : List ℕ) : Type 0 where
-  pub ready : Ready r after
+  pub ready : ReadyRun r after
   pub same : (rest : List ℕ) → ahead r e after rest ≡ ahead run d bytes (fed ++ rest)
 
 -- the input is at its end

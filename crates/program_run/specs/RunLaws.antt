@@ -20,12 +20,12 @@ use Rattle.report_kept.specs.Reports.{keptRefusal, refusalBeside}
 use Rattle.state_planner.specs.declared.State.{State}
 use Rattle.state_planner.specs.Refusing.{reportRefusal, entryRefusal, deskOk, isGathering}
 use Rattle.state_planner.specs.Events.{reported, deskAfter}
-use Rattle.program_blocks.specs.Blocks.{count, blocks, needed, wholeWords, Long, length-whole, needed-ends, needed-short, needed-long, blocks-none, blocks-cut, blocks-whole, blocks-long}
-use Rattle.program_run.specs.Runs.{Progress, Started, Standing, Ended, opened, told, next, after}
+use Rattle.program_blocks.specs.Blocks.{blockCount, blocks, needed, wholeWords, Long, length-whole, needed-ends, needed-short, needed-long, blocks-none, blocks-cut, blocks-whole, blocks-long}
+use Rattle.program_run.specs.Runs.{Progress, Started, Underway, Ended, opened, told, taking, after}
 
 -- nothing follows a refusal
 pub after-ended : (r : Refusal) (ws : List (List ℕ)) → after (Ended r) ws ≡ Ended r
-unfolding after next
+unfolding after taking
 after-ended r [] = refl
 after-ended r (w ∷ ws) = after-ended r ws
 
@@ -42,10 +42,10 @@ long-row5 w h = and-fails-left (eqb (length w % 4) 0) (and-fails-right (leb 1 (l
 -- what a block of more than 512 words leads to
 longRefusal : Progress → Refusal
 longRefusal (Started d) = refused 2
-longRefusal (Standing σ x d) = firstOf (entryRefusal (deskOk d) σ x d (isGathering (x .phase))) (refused 5)
+longRefusal (Underway σ x d) = firstOf (entryRefusal (deskOk d) σ x d (isGathering (x .phase))) (refused 5)
 longRefusal (Ended r) = r
 
-long-report : (σ : List ℕ) (x : State) (d w : List ℕ) → 512 < length w → reportRefusal σ x d w ≡ longRefusal (Standing σ x d)
+long-report : (σ : List ℕ) (x : State) (d w : List ℕ) → 512 < length w → reportRefusal σ x d w ≡ longRefusal (Underway σ x d)
 unfolding longRefusal reportRefusal refusalBeside messageRefusal
 long-report σ x d w h =
     let five : messageRefusal Report σ w ≡ refused 5 = unless-false (row5 w) 5 _ (long-row5 w h) in
@@ -57,30 +57,30 @@ refuses : (r : Refusal) → accepted (firstOf r (refused 5)) ≡ false
 unfolding firstOf
 refuses r = ⊎-elim (λ e. rw e) (λ e. rw e e) (either (accepted r))
 
-next-long : (p : Progress) (w : List ℕ) → 512 < length w → next p w ≡ Ended (longRefusal p)
-unfolding longRefusal next opened told
+next-long : (p : Progress) (w : List ℕ) → 512 < length w → taking p w ≡ Ended (longRefusal p)
+unfolding longRefusal taking opened told
 next-long (Started d) w h = rw (long-settings w h)
-next-long (Standing σ x d) w h =
-    let e : reportRefusal σ x d w ≡ longRefusal (Standing σ x d) = long-report σ x d w h in
+next-long (Underway σ x d) w h =
+    let e : reportRefusal σ x d w ≡ longRefusal (Underway σ x d) = long-report σ x d w h in
     let f : accepted (reportRefusal σ x d w) ≡ false = ap accepted e ∙ refuses (entryRefusal (deskOk d) σ x d (isGathering (x .phase))) in
-    ap (λ (b : Bool). cond b (Standing σ (reported σ x d w .state) (deskAfter σ x d w)) (Ended (reportRefusal σ x d w))) f ∙ ap Ended e
+    ap (λ (b : Bool). cond b (Underway σ (reported σ x d w .state) (deskAfter σ x d w)) (Ended (reportRefusal σ x d w))) f ∙ ap Ended e
 next-long (Ended r) w h = refl
 
 -- ---- the blocks of an input
 
 -- a block of which all that is looked at has come, and what follows
 pub after-block : (p : Progress) (b c : List ℕ) → length b ≡ needed b
-    → after p (blocks (b ++ c)) ≡ after (next p (wholeWords (drop 4 b))) (blocks c)
+    → after p (blocks (b ++ c)) ≡ after (taking p (wholeWords (drop 4 b))) (blocks c)
 unfolding after
-after-block p b c e = ⊎-elim short long (lt-or-le (count b) 513)
+after-block p b c e = ⊎-elim short long (lt-or-le (blockCount b) 513)
   where
     size : 4 ≤ length b
     size = omega (arith, needed-ends b .0)
 
-    short : count b < 513 → after p (blocks (b ++ c)) ≡ after (next p (wholeWords (drop 4 b))) (blocks c)
+    short : blockCount b < 513 → after p (blocks (b ++ c)) ≡ after (taking p (wholeWords (drop 4 b))) (blocks c)
     short m = ap (after p) (blocks-whole b c (e ∙ needed-short b size m))
 
-    long : 513 ≤ count b → after p (blocks (b ++ c)) ≡ after (next p (wholeWords (drop 4 b))) (blocks c)
+    long : 513 ≤ blockCount b → after p (blocks (b ++ c)) ≡ after (taking p (wholeWords (drop 4 b))) (blocks c)
     long m =
         let n : length b ≡ 2056 = e ∙ needed-long b size m in
         let l : Long (blocks (b ++ c)) = blocks-long b c n m in
@@ -91,7 +91,7 @@ after-block p b c e = ⊎-elim short long (lt-or-le (count b) 513)
 
 -- the end of an input: a block cut short, or not even a count
 pub after-cut : (p : Progress) (b : List ℕ) → 4 ≤ length b → length b < needed b
-    → after p (blocks (b ++ [])) ≡ next p (wholeWords (drop 4 b))
+    → after p (blocks (b ++ [])) ≡ taking p (wholeWords (drop 4 b))
 unfolding after
 after-cut p b h m = ap (λ (l : List ℕ). after p (blocks l)) (append-nil b) ∙ ap (after p) (blocks-cut b h m)
 

@@ -23,29 +23,29 @@ pub data Progress : Type 0 where
   -- no block has come; the desk
   Started : List ℕ → Progress
   -- settings, state and desk after the blocks so far, none of which was refused
-  Standing : List ℕ → State → List ℕ → Progress
+  Underway : List ℕ → State → List ℕ → Progress
   -- a block was refused
   Ended : Refusal → Progress
 
 -- the first block is the settings
 unfoldable pub opened : List ℕ → List ℕ → Progress
-opened d w = cond (settingsOk w) (Standing w fresh d) (Ended (refused 2))
+opened d w = cond (settingsOk w) (Underway w fresh d) (Ended (refused 2))
 
 -- every other block is a report
 unfoldable pub told : List ℕ → State → List ℕ → List ℕ → Progress
 told σ x d w =
-    cond (accepted (reportRefusal σ x d w)) (Standing σ (reported σ x d w .state) (deskAfter σ x d w)) (Ended (reportRefusal σ x d w))
+    cond (accepted (reportRefusal σ x d w)) (Underway σ (reported σ x d w .state) (deskAfter σ x d w)) (Ended (reportRefusal σ x d w))
 
 -- a block. A refusal ends the run.
-unfoldable pub next : Progress → List ℕ → Progress
-next (Started d) w = opened d w
-next (Standing σ x d) w = told σ x d w
-next (Ended r) w = Ended r
+unfoldable pub taking : Progress → List ℕ → Progress
+taking (Started d) w = opened d w
+taking (Underway σ x d) w = told σ x d w
+taking (Ended r) w = Ended r
 
 -- blocks, one after another
 unfoldable pub after : Progress → List (List ℕ) → Progress
 after p [] = p
-after p (w ∷ ws) = after (next p w) ws
+after p (w ∷ ws) = after (taking p w) ws
 
 -- the text is that of a decision of decide, which is free only in the choice among placements of equal moves
 pub record DecisionPrinted (σ : List ℕ) (x : State) (d text : List ℕ) : Type 0 where
@@ -56,13 +56,13 @@ pub record DecisionPrinted (σ : List ℕ) (x : State) (d text : List ℕ) : Typ
 -- the text that is printed at the end of the input. A missing settings block has no words, and so is refused by number 2.
 unfoldable pub Prints : Progress → List ℕ → Type 0
 Prints (Started d) text = text ≡ numberLine (refused 2)
-Prints (Standing σ x d) text = DecisionPrinted σ x d text
+Prints (Underway σ x d) text = DecisionPrinted σ x d text
 Prints (Ended r) text = text ≡ numberLine r
 
 -- before any block: an empty desk
-abbrev pub start : Progress
-start = Started (replicate 16384 0)
+abbrev pub atStart : Progress
+atStart = Started (replicate 16384 0)
 
 -- the text that is printed for an input
 unfoldable pub Printed : List ℕ → List ℕ → Type 0
-Printed input text = Prints (after start (blocks input)) text
+Printed input text = Prints (after atStart (blocks input)) text

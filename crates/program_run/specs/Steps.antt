@@ -30,19 +30,19 @@ use Rattle.program_blocks.specs.Blocks.{blocks, needed, wholeWords, length-whol
 use Rattle.program_blocks.specs.Held.{held}
 use Rattle.program_lines.specs.Lines.{numberLine, number-length}
 use Rattle.program_lines.specs.Puts.{Puts}
-use Rattle.program_decision.specs.Decisions.{decisionText, Says}
+use Rattle.program_decision.specs.Decisions.{decisionText, PutsDecision}
 use Rattle.program_run.specs.declared.Stage.{Stage}
 use Rattle.program_run.specs.declared.Stage.the-variants.{Opening, Open, Closed}
 use Rattle.program_run.specs.declared.Run.{Run}
-use Rattle.program_run.specs.Runs.{Progress, Standing, Ended, opened, told, next, after, Prints}
+use Rattle.program_run.specs.Runs.{Progress, Underway, Ended, opened, told, taking, after, Prints}
 use Rattle.program_run.specs.RunLaws.{after-block, after-cut, after-none}
-use Rattle.program_run.specs.Machine.{progress, progressAt, closedBy, emptied, ahead, Ready, Comes, Takes, Opens, Feeds, Closes, Writes}
+use Rattle.program_run.specs.Machine.{progress, progressAt, closedBy, emptied, ahead, ReadyRun, Comes, Takes, Opens, Feeds, Closes, Writes}
 
 -- ---- a report
 
 -- accepted and refused, by the answer
 told-accepted : (σ : List ℕ) (x : State) (d w : List ℕ) → reported σ x d w .answer ≡ Answer.Accepted
-    → told σ x d w ≡ Standing σ (reported σ x d w .state) (deskAfter σ x d w)
+    → told σ x d w ≡ Underway σ (reported σ x d w .state) (deskAfter σ x d w)
 unfolding told reported
 told-accepted σ x d w h =
     ⊎-elim (λ e. rw e)
@@ -79,9 +79,9 @@ module _ (run : Run) (d : List ℕ) where
     own : o ≡ reported (take (run .words) (run .settings)) (run .state) d w
     own = given ∙ ap (λ (σ : List ℕ). reported σ (run .state) d w) (part-front (run .words) (run .settings))
 
-    told-next : next (progress run d) w ≡ told (take (run .words) (run .settings)) (run .state) d w
-    unfolding progressAt next
-    told-next = ap (λ (p : Progress). next p w) (progress-is Open h)
+    told-next : taking (progress run d) w ≡ told (take (run .words) (run .settings)) (run .state) d w
+    unfolding progressAt taking
+    told-next = ap (λ (p : Progress). taking p w) (progress-is Open h)
 
     pub report-accepted : o .answer ≡ Answer.Accepted
         → Takes run d w (record { stage = run .stage; state = o .state; settings = run .settings; words = run .words; pending = run .pending }) e
@@ -90,7 +90,7 @@ module _ (run : Run) (d : List ℕ) where
         record {
           leads =
               ap (λ (k : Stage). progressAt k (take (run .words) (run .settings)) (o .state) e) h
-              ∙ ap₂ (Standing (take (run .words) (run .settings))) (ap (λ (p : Outcome). p .state) own)
+              ∙ ap₂ (Underway (take (run .words) (run .settings))) (ap (λ (p : Outcome). p .state) own)
               (desk ∙ ap (λ (σ : List ℕ). deskAfter σ (run .state) d w) (part-front (run .words) (run .settings)))
               ∙ sym (told-next ∙ told-accepted (take (run .words) (run .settings)) (run .state) d w (sym (ap (λ (p : Outcome). p .answer) own) ∙ a));
           pending = refl;
@@ -127,7 +127,7 @@ module _ (run : Run) (w : List ℕ) where
         leads =
             λ d.
             rw h
-            (ap₂ (λ (σ : List ℕ) (y : State). Standing σ y d) (ap (take (length w)) f ∙ front-padded 52 (length w) w size refl) e);
+            (ap₂ (λ (σ : List ℕ) (y : State). Underway σ y d) (ap (take (length w)) f ∙ front-padded 52 (length w) w size refl) e);
         pending = refl;
         few = omega (arith, length-padded 52 w, ap length f);
       }
@@ -136,15 +136,15 @@ module _ (run : Run) (w : List ℕ) where
 
 module _ (run : Run) (d w : List ℕ) where
   pub takes-first : (r : Run) → run .stage ≡ Opening → Opens run w r → Takes run d w r d
-  unfolding progressAt next
+  unfolding progressAt taking
   takes-first r h o =
-      record { leads = o .leads d ∙ sym (ap (λ (p : Progress). next p w) (progress-is run d Opening h)); pending = o .pending; few = o .few }
+      record { leads = o .leads d ∙ sym (ap (λ (p : Progress). taking p w) (progress-is run d Opening h)); pending = o .pending; few = o .few }
 
   pub takes-none : (x : Refusal) → run .stage ≡ Closed x → run .words ≤ length (run .settings) → Takes run d w run d
-  unfolding progressAt next
+  unfolding progressAt taking
   takes-none x h few =
       let e : progress run d ≡ Ended x = progress-is run d (Closed x) h in
-      record { leads = e ∙ sym (ap (λ (p : Progress). next p w) e); pending = refl; few = few }
+      record { leads = e ∙ sym (ap (λ (p : Progress). taking p w) e); pending = refl; few = few }
 
 -- the words of the block, as they are lent
 pub takes-as : (run : Run) (d v w : List ℕ) (r : Run) (e : List ℕ) → v ≡ w → Takes run d v r e → Takes run d w r e
@@ -167,7 +167,7 @@ comes-size run bytes end c = omega (arith, c .room, c .within, length-take (end 
 
 -- ---- a byte
 
-module _ (run : Run) (bytes : List ℕ) (ready : Ready run bytes) where
+module _ (run : Run) (bytes : List ℕ) (ready : ReadyRun run bytes) where
   pub pending-room : run .pending < length bytes
   pending-room = omega (arith, needed-ends (take (run .pending) bytes) .1)
 
@@ -251,7 +251,7 @@ module _ (run : Run) (bytes : List ℕ) (ready : Ready run bytes) where
             same =
                 λ rest.
                 ap₂ (λ (p : Progress) (k : ℕ). after p (blocks (take k now ++ rest)))
-                (t .leads ∙ ap (λ (l : List ℕ). next (progress run d) (wholeWords l)) block) none
+                (t .leads ∙ ap (λ (l : List ℕ). taking (progress run d) (wholeWords l)) block) none
                 ∙ sym (after-block (progress run d) come rest whole)
                 ∙ ap (λ (l : List ℕ). after (progress run d) (blocks l)) (come-then rest);
           }
@@ -259,7 +259,7 @@ module _ (run : Run) (bytes : List ℕ) (ready : Ready run bytes) where
 -- ---- bytes one after another
 
 module _ {run : Run} {d bytes : List ℕ} where
-  pub feeds-none : Ready run bytes → Feeds run d bytes [] run d bytes
+  pub feeds-none : ReadyRun run bytes → Feeds run d bytes [] run d bytes
   feeds-none ready = record { ready = ready; same = λ rest. refl }
 
   pub feeds-then : {s t : List ℕ} {r u : Run} {e f b c : List ℕ} → Feeds run d bytes s r e b → Feeds r e b t u f c
@@ -281,7 +281,7 @@ module _ {run : Run} {d bytes : List ℕ} where
 
 -- ---- the end of the input
 
-module _ (run : Run) (d bytes : List ℕ) (ready : Ready run bytes) where
+module _ (run : Run) (d bytes : List ℕ) (ready : ReadyRun run bytes) where
   pub close-none : run .pending < 4 → Closes run d bytes run d
   unfolding ahead
   close-none h =
@@ -298,7 +298,7 @@ module _ (run : Run) (d bytes : List ℕ) (ready : Ready run bytes) where
       let c = ready .coming in
       record {
         leads =
-            t .leads ∙ ap (λ (l : List ℕ). next (progress run d) (wholeWords l)) (part-end 4 (run .pending) bytes)
+            t .leads ∙ ap (λ (l : List ℕ). taking (progress run d) (wholeWords l)) (part-end 4 (run .pending) bytes)
             ∙ sym (after-cut (progress run d) (take (run .pending) bytes) (omega arith) (omega arith));
         few = t .few;
       }
@@ -328,7 +328,7 @@ module _ (run : Run) (d out after : List ℕ) (n : ℕ) where
 
   -- the text of a decision
   pub writes-decision : (r : Decided) → run .stage ≡ Open → Decides (take (run .words - 0) (run .settings)) (run .state) d r
-      → Says (take (run .words - 0) (run .settings)) (r .decision) (r .state .plan) out after n → Writes (progress run d) out after n
+      → PutsDecision (take (run .words - 0) (run .settings)) (r .decision) (r .state .plan) out after n → Writes (progress run d) out after n
   unfolding progressAt Prints
   writes-decision r h decides says =
       record {

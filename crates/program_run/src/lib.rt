@@ -102,7 +102,7 @@ fn take_bytes(run: Run, desk: &mut [u32], bytes: &[u8], end: usize) -> Run
 
 // A byte.
 fn push(run: Run, desk: &mut [u32], bytes: &mut [u8], byte: u8) -> Run
-    requires { ⌜ Machine.Ready run (now bytes) ⌝ }
+    requires { ⌜ Machine.ReadyRun run (now bytes) ⌝ }
     ensures { λ r. ⌜ Machine.Feeds run (now (desk .entry)) (now (bytes .entry)) (byte ∷ []) r (now (desk .exit)) (now (bytes .exit)) ⌝ }
 {
     let at = run.pending;
@@ -158,7 +158,7 @@ impl Run {
 
     // Bytes of the input.
     pub fn feed(self, desk: &mut [u32], bytes: &mut [u8], fed: &[u8]) -> Run
-        requires { ⌜ Machine.Ready self (now bytes) ⌝ }
+        requires { ⌜ Machine.ReadyRun self (now bytes) ⌝ }
         ensures { λ r. ⌜ Machine.Feeds self (now (desk .entry)) (now (bytes .entry)) (now (fed .entry)) r (now (desk .exit)) (now (bytes .exit)) ⌝ }
     {
         let mut run = self;
@@ -172,7 +172,7 @@ impl Run {
 
     // The end of the input: a block cut short is its whole words.
     pub fn close(self, desk: &mut [u32], bytes: &[u8]) -> Run
-        requires { ⌜ Machine.Ready self (now bytes) ⌝ }
+        requires { ⌜ Machine.ReadyRun self (now bytes) ⌝ }
         ensures { λ r. ⌜ Machine.Closes self (now (desk .entry)) (now (bytes .entry)) r (now (desk .exit)) ⌝ }
     {
         let end = self.pending;

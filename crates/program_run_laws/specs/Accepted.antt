@@ -15,7 +15,7 @@ use Rattle.state_planner.specs.declared.State.{State}
 use Rattle.state_planner.specs.States.{fresh}
 use Rattle.state_planner.specs.Refusing.{reportRefusal}
 use Rattle.state_planner.specs.Events.{afterReport}
-use Rattle.program_run.specs.Runs.{Progress, Standing, Ended, opened, next, after, start}
+use Rattle.program_run.specs.Runs.{Progress, Underway, Ended, opened, taking, after, atStart}
 use Rattle.program_run_laws.specs.Reaches.{Gathers, Reaches, report-none, told-taken, taken-gathers, blocks-reach}
 
 -- the state after the reports ws
@@ -38,8 +38,8 @@ allAccepted σ x (w ∷ ws) =
 
 -- from a state of a run
 reports-lead : (σ : List ℕ) (x : State) (d : List ℕ) (ws : List (List ℕ)) → Gathers σ x d → allAccepted σ x ws ≡ true
-    → after (Standing σ x d) ws ≡ Standing σ (stateAfter σ x ws) (deskOf d ws)
-unfolding after next stateAfter deskOf allAccepted
+    → after (Underway σ x d) ws ≡ Underway σ (stateAfter σ x ws) (deskOf d ws)
+unfolding after taking stateAfter deskOf allAccepted
 reports-lead σ x d [] g h = refl
 reports-lead σ x d (w ∷ ws) g h =
     let first : Bool = accepted (refusalBeside σ (x .kept) (x .termination) w) in
@@ -50,12 +50,12 @@ reports-lead σ x d (w ∷ ws) g h =
 
 -- from the start
 pub run-leads : (σ : List ℕ) (ws : List (List ℕ)) → settingsOk σ ≡ true → allAccepted σ fresh ws ≡ true
-    → after start (σ ∷ ws) ≡ Standing σ (stateAfter σ fresh ws) (deskOf (replicate 16384 0) ws)
-unfolding after next opened Reaches
+    → after atStart (σ ∷ ws) ≡ Underway σ (stateAfter σ fresh ws) (deskOf (replicate 16384 0) ws)
+unfolding after taking opened Reaches
 run-leads σ ws s h =
     let zeros : List ℕ = replicate 16384 0 in
-    let e : opened zeros σ ≡ Standing σ fresh zeros = ap (λ (b : Bool). cond b (Standing σ fresh zeros) (Ended (refused 2))) s in
+    let e : opened zeros σ ≡ Underway σ fresh zeros = ap (λ (b : Bool). cond b (Underway σ fresh zeros) (Ended (refused 2))) s in
     ap (λ (p : Progress). after p ws) e ∙ reports-lead σ fresh zeros ws (settled e) h
   where
-    settled : opened (replicate 16384 0) σ ≡ Standing σ fresh (replicate 16384 0) → Gathers σ fresh (replicate 16384 0)
+    settled : opened (replicate 16384 0) σ ≡ Underway σ fresh (replicate 16384 0) → Gathers σ fresh (replicate 16384 0)
     settled e = subst (λ (p : Progress). Reaches p) e (blocks-reach (σ ∷ []))

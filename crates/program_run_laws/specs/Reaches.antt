@@ -23,7 +23,7 @@ use Rattle.state_planner.specs.Events.{afterReport, reported, deskAfter}
 use Rattle.state_planner.specs.EventLaws.{outcome-accepted}
 use Rattle.state_invariant.specs.Reached.{Reached, starting, reporting, reached-entry}
 use Rattle.program_blocks.specs.Blocks.{blocks}
-use Rattle.program_run.specs.Runs.{Progress, Started, Standing, Ended, opened, told, next, after, start}
+use Rattle.program_run.specs.Runs.{Progress, Started, Underway, Ended, opened, told, taking, after, atStart}
 use Rattle.program_run_laws.specs.Numbers.{in-beside}
 
 -- a state of a run: reached by accepted reports, and gathering
@@ -34,7 +34,7 @@ pub record Gathers (σ : List ℕ) (x : State) (d : List ℕ) : Type 0 where
 -- what a run can come to
 unfoldable pub Reaches : Progress → Type 0
 Reaches (Started d) = deskOk d ≡ true
-Reaches (Standing σ x d) = Gathers σ x d
+Reaches (Underway σ x d) = Gathers σ x d
 Reaches (Ended r) = (r .number ≡ 2) ⊎ ((5 ≤ r .number) × (r .number ≤ 13))
 
 -- while a run gathers, rows 1 to 4 refuse nothing
@@ -52,17 +52,17 @@ reaches-opened : (d w : List ℕ) → deskOk d ≡ true → Reaches (opened d w)
 unfolding Reaches opened fresh
 reaches-opened d w h =
     ⊎-elim
-    (λ e. subst⁻¹ (λ (b : Bool). Reaches (cond b (Standing w fresh d) (Ended (refused 2)))) e (record { reached = starting d e h; phase = refl }))
-    (λ e. subst⁻¹ (λ (b : Bool). Reaches (cond b (Standing w fresh d) (Ended (refused 2)))) e (inl refl))
+    (λ e. subst⁻¹ (λ (b : Bool). Reaches (cond b (Underway w fresh d) (Ended (refused 2)))) e (record { reached = starting d e h; phase = refl }))
+    (λ e. subst⁻¹ (λ (b : Bool). Reaches (cond b (Underway w fresh d) (Ended (refused 2)))) e (inl refl))
     (either (settingsOk w))
 
 -- a report that is accepted
 pub told-taken : (σ : List ℕ) (x : State) (d w : List ℕ) → accepted (reportRefusal σ x d w) ≡ true
-    → told σ x d w ≡ Standing σ (afterReport σ x (contentsOf w)) (deskWith d (getD w 0 0) w)
+    → told σ x d w ≡ Underway σ (afterReport σ x (contentsOf w)) (deskWith d (getD w 0 0) w)
 unfolding told reported deskAfter
 told-taken σ x d w e =
-    ap (λ (b : Bool). cond b (Standing σ (reported σ x d w .state) (deskAfter σ x d w)) (Ended (reportRefusal σ x d w))) e
-    ∙ ap₂ (Standing σ) (ap (λ (o : Outcome). o .state) (outcome-accepted (reportRefusal σ x d w) x (afterReport σ x (contentsOf w)) e))
+    ap (λ (b : Bool). cond b (Underway σ (reported σ x d w .state) (deskAfter σ x d w)) (Ended (reportRefusal σ x d w))) e
+    ∙ ap₂ (Underway σ) (ap (λ (o : Outcome). o .state) (outcome-accepted (reportRefusal σ x d w) x (afterReport σ x (contentsOf w)) e))
     (ap (λ (b : Bool). cond b (deskWith d (getD w 0 0) w) d) e)
 
 -- a report
@@ -85,39 +85,39 @@ module _ (σ : List ℕ) (x : State) (d w : List ℕ) (g : Gathers σ x d) where
   reaches-told =
       ⊎-elim (λ e. subst⁻¹ (λ (p : Progress). Reaches p) (told-taken σ x d w e) (taken-gathers e))
       (λ e.
-      subst⁻¹ (λ (b : Bool). Reaches (cond b (Standing σ (reported σ x d w .state) (deskAfter σ x d w)) (Ended (reportRefusal σ x d w)))) e
+      subst⁻¹ (λ (b : Bool). Reaches (cond b (Underway σ (reported σ x d w .state) (deskAfter σ x d w)) (Ended (reportRefusal σ x d w)))) e
       (ended-number e))
       (either (accepted (reportRefusal σ x d w)))
 
-reaches-next : (p : Progress) (w : List ℕ) → Reaches p → Reaches (next p w)
-unfolding next Reaches
+reaches-next : (p : Progress) (w : List ℕ) → Reaches p → Reaches (taking p w)
+unfolding taking Reaches
 reaches-next (Started d) w h = reaches-opened d w h
-reaches-next (Standing σ x d) w h = reaches-told σ x d w h
+reaches-next (Underway σ x d) w h = reaches-told σ x d w h
 reaches-next (Ended r) w h = h
 
 reaches-after : (p : Progress) (ws : List (List ℕ)) → Reaches p → Reaches (after p ws)
 unfolding after
 reaches-after p [] h = h
-reaches-after p (w ∷ ws) h = reaches-after (next p w) ws (reaches-next p w h)
+reaches-after p (w ∷ ws) h = reaches-after (taking p w) ws (reaches-next p w h)
 
 -- whatever the blocks
-pub blocks-reach : (ws : List (List ℕ)) → Reaches (after start ws)
+pub blocks-reach : (ws : List (List ℕ)) → Reaches (after atStart ws)
 unfolding Reaches
-blocks-reach ws = reaches-after start ws (eq-eqb _ 16384 (length-replicate {A = ℕ} 16384 0))
+blocks-reach ws = reaches-after atStart ws (eq-eqb _ 16384 (length-replicate {A = ℕ} 16384 0))
 
 -- whatever the input
-pub run-reaches : (input : List ℕ) → Reaches (after start (blocks input))
+pub run-reaches : (input : List ℕ) → Reaches (after atStart (blocks input))
 run-reaches input = blocks-reach (blocks input)
 
 -- after the last block decide refuses nothing
-pub decide-none : (ws : List (List ℕ)) (σ : List ℕ) (x : State) (d : List ℕ) → after start ws ≡ Standing σ x d → decideRefusal σ x d ≡ none
+pub decide-none : (ws : List (List ℕ)) (σ : List ℕ) (x : State) (d : List ℕ) → after atStart ws ≡ Underway σ x d → decideRefusal σ x d ≡ none
 unfolding Reaches decideRefusal
 decide-none ws σ x d e = entry-none σ x d (subst (λ (p : Progress). Reaches p) e (blocks-reach ws))
 
-pub decide-taken : (input σ : List ℕ) (x : State) (d : List ℕ) → after start (blocks input) ≡ Standing σ x d → decideRefusal σ x d ≡ none
+pub decide-taken : (input σ : List ℕ) (x : State) (d : List ℕ) → after atStart (blocks input) ≡ Underway σ x d → decideRefusal σ x d ≡ none
 decide-taken input σ x d e = decide-none (blocks input) σ x d e
 
 -- the numbers that end a run
-pub ended-by : (input : List ℕ) (r : Refusal) → after start (blocks input) ≡ Ended r → (r .number ≡ 2) ⊎ ((5 ≤ r .number) × (r .number ≤ 13))
+pub ended-by : (input : List ℕ) (r : Refusal) → after atStart (blocks input) ≡ Ended r → (r .number ≡ 2) ⊎ ((5 ≤ r .number) × (r .number ≤ 13))
 unfolding Reaches
 ended-by input r e = subst (λ (p : Progress). Reaches p) e (run-reaches input)

@@ -146,12 +146,12 @@ table-short table s e =
     rw row
 
 -- what the reader can walk: a whole desk, and the chains of the held nodes' slots
-pub record Readable (held : ℕ) (d : List ℕ) : Type 0 where
+pub record ReadableDesk (held : ℕ) (d : List ℕ) : Type 0 where
   pub whole : length d ≡ 16384
   pub chained : (n : ℕ) → n < 32 → has held n ≡ true → row8 (slot d n) ≡ true
 
 pub readable : (σ : List ℕ) (v : Layout) (t : Termination) (held : ℕ) (d : List ℕ) → length d ≡ 16384 → slotsOk σ v t held d ≡ true
-    → Readable held d
+    → ReadableDesk held d
 readable σ v t held d whole sound =
     record {
       whole = whole;

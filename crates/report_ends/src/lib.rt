@@ -4,7 +4,7 @@ use base_ids::View;
 ghost use mathlib.Core.Path.{_≡_};
 ghost use Prim.Native.Nat.{_<_, _≤_, _+_, _*_};
 ghost use lib.ListN.{set};
-ghost use Rattle.report_ends.specs.Ends.{endsOf, endNoted, endsRow, endsTable, tableEnd, Readable};
+ghost use Rattle.report_ends.specs.Ends.{endsOf, endNoted, endsRow, endsTable, tableEnd, ReadableDesk};
 
 // Stores the position of shard s.
 pub fn put_position(list: &mut [u32; 32], s: usize, view: u32, k: u32)
@@ -46,7 +46,7 @@ fn ends_of(body: &[u32; 381], len: usize) -> [u32; 32]
 
 // The ends of a held node's logs; zeros of a node that is not held.
 fn ends_row(held: u32, desk: &[u32], n: usize) -> [u32; 32]
-    requires { ⌜ Readable held (now desk) ⌝ }
+    requires { ⌜ ReadableDesk held (now desk) ⌝ }
     requires { ⌜ n < 32 ⌝ }
     ensures { λ r. ⌜ r ≡ endsRow held (now (desk .entry)) n ⌝ }
 {
@@ -60,7 +60,7 @@ fn ends_row(held: u32, desk: &[u32], n: usize) -> [u32; 32]
 
 // The ends of every held node's logs.
 pub fn ends_table(held: u32, desk: &[u32]) -> [[u32; 32]; 32]
-    requires { ⌜ Readable held (now desk) ⌝ }
+    requires { ⌜ ReadableDesk held (now desk) ⌝ }
     ensures { λ r. ⌜ r ≡ endsTable held (now (desk .entry)) ⌝ }
 {
     let mut table = [[0u32; 32]; 32];

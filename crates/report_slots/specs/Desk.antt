@@ -14,7 +14,7 @@ use Rattle.message_format.specs.declared.Form.the-variants.{Report}
 use Rattle.message_format.specs.declared.Contents.{Contents}
 use Rattle.message_format.specs.declared.Reading.{Reading}
 use Rattle.message_format.specs.Messages.{contentsOf, messageRefusal}
-use Rattle.message_reader.specs.Walks.{Sized}
+use Rattle.message_reader.specs.Walks.{SizedMessage}
 use Rattle.message_reader.specs.Readings.{readingUnder}
 use Rattle.report_views.specs.declared.Layout.{Layout}
 use Rattle.report_views.specs.declared.Termination.{Termination}
@@ -32,7 +32,7 @@ module _ (d : List ℕ) (n : ℕ) (whole : length d ≡ 16384) (below : n < 32) 
   unfolding slot
   length-slot = length-part (512 * n) (512 * n + 512) d (omega arith) ∙ omega arith
 
-  pub slot-sized : Sized (slot d n)
+  pub slot-sized : SizedMessage (slot d n)
   slot-sized = record { some = omega (arith, length-slot); few = omega (arith, length-slot); whole = omega (arith, length-slot) }
 
   pub getD-slot : (k : ℕ) → k < 512 → getD (slot d n) k 0 ≡ getD d (512 * n + k) 0

@@ -23,8 +23,8 @@ use Rattle.report_views.specs.Reports.{maskAt, positionAt}
 use Rattle.report_views.specs.Quorums.{target, holder, quorumOf}
 
 -- the first n entries of a list are zero
-abbrev pub zeros : List ℕ → ℕ → Bool
-zeros l n = allBelow n (λ i. eqb (getD l i 0) 0)
+abbrev pub allZero : List ℕ → ℕ → Bool
+allZero l n = allBelow n (λ i. eqb (getD l i 0) 0)
 
 -- a view with no entry from S up
 unfoldable pub layoutTidy : List ℕ → Layout → Bool
@@ -32,7 +32,7 @@ layoutTidy σ v = allBelow 16 (λ s. ltb s (shards σ) || eqb (maskAt v s) 0)
 
 -- no view: number 0, and nothing else
 unfoldable pub layoutBlank : Layout → Bool
-layoutBlank v = eqb (v .number .0) 0 && eqb (v .members) 0 && zeros (v .masks) 16
+layoutBlank v = eqb (v .number .0) 0 && eqb (v .members) 0 && allZero (v .masks) 16
 
 -- a kept view obeys rows 7 and 10 as in a report, its reporter aside
 unfoldable pub viewSound : List ℕ → Layout → Bool
@@ -70,7 +70,7 @@ marksSound Committed held fetched prepared = eqb fetched held && eqb prepared he
 
 -- no plan
 unfoldable pub planBlank : Plan → Bool
-planBlank p = layoutBlank (p .layout) && eqb (p .total) 0 && zeros (p .holders) 16 && zeros (p .targets) 32
+planBlank p = layoutBlank (p .layout) && eqb (p .total) 0 && allZero (p .holders) 16 && allZero (p .targets) 32
 
 -- waits 1 to 4 do not apply
 unfoldable pub isMet : Quorum → Bool

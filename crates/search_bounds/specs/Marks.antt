@@ -14,34 +14,34 @@ use Rattle.base_laws.specs.Below.{allBelow, all-at}
 use Rattle.search_theory.specs.Case.{Case, Valid, moves}
 use Rattle.search_theory.specs.Tables.{caseOf}
 use Rattle.search_theory.specs.Order.{Agree, Begun}
-use Rattle.search_theory.specs.Duality.{Weights, gain, toll}
+use Rattle.search_theory.specs.Duality.{DualWeights, gain, toll}
 use Rattle.search_theory.specs.Cut.{asked, Fair, floor, dear, held}
-use Rattle.search_bounds.specs.Post.{Small, Sound, steady}
+use Rattle.search_bounds.specs.Post.{Small, SoundBound, steady}
 
 -- what pair s asks of its shard's weight, with cost c
-abbrev pub asks : Weights → (ℕ → ℕ) → ℕ → ℕ → ℕ
+abbrev pub asks : DualWeights → (ℕ → ℕ) → ℕ → ℕ → ℕ
 asks W setOf c s = c + W .pair (s / 32 * 16 + setOf (s % 32)) + W .node (s % 32)
 
-module _ (W : Weights) (setOf o : ℕ → ℕ) (low high : ℕ) where
+module _ (W : DualWeights) (setOf o : ℕ → ℕ) (low high : ℕ) where
   -- pair s of cost c keeps its inequality
-  pub record Keeps (c s : ℕ) : Type 0 where
+  pub record KeepsPair (c s : ℕ) : Type 0 where
     pub keeps : c < 2 → 16 ≤ o (s % 32) → W .shard (s / 32) ≤ asks W setOf c s
 
   -- why pair s of cost c may be marked
-  abbrev pub Reason : ℕ → ℕ → Type 0
-  Reason c s = (o (s % 32) < 16) ⊎ (low + W .shard (s / 32) < high + asks W setOf c s)
+  abbrev pub MayMark : ℕ → ℕ → Type 0
+  MayMark c s = (o (s % 32) < 16) ⊎ (low + W .shard (s / 32) < high + asks W setOf c s)
 
   -- one pair: the costs before and after
   pub record Visited (x : ℕ) (before after : List ℕ) : Type 0 where
-    pub keeps : Keeps (getD before x 0) x
-    pub marks : (after ≡ before) ⊎ ((after ≡ set before x 2) × Reason (getD before x 0) x)
+    pub keeps : KeepsPair (getD before x 0) x
+    pub marks : (after ≡ before) ⊎ ((after ≡ set before x 2) × MayMark (getD before x 0) x)
 
   -- all pairs from t to x: the costs at first and now
-  pub record Passed (t x : ℕ) (first costs : List ℕ) : Type 0 where
+  pub record PairsPassed (t x : ℕ) (first costs : List ℕ) : Type 0 where
     pub long : length costs ≡ 512
     pub later : (s : ℕ) → x ≤ s → getD costs s 0 ≡ getD first s 0
-    pub keeps : (s : ℕ) → t ≤ s → s < x → Keeps (getD first s 0) s
-    pub marks : (s : ℕ) → (getD costs s 0 ≡ getD first s 0) ⊎ ((t ≤ s) × Reason (getD first s 0) s)
+    pub keeps : (s : ℕ) → t ≤ s → s < x → KeepsPair (getD first s 0) s
+    pub marks : (s : ℕ) → (getD costs s 0 ≡ getD first s 0) ⊎ ((t ≤ s) × MayMark (getD first s 0) s)
 
   module _ {x : ℕ} {before : List ℕ} where
     pub visited-shut : 2 ≤ getD before x 0 → Visited x before before
@@ -57,37 +57,37 @@ module _ (W : Weights) (setOf o : ℕ → ℕ) (low high : ℕ) where
         low + W .shard (x / 32) < high + asks W setOf (getD before x 0) x → Visited x before (set before x 2)
     visited-dear h g = record { keeps = record { keeps = λ c f. h }; marks = inr (refl, inr g) }
 
-  pub passed-none : {t : ℕ} {first : List ℕ} → length first ≡ 512 → Passed t t first first
+  pub passed-none : {t : ℕ} {first : List ℕ} → length first ≡ 512 → PairsPassed t t first first
   passed-none l = record { long = l; later = λ s h. refl; keeps = λ s h g. absurd (omega arith); marks = λ s. inl refl }
 
-  pub passed-more : {t x : ℕ} {first costs after : List ℕ} → t ≤ x → x < 512 → Passed t x first costs → Visited x costs after → Passed t (x + 1) first after
+  pub passed-more : {t x : ℕ} {first costs after : List ℕ} → t ≤ x → x < 512 → PairsPassed t x first costs → Visited x costs after → PairsPassed t (x + 1) first after
   passed-more {t} {x} {first} {costs} {after} l q p v = go (v .marks)
     where
       same : getD costs x 0 ≡ getD first x 0
       same = p .later x (omega arith)
 
-      keeps : (s : ℕ) → t ≤ s → s < x + 1 → Keeps (getD first s 0) s
+      keeps : (s : ℕ) → t ≤ s → s < x + 1 → KeepsPair (getD first s 0) s
       keeps s h g =
-          ⊎-elim (λ e. subst (λ (j : ℕ). Keeps (getD first j 0) j) (sym e) (subst (λ (c : ℕ). Keeps c x) same (v .keeps)))
+          ⊎-elim (λ e. subst (λ (j : ℕ). KeepsPair (getD first j 0) j) (sym e) (subst (λ (c : ℕ). KeepsPair c x) same (v .keeps)))
           (λ e. p .keeps s h (omega arith)) (eq-or-ne s x)
 
-      stored : Reason (getD costs x 0) x → Passed t (x + 1) first (set costs x 2)
+      stored : MayMark (getD costs x 0) x → PairsPassed t (x + 1) first (set costs x 2)
       stored r =
           record {
             long = length-set costs x 2 ∙ p .long;
             later = λ s h. getD-set-other costs x s 2 0 (λ e. omega arith) ∙ p .later s (omega arith);
             keeps = keeps;
             marks = λ s. ⊎-elim
-                (λ e. inr (omega arith, subst (λ (j : ℕ). Reason (getD first j 0) j) (sym e) (subst (λ (c : ℕ). Reason c x) same r)))
+                (λ e. inr (omega arith, subst (λ (j : ℕ). MayMark (getD first j 0) j) (sym e) (subst (λ (c : ℕ). MayMark c x) same r)))
                 (λ e. ⊎-elim (λ d. inl (getD-set-other costs x s 2 0 e ∙ d)) (λ d. inr d) (p .marks s))
                 (eq-or-ne s x);
           }
 
-      go : (after ≡ costs) ⊎ ((after ≡ set costs x 2) × Reason (getD costs x 0) x) → Passed t (x + 1) first after
+      go : (after ≡ costs) ⊎ ((after ≡ set costs x 2) × MayMark (getD costs x 0) x) → PairsPassed t (x + 1) first after
       go (inl e) =
-          subst (λ (w : List ℕ). Passed t (x + 1) first w) (sym e)
+          subst (λ (w : List ℕ). PairsPassed t (x + 1) first w) (sym e)
           (record { long = p .long; later = λ s h. p .later s (omega arith); keeps = keeps; marks = p .marks })
-      go (inr (e, r)) = subst (λ (w : List ℕ). Passed t (x + 1) first w) (sym e) (stored r)
+      go (inr (e, r)) = subst (λ (w : List ℕ). PairsPassed t (x + 1) first w) (sym e) (stored r)
 
 shard-at : (i n : ℕ) → n < 32 → (i * 32 + n) / 32 ≡ i
 shard-at i n l = omega arith
@@ -96,13 +96,13 @@ node-at : (i n : ℕ) → n < 32 → (i * 32 + n) % 32 ≡ n
 node-at i n l = omega arith
 
 -- every pair passed: the cut is sound
-module _ (sets needs first after : List ℕ) (W : Weights) (o : ℕ → ℕ) (t k : ℕ) where
+module _ (sets needs first after : List ℕ) (W : DualWeights) (o : ℕ → ℕ) (t k : ℕ) where
   -- the case at first
   abbrev K : Case
   K = caseOf sets needs first
 
   module _ (small : Small sets) (b : Begun o t) (n : allBelow 32 (steady K W o) ≡ true)
-      (p : Passed W (λ m. getD sets m 0) o (k + toll K W) (gain K W) t 512 first after) where
+      (p : PairsPassed W (λ m. getD sets m 0) o (k + toll K W) (gain K W) t 512 first after) where
     fair : Fair K W o t
     fair = record { given = given; free = free; rest = rest }
       where
@@ -117,7 +117,7 @@ module _ (sets needs first after : List ℕ) (W : Weights) (o : ℕ → ℕ) (t 
             subst₂ (λ (a e : ℕ). 16 ≤ o e → W .shard a ≤ getD first (i * 32 + m) 0 + W .pair (a * 16 + getD sets e 0) + W .node e)
             (shard-at i m l) (node-at i m l) (p .keeps (i * 32 + m) h (omega arith) .keeps c) f
 
-    pub sound : Sound K k (gain K W - toll K W) o t after
+    pub sound : SoundBound K k (gain K W - toll K W) o t after
     sound =
         record {
           bound = λ y v a. omega (arith, floor {K = K} {W = W} (small .below) b fair v a);
@@ -125,7 +125,7 @@ module _ (sets needs first after : List ℕ) (W : Weights) (o : ℕ → ℕ) (t 
         }
       where
         never : (y : ℕ → ℕ) → Valid K y → Agree y o t → moves K y ≤ k → (m : ℕ) → m < 32 → y m < 16 → t ≤ y m * 32 + m →
-            Reason W (λ j. getD sets j 0) o (k + toll K W) (gain K W) (getD first (y m * 32 + m) 0) (y m * 32 + m) → ⊥
+            MayMark W (λ j. getD sets j 0) o (k + toll K W) (gain K W) (getD first (y m * 32 + m) 0) (y m * 32 + m) → ⊥
         never y v a c m l h q (inl r) = held (small .below) b fair v a m l h q (subst (λ (e : ℕ). o e < 16) (node-at (y m) m l) r)
         never y v a c m l h q (inr r) =
             omega (
@@ -137,7 +137,7 @@ module _ (sets needs first after : List ℕ) (W : Weights) (o : ℕ → ℕ) (t 
 
   -- the same, by the numbers that the code has
   pub sound-by : (low high most : ℕ) → Small sets → Begun o t → allBelow 32 (steady K W o) ≡ true → low ≡ k + toll K W → high ≡ gain K W →
-      most ≡ high - (low - k) → Passed W (λ m. getD sets m 0) o low high t 512 first after → Sound K k most o t after
+      most ≡ high - (low - k) → PairsPassed W (λ m. getD sets m 0) o low high t 512 first after → SoundBound K k most o t after
   sound-by low high most s b n l h e p =
-      subst (λ (f : ℕ). Sound K k f o t after) (sym (e ∙ omega arith))
-      (sound s b n (subst₂ (λ (x y : ℕ). Passed W (λ m. getD sets m 0) o x y t 512 first after) l h p))
+      subst (λ (f : ℕ). SoundBound K k f o t after) (sym (e ∙ omega arith))
+      (sound s b n (subst₂ (λ (x y : ℕ). PairsPassed W (λ m. getD sets m 0) o x y t 512 first after) l h p))

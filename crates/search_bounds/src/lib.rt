@@ -10,7 +10,7 @@ ghost use Rattle.base_sums.specs.Sums.{sumBelow};
 ghost use Rattle.search_theory.specs.Tables.{caseOf, ownersOf};
 ghost use Rattle.search_theory.specs.Order.{Begun};
 ghost use Rattle.search_theory.specs.Duality.{gain, toll};
-ghost use Rattle.search_bounds.specs.Post.{weightsOf, Small, steady, Sound};
+ghost use Rattle.search_bounds.specs.Post.{weightsOf, Small, steady, SoundBound};
 ghost use Rattle.search_bounds.specs.Marks.{Visited};
 use search_judge::wide;
 
@@ -164,7 +164,7 @@ fn floor(a: usize, b: usize) -> usize
 }
 
 // Whether the weights are good, and the floor that they prove.
-pub struct Verdict {
+pub struct Bound {
     pub good: bool,
     pub floor: usize,
 }
@@ -180,16 +180,16 @@ pub fn cut(
     pairs: &[u8; 256],
     t: usize,
     k: usize,
-) -> Verdict
+) -> Bound
     requires { ⌜ (t ≤ 512) × (k ≤ 32) ⌝ }
     requires { ⌜ Small (now sets) ⌝ }
     requires { ⌜ length (now costs) ≡ 512 ⌝ }
     requires { ⌜ Begun (ownersOf (now owner)) t ⌝ }
-    ensures { λ r. ⌜ (r .good ≡ true → Sound (caseOf (now (sets .entry)) (now (needs .entry)) (now (costs .entry))) k (r .floor) (ownersOf (now (owner .entry))) t (now (costs .exit))) ⌝ }
+    ensures { λ r. ⌜ (r .good ≡ true → SoundBound (caseOf (now (sets .entry)) (now (needs .entry)) (now (costs .entry))) k (r .floor) (ownersOf (now (owner .entry))) t (now (costs .exit))) ⌝ }
     ensures { λ r. ⌜ length (now (costs .exit)) ≡ 512 ⌝ }
 {
     if !all_steady(sets, costs, owner, shards, nodes, pairs) {
-        return Verdict {
+        return Bound {
             good: false,
             floor: 0,
         };
@@ -199,14 +199,14 @@ pub fn cut(
     let mut x = t;
     while x < 512 {
         if !visit(sets, costs, owner, shards, nodes, pairs, x, low, high) {
-            return Verdict {
+            return Bound {
                 good: false,
                 floor: 0,
             };
         }
         x += 1;
     }
-    Verdict {
+    Bound {
         good: true,
         floor: floor(high, low - k),
     }

@@ -10,21 +10,21 @@ use lib.ListN.{length, getD, set}
 use borrow.Author.Tests.{eqb-true, lt-ltb, le-ltb}
 use Rattle.base_laws.specs.Bools.{lt-or-le}
 use Rattle.base_sums.specs.Sums.{sum-cong}
-use Rattle.search_theory.specs.Case.{Case, Valid, placed, moves}
+use Rattle.search_theory.specs.Case.{Case, Valid, hasOwner, moves}
 use Rattle.search_theory.specs.Tables.{ownersOf}
-use Rattle.search_theory.specs.Order.{takes, First, From, Taken, from-left, from-taken, first-leave, first-take}
-use Rattle.search_bounds.specs.Post.{Uses, Sound}
-use Rattle.search_total.specs.Post.{Ready}
+use Rattle.search_theory.specs.Order.{takes, First, From, TakesPair, from-left, from-taken, first-leave, first-take}
+use Rattle.search_bounds.specs.Post.{Uses, SoundBound}
+use Rattle.search_total.specs.Post.{ReadyFrom}
 use Rattle.search_total.specs.Steps.{ready-leave, ready-stored, taken}
 
-pub record Stage (K : Case) (k : ℕ) (o : List ℕ) (t : ℕ) (costs : List ℕ) : Type 0 where
-  pub ready : Ready o t
+pub record Narrowed (K : Case) (k : ℕ) (o : List ℕ) (t : ℕ) (costs : List ℕ) : Type 0 where
+  pub ready : ReadyFrom o t
   pub long : length costs ≡ 512
   pub uses : (y : ℕ → ℕ) → From K k (ownersOf o) t y → Uses K costs y
 
 -- from pair t to the next one: what is first from there is first from here
 pub record Advanced (K : Case) (k : ℕ) (o : List ℕ) (t : ℕ) (after costs : List ℕ) : Type 0 where
-  pub stage : Stage K k after (t + 1) costs
+  pub stage : Narrowed K k after (t + 1) costs
   pub first : (z : ℕ → ℕ) → First (From K k (ownersOf after) (t + 1)) z → First (From K k (ownersOf o) t) z
 
 -- the case with costs for prices
@@ -39,12 +39,12 @@ valid-uses u v =
 moves-uses : {K : Case} {costs : List ℕ} {y : ℕ → ℕ} → Uses K costs y → moves (recost K costs) y ≡ moves K y
 unfolding moves
 moves-uses {K} {costs} {y} u =
-    sum-cong 32 (λ n. cond (placed y n) (getD costs (y n * 32 + n) 0) 0) (λ n. cond (placed y n) (K .price (y n) n) 0)
+    sum-cong 32 (λ n. cond (hasOwner y n) (getD costs (y n * 32 + n) 0) 0) (λ n. cond (hasOwner y n) (K .price (y n) n) 0)
     (λ n l. ⊎-elim (λ h. simp (lt-ltb (y n) 16 h) (u .price n l h)) (λ h. simp (le-ltb (y n) 16 h)) (lt-or-le (y n) 16))
 
-module _ {K : Case} {k t : ℕ} {o costs : List ℕ} (s : Stage K k o t costs) where
+module _ {K : Case} {k t : ℕ} {o costs : List ℕ} (s : Narrowed K k o t costs) where
   -- a cut keeps the stage
-  pub stage-cut : {floor : ℕ} {after : List ℕ} → length after ≡ 512 → Sound (recost K costs) k floor (ownersOf o) t after → Stage K k o t after
+  pub stage-cut : {floor : ℕ} {after : List ℕ} → length after ≡ 512 → SoundBound (recost K costs) k floor (ownersOf o) t after → Narrowed K k o t after
   stage-cut {floor} {after} l c = record { ready = s .ready; long = l; uses = uses }
     where
       uses : (y : ℕ → ℕ) → From K k (ownersOf o) t y → Uses K after y
@@ -76,5 +76,5 @@ module _ {K : Case} {k t : ℕ} {o costs : List ℕ} (s : Stage K k o t costs) w
         first = λ z f. first-take l (s .ready .begun) h kept f;
       }
     where
-      kept : Taken (ownersOf o) t (ownersOf (set o (t % 32) v))
-      kept = subst (λ (a : ℕ). Taken (ownersOf o) t (ownersOf (set o (t % 32) a))) (sym e) (taken (s .ready .owners))
+      kept : TakesPair (ownersOf o) t (ownersOf (set o (t % 32) v))
+      kept = subst (λ (a : ℕ). TakesPair (ownersOf o) t (ownersOf (set o (t % 32) a))) (sym e) (taken (s .ready .owners))

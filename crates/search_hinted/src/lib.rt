@@ -7,12 +7,12 @@ ghost use Prim.Native.Nat.{_/_, _%_, _≤_, _<_, min};
 ghost use lib.ListN.{length, set};
 ghost use Rattle.search_theory.specs.Tables.{caseOf, ownersOf};
 ghost use Rattle.search_theory.specs.Order.{Begun};
-ghost use Rattle.search_bounds.specs.Post.{Small, Sound};
-ghost use Rattle.search_total.specs.Post.{WithinAnswer, LeastAnswer, blank};
-ghost use Rattle.search_hinted.specs.Stage.{Stage, Advanced};
+ghost use Rattle.search_bounds.specs.Post.{Small, SoundBound};
+ghost use Rattle.search_total.specs.Post.{WithinAnswer, LeastAnswer, noOwners};
+ghost use Rattle.search_hinted.specs.Stage.{Narrowed, Advanced};
 ghost use Rattle.search_hinted.specs.Post.{Found};
-use search_bounds::Verdict;
-use search_total::Answer;
+use search_bounds::Bound;
+use search_total::Solution;
 
 // Cuts with the oracle's present weights.
 fn prune(
@@ -23,12 +23,12 @@ fn prune(
     mem: &[u32; 512],
     t: usize,
     k: usize,
-) -> Verdict
+) -> Bound
     requires { ⌜ (t ≤ 512) × (k ≤ 32) ⌝ }
     requires { ⌜ Small (now sets) ⌝ }
     requires { ⌜ length (now costs) ≡ 512 ⌝ }
     requires { ⌜ Begun (ownersOf (now owner)) t ⌝ }
-    ensures { λ r. ⌜ (r .good ≡ true → Sound (caseOf (now (sets .entry)) (now (needs .entry)) (now (costs .entry))) k (r .floor) (ownersOf (now (owner .entry))) t (now (costs .exit))) ⌝ }
+    ensures { λ r. ⌜ (r .good ≡ true → SoundBound (caseOf (now (sets .entry)) (now (needs .entry)) (now (costs .entry))) k (r .floor) (ownersOf (now (owner .entry))) t (now (costs .exit))) ⌝ }
     ensures { λ r. ⌜ length (now (costs .exit)) ≡ 512 ⌝ }
 {
     let q = hint_weights::weigh(mem, sets, costs);
@@ -63,7 +63,7 @@ fn step(
 ) -> bool
     requires { ⌜ (t < 512) × (k ≤ 32) ⌝ }
     requires { ⌜ Small (now sets) ⌝ }
-    requires { ⌜ Stage (caseOf (now sets) (now needs) (now prices)) k (now owner) t (now costs) ⌝ }
+    requires { ⌜ Narrowed (caseOf (now sets) (now needs) (now prices)) k (now owner) t (now costs) ⌝ }
     ensures { λ r. ⌜ (r ≡ true → Advanced (caseOf (now (sets .entry)) (now (needs .entry)) (now (prices .entry))) k (now (owner .entry)) t (now (owner .exit)) (now (costs .exit))) ⌝ }
 {
     if costs[t] >= 2 {
@@ -88,7 +88,7 @@ fn step(
 // An answer, if it is sure.
 pub struct Quick {
     pub sure: bool,
-    pub answer: Answer,
+    pub answer: Solution,
 }
 
 // No answer.
@@ -112,7 +112,7 @@ fn follow(
 ) -> Quick
     requires { ⌜ k ≤ 32 ⌝ }
     requires { ⌜ Small (now sets) ⌝ }
-    requires { ⌜ Stage (caseOf (now sets) (now needs) (now prices)) k blank 0 (now costs) ⌝ }
+    requires { ⌜ Narrowed (caseOf (now sets) (now needs) (now prices)) k noOwners 0 (now costs) ⌝ }
     ensures { λ r. ⌜ (r .sure ≡ true → Found (caseOf (now (sets .entry)) (now (needs .entry)) (now (prices .entry))) k (r .answer)) ⌝ }
 {
     let mut owner = [16u8; 32];
@@ -211,7 +211,7 @@ pub fn quick_least(sets: &[u8; 32], needs: &[u8; 16], prices: &[u8; 512]) -> Qui
 }
 
 // The first valid placement of at most k moves, or that there is none.
-pub fn first_within(sets: &[u8; 32], needs: &[u8; 16], prices: &[u8; 512], k: usize) -> Answer
+pub fn first_within(sets: &[u8; 32], needs: &[u8; 16], prices: &[u8; 512], k: usize) -> Solution
     ensures { λ r. ⌜ WithinAnswer (caseOf (now (sets .entry)) (now (needs .entry)) (now (prices .entry))) k r ⌝ }
 {
     let q = quick_within(sets, needs, prices, k);
@@ -222,7 +222,7 @@ pub fn first_within(sets: &[u8; 32], needs: &[u8; 16], prices: &[u8; 512], k: us
 }
 
 // The first of the valid placements of least moves, or that there is none.
-pub fn least(sets: &[u8; 32], needs: &[u8; 16], prices: &[u8; 512]) -> Answer
+pub fn least(sets: &[u8; 32], needs: &[u8; 16], prices: &[u8; 512]) -> Solution
     ensures { λ r. ⌜ LeastAnswer (caseOf (now (sets .entry)) (now (needs .entry)) (now (prices .entry))) r ⌝ }
 {
     let q = quick_least(sets, needs, prices);

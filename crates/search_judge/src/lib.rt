@@ -9,7 +9,7 @@ ghost use lib.Dec.{eqb, ltb, leb};
 ghost use Rattle.base_laws.specs.Below.{allBelow, anyBelow};
 ghost use Rattle.search_theory.specs.Case.{size, moves};
 ghost use Rattle.search_theory.specs.Tables.{caseOf, ownersOf};
-ghost use Rattle.search_theory.specs.Tests.{stands, filled, twin, lone, reach};
+ghost use Rattle.search_theory.specs.Tests.{stands, needMet, twin, lone, reach};
 ghost use Rattle.search_theory.specs.Order.{Begun};
 ghost use Rattle.search_judge.specs.Post.{Judged, Barred, Hopeless};
 
@@ -41,8 +41,8 @@ pub fn size(owner: &[u8; 32], i: usize) -> usize
 }
 
 // Each shard has its need.
-fn filled(needs: &[u8; 16], owner: &[u8; 32]) -> bool
-    ensures { λ r. ⌜ r ≡ allBelow 16 (filled (caseOf [] (now (needs .entry)) []) (ownersOf (now (owner .entry)))) ⌝ }
+fn needMet(needs: &[u8; 16], owner: &[u8; 32]) -> bool
+    ensures { λ r. ⌜ r ≡ allBelow 16 (needMet (caseOf [] (now (needs .entry)) []) (ownersOf (now (owner .entry)))) ⌝ }
 {
     let mut i: usize = 0;
     while i < 16 {
@@ -158,7 +158,7 @@ pub fn within(
     if !stands(prices, owner) {
         return false;
     }
-    if !filled(needs, owner) {
+    if !needMet(needs, owner) {
         return false;
     }
     if !lone(sets, owner) {

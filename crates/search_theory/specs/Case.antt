@@ -16,8 +16,8 @@ pub record Case : Type 0 where
   pub price : ℕ → ℕ → ℕ
 
 -- node n is placed
-abbrev pub placed : (ℕ → ℕ) → ℕ → Bool
-placed z n = ltb (z n) 16
+abbrev pub hasOwner : (ℕ → ℕ) → ℕ → Bool
+hasOwner z n = ltb (z n) 16
 
 -- how many nodes shard i has
 abbrev pub size : (ℕ → ℕ) → ℕ → ℕ
@@ -31,7 +31,7 @@ pub record Valid (K : Case) (z : ℕ → ℕ) : Type 0 where
 
 -- the moves of a placement, counted by node
 unfoldable pub moves : Case → (ℕ → ℕ) → ℕ
-moves K z = sumBelow 32 (λ n. cond (placed z n) (K .price (z n) n) 0)
+moves K z = sumBelow 32 (λ n. cond (hasOwner z n) (K .price (z n) n) 0)
 
 -- valid, with at most k moves
 pub record Within (K : Case) (k : ℕ) (z : ℕ → ℕ) : Type 0 where

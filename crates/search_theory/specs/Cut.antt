@@ -12,19 +12,19 @@ use Rattle.base_sums.specs.Sums.{sum-none, sum-single}
 use Rattle.search_theory.specs.Case.{Case, Valid, moves}
 use Rattle.search_theory.specs.Order.{Agree, Begun, pair-takes}
 use Rattle.search_theory.specs.Tests.{keeps, decided}
-use Rattle.search_theory.specs.Duality.{Weights, Bounds, gain, toll, weak}
+use Rattle.search_theory.specs.Duality.{DualWeights, Bounds, gain, toll, weak}
 
 -- what a pair asks of its shard's weight
-abbrev pub asked : Case → Weights → ℕ → ℕ → ℕ
+abbrev pub asked : Case → DualWeights → ℕ → ℕ → ℕ
 asked K W i n = K .price i n + W .pair (i * 16 + K .setOf n) + W .node n
 
 -- the inequalities hold for each node that has an owner, for each that has none and stays so, and for each open pair
-pub record Fair (K : Case) (W : Weights) (o : ℕ → ℕ) (t : ℕ) : Type 0 where
+pub record Fair (K : Case) (W : DualWeights) (o : ℕ → ℕ) (t : ℕ) : Type 0 where
   pub given : (n : ℕ) → n < 32 → o n < 16 → W .shard (o n) ≤ asked K W (o n) n
   pub free : (n : ℕ) → n < 32 → 16 ≤ o n → W .base ≤ W .node n
   pub rest : (i n : ℕ) → i < 16 → n < 32 → t ≤ i * 32 + n → K .price i n < 2 → 16 ≤ o n → W .shard i ≤ asked K W i n
 
-module _ {K : Case} {W : Weights} {o y : ℕ → ℕ} {t : ℕ} (sets : (n : ℕ) → n < 32 → K .setOf n < 16) (b : Begun o t) (f : Fair K W o t)
+module _ {K : Case} {W : DualWeights} {o y : ℕ → ℕ} {t : ℕ} (sets : (n : ℕ) → n < 32 → K .setOf n < 16) (b : Begun o t) (f : Fair K W o t)
     (v : Valid K y) (a : Agree y o t) where
   -- a pair that the placement takes, of a node without an owner, is open
   open-pair : (n : ℕ) → n < 32 → y n < 16 → 16 ≤ o n → t ≤ y n * 32 + n

@@ -24,21 +24,21 @@ unfoldable pub nodesOf : (ℕ → ℕ) → ℕ → List ℕ
 nodesOf z i = listFrom 0 32 (λ n. eqb (z n) i)
 
 -- dictionary order of lists
-unfoldable pub before : List ℕ → List ℕ → Bool
-before [] [] = false
-before [] (y ∷ ys) = true
-before (x ∷ xs) [] = false
-before (x ∷ xs) (y ∷ ys) = ltb x y || (eqb x y && before xs ys)
+unfoldable pub listBefore : List ℕ → List ℕ → Bool
+listBefore [] [] = false
+listBefore [] (y ∷ ys) = true
+listBefore (x ∷ xs) [] = false
+listBefore (x ∷ xs) (y ∷ ys) = ltb x y || (eqb x y && listBefore xs ys)
 
 -- at the first shard that differs, z's list is the smaller
 pub record Earlier (z y : ℕ → ℕ) : Type 0 where
   pub shard : ℕ
   pub below : shard < 16
   pub alike : (j : ℕ) → j < shard → nodesOf z j ≡ nodesOf y j
-  pub smaller : before (nodesOf z shard) (nodesOf y shard) ≡ true
+  pub smaller : listBefore (nodesOf z shard) (nodesOf y shard) ≡ true
 
 -- every shard has the same list
-pub record Alike (z y : ℕ → ℕ) : Type 0 where
+pub record SameLists (z y : ℕ → ℕ) : Type 0 where
   pub alike : (j : ℕ) → j < 16 → nodesOf z j ≡ nodesOf y j
 
 list-cong : (k a : ℕ) (f g : ℕ → Bool) → ((n : ℕ) → a ≤ n → n < a + k → f n ≡ g n) → listFrom a k f ≡ listFrom a k g
@@ -49,13 +49,13 @@ list-cong (suc k) a f g h =
     (ap (λ (l : List ℕ). cond (g a) (a ∷ l) l) (list-cong k (suc a) f g (λ n p q. h n (omega arith) (omega arith))))
 
 -- a list whose numbers are all larger than n comes after one that starts with n, if it has a number
-later : (k b n m : ℕ) (xs : List ℕ) (g : ℕ → Bool) → n < b → b ≤ m → m < b + k → g m ≡ true → before (n ∷ xs) (listFrom b k g) ≡ true
-unfolding listFrom before
+later : (k b n m : ℕ) (xs : List ℕ) (g : ℕ → Bool) → n < b → b ≤ m → m < b + k → g m ≡ true → listBefore (n ∷ xs) (listFrom b k g) ≡ true
+unfolding listFrom listBefore
 later zero b n m xs g p q r e = absurd (omega arith)
 later (suc k) b n m xs g p q r e = go (later k (suc b) n m xs g (omega arith)) (g b) refl
   where
-    go : (suc b ≤ m → m < suc b + k → g m ≡ true → before (n ∷ xs) (listFrom (suc b) k g) ≡ true) → (d : Bool) → g b ≡ d →
-        before (n ∷ xs) (cond (g b) (b ∷ listFrom (suc b) k g) (listFrom (suc b) k g)) ≡ true
+    go : (suc b ≤ m → m < suc b + k → g m ≡ true → listBefore (n ∷ xs) (listFrom (suc b) k g) ≡ true) → (d : Bool) → g b ≡ d →
+        listBefore (n ∷ xs) (cond (g b) (b ∷ listFrom (suc b) k g) (listFrom (suc b) k g)) ≡ true
     go h true d = simp (d, lt-ltb n b p)
     go h false d =
         simp d
@@ -63,22 +63,22 @@ later (suc k) b n m xs g p q r e = go (later k (suc b) n m xs g (omega arith)) (
 
 -- two lists that agree below n, where only the first has n and the second has a larger number
 list-before : (k a n m : ℕ) (f g : ℕ → Bool) → a ≤ n → n < a + k → ((j : ℕ) → a ≤ j → j < n → f j ≡ g j) →
-    f n ≡ true → g n ≡ false → n < m → m < a + k → g m ≡ true → before (listFrom a k f) (listFrom a k g) ≡ true
-unfolding listFrom before
+    f n ≡ true → g n ≡ false → n < m → m < a + k → g m ≡ true → listBefore (listFrom a k f) (listFrom a k g) ≡ true
+unfolding listFrom listBefore
 list-before zero a n m f g p q h e d r s u = absurd (omega arith)
 list-before (suc k) a n m f g p q h e d r s u =
     ⊎-elim (λ w. here w) (λ w. past w (list-before k (suc a) n m f g (omega arith) (omega arith) (λ j v x. h j (omega arith) x) e d r (omega arith) u)) (eq-or-ne a n)
   where
-    here : a ≡ n → before (cond (f a) (a ∷ listFrom (suc a) k f) (listFrom (suc a) k f)) (cond (g a) (a ∷ listFrom (suc a) k g) (listFrom (suc a) k g)) ≡ true
+    here : a ≡ n → listBefore (cond (f a) (a ∷ listFrom (suc a) k f) (listFrom (suc a) k f)) (cond (g a) (a ∷ listFrom (suc a) k g) (listFrom (suc a) k g)) ≡ true
     here w =
         simp (subst (λ (j : ℕ). f j ≡ true) (sym w) e, subst (λ (j : ℕ). g j ≡ false) (sym w) d)
         (later k (suc a) a m (listFrom (suc a) k f) g (omega arith) (omega arith) (omega arith) u)
 
-    past : (a ≡ n → ⊥) → before (listFrom (suc a) k f) (listFrom (suc a) k g) ≡ true →
-        before (cond (f a) (a ∷ listFrom (suc a) k f) (listFrom (suc a) k f)) (cond (g a) (a ∷ listFrom (suc a) k g) (listFrom (suc a) k g)) ≡ true
+    past : (a ≡ n → ⊥) → listBefore (listFrom (suc a) k f) (listFrom (suc a) k g) ≡ true →
+        listBefore (cond (f a) (a ∷ listFrom (suc a) k f) (listFrom (suc a) k f)) (cond (g a) (a ∷ listFrom (suc a) k g) (listFrom (suc a) k g)) ≡ true
     past w i = rw (h a (omega arith) (omega arith)) (both (g a))
       where
-        both : (b : Bool) → before (cond b (a ∷ listFrom (suc a) k f) (listFrom (suc a) k f)) (cond b (a ∷ listFrom (suc a) k g) (listFrom (suc a) k g)) ≡ true
+        both : (b : Bool) → listBefore (cond b (a ∷ listFrom (suc a) k f) (listFrom (suc a) k f)) (cond b (a ∷ listFrom (suc a) k g) (listFrom (suc a) k g)) ≡ true
         both true = simp (eq-eqb a a refl, i) (or-right (ltb a a) refl)
         both false = i
 
@@ -139,7 +139,7 @@ module _ {z y : ℕ → ℕ} where
       }
 
   -- what does not come before z in the search's order does not in dictionary order
-  pub ahead-listed : {K : Case} → Valid K z → Valid K y → Ahead z y → Alike z y ⊎ Earlier z y
+  pub ahead-listed : {K : Case} → Valid K z → Valid K y → Ahead z y → SameLists z y ⊎ Earlier z y
   ahead-listed {K} v w h = ⊎-elim (λ a. inl (record { alike = λ j l. alike-below 512 j a (omega arith) })) (λ p. inr (parted (p .0) (p .1) (p .2) (p .3))) (part 512)
     where
       parted : (t : ℕ) → t < 512 → Agree z y t → (takes z t ≡ takes y t → ⊥) → Earlier z y
@@ -150,5 +150,5 @@ module _ {z y : ℕ → ℕ} where
 
 -- the first placement with P in the search's order is first in dictionary order
 pub first-listed : {K : Case} {P : (ℕ → ℕ) → Type 0} {z : ℕ → ℕ} → ((y : ℕ → ℕ) → P y → Valid K y) → First P z →
-    (y : ℕ → ℕ) → P y → Alike z y ⊎ Earlier z y
+    (y : ℕ → ℕ) → P y → SameLists z y ⊎ Earlier z y
 first-listed {z = z} v f y p = ahead-listed (v z (f .is)) (v y p) (f .first y p)

@@ -6,15 +6,15 @@ use native.Mathlib.Omega.{arith}
 use borrow.Author.Tests.{lt-ltb, le-ltb}
 use Rattle.base_laws.specs.Bools.{lt-or-le}
 use Rattle.base_sums.specs.Sums.{sum-bound}
-use Rattle.search_theory.specs.Case.{Case, Valid, Within, Least, placed, moves}
+use Rattle.search_theory.specs.Case.{Case, Valid, Within, Least, hasOwner, moves}
 use Rattle.search_theory.specs.Order.{First, None}
 
 -- a valid placement has at most 32 moves
 pub moves-most : {K : Case} {z : ℕ → ℕ} → Valid K z → moves K z ≤ 32
 unfolding moves
-moves-most {K} {z} v = omega (arith, sum-bound 32 1 (λ n. cond (placed z n) (K .price (z n) n) 0) at)
+moves-most {K} {z} v = omega (arith, sum-bound 32 1 (λ n. cond (hasOwner z n) (K .price (z n) n) 0) at)
   where
-    at : (n : ℕ) → n < 32 → cond (placed z n) (K .price (z n) n) 0 ≤ 1
+    at : (n : ℕ) → n < 32 → cond (hasOwner z n) (K .price (z n) n) 0 ≤ 1
     at n l =
         ⊎-elim (λ h. simp (lt-ltb (z n) 16 h) (omega (arith, v .allowed n l h))) (λ h. simp (le-ltb (z n) 16 h) (omega arith))
         (lt-or-le (z n) 16)

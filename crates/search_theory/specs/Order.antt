@@ -11,7 +11,7 @@ use lib.Dec.{eqb, ltb}
 use borrow.Author.Tests.{eqb-true, eqb-false, eq-eqb, ne-eqb, ltb-true, ltb-false, le-ltb}
 use Rattle.base_laws.specs.Bools.{same}
 use Rattle.base_sums.specs.Sums.{sum-cong, count-sum}
-use Rattle.search_theory.specs.Case.{Case, Valid, Within, placed, size, moves}
+use Rattle.search_theory.specs.Case.{Case, Valid, Within, hasOwner, size, moves}
 
 -- z takes pair t
 abbrev pub takes : (ℕ → ℕ) → ℕ → Bool
@@ -44,7 +44,7 @@ pub record Begun (o : ℕ → ℕ) (t : ℕ) : Type 0 where
   pub rest : (s : ℕ) → t ≤ s → s < 512 → takes o s ≡ false
 
 -- o with pair t taken
-pub record Taken (o : ℕ → ℕ) (t : ℕ) (p : ℕ → ℕ) : Type 0 where
+pub record TakesPair (o : ℕ → ℕ) (t : ℕ) (p : ℕ → ℕ) : Type 0 where
   pub there : p (t % 32) ≡ t / 32
   pub else : (n : ℕ) → n < 32 → (n ≡ t % 32 → ⊥) → p n ≡ o n
 
@@ -103,7 +103,7 @@ module _ {o : ℕ → ℕ} {t : ℕ} (l : t < 512) (b : Begun o t) where
   pub none-leave : {K : Case} {k : ℕ} → ((y : ℕ → ℕ) → From K k o t y → takes y t ≡ true → ⊥) → None (From K k o (t + 1)) → None (From K k o t)
   none-leave not f = record { none = λ y g. f .none y (by (takes y t) (λ e. absurd (not y g e)) (λ e. from-leave y g e)) }
 
-  module _ {p : ℕ → ℕ} (free : 16 ≤ o (t % 32)) (tk : Taken o t p) where
+  module _ {p : ℕ → ℕ} (free : 16 ≤ o (t % 32)) (tk : TakesPair o t p) where
     -- taking it
     taken-same : (s : ℕ) → s < 512 → (s ≡ t → ⊥) → takes p s ≡ takes o s
     taken-same s q ne =
@@ -197,15 +197,15 @@ valid-same {K} {y} {o} s v = record { allowed = allowed; sized = λ i l. sym (si
 pub moves-same : (K : Case) {y o : ℕ → ℕ} → Same y o → moves K y ≡ moves K o
 unfolding moves
 moves-same K {y} {o} s =
-    sum-cong 32 (λ n. cond (placed y n) (K .price (y n) n) 0) (λ n. cond (placed o n) (K .price (o n) n) 0)
-    (λ n l. by (placed y n) (λ e. there n l (ltb-true (y n) 16 e)) (λ e. nowhere n l (ltb-false (y n) 16 e)))
+    sum-cong 32 (λ n. cond (hasOwner y n) (K .price (y n) n) 0) (λ n. cond (hasOwner o n) (K .price (o n) n) 0)
+    (λ n l. by (hasOwner y n) (λ e. there n l (ltb-true (y n) 16 e)) (λ e. nowhere n l (ltb-false (y n) 16 e)))
   where
-    there : (n : ℕ) → n < 32 → y n < 16 → cond (placed y n) (K .price (y n) n) 0 ≡ cond (placed o n) (K .price (o n) n) 0
+    there : (n : ℕ) → n < 32 → y n < 16 → cond (hasOwner y n) (K .price (y n) n) 0 ≡ cond (hasOwner o n) (K .price (o n) n) 0
     there n l q =
         let e : y n ≡ o n = omega (arith, s .owner n l) in
         ap (λ (i : ℕ). cond (ltb i 16) (K .price i n) 0) e
 
-    nowhere : (n : ℕ) → n < 32 → 16 ≤ y n → cond (placed y n) (K .price (y n) n) 0 ≡ cond (placed o n) (K .price (o n) n) 0
+    nowhere : (n : ℕ) → n < 32 → 16 ≤ y n → cond (hasOwner y n) (K .price (y n) n) 0 ≡ cond (hasOwner o n) (K .price (o n) n) 0
     nowhere n l q = simp (le-ltb (y n) 16 q, le-ltb (o n) 16 (omega (arith, s .owner n l)))
 
 pub within-same : {K : Case} {k : ℕ} {y o : ℕ → ℕ} → Same y o → Within K k y → Within K k o

@@ -9,16 +9,16 @@ use borrow.Author.Tests.{eqb-true, eq-eqb, ne-eqb, ltb-true, lt-ltb, le-ltb, le-
 use Rattle.base_laws.specs.Bools.{clash, lt-or-le, and-left, and-right, and-both, or-holds, no-true, of-not-true}
 use Rattle.base_laws.specs.Below.{allBelow, anyBelow, countBelow, all-at, all-of, any-at, any-none-of, any-witness, count-mono, count-with}
 use Rattle.base_sums.specs.Sums.{sum-mono}
-use Rattle.search_theory.specs.Case.{Case, Valid, placed, size, moves}
+use Rattle.search_theory.specs.Case.{Case, Valid, hasOwner, size, moves}
 use Rattle.search_theory.specs.Order.{takes, Agree, From, Begun, None, pair-takes, takes-pair}
 
 -- node n is placed nowhere, or where it is allowed
 abbrev pub stands : Case → (ℕ → ℕ) → ℕ → Bool
-stands K z n = cond (placed z n) (ltb (K .price (z n) n) 2) true
+stands K z n = cond (hasOwner z n) (ltb (K .price (z n) n) 2) true
 
 -- shard i has its need
-abbrev pub filled : Case → (ℕ → ℕ) → ℕ → Bool
-filled K z i = eqb (size z i) (K .need i)
+abbrev pub needMet : Case → (ℕ → ℕ) → ℕ → Bool
+needMet K z i = eqb (size z i) (K .need i)
 
 -- a node below e is in shard i and of failure set f
 unfoldable pub twin : Case → (ℕ → ℕ) → ℕ → ℕ → ℕ → Bool
@@ -26,15 +26,15 @@ twin K z i f e = anyBelow e (λ m. eqb (z m) i && eqb (K .setOf m) f)
 
 -- node n is placed nowhere, or no lower node is in its shard and of its set
 abbrev pub lone : Case → (ℕ → ℕ) → ℕ → Bool
-lone K z n = cond (placed z n) (not (twin K z (z n) (K .setOf n) n)) true
+lone K z n = cond (hasOwner z n) (not (twin K z (z n) (K .setOf n) n)) true
 
-pub valid-of : {K : Case} {z : ℕ → ℕ} → allBelow 32 (stands K z) ≡ true → allBelow 16 (filled K z) ≡ true → allBelow 32 (lone K z) ≡ true →
+pub valid-of : {K : Case} {z : ℕ → ℕ} → allBelow 32 (stands K z) ≡ true → allBelow 16 (needMet K z) ≡ true → allBelow 32 (lone K z) ≡ true →
     Valid K z
 unfolding twin
 valid-of {K} {z} s f l =
     record {
-      allowed = λ n q p. ltb-true (K .price (z n) n) 2 (taken (placed z n) (ltb (K .price (z n) n) 2) (lt-ltb (z n) 16 p) (all-at 32 (stands K z) s n q));
-      sized = λ i q. eqb-true (size z i) (K .need i) (all-at 16 (filled K z) f i q);
+      allowed = λ n q p. ltb-true (K .price (z n) n) 2 (taken (hasOwner z n) (ltb (K .price (z n) n) 2) (lt-ltb (z n) 16 p) (all-at 32 (stands K z) s n q));
+      sized = λ i q. eqb-true (size z i) (K .need i) (all-at 16 (needMet K z) f i q);
       apart = λ n m p q r e d. ⊎-elim (λ h. absurd (order m n p h (sym e) (sym d) (omega arith))) (λ h. ⊎-elim (λ g. absurd (order n m q g e d r)) (λ g. omega arith) (lt-or-le n m)) (lt-or-le m n);
     }
   where
@@ -47,13 +47,13 @@ valid-of {K} {z} s f l =
     order m n p h e d r =
         clash
         (any-at n (λ j. eqb (z j) (z n) && eqb (K .setOf j) (K .setOf n)) m h (and-both (eq-eqb (z m) (z n) e) (eq-eqb (K .setOf m) (K .setOf n) d)))
-        (of-not-true (twin K z (z n) (K .setOf n) n) (taken (placed z n) (not (twin K z (z n) (K .setOf n) n)) (lt-ltb (z n) 16 (omega arith)) (all-at 32 (lone K z) l n p)))
+        (of-not-true (twin K z (z n) (K .setOf n) n) (taken (hasOwner z n) (not (twin K z (z n) (K .setOf n) n)) (lt-ltb (z n) 16 (omega arith)) (all-at 32 (lone K z) l n p)))
 
 pub valid-stands : {K : Case} {z : ℕ → ℕ} → Valid K z → allBelow 32 (stands K z) ≡ true
 valid-stands {K} {z} v = all-of 32 (stands K z) (λ n l. ⊎-elim (λ h. simp (lt-ltb (z n) 16 h, lt-ltb (K .price (z n) n) 2 (v .allowed n l h))) (λ h. simp (le-ltb (z n) 16 h)) (lt-or-le (z n) 16))
 
-pub valid-filled : {K : Case} {z : ℕ → ℕ} → Valid K z → allBelow 16 (filled K z) ≡ true
-valid-filled {K} {z} v = all-of 16 (filled K z) (λ i l. eq-eqb (size z i) (K .need i) (v .sized i l))
+pub valid-filled : {K : Case} {z : ℕ → ℕ} → Valid K z → allBelow 16 (needMet K z) ≡ true
+valid-filled {K} {z} v = all-of 16 (needMet K z) (λ i l. eq-eqb (size z i) (K .need i) (v .sized i l))
 
 pub valid-lone : {K : Case} {z : ℕ → ℕ} → Valid K z → allBelow 32 (lone K z) ≡ true
 unfolding twin
@@ -120,19 +120,19 @@ module _ {K : Case} {o y : ℕ → ℕ} {t : ℕ} (l : t < 512) (b : Begun o t) 
           (or-holds (eqb (o j) (t / 32)) (eqb (t % 32) j) d)
 
 -- the most nodes that shard i can have from here: those that it has, and those without an owner that it may take
-abbrev pub reaches : Case → (ℕ → ℕ) → ℕ → ℕ → ℕ → Bool
-reaches K o t i n = cond (placed o n) (eqb (o n) i) (leb t (i * 32 + n) && ltb (K .price i n) 2)
+abbrev pub mayHave : Case → (ℕ → ℕ) → ℕ → ℕ → ℕ → Bool
+mayHave K o t i n = cond (hasOwner o n) (eqb (o n) i) (leb t (i * 32 + n) && ltb (K .price i n) 2)
 
 unfoldable pub reach : Case → (ℕ → ℕ) → ℕ → ℕ → ℕ
-reach K o t i = countBelow 32 (reaches K o t i)
+reach K o t i = countBelow 32 (mayHave K o t i)
 
 -- no placement from here: a shard can't have its need, or the owners cost too much already
 module _ {K : Case} {k : ℕ} {o : ℕ → ℕ} {t : ℕ} (b : Begun o t) where
   pub none-short : (i : ℕ) → i < 16 → reach K o t i < K .need i → None (From K k o t)
   unfolding reach
-  none-short i l h = record { none = λ y f. omega (arith, f .within .valid .sized i l, count-mono 32 (λ n. eqb (y n) i) (reaches K o t i) (λ n q e. at y f n q (eqb-true (y n) i e))) }
+  none-short i l h = record { none = λ y f. omega (arith, f .within .valid .sized i l, count-mono 32 (λ n. eqb (y n) i) (mayHave K o t i) (λ n q e. at y f n q (eqb-true (y n) i e))) }
     where
-      at : (y : ℕ → ℕ) → From K k o t y → (n : ℕ) → n < 32 → y n ≡ i → reaches K o t i n ≡ true
+      at : (y : ℕ → ℕ) → From K k o t y → (n : ℕ) → n < 32 → y n ≡ i → mayHave K o t i n ≡ true
       at y f n q e =
           ⊎-elim
           (λ p. simp (lt-ltb (o n) 16 p, eq-eqb (o n) i (sym (keeps b (f .agree) n q p) ∙ e)))
@@ -145,11 +145,11 @@ module _ {K : Case} {k : ℕ} {o : ℕ → ℕ} {t : ℕ} (b : Begun o t) where
   pub none-dear : k < moves K o → None (From K k o t)
   unfolding moves
   none-dear h =
-      record { none = λ y f. omega (arith, f .within .cheap, sum-mono 32 (λ n. cond (placed o n) (K .price (o n) n) 0) (λ n. cond (placed y n) (K .price (y n) n) 0) (λ n l. at y f n l)) }
+      record { none = λ y f. omega (arith, f .within .cheap, sum-mono 32 (λ n. cond (hasOwner o n) (K .price (o n) n) 0) (λ n. cond (hasOwner y n) (K .price (y n) n) 0) (λ n l. at y f n l)) }
     where
-      at : (y : ℕ → ℕ) → From K k o t y → (n : ℕ) → n < 32 → cond (placed o n) (K .price (o n) n) 0 ≤ cond (placed y n) (K .price (y n) n) 0
+      at : (y : ℕ → ℕ) → From K k o t y → (n : ℕ) → n < 32 → cond (hasOwner o n) (K .price (o n) n) 0 ≤ cond (hasOwner y n) (K .price (y n) n) 0
       at y f n l =
           ⊎-elim
-          (λ p. subst (λ (i : ℕ). cond (placed o n) (K .price (o n) n) 0 ≤ cond (ltb i 16) (K .price i n) 0) (sym (keeps b (f .agree) n l p)) (omega arith))
+          (λ p. subst (λ (i : ℕ). cond (hasOwner o n) (K .price (o n) n) 0 ≤ cond (ltb i 16) (K .price i n) 0) (sym (keeps b (f .agree) n l p)) (omega arith))
           (λ p. simp (le-ltb (o n) 16 p) (omega arith))
           (lt-or-le (o n) 16)

@@ -10,31 +10,31 @@ use Rattle.search_theory.specs.Case.{Case, Valid, Within, moves}
 use Rattle.search_theory.specs.Tables.{ownersOf}
 use Rattle.search_theory.specs.Order.{First, None, From, begun-start}
 use Rattle.search_theory.specs.Least.{AtLeast, first-least, none-all}
-use Rattle.search_total.specs.declared.Answer.{Answer}
-use Rattle.search_total.specs.Post.{Owners, Ready, WithinAnswer, LeastAnswer, blank}
+use Rattle.search_total.specs.declared.Solution.{Solution}
+use Rattle.search_total.specs.Post.{Owners, ReadyFrom, WithinAnswer, LeastAnswer, noOwners}
 
-blank-owner : (n : ℕ) → n < 32 → ownersOf blank n ≡ 16
+blank-owner : (n : ℕ) → n < 32 → ownersOf noOwners n ≡ 16
 blank-owner n l = getD-replicate 32 n 16 0 l
 
-pub owners-blank : Owners blank
+pub owners-blank : Owners noOwners
 owners-blank = record { long = length-replicate {A = ℕ} 32 16; least = λ n l. omega (arith, blank-owner n l) }
 
-pub ready-blank : Ready blank 0
+pub ready-blank : ReadyFrom noOwners 0
 ready-blank = record { owners = owners-blank; begun = begun-start (λ n l. omega (arith, blank-owner n l)) }
 
 -- what is known of an answer that has the owners p
-pub record Holds (K : Case) (p : List ℕ) (a : Answer) : Type 0 where
+pub record HasOwners (K : Case) (p : List ℕ) (a : Solution) : Type 0 where
   pub exists : a .exists ≡ true
   pub moves : a .moves ≡ moves K (ownersOf p)
   pub owners : a .owners ≡ p
 
 -- what is known of an answer that says that there is none
-pub record Empty (a : Answer) : Type 0 where
+pub record Empty (a : Solution) : Type 0 where
   pub exists : a .exists ≡ false
   pub moves : a .moves ≡ 0
-  pub owners : a .owners ≡ blank
+  pub owners : a .owners ≡ noOwners
 
-pub within-found : {K : Case} {k : ℕ} {p : List ℕ} {a : Answer} → First (Within K k) (ownersOf p) → Owners p → Holds K p a → WithinAnswer K k a
+pub within-found : {K : Case} {k : ℕ} {p : List ℕ} {a : Solution} → First (Within K k) (ownersOf p) → Owners p → HasOwners K p a → WithinAnswer K k a
 within-found {K} {k} f o h =
     record {
       found = λ e. subst (λ (w : List ℕ). First (Within K k) (ownersOf w)) (sym (h .owners)) f;
@@ -44,7 +44,7 @@ within-found {K} {k} f o h =
       owners = subst Owners (sym (h .owners)) o;
     }
 
-pub within-none : {K : Case} {k : ℕ} {a : Answer} → None (Within K k) → Empty a → WithinAnswer K k a
+pub within-none : {K : Case} {k : ℕ} {a : Solution} → None (Within K k) → Empty a → WithinAnswer K k a
 within-none n h =
     record {
       found = λ e. clash e (h .exists);
@@ -55,7 +55,7 @@ within-none n h =
     }
 
 -- the first within a bound that no valid placement stays below
-pub least-found : {K : Case} {k : ℕ} {a : Answer} → AtLeast K k → WithinAnswer K k a → a .exists ≡ true → LeastAnswer K a
+pub least-found : {K : Case} {k : ℕ} {a : Solution} → AtLeast K k → WithinAnswer K k a → a .exists ≡ true → LeastAnswer K a
 least-found b w e =
     record {
       found = λ d. first-least b (w .found d);
@@ -66,7 +66,7 @@ least-found b w e =
     }
 
 -- the same where the bound is 32 or more, and there may be none
-pub least-last : {K : Case} {k : ℕ} {a : Answer} → 32 ≤ k → AtLeast K k → WithinAnswer K k a → LeastAnswer K a
+pub least-last : {K : Case} {k : ℕ} {a : Solution} → 32 ≤ k → AtLeast K k → WithinAnswer K k a → LeastAnswer K a
 least-last l b w =
     record {
       found = λ d. first-least b (w .found d);
@@ -76,7 +76,7 @@ least-last l b w =
       owners = w .owners;
     }
 
-pub least-none : {K : Case} {a : Answer} → None (Valid K) → Empty a → LeastAnswer K a
+pub least-none : {K : Case} {a : Solution} → None (Valid K) → Empty a → LeastAnswer K a
 least-none n h =
     record {
       found = λ e. clash e (h .exists);

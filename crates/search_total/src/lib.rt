@@ -1,13 +1,13 @@
 // The first valid placement of a subgroup of at most k moves, and the first of least moves, or that there is none. The tables are
-// those of judge; a placement comes before another if it takes the first pair, shards ascending and nodes ascending, that only one takes.
+// those of search_judge; a placement comes before another if it takes the first pair, shards ascending and nodes ascending, that only one takes.
 ghost use mathlib.Core.List.{[]};
 ghost use Prim.Native.Nat.{_+_, _≤_};
 ghost use Rattle.search_theory.specs.Tables.{caseOf};
-ghost use Rattle.search_total.specs.Post.{Ready, Sought, WithinAnswer, LeastAnswer};
-ghost use Rattle.search_total.specs.Answers.{Holds, Empty};
+ghost use Rattle.search_total.specs.Post.{ReadyFrom, Sought, WithinAnswer, LeastAnswer};
+ghost use Rattle.search_total.specs.Answers.{HasOwners, Empty};
 
 // What a search found: the moves and the owner of each node, 16 for none, where a placement exists; else 0 and no owners.
-pub struct Answer {
+pub struct Solution {
     pub exists: bool,
     pub moves: usize,
     pub owners: [u8; 32],
@@ -23,7 +23,7 @@ fn seek(
     k: usize,
 ) -> bool
     requires { ⌜ t ≤ 512 ⌝ }
-    requires { ⌜ Ready (now owner) t ⌝ }
+    requires { ⌜ ReadyFrom (now owner) t ⌝ }
     ensures { λ r. ⌜ Sought (caseOf (now (sets .entry)) (now (needs .entry)) (now (prices .entry))) k (now (owner .entry)) t (now (owner .exit)) r ⌝ }
 {
     if t == 512 {
@@ -44,11 +44,11 @@ fn seek(
 }
 
 // The owners that were found, with their moves.
-pub fn some(prices: &[u8; 512], owners: [u8; 32]) -> Answer
-    ensures { λ r. ⌜ Holds (caseOf [] [] (now (prices .entry))) owners r ⌝ }
+pub fn some(prices: &[u8; 512], owners: [u8; 32]) -> Solution
+    ensures { λ r. ⌜ HasOwners (caseOf [] [] (now (prices .entry))) owners r ⌝ }
 {
     let moves = search_judge::moves(prices, &owners);
-    Answer {
+    Solution {
         exists: true,
         moves,
         owners,
@@ -56,10 +56,10 @@ pub fn some(prices: &[u8; 512], owners: [u8; 32]) -> Answer
 }
 
 // There is none.
-pub fn nothing() -> Answer
+pub fn nothing() -> Solution
     ensures { λ r. ⌜ Empty r ⌝ }
 {
-    Answer {
+    Solution {
         exists: false,
         moves: 0,
         owners: [16u8; 32],
@@ -67,7 +67,7 @@ pub fn nothing() -> Answer
 }
 
 // The first valid placement of at most k moves.
-pub fn plain_within(sets: &[u8; 32], needs: &[u8; 16], prices: &[u8; 512], k: usize) -> Answer
+pub fn plain_within(sets: &[u8; 32], needs: &[u8; 16], prices: &[u8; 512], k: usize) -> Solution
     ensures { λ r. ⌜ WithinAnswer (caseOf (now (sets .entry)) (now (needs .entry)) (now (prices .entry))) k r ⌝ }
 {
     let mut owner = [16u8; 32];
@@ -79,7 +79,7 @@ pub fn plain_within(sets: &[u8; 32], needs: &[u8; 16], prices: &[u8; 512], k: us
 }
 
 // The first of the valid placements of least moves.
-pub fn plain_least(sets: &[u8; 32], needs: &[u8; 16], prices: &[u8; 512]) -> Answer
+pub fn plain_least(sets: &[u8; 32], needs: &[u8; 16], prices: &[u8; 512]) -> Solution
     ensures { λ r. ⌜ LeastAnswer (caseOf (now (sets .entry)) (now (needs .entry)) (now (prices .entry))) r ⌝ }
 {
     let mut k: usize = 0;

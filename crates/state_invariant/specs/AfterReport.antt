@@ -75,10 +75,10 @@ module _ (σ : List ℕ) (x : State) (d w : List ℕ) (h : reportRefusal σ x d 
   view-kept : contentsOf w .view .0 ≤ x .kept .number .0 → viewSound σ (x .kept) ≡ true
   view-kept l = kept-view σ (x .kept) (x .termination) (x .held) kept-before (λ e. omega (arith, view-from))
 
-  abbrev Next : Layout → Termination → Type 0
-  Next = Renewed σ (x .kept) (x .termination) (contentsOf w)
+  abbrev KeptAfter : Layout → Termination → Type 0
+  KeptAfter = Renewed σ (x .kept) (x .termination) (contentsOf w)
 
-  greater : x .kept .number .0 < contentsOf w .view .0 → Next (layoutOf σ (contentsOf w)) (terminationOf σ (contentsOf w))
+  greater : x .kept .number .0 < contentsOf w .view .0 → KeptAfter (layoutOf σ (contentsOf w)) (terminationOf σ (contentsOf w))
   unfolding layoutOf
   greater l =
       let few = settings .sizes .shards-to in
@@ -89,7 +89,7 @@ module _ (σ : List ℕ) (x : State) (d w : List ℕ) (h : reportRefusal σ x d 
         fits-still = λ b. greater-fits σ (layoutOf σ (contentsOf w)) (terminationOf σ (contentsOf w)) b (x .kept) (x .termination) l;
       }
 
-  equal : x .kept .number .0 ≡ contentsOf w .view .0 → x .termination .made ≡ false → Next (x .kept) (terminationOf σ (contentsOf w))
+  equal : x .kept .number .0 ≡ contentsOf w .view .0 → x .termination .made ≡ false → KeptAfter (x .kept) (terminationOf σ (contentsOf w))
   equal e unmade =
       let few = settings .sizes .shards-to in
       record {
@@ -100,7 +100,7 @@ module _ (σ : List ℕ) (x : State) (d w : List ℕ) (h : reportRefusal σ x d 
       }
 
   unchanged : contentsOf w .view .0 ≤ x .kept .number .0
-      → (eqb (x .kept .number .0) (contentsOf w .view .0) && not (x .termination .made)) ≡ false → Next (x .kept) (x .termination)
+      → (eqb (x .kept .number .0) (contentsOf w .view .0) && not (x .termination .made)) ≡ false → KeptAfter (x .kept) (x .termination)
   unchanged l e =
       record {
         view-sound = view-kept l;
@@ -117,7 +117,7 @@ module _ (σ : List ℕ) (x : State) (d w : List ℕ) (h : reportRefusal σ x d 
   words : length d ≡ 16384
   words = eqb-true (length d) 16384 (taken .entered .lengths-ok)
 
-  module _ (v : Layout) (t : Termination) (next : Next v t) where
+  module _ (v : Layout) (t : Termination) (next : KeptAfter v t) where
     -- the reporting node's slot
     own-slot : slotOk σ v t (deskWith d (getD w 0 0) w) (getD w 0 0) ≡ true
     unfolding contentsOf

@@ -22,7 +22,7 @@ use Rattle.report_views.specs.declared.Phase.{Phase}
 use Rattle.report_views.specs.declared.Phase.the-variants.{Gathering, Ordered, Preparing, Committed}
 use Rattle.report_views.specs.Soundness.{planSound, planFits}
 use Rattle.plan_order.specs.Orders.{orderContents}
-use Rattle.plan_order.specs.Readable.{Readable, Holders}
+use Rattle.plan_order.specs.Readable.{ReadableSlot, Holders}
 use Rattle.plan_order_laws.specs.Accepted.{planned-holders, held-readable, order-accepted}
 use Rattle.state_planner.specs.declared.State.{State}
 use Rattle.state_planner.specs.Refusing.{isOrdered, deskOk, entryRefusal, eventRefusal, orderRefusal}
@@ -56,7 +56,7 @@ ordered-plan Preparing σ v t held d p e h = clash e refl
 ordered-plan Committed σ v t held d p e h = clash e refl
 
 -- what no refusal gives
-pub record Taken (σ : List ℕ) (x : State) (d : List ℕ) (n : ℕ) (buffer : List ℕ) : Type 0 where
+pub record OrderTaken (σ : List ℕ) (x : State) (d : List ℕ) (n : ℕ) (buffer : List ℕ) : Type 0 where
   pub desk-words : length d ≡ 16384
   pub buffer-words : eqb (length buffer) 512 ≡ true
   pub settings-right : settingsOk σ ≡ true
@@ -65,7 +65,7 @@ pub record Taken (σ : List ℕ) (x : State) (d : List ℕ) (n : ℕ) (buffer : 
   pub node-held : has (x .held) n ≡ true
 
 module _ (σ : List ℕ) (x : State) (d : List ℕ) (n : ℕ) (buffer : List ℕ) (h : orderRefusal σ x d n buffer ≡ none) where
-  taken : Taken σ x d n buffer
+  taken : OrderTaken σ x d n buffer
   unfolding orderRefusal
   taken =
       let t = node-given (deskOk d && eqb (length buffer) 512) σ x d (isOrdered (x .phase)) n (has (x .held) n) h in
@@ -84,7 +84,7 @@ module _ (σ : List ℕ) (x : State) (d : List ℕ) (n : ℕ) (buffer : List ℕ
   pub taken-settings : Settings σ
   taken-settings = settings-give σ (taken .settings-right)
 
-  pub taken-node : Readable d n
+  pub taken-node : ReadableSlot d n
   taken-node =
       held-readable σ (x .kept) (x .termination) (x .held) d (x .plan) taken-settings (taken .state-sound .kept-sound) (taken .state-sound .slots-ok)
       (taken .plan-sound)

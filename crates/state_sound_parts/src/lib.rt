@@ -15,7 +15,7 @@ ghost use Rattle.report_views.specs.Soundness as Soundness;
 
 // Every entry is zero.
 fn zeros(l: &[u32]) -> bool
-    ensures { λ r. ⌜ r ≡ Soundness.zeros (now (l .entry)) (length (now (l .entry))) ⌝ }
+    ensures { λ r. ⌜ r ≡ Soundness.allZero (now (l .entry)) (length (now (l .entry))) ⌝ }
 {
     let mut i: usize = 0;
     while i < l.len() {

@@ -66,7 +66,7 @@ within-cases most bytes = ⊎-elim (λ e. inl (rw e)) (λ e. inr (few e, many e)
 
 -- ---- a table that holds, in its first n places, the words that a call looks at, and zeros after them
 
-pub record Holds (table : List ℕ) (n most : ℕ) (bytes : List ℕ) : Type 0 where
+pub record HoldsWords (table : List ℕ) (n most : ℕ) (bytes : List ℕ) : Type 0 where
   pub few : n ≤ most
   pub count : n ≡ length (wordsWithin most bytes)
   pub room : length table ≡ 512
@@ -79,7 +79,7 @@ module _ (most n : ℕ) (bytes : List ℕ) (e : n ≡ countWithin most (length b
   part-fits table = omega (arith, length-take (n - 0) table, within-fits most (length bytes))
 
   pub part-holds : n ≤ 512 → (front : List ℕ) → front ≡ wordsOf bytes (length (take (n - 0) (zeros 512)))
-      → Holds (front ++ drop (n - 0) (zeros 512)) n most bytes
+      → HoldsWords (front ++ drop (n - 0) (zeros 512)) n most bytes
   unfolding wordsWithin
   part-holds room front f =
       let long : length (take (n - 0) (zeros 512)) ≡ countWithin most (length bytes) =

@@ -2,7 +2,7 @@
 ghost use mathlib.Core.Path.{_≡_};
 ghost use Prim.Native.Nat.{_≤_};
 ghost use Rattle.word_lent.specs.Answers.{withLength};
-ghost use Rattle.word_lent.specs.Lent.{countWithin, Holds};
+ghost use Rattle.word_lent.specs.Lent.{countWithin, HoldsWords};
 
 // The words of lent bytes: the first len of the table.
 pub struct Lent {
@@ -26,7 +26,7 @@ fn count_within(most: usize, bytes: usize) -> usize
 // The words of the bytes, for a call that looks at no more than `most`.
 pub fn words_of(most: usize, bytes: &[u8]) -> Lent
     requires { ⌜ most ≤ 512 ⌝ }
-    ensures { λ r. ⌜ Holds (r .table) (r .len) most (now (bytes .entry)) ⌝ }
+    ensures { λ r. ⌜ HoldsWords (r .table) (r .len) most (now (bytes .entry)) ⌝ }
 {
     let len = count_within(most, bytes.len());
     let mut table = [0u32; 512];

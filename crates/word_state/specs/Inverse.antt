@@ -82,7 +82,7 @@ module _ (w : List ℕ) (h : isState w ≡ true) where
 -- ---- what was encoded decodes to the state
 
 -- the arrays of a state have their lengths
-pub record Sized (x : State) : Type 0 where
+pub record SizedState (x : State) : Type 0 where
   pub masks : length (x .kept .masks) ≡ 16
   pub positions : length (x .termination .positions) ≡ 32
   pub plan-masks : length (x .plan .layout .masks) ≡ 16
@@ -165,7 +165,7 @@ module _ (x : State) where
   rest-at k l =
       simp (le-ltb k 52 (omega arith), le-ltb k 53 (omega arith), le-ltb k 54 (omega arith), le-ltb k 55 (omega arith), le-ltb k 122 l)
 
-  state-there : Sized x → stateIn (stateWords x) ≡ x
+  state-there : SizedState x → stateIn (stateWords x) ≡ x
   unfolding stateIn layoutAt stateWord keptWord planWord
   state-there s =
       let phase : phaseOf (getD (stateWords x) 0 0) ≡ x .phase = ap phaseOf (word 0 (lit< tt)) ∙ phase-there (x .phase) in
@@ -200,6 +200,6 @@ module _ (x : State) where
       (all-of 38 (λ k. eqb (getD (stateWords x) (122 + k) 0) 0)
       (λ k l. eq-eqb (getD (stateWords x) (122 + k) 0) 0 (word (122 + k) (omega arith) ∙ rest-at (122 + k) (omega arith))))
 
-  pub decode-encode : Sized x → decoded (stateWords x) ≡ record { ok = true; state = x }
+  pub decode-encode : SizedState x → decoded (stateWords x) ≡ record { ok = true; state = x }
   unfolding decoded
   decode-encode s = rw (is-there, state-there s)

@@ -6,7 +6,7 @@ use Prim.Native.Nat.{ℕ, _≤_, _-_}
 use native.Mathlib.Omega.{arith}
 use borrow.Author.Tests.{not-true, not-false}
 use borrow.Author.Needs.{needs}
-use Rattle.message_records.specs.Gathered.{carries, withShard}
+use Rattle.message_records.specs.Gathered.{givesShard, withShard}
 use Rattle.base_laws.specs.Below.{allBelow, all-none, all-more, all-fewer}
 use Rattle.base_laws.specs.Loops.{bad-at, bad-none}
 use Rattle.message_format.specs.Records.{carriedBy}
@@ -24,7 +24,7 @@ abbrev μ-loop : tie.MeasureT-loop
 loop-holds : tie.Need-loop-holds Inv-loop μ-loop
 loop-holds c = let n = c .args .node .0 in
     let b = c .args .body .now in
-    (search needs, sym (where-none (carries n b) b), all-none (sequenceAt n b))
+    (search needs, sym (where-none (givesShard n b) b), all-none (sequenceAt n b))
 
 returns : tie.Need-returns Inv-loop μ-loop
 returns c = let a = c .before .before .before .before .args in
@@ -43,8 +43,8 @@ loop-again c = let a = c .before .before .before .before .before .args in
     let l = c .before .before .before .before .loop in (
       omega arith,
       c .carried-more .ensures
-          ∙ ap (λ (m : ℕ). withShard (carries n b (l .j)) m b (l .j)) (l .inv .1)
-          ∙ sym (where-step (carries n b) b (l .j)),
+          ∙ ap (λ (m : ℕ). withShard (givesShard n b (l .j)) m b (l .j)) (l .inv .1)
+          ∙ sym (where-step (givesShard n b) b (l .j)),
       all-more (l .j) (sequenceAt n b) (l .inv .2) (sym (k .ensures) ∙ not-false (k .result) (c .before .if1 .left)),
     )
 

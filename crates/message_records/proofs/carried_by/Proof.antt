@@ -3,7 +3,7 @@ use mathlib.Core.Path.{_≡_, sym, ap, _∙_}
 use Prim.Native.Nat.{ℕ, _≤_, _-_}
 use native.Mathlib.Omega.{arith}
 use borrow.Author.Needs.{needs}
-use Rattle.message_records.specs.Gathered.{carries, withShard}
+use Rattle.message_records.specs.Gathered.{givesShard, withShard}
 use Rattle.message_format.specs.Records.{carriedBy}
 use Rattle.message_records.specs.Laws.{where-none, where-step}
 use Rattle.message_records.proofs.carried_by.Statement.{statement}
@@ -16,7 +16,7 @@ abbrev μ-loop : tie.MeasureT-loop
 μ-loop node body len mask₀ j₀ mask j = len - j
 
 loop-holds : tie.Need-loop-holds Inv-loop μ-loop
-loop-holds c = (search needs, sym (where-none (carries (c .args .node .0) (c .args .body .now)) (c .args .body .now)))
+loop-holds c = (search needs, sym (where-none (givesShard (c .args .node .0) (c .args .body .now)) (c .args .body .now)))
 
 carried-more-requires : tie.Need-carried-more-requires Inv-loop μ-loop
 carried-more-requires c κs = (omega arith, c .before .before .pre .1 (c .before .loop .j) (omega arith))
@@ -27,8 +27,8 @@ loop-again c = let a = c .before .before .before .args in
     let l = c .before .before .loop in (
       omega arith,
       c .carried-more .ensures
-          ∙ ap (λ (m : ℕ). withShard (carries (a .node .0) b (l .j)) m b (l .j)) (l .inv .1)
-          ∙ sym (where-step (carries (a .node .0) b) b (l .j)),
+          ∙ ap (λ (m : ℕ). withShard (givesShard (a .node .0) b (l .j)) m b (l .j)) (l .inv .1)
+          ∙ sym (where-step (givesShard (a .node .0) b) b (l .j)),
     )
 
 returns : tie.Need-returns Inv-loop μ-loop

@@ -8,14 +8,14 @@ use lib.ListN.{getD}
 use borrow.Author.Tests.{not-true, not-false}
 use borrow.Author.Needs.{needs}
 use Rattle.base_laws.specs.Bools.{clash}
-use Rattle.place_layout.specs.Post.{Stage}
+use Rattle.place_layout.specs.Post.{LaidSoFar}
 use Rattle.place_layout.specs.Steps.{stage-start}
 use Rattle.place_layout.proofs.place.Statement.{statement}
 use Rattle.place_layout.proofs.place.Tie as tie
 
 abbrev Inv-loop : tie.InvT-loop
 Inv-loop settings held old sheet placed₀ g₀ placed g =
-    (g ≤ 4) × (placed .found ≡ true) × Stage settings held (λ s. getD old s 0) g placed
+    (g ≤ 4) × (placed .found ≡ true) × LaidSoFar settings held (λ s. getD old s 0) g placed
 
 abbrev μ-loop : tie.MeasureT-loop
 μ-loop settings held old sheet placed₀ g₀ placed g = 4 - g
@@ -46,7 +46,7 @@ returns-2 c =
     let l = c .before .loop in
     let four : l .g ≡ 4 = le-antisymm (omega arith) (omega arith) in
     record {
-      laid = λ e. subst (λ (k : ℕ). Stage (a .settings .now) (a .held) (λ s. getD (a .old .now) s 0) k (l .placed)) four (l .inv .2) .laid;
+      laid = λ e. subst (λ (k : ℕ). LaidSoFar (a .settings .now) (a .held) (λ s. getD (a .old .now) s 0) k (l .placed)) four (l .inv .2) .laid;
       unplaced = λ e. clash (l .inv .1) e;
     }
 

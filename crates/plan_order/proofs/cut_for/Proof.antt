@@ -1,13 +1,13 @@
 -- `plan_order::cut_for` meets its contract: the holder's report is read, and the cut is that against it.
 use mathlib.Core.Path.{subst⁻¹}
-use Rattle.plan_order.specs.Readable.{Readable, read-few, cut-read}
+use Rattle.plan_order.specs.Readable.{ReadableSlot, read-few, cut-read}
 use borrow.Author.Needs.{needs}
 use Rattle.plan_order.proofs.cut_for.Statement.{statement}
 use Rattle.plan_order.proofs.cut_for.Tie as tie
 
 report-at-requires : tie.Need-report-at-requires
 report-at-requires c κs =
-    let r = subst⁻¹ (Readable (c .before .before .before .args .desk .now)) (c .wide .ensures) (c .before .before .before .pre .1) in
+    let r = subst⁻¹ (ReadableSlot (c .before .before .before .args .desk .now)) (c .wide .ensures) (c .before .before .before .pre .1) in
     ((r .words, r .below), r .chained)
 
 cut-requires : tie.Need-cut-requires

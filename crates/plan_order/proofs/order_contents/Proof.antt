@@ -5,7 +5,7 @@ use mathlib.Core.Path.{subst⁻¹}
 use Rattle.base_laws.specs.Below.{count-le}
 use Rattle.plan_order.specs.Orders.{carries}
 use Rattle.plan_order.specs.Stores.{order-made}
-use Rattle.plan_order.specs.Readable.{Readable, Holders, read-few}
+use Rattle.plan_order.specs.Readable.{ReadableSlot, Holders, read-few}
 use borrow.Author.Needs.{needs}
 use Rattle.plan_order.proofs.order_contents.Statement.{statement}
 use Rattle.plan_order.proofs.order_contents.Tie as tie
@@ -13,7 +13,7 @@ use Rattle.plan_order.proofs.order_contents.Tie as tie
 report-at-requires : tie.Need-report-at-requires
 report-at-requires c κs =
     let start = c .before .before .before .before .before .before .before in
-    let r = subst⁻¹ (Readable (start .args .desk .now)) (c .before .before .wide2 .ensures) (start .pre .1 .0) in
+    let r = subst⁻¹ (ReadableSlot (start .args .desk .now)) (c .before .before .wide2 .ensures) (start .pre .1 .0) in
     ((r .words, r .below), r .chained)
 
 put-cuts-requires : tie.Need-put-cuts-requires

@@ -5,7 +5,7 @@ use Rattle.report_views.specs.declared.Standing.{Standing}
 use Rattle.report_views.specs.Standings.{standingOf}
 use Rattle.plan_restart.specs.declared.Verdict.{Verdict}
 use Rattle.plan_restart.specs.Kept.{held-below, number-to}
-use Rattle.plan_restart.specs.Restarts.{WithPlan, Stuck}
+use Rattle.plan_restart.specs.Restarts.{FindsPlan, FindsNone}
 use Rattle.plan_restart.specs.Planning.{verdictBy, answers-by, restart-waits, restart-met}
 use borrow.Author.Needs.{needs}
 use Rattle.plan_restart.proofs.restart.Statement.{statement}
@@ -40,7 +40,7 @@ returns-2 c = let s = c .before .before .before .before .before .before .before 
     let e : c .verdict-by .result ≡ verdictBy v held (standingOf σ v t held d) (p .result) =
     c .verdict-by .ensures ∙ ap (λ (k : Standing). verdictBy v held k (p .result)) (st .ensures) in
     restart-met σ v t held d (st .result) (c .verdict-by .result) (st .ensures) (c .before .before .before .before .enum-told .given .1)
-    (λ met. subst⁻¹ (λ (r : Verdict). WithPlan σ v t held d r ⊎ Stuck σ held r) e
+    (λ met. subst⁻¹ (λ (r : Verdict). FindsPlan σ v t held d r ⊎ FindsNone σ held r) e
     (answers-by σ v t held d (s .pre .0) (s .pre .1 .1 .0) (s .pre .1 .1 .1) met (p .result) (p .ensures)))
 
 pub restart-spec : {M : Type 1} → statement M

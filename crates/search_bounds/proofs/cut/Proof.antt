@@ -10,13 +10,13 @@ use lib.ListN.{getD}
 use Rattle.search_theory.specs.Tables.{ownersOf}
 use Rattle.search_theory.specs.Duality.{gain, toll}
 use Rattle.search_bounds.specs.Post.{weightsOf}
-use Rattle.search_bounds.specs.Marks.{Passed, passed-none, passed-more, sound-by}
+use Rattle.search_bounds.specs.Marks.{PairsPassed, passed-none, passed-more, sound-by}
 use Rattle.search_bounds.proofs.cut.Statement.{statement}
 use Rattle.search_bounds.proofs.cut.Tie as tie
 
 abbrev Inv-loop : tie.InvT-loop
 Inv-loop sets needs costs₀ owner shards nodes pairs t k low high x₀ costs x =
-    (t ≤ x) × (x ≤ 512) × Passed (weightsOf shards nodes pairs) (λ n. getD sets n 0) (ownersOf owner) low high t x costs₀ costs
+    (t ≤ x) × (x ≤ 512) × PairsPassed (weightsOf shards nodes pairs) (λ n. getD sets n 0) (ownersOf owner) low high t x costs₀ costs
 
 abbrev μ-loop : tie.MeasureT-loop
 μ-loop sets needs costs₀ owner shards nodes pairs t k low high x₀ costs x = 512 - x
@@ -57,7 +57,7 @@ returns-3 c =
           (s .args .k + c .before .before .before .before .takes .result) (c .before .before .before .grants .result) (c .floor .result) (s .pre .1 .0) (s .pre .1 .1 .1)
           (sym (c .before .before .before .before .before .before .all-steady .ensures) ∙ not-false (c .before .before .before .before .before .before .all-steady .result) (c .before .before .before .before .before .if1 .left))
           (ap (λ (a : ℕ). s .args .k + a) (c .before .before .before .before .takes .ensures .0)) (c .before .before .before .grants .ensures .0) (c .floor .ensures)
-          (subst (λ (x : ℕ). Passed (weightsOf (s .args .shards .now) (s .args .nodes .now) (s .args .pairs .now)) (λ n. getD (s .args .sets .now) n 0) (ownersOf (s .args .owner .now))
+          (subst (λ (x : ℕ). PairsPassed (weightsOf (s .args .shards .now) (s .args .nodes .now) (s .args .pairs .now)) (λ n. getD (s .args .sets .now) n 0) (ownersOf (s .args .owner .now))
           (s .args .k + c .before .before .before .before .takes .result) (c .before .before .before .grants .result) (s .args .t) x (s .args .costs .now) (c .before .before .loop .costs)) end (c .before .before .loop .inv .2)),
       c .before .before .loop .inv .2 .long,
     )

@@ -9,12 +9,12 @@ use borrow.Author.Tests.{eq-eqb, ne-eqb}
 use Rattle.base_laws.specs.Below.{allBelow, all-none, all-more, all-fails}
 use Rattle.base_laws.specs.Loops.{all-done}
 use Rattle.search_theory.specs.Tables.{caseOf, ownersOf}
-use Rattle.search_theory.specs.Tests.{filled}
+use Rattle.search_theory.specs.Tests.{needMet}
 use Rattle.search_judge.proofs.filled.Statement.{statement}
 use Rattle.search_judge.proofs.filled.Tie as tie
 
 abbrev Inv-loop : tie.InvT-loop
-Inv-loop needs owner i₀ i = (i ≤ 16) × (allBelow i (filled (caseOf [] needs []) (ownersOf owner)) ≡ true)
+Inv-loop needs owner i₀ i = (i ≤ 16) × (allBelow i (needMet (caseOf [] needs []) (ownersOf owner)) ≡ true)
 
 abbrev μ-loop : tie.MeasureT-loop
 μ-loop needs owner i₀ i = 16 - i

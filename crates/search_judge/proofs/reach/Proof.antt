@@ -7,7 +7,7 @@ use borrow.Author.Needs.{needs}
 use mathlib.Core.List.{[]}
 use lib.Dec.{eqb, ltb, leb}
 use lib.ListN.{getD}
-use Rattle.search_theory.specs.Tests.{reach, reaches}
+use Rattle.search_theory.specs.Tests.{reach, mayHave}
 use Rattle.base_laws.specs.Below.{countBelow, count-zero}
 use Rattle.base_laws.specs.Loops.{count-turn, count-done}
 use Rattle.search_theory.specs.Tables.{caseOf, ownersOf}
@@ -15,7 +15,7 @@ use Rattle.search_judge.proofs.reach.Statement.{statement}
 use Rattle.search_judge.proofs.reach.Tie as tie
 
 abbrev Inv-loop : tie.InvT-loop
-Inv-loop prices owner t i count₀ n₀ count n = (n ≤ 32) × (count ≤ n) × (count ≡ countBelow n (reaches (caseOf [] [] prices) (ownersOf owner) t i))
+Inv-loop prices owner t i count₀ n₀ count n = (n ≤ 32) × (count ≤ n) × (count ≡ countBelow n (mayHave (caseOf [] [] prices) (ownersOf owner) t i))
 
 abbrev μ-loop : tie.MeasureT-loop
 μ-loop prices owner t i count₀ n₀ count n = 32 - n

@@ -1,4 +1,4 @@
-use Rattle.report_views.specs.Soundness.{layoutBlank, zeros}
+use Rattle.report_views.specs.Soundness.{layoutBlank, allZero}
 use mathlib.Core.Path.{ap, _∙_}
 use borrow.Author.Tests.{eq-eqb, ne-eqb}
 use borrow.Author.Needs.{needs}
@@ -18,7 +18,7 @@ unfolding layoutBlank
 returns-3 c =
     let a = c .before .before .before .before .before .before .before .before .args in
     simp (eq-eqb _ _ (c .before .before .before .before .before .if1 .left), eq-eqb _ _ (c .before .before .before .before .if2 .left))
-    (c .zeros .ensures ∙ ap (zeros (a .t1 .masks)) (c .before .zeros-arg2 .given .0))
+    (c .zeros .ensures ∙ ap (allZero (a .t1 .masks)) (c .before .zeros-arg2 .given .0))
 
 pub layout-blank-spec : {M : Type 1} → statement M
 layout-blank-spec = tie.close (tie.spec returns returns-2 (λ c κs. search needs) returns-3)

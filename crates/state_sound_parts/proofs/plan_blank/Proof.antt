@@ -1,4 +1,4 @@
-use Rattle.report_views.specs.Soundness.{planBlank, zeros}
+use Rattle.report_views.specs.Soundness.{planBlank, allZero}
 use mathlib.Core.Path.{_≡_, sym, ap, _∙_}
 use borrow.Author.Tests.{eq-eqb, ne-eqb, not-true, not-false}
 use borrow.Author.Needs.{needs}
@@ -18,7 +18,7 @@ unfolding planBlank
 returns-3 c =
     let a = c .before .before .before .before .before .before .before .before .before .args in
     let k = c .before .before .before .before .before .before .before .layout-blank in
-    let z : c .before .zeros .result ≡ zeros (a .t1 .holders) 16 = c .before .zeros .ensures ∙ ap (zeros (a .t1 .holders)) (c .before .before .zeros-arg2 .given .0) in
+    let z : c .before .zeros .result ≡ allZero (a .t1 .holders) 16 = c .before .zeros .ensures ∙ ap (allZero (a .t1 .holders)) (c .before .before .zeros-arg2 .given .0) in
     simp (sym (k .ensures), not-false (k .result) (c .before .before .before .before .before .before .if1 .left), eq-eqb _ _ (c .before .before .before .before .before .if2 .left), sym z, not-true (c .before .zeros .result) (c .if3 .taken))
 
 returns-4 : tie.Need-returns-4
@@ -27,7 +27,7 @@ returns-4 c =
     let a = c .before .before .before .before .before .before .before .before .before .before .before .before .before .args in
     let k = c .before .before .before .before .before .before .before .before .before .before .before .layout-blank in
     let h = c .before .before .before .before .before .zeros in
-    let z : h .result ≡ zeros (a .t1 .holders) 16 = h .ensures ∙ ap (zeros (a .t1 .holders)) (c .before .before .before .before .before .before .zeros-arg2 .given .0) in
+    let z : h .result ≡ allZero (a .t1 .holders) 16 = h .ensures ∙ ap (allZero (a .t1 .holders)) (c .before .before .before .before .before .before .zeros-arg2 .given .0) in
     simp (
       sym (k .ensures),
       not-false (k .result) (c .before .before .before .before .before .before .before .before .before .before .if1 .left),
@@ -35,7 +35,7 @@ returns-4 c =
       sym z,
       not-false (h .result) (c .before .before .before .before .if3 .left),
     )
-    (c .zeros2 .ensures ∙ ap (zeros (a .t1 .targets)) (c .before .zeros-arg4 .given .0))
+    (c .zeros2 .ensures ∙ ap (allZero (a .t1 .targets)) (c .before .zeros-arg4 .given .0))
 
 pub plan-blank-spec : {M : Type 1} → statement M
 plan-blank-spec =
