@@ -41,7 +41,7 @@ pub fn size(owner: &[u8; 32], i: usize) -> usize
 }
 
 // Each shard has its need.
-fn needMet(needs: &[u8; 16], owner: &[u8; 32]) -> bool
+fn filled(needs: &[u8; 16], owner: &[u8; 32]) -> bool
     ensures { λ r. ⌜ r ≡ allBelow 16 (needMet (caseOf [] (now (needs .entry)) []) (ownersOf (now (owner .entry)))) ⌝ }
 {
     let mut i: usize = 0;
@@ -158,7 +158,7 @@ pub fn within(
     if !stands(prices, owner) {
         return false;
     }
-    if !needMet(needs, owner) {
+    if !filled(needs, owner) {
         return false;
     }
     if !lone(sets, owner) {
