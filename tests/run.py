@@ -32,7 +32,7 @@ PARTS = [
     ("crates by layer, definitions by name", ["python3", "tests/layers.py"]),
     ("proofs, wrong programs and runs", ["rt", "ci"]),
     ("wrong programs are refused for a fact", ["python3", "tests/edits.py"]),
-    ("names in docs/PROMISES.md", ["python3", "tests/promises.py"]),
+    ("names and links in the documents", ["python3", "tests/promises.py"]),
     ("the reference's own tests", cargo("reference", "test", "--release")),
     ("tests of the comparison itself", cargo("tests", "test", "--release", "--features", "mock")),
     ("the library for C", ["make", "--no-print-directory", "lib"]),
