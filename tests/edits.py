@@ -1,7 +1,7 @@
 """After `rt ci`: every wrong program was refused because a fact fails, and every public function has at least two.
 
-A file crates/NAME/must-fail/LABEL.edit holds a wrong program, or several of different functions, each under a line `# NAME: what is
-right`. A function is proved from its own body and the contracts of what it calls, so several wrong ones in one check are refused each for
+A file crates/NAME/must-fail/LABEL.edit holds a wrong program; code_1.edit, code_2.edit .. hold several, of different functions, each under
+a line `# NAME: what is right`, or `# NAME` alone. A function is proved from its own body and the contracts of what it calls, so several wrong ones in one check are refused each for
 itself: of each the log must have an error of its own, at its function. What is not an edit of function bodies (a contract, a constant, a
 definition, a theorem) stands alone in its file, and the first error of the log is its own. An error that says only that a proof file no
 longer fits the code shows nothing.
@@ -63,7 +63,7 @@ def programs_of(path):
     with open(path, encoding="utf-8") as lines:
         for line in lines.read().split("\n"):
             if line.startswith("# ") or (not programs and line.startswith("file: ")):
-                programs.append(Program(line[2:].split(":")[0] if line.startswith("# ") and ":" in line else label))
+                programs.append(Program(line[2:].split(":")[0] if label.startswith("code_") else label))
             if line.startswith("file: "):
                 file = line[len("file: ") :]
             elif line.startswith("old: "):
