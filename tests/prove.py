@@ -9,7 +9,7 @@ import threading
 import time
 
 ROOT = os.path.dirname(os.path.dirname(os.path.abspath(__file__)))
-# A check above the planner writes half a gigabyte of temporary files, and four run at a time.
+# A check above the planner writes half a gigabyte of temporary files, and some run at a time.
 ROOM = 4 << 30
 MEMORY = "/dev/shm"
 
@@ -29,10 +29,10 @@ def in_memory(folder, room):
 
 
 def environment():
-    """The environment with two settings for the prover, each unless it is set already: twice as many checks at a time as there are
-    processors, since crates wait for those below them, and temporary files in memory where there is room for them."""
+    """The environment with two settings for the prover, each unless it is set already: four checks at a time more than there are
+    processors, since rt starts a batch only when the last one has ended, and temporary files in memory where there is room for them."""
     settings = dict(os.environ)
-    settings.setdefault("RT_JOBS", str(2 * len(os.sched_getaffinity(0))))
+    settings.setdefault("RT_JOBS", str(len(os.sched_getaffinity(0)) + 4))
     if "TMPDIR" not in settings and in_memory(MEMORY, ROOM):
         settings["TMPDIR"] = MEMORY
     return settings
