@@ -12,15 +12,17 @@ import os
 import re
 import sys
 
-# errors that say only that the proof file no longer fits the code
-UNFIT = re.compile(r"has no `Need-|has no field|Parse|is not in scope|no such|cannot be named|expected type `tie\.Need|could not be applied")
+# errors that say only that the proof file no longer fits the code, or that something else was refused
+UNFIT = re.compile(
+    r"has no `Need-|has no field|Parse|is not in scope|no such|cannot be named|expected type `tie\.Need|could not be applied|was not admitted"
+)
 # an error in the proof file of a function, and what is said of a function without one, where a fact is not found
 IN_PROOF = re.compile(r"proofs/(\S+)/Proof\.antt:\d+:\d+: error")
 UNPROVED = re.compile(r"^fn \w+::(\S+): .*`search` does not close")
 FUNCTION = re.compile(r'^(\s*)(pub )?(?:extern "C" )?fn (\w+)')
 
 # Public functions with one wrong program only: see docs/DECISIONS.md, The gate.
-FEWER = {"state_rows::is_%s" % phase: 1 for phase in ("gathering", "ordered", "preparing", "committed")}
+FEWER = {"report_rows::row12": 1, **{"state_rows::is_%s" % phase: 1 for phase in ("gathering", "ordered", "preparing", "committed")}}
 
 
 def parts_of(text):
@@ -74,7 +76,7 @@ def programs_of(path):
 
 
 def errors_of(path):
-    """The first error of a log, and the first of each function by its name; None where there is no log."""
+    """The first error of a log, and those of each function by its name; None where there is no log."""
     try:
         with open(path, errors="replace") as log:
             lines = [line.strip() for line in log]
@@ -84,10 +86,10 @@ def errors_of(path):
     for line in lines:
         proof = IN_PROOF.search(line)
         for name in proof.group(1).split("/")[-1].split("+") if proof else []:
-            own.setdefault(name, line)
+            own.setdefault(name, []).append(line)
     unproved = [line for line in lines if UNPROVED.search(line)]
     for line in unproved:
-        own.setdefault(UNPROVED.search(line).group(1).split("::")[-1], line)
+        own.setdefault(UNPROVED.search(line).group(1).split("::")[-1], []).append(line)
     return ([line for line in lines if ": error" in line] or unproved or [""])[0], own
 
 
@@ -97,7 +99,7 @@ def fault(changed, alone, errors):
         return "was not tried"
     first, own = errors
     if all(owner and owner[2] for _, owner in changed):
-        found = [own[owner[0]] for _, owner in sorted(changed) if owner[0] in own]
+        found = [error for _, owner in sorted(changed) for error in own.get(owner[0], ())]
     elif alone:
         found = [first] if first else []
     else:

@@ -4,5 +4,8 @@ use Rattle.c_placement.specs.Number.{few}
 use Rattle.c_placement.proofs.placement_least.Statement.{statement}
 use Rattle.c_placement.proofs.placement_least.Tie as tie
 
+returns : tie.Need-returns
+returns c = search needs
+
 pub placement-least-spec : {M : Type 1} → statement M
-placement-least-spec = tie.close (tie.spec (λ c κs. search needs) (λ c κs. few (c .before .least .ensures)) (λ c. search needs))
+placement-least-spec = tie.close (tie.spec (λ c κs. search needs) (λ c κs. few (c .before .least .ensures)) returns)

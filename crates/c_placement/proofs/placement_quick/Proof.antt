@@ -6,13 +6,8 @@ use Rattle.c_placement.specs.Number.{few}
 use Rattle.c_placement.proofs.placement_quick.Statement.{statement}
 use Rattle.c_placement.proofs.placement_quick.Tie as tie
 
-pub placement-quick-spec : {M : Type 1} → statement M
-placement-quick-spec =
-    tie.close
-    (tie.spec
-    (λ c κs. search needs)
-    (λ c κs. let sure = c .before .before in few (sure .before .quick-least .ensures (sure .if1 .taken)))
-    (λ c l.
+returns : tie.Need-returns
+returns c l =
     let sure = c .before .before .before in
     let quick = sure .before .quick-least in
     record {
@@ -20,5 +15,16 @@ placement-quick-spec =
       least = quick .ensures (sure .if1 .taken);
       number = c .number .ensures;
       whose = refl;
-    })
-    (λ c l. absurd (omega arith)))
+    }
+
+returns-2 : tie.Need-returns-2
+returns-2 c l = absurd (omega arith)
+
+pub placement-quick-spec : {M : Type 1} → statement M
+placement-quick-spec =
+    tie.close
+    (tie.spec
+    (λ c κs. search needs)
+    (λ c κs. let sure = c .before .before in few (sure .before .quick-least .ensures (sure .if1 .taken)))
+    returns
+    returns-2)
