@@ -42,7 +42,7 @@ lib: target/librestart.a
 example: target/c/service
 
 target/staticlib/libc_planner.a: $(SOURCES)
-	@python3 tests/prove.py c_planner
+	@[ -f target/stamp/c_planner ] || python3 tests/prove.py c_planner
 	rt staticlib c_planner
 	touch $@
 

@@ -22,7 +22,8 @@ UNPROVED = re.compile(r"^fn \w+::(\S+): .*`search` does not close")
 FUNCTION = re.compile(r'^(\s*)(pub )?(?:extern "C" )?fn (\w+)')
 
 # Public functions with one wrong program only: see docs/DECISIONS.md, The gate.
-FEWER = {"report_rows::row12": 1, **{"state_rows::is_%s" % phase: 1 for phase in ("gathering", "ordered", "preparing", "committed")}}
+FEWER = dict.fromkeys(("report_rows::row12", "hint_oracle::solve", "hint_oracle::take", "hint_reach::search"), 1)
+FEWER.update(("state_rows::is_%s" % phase, 1) for phase in ("gathering", "ordered", "preparing", "committed"))
 
 
 def parts_of(text):

@@ -29,10 +29,8 @@ def in_memory(folder, room):
 
 
 def environment():
-    """The environment with two settings for the prover, each unless it is set already: four checks at a time more than there are
-    processors, since rt starts a batch only when the last one has ended, and temporary files in memory where there is room for them."""
+    """The environment for the prover: temporary files in memory where there is room for them, unless TMPDIR is set already."""
     settings = dict(os.environ)
-    settings.setdefault("RT_JOBS", str(len(os.sched_getaffinity(0)) + 4))
     if "TMPDIR" not in settings and in_memory(MEMORY, ROOM):
         settings["TMPDIR"] = MEMORY
     return settings
