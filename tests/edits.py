@@ -1,4 +1,5 @@
-"""After `rt ci`: every wrong program was refused because a fact fails, and every public function has at least two.
+"""After `rt ci`: every wrong program was refused because a fact fails, and every public function has enough of them: two, or one if it
+asks something of its caller (`requires`).
 
 A file crates/NAME/must-fail/LABEL.edit holds a wrong program; code_1.edit, code_2.edit .. hold several, of different functions, each under
 a line `# NAME: what is right`, or `# NAME` alone. A function is proved from its own body and the contracts of what it calls, so several wrong ones in one check are refused each for
@@ -21,9 +22,9 @@ IN_PROOF = re.compile(r"proofs/(\S+)/Proof\.antt:\d+:\d+: error")
 UNPROVED = re.compile(r"^fn \w+::(\S+): .*`search` does not close")
 FUNCTION = re.compile(r'^(\s*)(pub )?(?:extern "C" )?fn (\w+)')
 
-# Public functions with one wrong program only: see docs/DECISIONS.md, The gate.
-FEWER = dict.fromkeys(("report_rows::row12", "hint_oracle::solve", "hint_oracle::take", "hint_reach::search"), 1)
-FEWER.update(("state_rows::is_%s" % phase, 1) for phase in ("gathering", "ordered", "preparing", "committed"))
+# Public functions that ask nothing and have one wrong program only: see docs/DECISIONS.md, The gate.
+FEWER = {"report_rows::row12", "hint_oracle::solve", "hint_oracle::take", "hint_reach::search"}
+FEWER.update("state_rows::is_%s" % phase for phase in ("gathering", "ordered", "preparing", "committed"))
 
 
 def parts_of(text):
@@ -134,10 +135,11 @@ def main():
     for path in sorted(glob.glob("crates/*/src/*.rt")):
         _, crate, file = path.split("/", 2)
         with open(path, encoding="utf-8") as source:
-            public = {owner[0] for owner, _ in parts_of(source.read()) if owner and owner[1]}
-        for name in sorted(public):
+            parts = [part for part in parts_of(source.read()) if part[0] and part[0][1]]
+        asking = {owner[0] for owner, line in parts if not owner[2] and line.strip().startswith("requires ")}
+        for name in sorted({owner[0] for owner, _ in parts}):
             count = len(wrong.get((crate, file, name), ()))
-            enough = count >= FEWER.get("%s::%s" % (crate, name), 2)
+            enough = count >= (1 if name in asking or "%s::%s" % (crate, name) in FEWER else 2)
             passed, failed = passed + enough, failed + (not enough)
             if not enough:
                 print("%s::%s has %d wrong programs of its own" % (crate, name, count))

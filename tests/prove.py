@@ -29,8 +29,10 @@ def in_memory(folder, room):
 
 
 def environment():
-    """The environment for the prover: temporary files in memory where there is room for them, unless TMPDIR is set already."""
+    """The environment with two settings for the prover, each unless it is set already: two checks at a time more than there are
+    processors, since rt starts a batch only when the last one has ended, and temporary files in memory where there is room for them."""
     settings = dict(os.environ)
+    settings.setdefault("RT_JOBS", str(len(os.sched_getaffinity(0)) + 2))
     if "TMPDIR" not in settings and in_memory(MEMORY, ROOM):
         settings["TMPDIR"] = MEMORY
     return settings
