@@ -1,4 +1,5 @@
-# make case-a            builds the program restart and runs it on document 01's case A
+# make try               runs the program restart on document 01's case A, in seconds; nothing is proved by it
+# make case-a            proves and builds the program restart, says how far it is, and runs it on case A
 # make test              proves every crate, tries every wrong program and runs every test
 # make lib               target/librestart.a, the proved library for C
 # make example           target/c/service, the example service over it
@@ -7,7 +8,13 @@
 # make performance       measures times, instructions and stack, and writes docs/PERFORMANCE.md
 # make install           header, library, programs and manual pages under $(DESTDIR)$(PREFIX)
 # make uninstall         removes them
-.PHONY: case-a test lib example test-c fuzz performance install uninstall
+.PHONY: try case-a test lib example test-c fuzz performance install uninstall
+
+try:
+	@mkdir -p target
+	@rt try restart >target/try.log 2>&1 || { cat target/try.log; exit 1; }
+	@cat crates/restart/stdout
+	@echo "(from the source as it stands, interpreted and compiled three ways; nothing is proved by it: make case-a)"
 
 case-a: target/bin/restart
 	@target/bin/restart < crates/restart/stdin
@@ -25,7 +32,7 @@ performance:
 # ---- The library for C and what is built over it
 
 VERSION := 0.1.0
-ARCHIVE ?= target/staticlib/libplanner_c.a
+ARCHIVE ?= target/staticlib/libc_planner.a
 PROGRAM ?= target/bin/restart
 SOURCES := crates.txt $(shell find crates -name '*.rt' -o -name '*.antt')
 CFLAGS ?= -O2
@@ -34,12 +41,13 @@ CHECKED := -std=c11 -Wall -Wextra -Werror -pedantic
 lib: target/librestart.a
 example: target/c/service
 
-target/staticlib/libplanner_c.a: $(SOURCES)
-	rt staticlib planner_c
+target/staticlib/libc_planner.a: $(SOURCES)
+	@[ -f target/stamp/c_planner ] || python3 tests/prove.py c_planner
+	rt staticlib c_planner
 	touch $@
 
 target/bin/restart: $(SOURCES)
-	rt check restart
+	@python3 tests/prove.py restart
 	touch $@
 
 target/librestart.a: $(ARCHIVE)

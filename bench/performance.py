@@ -25,7 +25,7 @@ def said(*command):
 
 def build(mock):
     if not mock:
-        for name in ("planner_c", "placement_c"):
+        for name in ("c_planner", "c_placement"):
             subprocess.run(["rt", "staticlib", name], cwd=ROOT, env=ENVIRONMENT, check=True, stdout=subprocess.DEVNULL)
     features = ["--features", "mock"] if mock else []
     said("cargo", "build", "--release", "--offline", "--quiet", "--manifest-path", "bench/events/Cargo.toml", *features)
@@ -61,7 +61,7 @@ def placement():
 
 def needs():
     """What the archive takes from outside, which has to be no allocator."""
-    names = {line.split()[-1] for line in said("nm", "-u", "target/staticlib/libplanner_c.a").splitlines() if line.strip().startswith("U ")}
+    names = {line.split()[-1] for line in said("nm", "-u", "target/staticlib/libc_planner.a").splitlines() if line.strip().startswith("U ")}
     return "From outside the\nlibrary takes %s alone, so no call allocates memory." % " and ".join(sorted(names))
 
 

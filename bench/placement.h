@@ -1,4 +1,4 @@
-// The proved placement of one subgroup, as target/staticlib/libplacement_c.a exports it.
+// The proved placement of one subgroup, as target/staticlib/libc_placement.a exports it.
 //   sets: 32 bytes, the failure set of each node      needs: 16 bytes, the nodes that each shard needs
 //   prices: 512 bytes at shard * 32 + node, 0 stay, 1 move, 2 not allowed
 //   owners: 32 bytes, set to the shard of each node, 16 for none

@@ -2,7 +2,7 @@
 //! environment variable RESTART_LIB_DIR names. The feature `mock` does without.
 
 /// The library's name: the file is lib<name>.a.
-const LIBRARY: &str = "planner_c";
+const LIBRARY: &str = "c_planner";
 const DIRECTORY: &str = "RESTART_LIB_DIR";
 
 fn main() {

@@ -26,7 +26,7 @@ def build(mock):
         commands = [cargo("reference"), cargo("tests", "--bins", "--features", "mock")]
         restart = os.path.join(release, "restart-reference")
     else:
-        commands = [["rt", "staticlib", "planner_c"], ["rt", "check", "restart"], cargo("tests", "--bins")]
+        commands = [["rt", "staticlib", "c_planner"], ["rt", "check", "restart"], cargo("tests", "--bins")]
         restart = os.path.join(TARGET, "bin", "restart")
     for command in commands:
         done = subprocess.run(command, cwd=ROOT, env=ENVIRONMENT, stdout=subprocess.PIPE, stderr=subprocess.STDOUT, text=True, errors="replace")

@@ -1,6 +1,8 @@
 """Every name that docs/PROMISES.md gives as `crate::name` or `crate/File.name` is there: a function of the crate's source, or a
-definition or theorem of its specs. Prints a last line `N passed, M failed`, one for each name."""
+definition or theorem of its specs. And every file that README.md or a page of docs/ links to is there. Prints a last line `N passed, M
+failed`, one for each name and link."""
 import glob
+import os
 import re
 import sys
 
@@ -31,5 +33,10 @@ with open("docs/PROMISES.md", encoding="utf-8") as page:
 missing = [name for name in names if not there(*name)]
 for crate, kind, name in missing:
     print("not there: %s%s%s" % (crate, kind, name))
-print("%d passed, %d failed" % (len(names) - len(missing), len(missing)))
-sys.exit(1 if missing or not names else 0)
+links = [(page, link) for page in ["README.md", *sorted(glob.glob("docs/*.md"))] for link in re.findall(r"\]\(([^):#]+)\)", text(page))]
+broken = [(page, link) for page, link in links if not os.path.exists(os.path.join(os.path.dirname(page), link))]
+for page, link in broken:
+    print("%s links to %s, which is not there" % (page, link))
+failed = len(missing) + len(broken)
+print("%d passed, %d failed" % (len(names) + len(links) - failed, failed))
+sys.exit(1 if failed or not names else 0)

@@ -1,4 +1,4 @@
-"""Run every check of the repository, one part after another, and close with one line `N passed, M failed`.
+"""Run every check of the repository and close with one line `N passed, M failed`.
 
 Each part is a command. Where what it prints has lines of that form (or cargo's `N passed; M failed`), their counts are added:
 of rt and of our own scripts the last line, of cargo every one. Any other part counts as one. Exit status 0 only where
@@ -7,7 +7,10 @@ import os
 import re
 import subprocess
 import sys
+import threading
 import time
+
+from prove import environment
 
 ROOT = os.path.dirname(os.path.dirname(os.path.abspath(__file__)))
 TARGET = os.path.join(ROOT, "target")
@@ -15,7 +18,7 @@ COUNTS = re.compile(r"^(\d+) passed, (\d+) failed$")
 CARGO = re.compile(r"(\d+) passed; (\d+) failed")
 
 ENVIRONMENT = dict(
-    os.environ,
+    environment(),
     CARGO_TARGET_DIR=os.path.join(TARGET, "cargo"),
     RESTART_LIB_DIR=os.path.join(TARGET, "staticlib"),
 )
@@ -25,36 +28,94 @@ def cargo(folder, *words):
     return ["cargo", words[0], "--offline", "--quiet", "--manifest-path", folder + "/Cargo.toml", *words[1:]]
 
 
-PARTS = [
+# Parts that run one after another, each on all processors.
+FIRST = [
     ("layout of the sources", ["rt", "fmt", "--check"]),
+    ("crates by layer, definitions by name", ["python3", "tests/layers.py"]),
     ("proofs, wrong programs and runs", ["rt", "ci"]),
     ("wrong programs are refused for a fact", ["python3", "tests/edits.py"]),
-    ("names in docs/PROMISES.md", ["python3", "tests/promises.py"]),
-    ("the reference's own tests", cargo("reference", "test", "--release")),
-    ("tests of the comparison itself", cargo("tests", "test", "--release", "--features", "mock")),
-    ("the library for C", ["make", "--no-print-directory", "lib"]),
-    ("settings and messages against the reference", cargo("tests", "run", "--release", "--bin", "messages")),
-    ("events against the reference", cargo("tests", "run", "--release", "--bin", "events")),
-    ("cases and numbers of the program restart", ["python3", "tests/cases.py"]),
-    ("the program restart against the reference", cargo("tests", "run", "--release", "--bin", "runs", "--", "target/bin/restart", "1", "20000")),
-    ("texts and explanations for operators", ["python3", "tools/tests/run.py", "target/bin/restart"]),
-    ("the library from C", ["make", "--no-print-directory", "test-c"]),
-    ("the placement for C", ["rt", "staticlib", "placement_c"]),
-    ("placements against the reference", cargo("tests/placement", "run", "--release")),
-    ("the total search is never entered", ["make", "--no-print-directory", "-C", "bench", "fallback"]),
+    ("names and links in the documents", ["python3", "tests/promises.py"]),
 ]
+# Then the others, as many at a time as there are processors, each after the one that it names.
+LIBRARY, PLACEMENT = "the library for C", "the placement for C"
+THEN = [
+    (LIBRARY, ["make", "--no-print-directory", "lib"], None),
+    ("the reference's own tests", cargo("reference", "test", "--release"), None),
+    ("tests of the comparison itself", cargo("tests", "test", "--release", "--features", "mock"), None),
+    (PLACEMENT, ["rt", "staticlib", "c_placement"], LIBRARY),
+    ("the program restart against the reference", cargo("tests", "run", "--release", "--bin", "runs", "--", "target/bin/restart", "1", "20000"), LIBRARY),
+    ("settings and messages against the reference", cargo("tests", "run", "--release", "--bin", "messages"), LIBRARY),
+    ("events against the reference", cargo("tests", "run", "--release", "--bin", "events"), LIBRARY),
+    ("placements against the reference", cargo("tests/placement", "run", "--release"), PLACEMENT),
+    ("cases and numbers of the program restart", ["python3", "tests/cases.py"], None),
+    ("texts and explanations for operators", ["python3", "tools/tests/run.py", "target/bin/restart"], None),
+    ("the library from C", ["make", "--no-print-directory", "test-c"], LIBRARY),
+    ("the total search is never entered", ["make", "--no-print-directory", "-C", "bench", "fallback"], PLACEMENT),
+]
+PROCESSORS = len(os.sched_getaffinity(0))
 
 
-def run(command):
-    """The command's exit status and the lines that it printed, which are passed on."""
-    lines = []
-    process = subprocess.Popen(
-        command, cwd=ROOT, env=ENVIRONMENT, stdout=subprocess.PIPE, stderr=subprocess.STDOUT, text=True, errors="replace"
-    )
-    for line in process.stdout:
-        print(line, end="", flush=True)
-        lines.append(line.strip())
-    return process.wait(), lines
+class Part:
+    """A part of the gate: its command, and once it has run what it printed, how many passed and failed, and how long it took."""
+
+    def __init__(self, name, command, after=None):
+        self.name, self.command, self.after = name, command, after
+        self.passed = self.failed = self.seconds = 0
+        self.ended = threading.Event()
+
+    def head(self):
+        return "== %s: %s" % (self.name, " ".join(self.command))
+
+    def run(self, live):
+        """Runs the command; what it prints is passed on as it comes, or else all of it at the end."""
+        began, lines, status = time.time(), [], 1
+        if live:
+            print(self.head(), flush=True)
+        try:
+            process = subprocess.Popen(
+                self.command, cwd=ROOT, env=ENVIRONMENT, stdout=subprocess.PIPE, stderr=subprocess.STDOUT, text=True, errors="replace"
+            )
+            for line in process.stdout:
+                if live:
+                    print(line, end="", flush=True)
+                lines.append(line)
+            status = process.wait()
+        except OSError as error:
+            lines.append("%s\n" % error)
+        self.passed, self.failed = counted(status, [line.strip() for line in lines])
+        self.seconds = time.time() - began
+        if not live:
+            with PRINTING:
+                print(self.head() + "\n" + "".join(lines), end="", flush=True)
+        self.ended.set()
+
+
+PRINTING = threading.Lock()
+
+
+def side_by_side(parts):
+    """Runs the parts in their order, so many at a time, each once the one that it names has ended."""
+    waiting, changed = list(parts), threading.Condition()
+    ended = {part.name: part.ended for part in parts}
+
+    def work():
+        while True:
+            with changed:
+                while waiting and not any(part.after is None or ended[part.after].is_set() for part in waiting):
+                    changed.wait()
+                if not waiting:
+                    return
+                part = next(part for part in waiting if part.after is None or ended[part.after].is_set())
+                waiting.remove(part)
+            part.run(live=False)
+            with changed:
+                changed.notify_all()
+
+    workers = [threading.Thread(target=work) for _ in range(PROCESSORS)]
+    for worker in workers:
+        worker.start()
+    for worker in workers:
+        worker.join()
 
 
 def counted(status, lines):
@@ -70,18 +131,17 @@ def counted(status, lines):
 
 
 def main():
-    passed = failed = 0
-    times = []
-    for name, command in PARTS:
-        print("== %s: %s" % (name, " ".join(command)), flush=True)
-        began = time.time()
-        status, lines = run(command)
-        good, bad = counted(status, lines)
-        times.append((time.time() - began, good, bad, name))
-        passed, failed = passed + good, failed + bad
-    print("== seconds, passed, failed")
-    for seconds, good, bad, name in times:
-        print("%8.1f %6d %6d  %s" % (seconds, good, bad, name))
+    began = time.time()
+    first = [Part(*part) for part in FIRST]
+    then = [Part(*part) for part in THEN]
+    for part in first:
+        part.run(live=True)
+    side_by_side(then)
+    print("== seconds, passed, failed; from the fifth part on %d run at a time" % PROCESSORS)
+    for part in first + then:
+        print("%8.1f %6d %6d  %s" % (part.seconds, part.passed, part.failed, part.name))
+    print("%8.1f seconds in all" % (time.time() - began))
+    passed, failed = sum(part.passed for part in first + then), sum(part.failed for part in first + then)
     print("%d passed, %d failed" % (passed, failed), flush=True)
     sys.exit(1 if failed else 0)
 

@@ -1,7 +1,7 @@
 //! Links the proved static library of the placement, which lies in the
 //! directory that the environment variable RESTART_LIB_DIR names.
 
-const LIBRARY: &str = "placement_c";
+const LIBRARY: &str = "c_placement";
 const DIRECTORY: &str = "RESTART_LIB_DIR";
 
 fn main() {

@@ -4,11 +4,11 @@ use mathlib.Core.List.{List, [], _++_}
 use mathlib.Core.Path.{_≡_, sym, subst}
 use native.Mathlib.Omega.{arith}
 use lib.ListN.{length, take, replicate}
-use Rattle.runs.specs.declared.Run.{Run}
-use Rattle.runs.specs.Runs.{Printed}
-use Rattle.runs.specs.Machine.{started, progress, Feeds, Closes, Writes}
-use Rattle.runs.specs.Steps.{feeds-none, feeds-then}
-use Rattle.runs.specs.Whole.{started-ready, run-prints}
+use Rattle.program_run.specs.declared.Run.{Run}
+use Rattle.program_run.specs.Runs.{Printed}
+use Rattle.program_run.specs.Machine.{started, progress, Feeds, Closes, Writes}
+use Rattle.program_run.specs.Steps.{feeds-none, feeds-then}
+use Rattle.program_run.specs.Whole.{started-ready, run-prints}
 
 -- the run is the one to which some bytes lead from the start
 pub record Reads (d bytes : List ℕ) (r : Run) (e b : List ℕ) : Type 0 where

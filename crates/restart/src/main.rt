@@ -1,7 +1,7 @@
 // Reads settings and reports from standard input and prints the plan, the reason to wait, or the number of a refusal.
 use libc::STDIN_FILENO;
 use libc::STDOUT_FILENO;
-use runs::Run;
+use program_run::Run;
 ghost use mathlib.Core.Path.{_≡_};
 ghost use lib.ListN.{length};
 ghost use Rattle.io.specs.Counts.{Counts};

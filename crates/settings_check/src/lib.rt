@@ -3,23 +3,23 @@ ghost use mathlib.Core.Bool.{true};
 ghost use mathlib.Core.Path.{_≡_};
 ghost use Prim.Native.Nat.{_<_, _≤_};
 ghost use lib.ListN.{length};
-ghost use Rattle.settings.specs.Settings.{rangesOk, sizesOk, nodesOk, shardOk, shardsOk, settingsOk, Sizes, shards, need};
+ghost use Rattle.settings_values.specs.Settings.{rangesOk, sizesOk, nodesOk, shardOk, shardsOk, settingsOk, Sizes, shards, need};
 
 // The first four words are in their ranges.
 fn ranges_ok(settings: &[u32]) -> bool
     requires { ⌜ 4 ≤ length (now settings) ⌝ }
     ensures { λ r. ⌜ r ≡ rangesOk (now (settings .entry)) ⌝ }
 {
-    if !settings::from_to(1, 32, settings[0]) {
+    if !settings_values::from_to(1, 32, settings[0]) {
         return false;
     }
-    if !settings::from_to(1, 16, settings[1]) {
+    if !settings_values::from_to(1, 16, settings[1]) {
         return false;
     }
-    if !settings::from_to(1, settings[0], settings[2]) {
+    if !settings_values::from_to(1, settings[0], settings[2]) {
         return false;
     }
-    settings::from_to(1, 16, settings[3])
+    settings_values::from_to(1, 16, settings[3])
 }
 
 // The first four words are in their ranges, and the length is what they say.
@@ -32,7 +32,7 @@ fn sizes_ok(settings: &[u32]) -> bool
     if !ranges_ok(settings) {
         return false;
     }
-    settings.len() == 4 + ids::wide(settings[0]) + ids::wide(settings[3])
+    settings.len() == 4 + base_ids::wide(settings[0]) + base_ids::wide(settings[3])
 }
 
 // Each node's failure set is one of them.
@@ -40,7 +40,7 @@ fn nodes_ok(settings: &[u32]) -> bool
     requires { ⌜ Sizes (now settings) ⌝ }
     ensures { λ r. ⌜ r ≡ nodesOk (now (settings .entry)) ⌝ }
 {
-    let n = ids::wide(settings[0]);
+    let n = base_ids::wide(settings[0]);
     let f = settings[1];
     let mut i: usize = 0;
     while i < n {
@@ -58,18 +58,18 @@ fn shard_ok(settings: &[u32], s: usize) -> bool
     requires { ⌜ s < shards (now settings) ⌝ }
     ensures { λ r. ⌜ r ≡ shardOk (now (settings .entry)) s ⌝ }
 {
-    let word = settings::shard_word(settings, s);
+    let word = settings_values::shard_word(settings, s);
     if 3 < word / 256 {
         return false;
     }
-    settings::from_to(1, settings[1], word % 256)
+    settings_values::from_to(1, settings[1], word % 256)
 }
 
 fn shards_ok(settings: &[u32]) -> bool
     requires { ⌜ Sizes (now settings) ⌝ }
     ensures { λ r. ⌜ r ≡ shardsOk (now (settings .entry)) ⌝ }
 {
-    let count = ids::wide(settings[3]);
+    let count = base_ids::wide(settings[3]);
     let mut s: usize = 0;
     while s < count {
         if !shard_ok(settings, s) {

@@ -1,0 +1,95 @@
+-- A refusal is the first row of a list of (condition, number) whose condition fails, in the order of the list.
+-- Laws: a list gives none just where every condition of it holds.
+use Prim.Native.Nat.{ℕ, suc}
+use mathlib.Core.Bool.{Bool, true, false, cond, _&&_}
+use mathlib.Core.Path.{_≡_, refl, sym, ap, _∙_}
+use lib.Dec.{eqb}
+use borrow.Author.Tests.{eqb-true}
+use native.Mathlib.Omega.{arith}
+use Rattle.base_ids.specs.declared.Refusal.{Refusal}
+
+-- the refusal with a number; 0 is none
+abbrev pub refused : ℕ → Refusal
+refused k = record { number = k }
+
+-- no refusal
+abbrev pub none : Refusal
+none = refused 0
+
+-- nothing is refused
+abbrev pub accepted : Refusal → Bool
+accepted r = eqb (r .number) 0
+
+-- number k unless the condition holds, and then what the rest of the list gives
+unfoldable pub unless : Bool → ℕ → Refusal → Refusal
+unless ok k rest = cond ok rest (refused k)
+
+-- the refusal of a list that is followed by another
+unfoldable pub firstOf : Refusal → Refusal → Refusal
+firstOf r rest = cond (accepted r) rest r
+
+-- ---- laws
+
+-- an accepted refusal is none
+pub accepted-none : (r : Refusal) → accepted r ≡ true → r ≡ none
+accepted-none r h = ap refused (eqb-true (r .number) 0 h)
+
+-- the condition of a list that gives none, and what follows it. Every number of a row is above 0.
+pub unless-ok : (ok : Bool) (k : ℕ) (rest : Refusal) → unless ok (suc k) rest ≡ none → ok ≡ true
+unfolding unless
+unless-ok true k rest h = refl
+unless-ok false k rest h = absurd (let z : suc k ≡ 0 = ap (λ (r : Refusal). r .number) h in omega arith)
+
+pub unless-rest : (ok : Bool) (k : ℕ) (rest : Refusal) → unless ok (suc k) rest ≡ none → rest ≡ none
+unfolding unless
+unless-rest true k rest h = h
+unless-rest false k rest h = absurd (let z : suc k ≡ 0 = ap (λ (r : Refusal). r .number) h in omega arith)
+
+-- and back
+pub unless-none : (ok : Bool) (k : ℕ) (rest : Refusal) → ok ≡ true → rest ≡ none → unless ok k rest ≡ none
+unfolding unless
+unless-none ok k rest h e = rw (h, e)
+
+-- a list whose first condition holds is the rest, and one whose first condition fails has its number
+pub unless-true : (ok : Bool) (k : ℕ) (rest : Refusal) → ok ≡ true → unless ok k rest ≡ rest
+unfolding unless
+unless-true ok k rest h = rw h
+
+pub unless-false : (ok : Bool) (k : ℕ) (rest : Refusal) → ok ≡ false → unless ok k rest ≡ refused k
+unfolding unless
+unless-false ok k rest h = rw h
+
+-- two conditions of one number are one condition
+pub unless-and : (p q : Bool) (k : ℕ) (rest : Refusal) → unless p k (unless q k rest) ≡ unless (p && q) k rest
+unfolding unless
+unless-and true q k rest = refl
+unless-and false q k rest = refl
+
+-- both of two lists that together give none
+pub first-left : (r rest : Refusal) → firstOf r rest ≡ none → r ≡ none
+unfolding firstOf
+first-left r rest h = go (accepted r) refl h
+  where
+    go : (b : Bool) → accepted r ≡ b → cond b rest r ≡ none → r ≡ none
+    go true e g = accepted-none r e
+    go false e g = g
+
+pub first-none : (r rest : Refusal) → r ≡ none → firstOf r rest ≡ rest
+unfolding firstOf
+first-none r rest h = rw h
+
+pub first-right : (r rest : Refusal) → firstOf r rest ≡ none → rest ≡ none
+first-right r rest h = sym (first-none r rest (first-left r rest h)) ∙ h
+
+-- a list that refuses is not followed
+pub first-refused : (r rest : Refusal) → accepted r ≡ false → firstOf r rest ≡ r
+unfolding firstOf
+first-refused r rest h = rw h
+
+-- r is what the first list gives
+module _ {r first : Refusal} (e : r ≡ first) where
+  pub rows-refused : (rest : Refusal) → accepted r ≡ false → r ≡ firstOf first rest
+  rows-refused rest h = e ∙ sym (first-refused first rest (sym (ap accepted e) ∙ h))
+
+  pub rows-followed : {s rest : Refusal} → s ≡ rest → accepted r ≡ true → s ≡ firstOf first rest
+  rows-followed {s} {rest} f h = f ∙ sym (first-none first rest (accepted-none first (sym (ap accepted e) ∙ h)))

@@ -1,0 +1,53 @@
+-- What the call decide answers, and the state's bytes afterwards. The choice among placements of least moves is free, so the call
+-- is promised to answer and leave what some outcome of decide says.
+use Prim.Native.Nat.{ℕ}
+use mathlib.Core.Bool.{true, false}
+use mathlib.Core.List.{List}
+use mathlib.Core.Path.{_≡_}
+use Rattle.word_bytes.specs.Words.{bytesOf}
+use Rattle.word_lent.specs.Lent.{wordsIn}
+use Rattle.word_lent.specs.Answers.{plannedWord, waitWord}
+use Rattle.base_ids.specs.declared.Refusal.{Refusal}
+use Rattle.base_ids.specs.Refusals.{accepted}
+use Rattle.report_views.specs.Quorums.{numberOf, valueOf}
+use Rattle.state_planner.specs.declared.State.{State}
+use Rattle.state_planner.specs.declared.Decision.{Decision}
+use Rattle.state_planner.specs.declared.Decision.the-variants.{Planned, Wait, Refused}
+use Rattle.state_planner.specs.declared.Decided.{Decided}
+use Rattle.state_planner.specs.Refusing.{deskOk}
+use Rattle.state_planner.specs.Decide.{Decides}
+use Rattle.word_state.specs.StateWords.{stateWords, isState}
+use Rattle.c_state.specs.Calls.{stateLent, entryRefused}
+
+-- the answer to a decision
+abbrev pub decisionWord : Decision → ℕ
+decisionWord Planned = plannedWord
+decisionWord (Wait reason) = waitWord (numberOf reason) (valueOf reason)
+decisionWord (Refused r) = r .number
+
+-- the shard or subgroup that a decision names, or 0
+abbrev pub decisionValue : Decision → ℕ
+decisionValue Planned = 0
+decisionValue (Wait reason) = valueOf reason
+decisionValue (Refused r) = 0
+
+-- the state's bytes afterwards: only a plan changes them
+abbrev pub decisionLeaves : Decision → State → List ℕ → List ℕ
+decisionLeaves Planned x state = bytesOf (stateWords x)
+decisionLeaves (Wait reason) x state = state
+decisionLeaves (Refused r) x state = state
+
+-- rows 1 to 3 before the state is looked at
+unfoldable pub decideEntry : List ℕ → List ℕ → List ℕ → Refusal
+decideEntry settings state desk = entryRefused (deskOk (wordsIn desk)) settings (isState (wordsIn state))
+
+-- the answer and the bytes are those of an outcome of decide
+pub record ByOutcome (settings state desk : List ℕ) (answer : ℕ) (left : List ℕ) : Type 0 where
+  pub outcome : Decided
+  pub decides : Decides (wordsIn settings) (stateLent state) (wordsIn desk) outcome
+  pub answers : answer ≡ decisionWord (outcome .decision)
+  pub leaves : left ≡ decisionLeaves (outcome .decision) (outcome .state) state
+
+pub record DecideCall (settings state desk : List ℕ) (answer : ℕ) (left : List ℕ) : Type 0 where
+  pub refused : accepted (decideEntry settings state desk) ≡ false → (answer ≡ decideEntry settings state desk .number) × (left ≡ state)
+  pub decided : accepted (decideEntry settings state desk) ≡ true → ByOutcome settings state desk answer left

@@ -1,0 +1,79 @@
+// Decide, over lent bytes.
+use report_views::Reason;
+use state_planner::Decided;
+use state_planner::Decision;
+use state_planner::State;
+ghost use mathlib.Core.Bool.{true};
+ghost use mathlib.Core.Path.{_≡_};
+ghost use Prim.Native.Nat.{_≤_};
+ghost use lib.ListN.{length};
+ghost use Rattle.word_lent.specs.Lent.{wordsIn};
+ghost use Rattle.word_lent.specs.Answers.{waitWord};
+ghost use Rattle.settings_values.specs.Settings.{settingsOk};
+ghost use Rattle.report_views.specs.Quorums.{numberOf, valueOf};
+ghost use Rattle.state_planner.specs.Decide.{Decides};
+ghost use Rattle.c_decide.specs.Decisions as Decisions;
+
+// A wait as an answer.
+fn wait_word(reason: u32, value: u32) -> u32
+    requires { ⌜ (reason ≤ 5) × (value ≤ 16) ⌝ }
+    ensures { λ r. ⌜ r ≡ waitWord reason value ⌝ }
+{
+    50331648 + 256 * reason + value
+}
+
+// A wait by its reason.
+fn reason_word(reason: Reason) -> u32
+    requires { ⌜ valueOf reason ≤ 16 ⌝ }
+    ensures { λ r. ⌜ r ≡ waitWord (numberOf reason) (valueOf reason) ⌝ }
+{
+    match reason {
+        Reason::NoView => wait_word(1, 0),
+        Reason::NoMajority => wait_word(2, 0),
+        Reason::TooFew => wait_word(3, 0),
+        Reason::NoHolder(shard) => wait_word(4, shard.0),
+        Reason::NoPlacement(group) => wait_word(5, group),
+    }
+}
+
+// What decide hands back beside lent settings and a lent desk.
+fn decided(x: State, settings: &[u8], desk: &[u8]) -> Decided
+    requires { ⌜ settingsOk (wordsIn (now settings)) ≡ true ⌝ }
+    requires { ⌜ length (now desk) ≡ 65536 ⌝ }
+    ensures { λ r. ⌜ Decides (wordsIn (now (settings .entry))) x (wordsIn (now (desk .entry))) r ⌝ }
+{
+    let lent = word_lent::words_of(52, settings);
+    let n = lent.len;
+    let own = lent.table;
+    let words = c_state::desk_words(desk);
+    x.decide(&own[0..n], &words)
+}
+
+// The answer to a decision; the state is stored where a plan was made.
+fn keep(o: Decided, state: &mut [u8]) -> u32
+    requires { ⌜ (length (now state) ≡ 640) × (Decisions.decisionValue (o .decision) ≤ 16) ⌝ }
+    ensures { λ r. ⌜ (r ≡ Decisions.decisionWord (o .decision)) × (now (state .exit) ≡ Decisions.decisionLeaves (o .decision) (o .state) (now (state .entry))) ⌝ }
+{
+    let decision = o.decision;
+    match decision {
+        Decision::Planned => {
+            c_state::store(o.state, state);
+            33554432
+        }
+        Decision::Wait(reason) => reason_word(reason),
+        Decision::Refused(refusal) => refusal.number,
+    }
+}
+
+// Plans a restart, or says why there is none: rows 1 to 4.
+pub fn decide(settings: &[u8], state: &mut [u8], desk: &[u8]) -> u32
+    ensures { λ r. ⌜ Decisions.DecideCall (now (settings .entry)) (now (state .entry)) (now (desk .entry)) r (now (state .exit)) ⌝ }
+{
+    let entry = c_state::enter(desk.len() == 65536, settings, state);
+    let refusal = entry.refusal;
+    if refusal.number != 0 {
+        return refusal.number;
+    }
+    let o = decided(entry.state, settings, desk);
+    keep(o, state)
+}

@@ -1,0 +1,65 @@
+-- What the calls answer and leave, case by case.
+-- ---- fresh
+-- ---- an event that names a node
+-- the words that are looked at are those that were lent
+use mathlib.Core.Path.{_≡_, refl, ap, ap₂, _∙_, subst}
+use mathlib.Core.Bool.{true}
+use mathlib.Core.List.{List}
+use Prim.Native.Nat.{ℕ}
+use lib.Dec.{eqb}
+use lib.ListN.{length}
+use borrow.Author.Tests.{eq-eqb, ne-eqb}
+use Rattle.word_bytes.specs.Words.{bytesOf}
+use Rattle.word_lent.specs.Lent.{wordsIn, wordsWithin}
+use Rattle.word_lent.specs.Answers.{Told, told-refused, told-accepted}
+use Rattle.base_ids.specs.Refusals.{none, refused, unless-true, unless-false}
+use Rattle.settings_values.specs.Settings.{settingsOk}
+use Rattle.state_planner.specs.declared.State.{State}
+use Rattle.state_planner.specs.declared.Outcome.{Outcome}
+use Rattle.state_planner.specs.States as States
+use Rattle.word_state.specs.StateWords.{stateWords}
+use Rattle.c_state.specs.declared.Entry.{Entry}
+use Rattle.c_state.specs.Calls.{entry, refusalOf}
+use Rattle.c_state.specs.CallLaws.{settings-whole, desk-passes, event-refused, event-done}
+use Rattle.c_events.specs.declared.Event.{Event}
+use Rattle.c_events.specs.Events.{freshRefused, freshAnswer, freshLeaves, happened, taken, takeAnswer, takeLeaves}
+
+module _ (state : List ℕ) where
+  abbrev ToldFresh : ℕ → List ℕ → Type 0
+  ToldFresh answer left = (answer ≡ freshAnswer state) × (left ≡ freshLeaves state)
+
+  pub fresh-not-640 : (length state ≡ 640 → ⊥) → ToldFresh 3 state
+  unfolding freshAnswer freshLeaves freshRefused
+  fresh-not-640 h =
+      let t = told-refused (refused 3) (freshRefused state) (unless-false (eqb (length state) 640) 3 none (ne-eqb (length state) 640 h)) 0 (bytesOf (stateWords States.fresh)) state refl in
+      (t .answers, t .leaves)
+
+  pub fresh-stored : length state ≡ 640 → (x : State) → x ≡ States.fresh → (left : List ℕ) → left ≡ bytesOf (stateWords x) → ToldFresh 0 left
+  unfolding freshAnswer freshLeaves freshRefused
+  fresh-stored h x e left f =
+      let t = told-accepted none (freshRefused state) (unless-true (eqb (length state) 640) 3 none (eq-eqb (length state) 640 h)) 0 (bytesOf (stateWords States.fresh)) state refl in
+      (t .answers, f ∙ ap (λ (y : State). bytesOf (stateWords y)) e ∙ t .leaves)
+
+pub outcome-whole : (event : Event) (x : State) (settings desk : List ℕ) (node : ℕ) (s d : List ℕ) → settingsOk (wordsIn settings) ≡ true
+    → s ≡ wordsWithin 52 settings → d ≡ wordsIn desk
+    → happened event s x d node ≡ happened event (wordsIn settings) x (wordsIn desk) node
+outcome-whole event x settings desk node s d h e f =
+    ap₂ (λ (a : List ℕ) (b : List ℕ). happened event a x b node) (e ∙ settings-whole settings h) f
+
+module _ (event : Event) (settings state desk : List ℕ) (node : ℕ) where
+  abbrev ToldTake : ℕ → List ℕ → Type 0
+  ToldTake answer left = (answer ≡ takeAnswer event settings state desk node) × (left ≡ takeLeaves event settings state desk node)
+
+  module _ (e : Entry) (given : e ≡ entry (eqb (length desk) 65536) settings state) where
+    pub take-refused : (e .refusal .number ≡ 0 → ⊥) → ToldTake (e .refusal .number) state
+    unfolding takeAnswer takeLeaves
+    take-refused h = event-refused settings state desk (taken event settings state desk node) e given h
+
+    pub take-done : e .refusal .number ≡ 0 → (o : Outcome) → o ≡ happened event (wordsIn settings) (e .state) (wordsIn desk) node
+        → {answer : ℕ} {left : List ℕ} → Told (refusalOf (o .answer)) 0 (bytesOf (stateWords (o .state))) state answer left → ToldTake answer left
+    unfolding takeAnswer takeLeaves taken
+    take-done h o f {answer} {left} t =
+        let same : o ≡ taken event settings state desk node =
+        f ∙ ap (λ (x : State). happened event (wordsIn settings) x (wordsIn desk) node) (desk-passes settings state desk e given h .state-is) in
+        event-done settings state desk (taken event settings state desk node) e given h
+        (subst (λ (p : Outcome). Told (refusalOf (p .answer)) 0 (bytesOf (stateWords (p .state))) state answer left) same t)

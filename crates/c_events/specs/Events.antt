@@ -1,0 +1,45 @@
+-- What the calls fresh, drop, fetched and prepared answer, and the state's bytes afterwards.
+use Prim.Native.Nat.{ℕ}
+use mathlib.Core.List.{List}
+use lib.Dec.{eqb}
+use lib.ListN.{length}
+use Rattle.word_bytes.specs.Words.{bytesOf}
+use Rattle.word_lent.specs.Lent.{wordsIn}
+use Rattle.word_lent.specs.Answers.{answerWord, bytesLeft}
+use Rattle.base_ids.specs.declared.Refusal.{Refusal}
+use Rattle.base_ids.specs.Refusals.{none, unless}
+use Rattle.state_planner.specs.declared.State.{State}
+use Rattle.state_planner.specs.declared.Outcome.{Outcome}
+use Rattle.state_planner.specs.States as States
+use Rattle.state_planner.specs.Events.{dropped, fetchedOf, preparedOf}
+use Rattle.word_state.specs.StateWords.{stateWords}
+use Rattle.c_state.specs.Calls.{stateLent, eventAnswer, eventLeaves}
+use Rattle.c_events.specs.declared.Event.{Event}
+use Rattle.c_events.specs.declared.Event.the-variants.{Drop, Fetched, Prepared}
+
+-- row 3: the bytes are not 160 words
+unfoldable pub freshRefused : List ℕ → Refusal
+freshRefused state = unless (eqb (length state) 640) 3 none
+
+unfoldable pub freshAnswer : List ℕ → ℕ
+freshAnswer state = answerWord (freshRefused state) 0
+
+unfoldable pub freshLeaves : List ℕ → List ℕ
+freshLeaves state = bytesLeft (freshRefused state) (bytesOf (stateWords States.fresh)) state
+
+-- the outcome of an event that names a node
+abbrev pub happened : Event → List ℕ → State → List ℕ → ℕ → Outcome
+happened Drop σ x d n = dropped σ x d n
+happened Fetched σ x d n = fetchedOf σ x d n
+happened Prepared σ x d n = preparedOf σ x d n
+
+module _ (event : Event) (settings state desk : List ℕ) (node : ℕ) where
+  -- the same, of lent bytes
+  unfoldable pub taken : Outcome
+  taken = happened event (wordsIn settings) (stateLent state) (wordsIn desk) node
+
+  unfoldable pub takeAnswer : ℕ
+  takeAnswer = eventAnswer settings state desk taken
+
+  unfoldable pub takeLeaves : List ℕ
+  takeLeaves = eventLeaves settings state desk taken

@@ -1,0 +1,67 @@
+// The fresh state, and drop, fetched and prepared, over lent bytes.
+use base_ids::Node;
+use state_planner::Outcome;
+use state_planner::State;
+ghost use mathlib.Core.Bool.{true};
+ghost use mathlib.Core.Path.{_≡_};
+ghost use lib.ListN.{length};
+ghost use Rattle.word_lent.specs.Lent.{wordsIn};
+ghost use Rattle.settings_values.specs.Settings.{settingsOk};
+ghost use Rattle.c_events.specs.Events as Events;
+
+// An event that names a node.
+pub enum Event {
+    Drop,
+    Fetched,
+    Prepared,
+}
+
+// Stores the fresh state: row 3 where the bytes are not 640.
+pub fn fresh(state: &mut [u8]) -> u32
+    ensures answer { λ r. ⌜ r ≡ Events.freshAnswer (now (state .entry)) ⌝ }
+    ensures bytes { λ r. ⌜ now (state .exit) ≡ Events.freshLeaves (now (state .entry)) ⌝ }
+{
+    if state.len() != 640 {
+        return 3;
+    }
+    c_state::store(State::fresh(), state);
+    0
+}
+
+// The outcome of an event.
+fn outcome(event: Event, x: State, settings: &[u32], desk: &[u32], node: u32) -> Outcome
+    ensures { λ r. ⌜ r ≡ Events.happened event (now (settings .entry)) x (now (desk .entry)) node ⌝ }
+{
+    match event {
+        Event::Drop => x.drop(settings, desk, Node(node)),
+        Event::Fetched => x.fetched(settings, desk, Node(node)),
+        Event::Prepared => x.prepared(settings, desk, Node(node)),
+    }
+}
+
+// The outcome of an event beside lent settings and a lent desk.
+fn outcome_lent(event: Event, x: State, settings: &[u8], desk: &[u8], node: u32) -> Outcome
+    requires { ⌜ settingsOk (wordsIn (now settings)) ≡ true ⌝ }
+    requires { ⌜ length (now desk) ≡ 65536 ⌝ }
+    ensures { λ r. ⌜ r ≡ Events.happened event (wordsIn (now (settings .entry))) x (wordsIn (now (desk .entry))) node ⌝ }
+{
+    let lent = word_lent::words_of(52, settings);
+    let n = lent.len;
+    let own = lent.table;
+    let words = c_state::desk_words(desk);
+    outcome(event, x, &own[0..n], &words, node)
+}
+
+// An event that names a node: rows 1 to 4, 6 and 14.
+pub fn take(event: Event, settings: &[u8], state: &mut [u8], desk: &[u8], node: u32) -> u32
+    ensures answer { λ r. ⌜ r ≡ Events.takeAnswer event (now (settings .entry)) (now (state .entry)) (now (desk .entry)) node ⌝ }
+    ensures bytes { λ r. ⌜ now (state .exit) ≡ Events.takeLeaves event (now (settings .entry)) (now (state .entry)) (now (desk .entry)) node ⌝ }
+{
+    let entry = c_state::enter(desk.len() == 65536, settings, state);
+    let refusal = entry.refusal;
+    if refusal.number != 0 {
+        return refusal.number;
+    }
+    let o = outcome_lent(event, entry.state, settings, desk, node);
+    c_state::keep(o, state)
+}

@@ -1,0 +1,142 @@
+-- What the call order answers and leaves, case by case: lengths, settings or state are wrong, the order is refused, the order is written.
+-- ---- the words that are looked at
+-- ---- only the buffer's length matters
+-- an order has few words
+-- ---- the cases
+use Prim.Native.Nat.{ℕ, _≤_}
+use mathlib.Core.Bool.{Bool, true, _&&_}
+use mathlib.Core.List.{List}
+use mathlib.Core.Path.{_≡_, sym, ap, ap₂, _∙_}
+use native.Mathlib.Omega.{arith}
+use lib.Dec.{eqb, leb}
+use lib.ListN.{length}
+use borrow.Author.Tests.{eqb-true, eq-eqb, ne-eqb, leb-true}
+use Rattle.base_laws.specs.Bools.{and-left, and-right}
+use Rattle.word_bytes.specs.Words.{bytesOf}
+use Rattle.word_lent.specs.Lent.{wordsIn, wordsWithin}
+use Rattle.word_lent.specs.Answers.{withLength, Told, told-refused, told-accepted}
+use Rattle.base_ids.specs.Refusals.{none, accepted-none, unless-ok, unless-rest}
+use Rattle.settings_values.specs.Settings.{settingsOk}
+use Rattle.message_format.specs.declared.Form.the-variants.{Order}
+use Rattle.message_format.specs.declared.Writing.{Writing}
+use Rattle.message_format.specs.Messages.{contentsRefusal, writeRefusal}
+use Rattle.plan_order.specs.Orders.{orderContents}
+use Rattle.state_planner.specs.declared.State.{State}
+use Rattle.state_planner.specs.Refusing.{deskOk, orderRefusal}
+use Rattle.state_order.specs.Orders.{ordered, orderBuffer}
+use Rattle.state_order.specs.Taken.{writer-takes}
+use Rattle.c_state.specs.declared.Entry.{Entry}
+use Rattle.c_state.specs.Calls.{stateLent, entry}
+use Rattle.c_state.specs.CallLaws.{settings-whole, bytes-of-words, length-test, CallEntered, entry-refuses, entry-passes}
+use Rattle.c_order.specs.OrderCalls.{lengthsOk, orderRefused, orderAnswer, orderLeaves}
+
+module _ (x : State) (settings desk : List ℕ) (node : ℕ) (z s d : List ℕ) (h : settingsOk (wordsIn settings) ≡ true)
+    (e : s ≡ wordsWithin 52 settings) (f : d ≡ wordsIn desk) where
+  pub ordered-whole : ordered s x d node z ≡ ordered (wordsIn settings) x (wordsIn desk) node z
+  ordered-whole = ap₂ (λ (a : List ℕ) (b : List ℕ). ordered a x b node z) (e ∙ settings-whole settings h) f
+
+  pub buffer-whole : orderBuffer s x d node z ≡ orderBuffer (wordsIn settings) x (wordsIn desk) node z
+  buffer-whole = ap₂ (λ (a : List ℕ) (b : List ℕ). orderBuffer a x b node z) (e ∙ settings-whole settings h) f
+
+module _ (σ : List ℕ) (x : State) (d : List ℕ) (n : ℕ) (b z : List ℕ) (same : length b ≡ length z) where
+  refusal-same : orderRefusal σ x d n b ≡ orderRefusal σ x d n z
+  unfolding orderRefusal
+  refusal-same = rw same
+
+  ordered-same : ordered σ x d n b ≡ ordered σ x d n z
+  unfolding ordered
+  ordered-same = rw refusal-same
+
+  buffer-same : orderRefusal σ x d n z ≡ none → orderBuffer σ x d n b ≡ orderBuffer σ x d n z
+  unfolding orderBuffer
+  buffer-same h = rw (refusal-same, h)
+
+few-words : (σ : List ℕ) (x : State) (d : List ℕ) (n : ℕ) (z : List ℕ) → orderRefusal σ x d n z ≡ none → ordered σ x d n z .length ≤ 512
+unfolding ordered writeRefusal contentsRefusal
+few-words σ x d n z h =
+    let c = orderContents σ (x .plan) d n in
+    let taken : contentsRefusal Order σ c ≡ none =
+    unless-rest (settingsOk σ) 1 _ (unless-rest (eqb (length z) 512) 0 _ (writer-takes σ x d n z h)) in
+    let few = leb-true (c .len) 127 (unless-ok (leb (c .len) 127) 4 _ taken) in
+    rw h (omega arith)
+
+module _ (settings state desk : List ℕ) (node : ℕ) (buffer : List ℕ) where
+  abbrev pub ToldOrder : ℕ → List ℕ → Type 0
+  ToldOrder answer left = (answer ≡ orderAnswer settings state desk node buffer) × (left ≡ orderLeaves settings state desk node buffer)
+
+  told : {answer : ℕ} {left : List ℕ}
+      → Told (orderRefused settings state desk node buffer)
+      (withLength (ordered (wordsIn settings) (stateLent state) (wordsIn desk) node (wordsIn buffer) .length))
+      (bytesOf (orderBuffer (wordsIn settings) (stateLent state) (wordsIn desk) node (wordsIn buffer)))
+      buffer answer left
+      → ToldOrder answer left
+  unfolding orderAnswer orderLeaves
+  told t = (t .answers, t .leaves)
+
+  module _ (lengths : Bool) (ok : lengths ≡ (eqb (length desk) 65536 && eqb (length buffer) 2048)) (e : Entry)
+      (given : e ≡ entry lengths settings state) where
+    from : e ≡ entry (lengthsOk desk buffer) settings state
+    from = given ∙ ap (λ (b : Bool). entry b settings state) (ok ∙ ap₂ _&&_ (length-test desk 16383) (length-test buffer 511))
+
+    pub order-not-entered : (e .refusal .number ≡ 0 → ⊥) → ToldOrder (e .refusal .number) buffer
+    unfolding orderRefused
+    order-not-entered h = told (entry-refuses (lengthsOk desk buffer) settings state e from h _ _ _ buffer)
+
+    module _ (h : e .refusal .number ≡ 0) where
+      pub order-passes : CallEntered (lengthsOk desk buffer) settings state (e .state)
+      order-passes = entry-passes (lengthsOk desk buffer) settings state e from h
+
+      pub desk-long : length desk ≡ 65536
+      desk-long =
+          bytes-of-words desk 16383
+          (eqb-true (length (wordsIn desk)) 16384 (and-left (deskOk (wordsIn desk)) (eqb (length (wordsIn buffer)) 512) (order-passes .lengths-ok)))
+
+      buffer-words : length (wordsIn buffer) ≡ 512
+      buffer-words =
+          eqb-true (length (wordsIn buffer)) 512 (and-right (deskOk (wordsIn desk)) (eqb (length (wordsIn buffer)) 512) (order-passes .lengths-ok))
+
+      pub buffer-long : length buffer ≡ 2048
+      buffer-long = bytes-of-words buffer 511 buffer-words
+
+      -- the order was written into 512 words z
+      module _ (z : List ℕ) (long : length z ≡ 512) (w : Writing) (f : w ≡ ordered (wordsIn settings) (e .state) (wordsIn desk) node z) where
+        writing-is : w ≡ ordered (wordsIn settings) (stateLent state) (wordsIn desk) node z
+        writing-is = f ∙ ap (λ (x : State). ordered (wordsIn settings) x (wordsIn desk) node z) (order-passes .state-is)
+
+        same-length : length (wordsIn buffer) ≡ length z
+        same-length = buffer-words ∙ sym long
+
+        refusal-is : orderRefused settings state desk node buffer ≡ w .refusal
+        unfolding orderRefused ordered
+        refusal-is =
+            order-passes .event _
+            ∙ refusal-same (wordsIn settings) (stateLent state) (wordsIn desk) node (wordsIn buffer) z same-length
+            ∙ sym (ap (λ (y : Writing). y .refusal) writing-is)
+
+        pub order-refused : (w .refusal .number ≡ 0 → ⊥) → ToldOrder (w .refusal .number) buffer
+        order-refused n = told (told-refused (w .refusal) _ refusal-is _ _ buffer (ne-eqb (w .refusal .number) 0 n))
+
+        module _ (n : w .refusal .number ≡ 0) where
+          none-is : orderRefusal (wordsIn settings) (stateLent state) (wordsIn desk) node z ≡ none
+          unfolding ordered
+          none-is = sym (ap (λ (y : Writing). y .refusal) writing-is) ∙ accepted-none (w .refusal) (eq-eqb (w .refusal .number) 0 n)
+
+          pub order-few : w .length ≤ 512
+          order-few =
+              let few = few-words (wordsIn settings) (stateLent state) (wordsIn desk) node z none-is in
+              let is : w .length ≡ ordered (wordsIn settings) (stateLent state) (wordsIn desk) node z .length =
+              ap (λ (y : Writing). y .length) writing-is in
+              omega arith
+
+          pub order-written : (out : List ℕ) → out ≡ orderBuffer (wordsIn settings) (e .state) (wordsIn desk) node z
+              → ToldOrder (withLength (w .length)) (bytesOf out)
+          order-written out g =
+              let length-is : w .length ≡ ordered (wordsIn settings) (stateLent state) (wordsIn desk) node (wordsIn buffer) .length =
+              ap (λ (y : Writing). y .length)
+              (writing-is ∙ sym (ordered-same (wordsIn settings) (stateLent state) (wordsIn desk) node (wordsIn buffer) z same-length)) in
+              let out-is : out ≡ orderBuffer (wordsIn settings) (stateLent state) (wordsIn desk) node (wordsIn buffer) =
+              g
+              ∙ ap (λ (x : State). orderBuffer (wordsIn settings) x (wordsIn desk) node z) (order-passes .state-is)
+              ∙ sym (buffer-same (wordsIn settings) (stateLent state) (wordsIn desk) node (wordsIn buffer) z same-length none-is) in
+              rw (length-is, out-is)
+              (told (told-accepted (w .refusal) _ refusal-is _ _ buffer (eq-eqb (w .refusal .number) 0 n)))

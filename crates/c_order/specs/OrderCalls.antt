@@ -1,0 +1,33 @@
+-- What the call order answers, and the buffer's bytes afterwards.
+use Prim.Native.Nat.{ℕ}
+use mathlib.Core.Bool.{Bool, _&&_}
+use mathlib.Core.List.{List}
+use lib.Dec.{eqb}
+use lib.ListN.{length}
+use Rattle.word_bytes.specs.Words.{bytesOf}
+use Rattle.word_lent.specs.Lent.{wordsIn}
+use Rattle.word_lent.specs.Answers.{answerWord, withLength, bytesLeft}
+use Rattle.base_ids.specs.declared.Refusal.{Refusal}
+use Rattle.state_planner.specs.Refusing.{deskOk, orderRefusal}
+use Rattle.state_order.specs.Orders.{ordered, orderBuffer}
+use Rattle.c_state.specs.Calls.{stateLent, called}
+
+-- row 1: desk and buffer have their lengths
+abbrev pub lengthsOk : List ℕ → List ℕ → Bool
+lengthsOk desk buffer = deskOk (wordsIn desk) && eqb (length (wordsIn buffer)) 512
+
+module _ (settings state desk : List ℕ) (node : ℕ) (buffer : List ℕ) where
+  unfoldable pub orderRefused : Refusal
+  orderRefused =
+      called (lengthsOk desk buffer) settings state
+      (orderRefusal (wordsIn settings) (stateLent state) (wordsIn desk) node (wordsIn buffer))
+
+  -- the length is that of the order
+  unfoldable pub orderAnswer : ℕ
+  orderAnswer =
+      answerWord orderRefused (withLength (ordered (wordsIn settings) (stateLent state) (wordsIn desk) node (wordsIn buffer) .length))
+
+  -- the order, then zeros
+  unfoldable pub orderLeaves : List ℕ
+  orderLeaves =
+      bytesLeft orderRefused (bytesOf (orderBuffer (wordsIn settings) (stateLent state) (wordsIn desk) node (wordsIn buffer))) buffer

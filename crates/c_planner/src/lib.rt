@@ -1,0 +1,128 @@
+// The C entry points: settings, messages and the planner's events. Lent bytes are little-endian words: 160 of a state, 16384 of a
+// desk, 512 of a buffer. Each call answers a word and changes no lent byte where it refuses.
+use c_events::Event;
+use message_format::Form;
+ghost use mathlib.Core.Path.{_≡_};
+ghost use Rattle.c_messages.specs.Answers.{checkAnswer, readAnswer, readLeaves, writeAnswer, writeLeaves};
+ghost use Rattle.c_events.specs.Events.{freshAnswer, freshLeaves, takeAnswer, takeLeaves};
+ghost use Rattle.c_report.specs.ReportCalls.{reportAnswer, reportLeaves, reportDesk};
+ghost use Rattle.c_decide.specs.Decisions.{DecideCall};
+ghost use Rattle.c_order.specs.OrderCalls.{orderAnswer, orderLeaves};
+
+// 0 where the settings are right, else 2.
+#[no_mangle]
+pub extern "C" fn restart_check_settings(settings: &[u8]) -> u32
+    ensures { λ r. ⌜ r ≡ checkAnswer (now (settings .entry)) ⌝ }
+{
+    c_messages::check_settings(settings)
+}
+
+// Reads a report: rows 1 (the contents are not 2048 bytes), 2 and 5 to 11.
+#[no_mangle]
+pub extern "C" fn restart_read_report(settings: &[u8], message: &[u8], contents: &mut [u8]) -> u32
+    ensures answer { λ r. ⌜ r ≡ readAnswer Form.Report (now (settings .entry)) (now (message .entry)) (now (contents .entry)) ⌝ }
+    ensures bytes { λ r. ⌜ now (contents .exit) ≡ readLeaves Form.Report (now (settings .entry)) (now (message .entry)) (now (contents .entry)) ⌝ }
+{
+    c_messages::read_into(Form::Report, settings, message, contents)
+}
+
+// Reads an order: rows 1 (the contents are not 2048 bytes), 2 and 5 to 11.
+#[no_mangle]
+pub extern "C" fn restart_read_order(settings: &[u8], message: &[u8], contents: &mut [u8]) -> u32
+    ensures answer { λ r. ⌜ r ≡ readAnswer Form.Order (now (settings .entry)) (now (message .entry)) (now (contents .entry)) ⌝ }
+    ensures bytes { λ r. ⌜ now (contents .exit) ≡ readLeaves Form.Order (now (settings .entry)) (now (message .entry)) (now (contents .entry)) ⌝ }
+{
+    c_messages::read_into(Form::Order, settings, message, contents)
+}
+
+// Writes a report: rows 1 (the buffer is not 2048 bytes), 2, 5 to 7 and 9 to 11.
+#[no_mangle]
+pub extern "C" fn restart_write_report(settings: &[u8], contents: &[u8], buffer: &mut [u8]) -> u32
+    ensures answer { λ r. ⌜ r ≡ writeAnswer Form.Report (now (settings .entry)) (now (contents .entry)) (now (buffer .entry)) ⌝ }
+    ensures bytes { λ r. ⌜ now (buffer .exit) ≡ writeLeaves Form.Report (now (settings .entry)) (now (contents .entry)) (now (buffer .entry)) ⌝ }
+{
+    c_messages::write_into(Form::Report, settings, contents, buffer)
+}
+
+// Writes an order: rows 1 (the buffer is not 2048 bytes), 2, 5 to 7 and 9 to 11.
+#[no_mangle]
+pub extern "C" fn restart_write_order(settings: &[u8], contents: &[u8], buffer: &mut [u8]) -> u32
+    ensures answer { λ r. ⌜ r ≡ writeAnswer Form.Order (now (settings .entry)) (now (contents .entry)) (now (buffer .entry)) ⌝ }
+    ensures bytes { λ r. ⌜ now (buffer .exit) ≡ writeLeaves Form.Order (now (settings .entry)) (now (contents .entry)) (now (buffer .entry)) ⌝ }
+{
+    c_messages::write_into(Form::Order, settings, contents, buffer)
+}
+
+// Stores the fresh state: row 3 where the bytes are not 640.
+#[no_mangle]
+pub extern "C" fn restart_fresh(state: &mut [u8]) -> u32
+    ensures answer { λ r. ⌜ r ≡ freshAnswer (now (state .entry)) ⌝ }
+    ensures bytes { λ r. ⌜ now (state .exit) ≡ freshLeaves (now (state .entry)) ⌝ }
+{
+    c_events::fresh(state)
+}
+
+// A node reports: rows 1 to 13.
+#[no_mangle]
+pub extern "C" fn restart_report(
+    settings: &[u8],
+    state: &mut [u8],
+    desk: &mut [u8],
+    message: &[u8],
+) -> u32
+    ensures answer { λ r. ⌜ r ≡ reportAnswer (now (settings .entry)) (now (state .entry)) (now (desk .entry)) (now (message .entry)) ⌝ }
+    ensures state { λ r. ⌜ now (state .exit) ≡ reportLeaves (now (settings .entry)) (now (state .entry)) (now (desk .entry)) (now (message .entry)) ⌝ }
+    ensures desk { λ r. ⌜ now (desk .exit) ≡ reportDesk (now (settings .entry)) (now (state .entry)) (now (desk .entry)) (now (message .entry)) ⌝ }
+{
+    c_report::report(settings, state, desk, message)
+}
+
+// A node is no longer there: rows 1 to 4, 6 and 14.
+#[no_mangle]
+pub extern "C" fn restart_drop(settings: &[u8], state: &mut [u8], desk: &[u8], node: u32) -> u32
+    ensures answer { λ r. ⌜ r ≡ takeAnswer Event.Drop (now (settings .entry)) (now (state .entry)) (now (desk .entry)) node ⌝ }
+    ensures bytes { λ r. ⌜ now (state .exit) ≡ takeLeaves Event.Drop (now (settings .entry)) (now (state .entry)) (now (desk .entry)) node ⌝ }
+{
+    c_events::take(Event::Drop, settings, state, desk, node)
+}
+
+// Plans a restart, or says why there is none: rows 1 to 4.
+#[no_mangle]
+pub extern "C" fn restart_decide(settings: &[u8], state: &mut [u8], desk: &[u8]) -> u32
+    ensures { λ r. ⌜ DecideCall (now (settings .entry)) (now (state .entry)) (now (desk .entry)) r (now (state .exit)) ⌝ }
+{
+    c_decide::decide(settings, state, desk)
+}
+
+// Writes a held node's order: rows 1 (desk or buffer), 2 to 4, 6 and 14.
+#[no_mangle]
+pub extern "C" fn restart_order(
+    settings: &[u8],
+    state: &[u8],
+    desk: &[u8],
+    node: u32,
+    buffer: &mut [u8],
+) -> u32
+    ensures answer { λ r. ⌜ r ≡ orderAnswer (now (settings .entry)) (now (state .entry)) (now (desk .entry)) node (now (buffer .entry)) ⌝ }
+    ensures bytes { λ r. ⌜ now (buffer .exit) ≡ orderLeaves (now (settings .entry)) (now (state .entry)) (now (desk .entry)) node (now (buffer .entry)) ⌝ }
+{
+    c_order::order(settings, state, desk, node, buffer)
+}
+
+// A node has fetched what it lacked: rows 1 to 4, 6 and 14.
+#[no_mangle]
+pub extern "C" fn restart_fetched(settings: &[u8], state: &mut [u8], desk: &[u8], node: u32) -> u32
+    ensures answer { λ r. ⌜ r ≡ takeAnswer Event.Fetched (now (settings .entry)) (now (state .entry)) (now (desk .entry)) node ⌝ }
+    ensures bytes { λ r. ⌜ now (state .exit) ≡ takeLeaves Event.Fetched (now (settings .entry)) (now (state .entry)) (now (desk .entry)) node ⌝ }
+{
+    c_events::take(Event::Fetched, settings, state, desk, node)
+}
+
+// A node has prepared the new view: rows 1 to 4, 6 and 14.
+#[no_mangle]
+pub extern "C" fn restart_prepared(settings: &[u8], state: &mut [u8], desk: &[u8], node: u32) -> u32
+    ensures answer { λ r. ⌜ r ≡ takeAnswer Event.Prepared (now (settings .entry)) (now (state .entry)) (now (desk .entry)) node ⌝ }
+    ensures bytes { λ r. ⌜ now (state .exit) ≡ takeLeaves Event.Prepared (now (settings .entry)) (now (state .entry)) (now (desk .entry)) node ⌝ }
+{
+    c_events::take(Event::Prepared, settings, state, desk, node)
+}

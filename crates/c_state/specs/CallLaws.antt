@@ -1,0 +1,179 @@
+-- Laws of the calls: bytes that are a state, the settings' check, the lengths, and what a call answers and leaves before its event
+-- and after it.
+-- ---- the state's words
+-- whether words are a state
+-- the state's words that a call looks at are those that were lent, or both are no state
+-- ---- the settings
+-- right settings are looked at whole
+-- ---- lengths
+-- so many whole words are four times as many bytes
+-- a length in bytes is tested as one in words
+-- so many words of the bytes are all of them
+-- ---- before the event, and after it
+-- an entry by its parts
+-- the entry of a call that is lent a desk
+-- ---- a call whose event hands back an outcome
+use mathlib.Core.Path.{_≡_, sym, ap, _∙_}
+use mathlib.Core.Logic.{⊎-elim}
+use mathlib.Core.Bool.{Bool, true, false}
+use mathlib.Core.List.{List}
+use Prim.Native.Nat.{ℕ, suc, _*_, _/_, _%_}
+use native.Mathlib.Omega.{arith}
+use lib.Dec.{eqb}
+use lib.ListN.{length}
+use borrow.Author.Tests.{eqb-true, eq-eqb, ne-eqb}
+use Rattle.base_laws.specs.Bools.{either, same, no-true}
+use Rattle.word_bytes.specs.Words.{wordsOf, bytesOf, length-words}
+use Rattle.word_lent.specs.Lent.{wordCount, wordsIn, wordsWithin, within-cases, count-whole}
+use Rattle.word_lent.specs.Answers.{answerWord, Told, told-refused}
+use Rattle.base_ids.specs.declared.Refusal.{Refusal}
+use Rattle.base_ids.specs.Refusals.{none, accepted, accepted-none, unless, unless-ok, unless-rest, first-none, first-refused}
+use Rattle.settings_values.specs.Settings.{settingsOk}
+use Rattle.c_messages.specs.Answers.{checkAnswer}
+use Rattle.c_messages.specs.Limits.{settings-within}
+use Rattle.state_planner.specs.declared.State.{State}
+use Rattle.state_planner.specs.declared.Outcome.{Outcome}
+use Rattle.state_planner.specs.Refusing.{deskOk}
+use Rattle.word_state.specs.StateWords.{stateWords, isState, decoded}
+use Rattle.word_state.specs.Laws.{stated}
+use Rattle.word_state.specs.declared.Decoded.{Decoded}
+use Rattle.c_state.specs.declared.Entry.{Entry}
+use Rattle.c_state.specs.Calls.{stateLent, entryRefused, called, entry, refusalOf, eventRefused, eventAnswer, eventLeaves}
+
+not-state : (w : List ℕ) → (length w ≡ 160 → ⊥) → isState w ≡ false
+not-state w h = no-true (isState w) (λ s. h (stated w s .long))
+
+decoded-ok : (w : List ℕ) → decoded w .ok ≡ isState w
+unfolding decoded
+decoded-ok w = ⊎-elim (λ e. rw e) (λ e. rw e) (either (isState w))
+
+pub decoded-within : (b : List ℕ) → decoded (wordsWithin 160 b) ≡ decoded (wordsIn b)
+unfolding decoded
+decoded-within b =
+    ⊎-elim (λ e. ap decoded e)
+    (λ c. rw (not-state (wordsWithin 160 b) (λ e. omega (arith, c .0)), not-state (wordsIn b) (λ e. omega (arith, c .1))))
+    (within-cases 160 b)
+
+pub check-fails : (s : List ℕ) → (checkAnswer s ≡ 0 → ⊥) → settingsOk (wordsIn s) ≡ false
+unfolding checkAnswer answerWord unless
+check-fails s h = no-true (settingsOk (wordsIn s)) (λ e. h (rw e))
+
+pub check-holds : (s : List ℕ) → checkAnswer s ≡ 0 → settingsOk (wordsIn s) ≡ true
+unfolding checkAnswer answerWord unless
+check-holds s h = ⊎-elim (λ e. e) (λ e. absurd (let two : 2 ≡ 0 = rw e at h in omega arith)) (either (settingsOk (wordsIn s)))
+
+pub settings-whole : (s : List ℕ) → settingsOk (wordsIn s) ≡ true → wordsWithin 52 s ≡ wordsIn s
+settings-whole s h =
+    ⊎-elim (λ e. e) (λ c. absurd (let z : true ≡ false = sym h ∙ c .1 in let n : _≡_ {A = ℕ} 0 1 = cc in omega arith)) (settings-within s)
+
+pub length-lent : (b : List ℕ) → length (wordsIn b) ≡ wordCount (length b)
+unfolding wordsIn
+length-lent b = length-words b (wordCount (length b))
+
+pub bytes-of-words : (b : List ℕ) (k : ℕ) → length (wordsIn b) ≡ suc k → length b ≡ 4 * suc k
+unfolding wordCount
+bytes-of-words b k e =
+    ⊎-elim
+    (λ h. let n : length b % 4 ≡ 0 = eqb-true (length b % 4) 0 h in let q : length b / 4 ≡ suc k = rw h at counted in omega arith)
+    (λ h. absurd (let q : 0 ≡ suc k = rw h at counted in omega arith))
+    (either (eqb (length b % 4) 0))
+  where
+    counted : wordCount (length b) ≡ suc k
+    counted = sym (length-lent b) ∙ e
+
+pub words-of-bytes : (b : List ℕ) (k : ℕ) → length b ≡ 4 * k → length (wordsIn b) ≡ k
+words-of-bytes b k e = length-lent b ∙ count-whole (length b) k e
+
+pub length-test : (b : List ℕ) (k : ℕ) → eqb (length b) (4 * suc k) ≡ eqb (length (wordsIn b)) (suc k)
+length-test b k =
+    same (eqb (length b) (4 * suc k)) (eqb (length (wordsIn b)) (suc k))
+    (λ h. eq-eqb (length (wordsIn b)) (suc k) (words-of-bytes b (suc k) (eqb-true (length b) (4 * suc k) h)))
+    (λ h. eq-eqb (length b) (4 * suc k) (bytes-of-words b k (eqb-true (length (wordsIn b)) (suc k) h)))
+
+pub all-words : (b : List ℕ) (k : ℕ) → length b ≡ 4 * k → wordsOf b k ≡ wordsIn b
+unfolding wordsIn
+all-words b k e = ap (wordsOf b) (sym (count-whole (length b) k e))
+
+pub entry-of : (lengths : Bool) (settings state : List ℕ) (d : Decoded) → d ≡ decoded (wordsIn state)
+    → (r : Refusal) → r ≡ entryRefused lengths settings (d .ok)
+    → _≡_ {A = Entry} (record { refusal = r; state = d .state }) (entry lengths settings state)
+unfolding entry
+entry-of lengths settings state d e r f =
+    rw (f, e, decoded-ok (wordsIn state))
+
+module _ (lengths : Bool) (settings state : List ℕ) where
+  -- what an entry that does not refuse gives
+  pub record CallEntered (x : State) : Type 0 where
+    pub lengths-ok : lengths ≡ true
+    pub settings-ok : settingsOk (wordsIn settings) ≡ true
+    pub state-ok : isState (wordsIn state) ≡ true
+    pub long : length state ≡ 640
+    pub state-is : x ≡ stateLent state
+    pub event : (r : Refusal) → called lengths settings state r ≡ r
+
+  module _ (e : Entry) (given : e ≡ entry lengths settings state) where
+    refusal-is : e .refusal ≡ entryRefused lengths settings (isState (wordsIn state))
+    unfolding entry
+    refusal-is = ap (λ (x : Entry). x .refusal) given
+
+    -- the entry refuses: so does the call, whatever its event
+    pub entry-refuses : (e .refusal .number ≡ 0 → ⊥) → (event : Refusal) (word : ℕ) (made bytes : List ℕ)
+        → Told (called lengths settings state event) word made bytes (e .refusal .number) bytes
+    unfolding called
+    entry-refuses h event word made bytes =
+        let no : accepted (e .refusal) ≡ false = ne-eqb (e .refusal .number) 0 h in
+        told-refused (e .refusal) (called lengths settings state event)
+        (first-refused (entryRefused lengths settings (isState (wordsIn state))) event (ap accepted (sym refusal-is) ∙ no) ∙ sym refusal-is)
+        word made bytes no
+
+    pub entry-passes : e .refusal .number ≡ 0 → CallEntered (e .state)
+    unfolding entry entryRefused called decoded stateLent
+    entry-passes h =
+        let none-is : entryRefused lengths settings (isState (wordsIn state)) ≡ none =
+        sym refusal-is ∙ accepted-none (e .refusal) (eq-eqb (e .refusal .number) 0 h) in
+        let h1 = unless-rest lengths 0 _ none-is in
+        let h2 = unless-rest (settingsOk (wordsIn settings)) 1 _ h1 in
+        let ok : isState (wordsIn state) ≡ true = unless-ok (isState (wordsIn state)) 2 none h2 in
+        record {
+          lengths-ok = unless-ok lengths 0 _ none-is;
+          settings-ok = unless-ok (settingsOk (wordsIn settings)) 1 _ h1;
+          state-ok = ok;
+          long = bytes-of-words state 159 (stated (wordsIn state) ok .long);
+          state-is = ap (λ (x : Entry). x .state) given ∙ rw ok;
+          event = λ r. first-none (entryRefused lengths settings (isState (wordsIn state))) r none-is;
+        }
+
+module _ (settings state desk : List ℕ) (e : Entry) (given : e ≡ entry (eqb (length desk) 65536) settings state) where
+  pub desk-entry : e ≡ entry (deskOk (wordsIn desk)) settings state
+  desk-entry = given ∙ ap (λ (b : Bool). entry b settings state) (length-test desk 16383)
+
+  pub desk-passes : e .refusal .number ≡ 0 → CallEntered (deskOk (wordsIn desk)) settings state (e .state)
+  desk-passes h = entry-passes (deskOk (wordsIn desk)) settings state e desk-entry h
+
+  pub desk-long : e .refusal .number ≡ 0 → length desk ≡ 65536
+  desk-long h = bytes-of-words desk 16383 (eqb-true (length (wordsIn desk)) 16384 (desk-passes h .lengths-ok))
+
+module _ (settings state desk : List ℕ) (o : Outcome) where
+  -- what it answers, and leaves in the state's bytes
+  abbrev pub ToldEvent : ℕ → List ℕ → Type 0
+  ToldEvent answer left = (answer ≡ eventAnswer settings state desk o) × (left ≡ eventLeaves settings state desk o)
+
+  told-event : {answer : ℕ} {left : List ℕ}
+      → Told (eventRefused settings state desk o) 0 (bytesOf (stateWords (o .state))) state answer left → ToldEvent answer left
+  unfolding eventAnswer eventLeaves
+  told-event t = (t .answers, t .leaves)
+
+  module _ (e : Entry) (given : e ≡ entry (eqb (length desk) 65536) settings state) where
+    pub event-refused : (e .refusal .number ≡ 0 → ⊥) → ToldEvent (e .refusal .number) state
+    unfolding eventRefused
+    event-refused h =
+        told-event
+        (entry-refuses (deskOk (wordsIn desk)) settings state e (desk-entry settings state desk e given) h (refusalOf (o .answer)) 0 _ state)
+
+    pub event-done : e .refusal .number ≡ 0 → {answer : ℕ} {left : List ℕ}
+        → Told (refusalOf (o .answer)) 0 (bytesOf (stateWords (o .state))) state answer left → ToldEvent answer left
+    unfolding eventRefused
+    event-done h t =
+        let same : eventRefused settings state desk o ≡ refusalOf (o .answer) =
+        desk-passes settings state desk e given h .event (refusalOf (o .answer)) in
+        told-event (rw same t)

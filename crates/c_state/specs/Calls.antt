@@ -1,0 +1,53 @@
+-- What the C calls over the planner's state have in common: what the lent bytes mean, when a call is refused, what it answers, and
+-- what it leaves in the state's bytes.
+use Prim.Native.Nat.{ℕ}
+use mathlib.Core.Bool.{Bool}
+use mathlib.Core.List.{List}
+use Rattle.word_bytes.specs.Words.{bytesOf}
+use Rattle.word_lent.specs.Lent.{wordsIn}
+use Rattle.word_lent.specs.Answers.{answerWord, bytesLeft}
+use Rattle.base_ids.specs.declared.Refusal.{Refusal}
+use Rattle.base_ids.specs.Refusals.{none, unless, firstOf}
+use Rattle.settings_values.specs.Settings.{settingsOk}
+use Rattle.state_planner.specs.declared.State.{State}
+use Rattle.state_planner.specs.declared.Answer.{Answer}
+use Rattle.state_planner.specs.declared.Answer.the-variants.{Accepted, Refused}
+use Rattle.state_planner.specs.declared.Outcome.{Outcome}
+use Rattle.state_planner.specs.Refusing.{deskOk}
+use Rattle.word_state.specs.StateWords.{stateWords, stateIn, isState, decoded}
+use Rattle.c_state.specs.declared.Entry.{Entry}
+
+-- the state that lent bytes say
+unfoldable pub stateLent : List ℕ → State
+stateLent state = stateIn (wordsIn state)
+
+-- row 1 by the lengths of desk and buffer, row 2, and row 3 where the bytes are no state
+unfoldable pub entryRefused : Bool → List ℕ → Bool → Refusal
+entryRefused lengths settings ok = unless lengths 1 (unless (settingsOk (wordsIn settings)) 2 (unless ok 3 none))
+
+-- a call's refusal: those rows, and then the event's own, which has the same rows first and soundness at row 3
+unfoldable pub called : Bool → List ℕ → List ℕ → Refusal → Refusal
+called lengths settings state event = firstOf (entryRefused lengths settings (isState (wordsIn state))) event
+
+-- what a call finds before its event
+unfoldable pub entry : Bool → List ℕ → List ℕ → Entry
+entry lengths settings state =
+    record { refusal = entryRefused lengths settings (isState (wordsIn state)); state = decoded (wordsIn state) .state }
+
+-- the refusal that an answer holds
+abbrev pub refusalOf : Answer → Refusal
+refusalOf Accepted = none
+refusalOf (Refused r) = r
+
+-- ---- a call whose event hands back an outcome
+
+module _ (settings state desk : List ℕ) (o : Outcome) where
+  unfoldable pub eventRefused : Refusal
+  eventRefused = called (deskOk (wordsIn desk)) settings state (refusalOf (o .answer))
+
+  unfoldable pub eventAnswer : ℕ
+  eventAnswer = answerWord eventRefused 0
+
+  -- the state's bytes afterwards
+  unfoldable pub eventLeaves : List ℕ
+  eventLeaves = bytesLeft eventRefused (bytesOf (stateWords (o .state))) state

@@ -1,0 +1,165 @@
+-- Cases A and I: every placement of six held nodes is looked through. In A the placement of document 01's plan is the only
+-- valid one with at most two moves; in I none is valid.
+use Prim.Native.Nat.{ℕ, zero, suc, _<_, _≤_}
+use mathlib.Core.Bool.{Bool, true, false, not, _&&_, _||_}
+use mathlib.Core.List.{List}
+use mathlib.Core.Logic.{⊎-elim}
+use mathlib.Core.Path.{_≡_, refl, sym, _∙_, subst}
+use native.Mathlib.Omega.{arith}
+use lib.Dec.{eqb, leb}
+use lib.Count.{ones, onesIn}
+use borrow.Author.Tests.{eqb-true, eq-eqb, le-leb}
+use Rattle.base_laws.specs.Bools.{clash, and-both, and-left, and-right, or-holds, of-not-true}
+use Rattle.base_laws.specs.Below.{allBelow, all-at}
+use Rattle.base_laws.specs.Masks.{count, subset, disjoint, subset-le}
+use Rattle.base_sums.specs.Sums.{sumBelow}
+use Rattle.settings_values.specs.Settings.{shards, subgroup, need}
+use Rattle.message_format.specs.Rows.{shardApart}
+use Rattle.place_groups.specs.Placements.{spread, shardValid, groupValid, groupValidAt, groupMoves, groupMovesAt, Impossible, LeastMoves}
+use Rattle.report_views.specs.Reports.{maskAt}
+use Rattle.history_cases.specs.Runs.{caseSettings, settingsWith, view7}
+
+-- a mask for each of three shards
+abbrev pub three : ℕ → ℕ → ℕ → ℕ → ℕ
+three a b c zero = a
+three a b c (suc zero) = b
+three a b c (suc (suc s)) = c
+
+-- a mask that shard s may have
+abbrev shardFits : List ℕ → ℕ → ℕ → Bool
+shardFits σ s m = shardValid σ 63 (λ i. m) s
+
+-- f of every placement whose masks fit and share no node
+abbrev everywhere : List ℕ → (ℕ → ℕ → ℕ → Bool) → Bool
+everywhere σ f =
+    allBelow 64
+    (λ a. not (shardFits σ 0 a)
+    || allBelow 64
+    (λ b. not (shardFits σ 1 b && disjoint a b)
+    || allBelow 64 (λ c. not (shardFits σ 2 c && (disjoint a c && disjoint b c)) || f a b c)))
+
+implied : (p q : Bool) → (not p || q) ≡ true → p ≡ true → q ≡ true
+implied p q h e = ⊎-elim (λ n. clash e (of-not-true p n)) (λ y. y) (or-holds (not p) q h)
+
+module _ (σ : List ℕ) (f : ℕ → ℕ → ℕ → Bool) (test : everywhere σ f ≡ true) where
+  -- what the test gives for a placement
+  at : (a b c : ℕ) → a < 64 → b < 64 → c < 64 → shardFits σ 0 a ≡ true → shardFits σ 1 b ≡ true → shardFits σ 2 c ≡ true
+      → disjoint a b ≡ true → disjoint a c ≡ true → disjoint b c ≡ true → f a b c ≡ true
+  at a b c la lb lc fa fb fc ab ac bc =
+      implied (shardFits σ 2 c && (disjoint a c && disjoint b c)) (f a b c)
+      (all-at 64 (λ z. not (shardFits σ 2 z && (disjoint a z && disjoint b z)) || f a b z)
+      (implied (shardFits σ 1 b && disjoint a b) (allBelow 64 (λ z. not (shardFits σ 2 z && (disjoint a z && disjoint b z)) || f a b z))
+      (all-at 64 (λ y. not (shardFits σ 1 y && disjoint a y) || allBelow 64 (λ z. not (shardFits σ 2 z && (disjoint a z && disjoint y z)) || f a y z))
+      (implied (shardFits σ 0 a) (allBelow 64 (λ y. not (shardFits σ 1 y && disjoint a y) || allBelow 64 (λ z. not (shardFits σ 2 z && (disjoint a z && disjoint y z)) || f a y z)))
+      (all-at 64 (λ x. not (shardFits σ 0 x) || allBelow 64 (λ y. not (shardFits σ 1 y && disjoint x y) || allBelow 64 (λ z. not (shardFits σ 2 z && (disjoint x z && disjoint y z)) || f x y z))) test a la)
+      fa) b lb)
+      (and-both fb ab)) c lc)
+      (and-both fc (and-both ac bc))
+
+-- a placement of the one subgroup: each shard's mask fits, and no two share a node
+pub record Apart (σ : List ℕ) (P : ℕ → ℕ) : Type 0 where
+  pub fit : (s : ℕ) → s < 3 → shardFits σ s (P s) ≡ true
+  pub below : (s : ℕ) → s < 3 → P s < 64
+  pub apart : (s t : ℕ) → s < 3 → t < s → disjoint (P t) (P s) ≡ true
+
+module _ (σ : List ℕ) (P : ℕ → ℕ) (all : shards σ ≡ 3) (one : (s : ℕ) → s < 3 → subgroup σ s ≡ 0) (valid : groupValid σ 63 P 0 ≡ true) where
+  shard-at : (s : ℕ) → s < 3 → (shardValid σ 63 P s && allBelow s (shardApart σ P s)) ≡ true
+  unfolding groupValid groupValidAt
+  shard-at s l =
+      implied (eqb (subgroup σ s) 0) (shardValid σ 63 P s && allBelow s (shardApart σ P s))
+      (all-at (shards σ) (groupValidAt σ 63 P 0) valid s (subst (λ (n : ℕ). s < n) (sym all) l))
+      (eq-eqb (subgroup σ s) 0 (one s l))
+
+  apart-at : (s t : ℕ) → s < 3 → t < s → disjoint (P t) (P s) ≡ true
+  unfolding shardApart
+  apart-at s t l k =
+      implied (eqb (subgroup σ t) (subgroup σ s)) (disjoint (P t) (P s))
+      (all-at s (shardApart σ P s) (and-right (shardValid σ 63 P s) (allBelow s (shardApart σ P s)) (shard-at s l)) t k)
+      (eq-eqb (subgroup σ t) (subgroup σ s) (one t (omega arith) ∙ sym (one s l)))
+
+  below-at : (s : ℕ) → s < 3 → P s < 64
+  unfolding shardValid
+  below-at s l =
+      let inside = and-left (subset (P s) 63) (eqb (count (P s)) (need σ s))
+      (and-left (subset (P s) 63 && eqb (count (P s)) (need σ s)) (spread σ (P s)) (and-left (shardValid σ 63 P s) (allBelow s (shardApart σ P s)) (shard-at s l))) in
+      omega (arith, subset-le (P s) 63 inside)
+
+  group-apart : Apart σ P
+  unfolding shardValid
+  group-apart =
+      record {
+        fit = λ s l. and-left (shardValid σ 63 P s) (allBelow s (shardApart σ P s)) (shard-at s l);
+        below = below-at;
+        apart = apart-at;
+      }
+
+-- f of a placement's masks, from the test over all
+placed-at : (σ : List ℕ) (f : ℕ → ℕ → ℕ → Bool) → everywhere σ f ≡ true → (P : ℕ → ℕ) → Apart σ P → f (P 0) (P 1) (P 2) ≡ true
+placed-at σ f test P a =
+    at σ f test (P 0) (P 1) (P 2) (a .below 0 (omega arith)) (a .below 1 (omega arith)) (a .below 2 (omega arith))
+    (a .fit 0 (omega arith))
+    (a .fit 1 (omega arith))
+    (a .fit 2 (omega arith))
+    (a .apart 1 0 (omega arith) (omega arith))
+    (a .apart 2 0 (omega arith) (omega arith))
+    (a .apart 2 1 (omega arith) (omega arith))
+
+one-group : (n : ℕ) (P : ℕ → Type 0) → P 0 → P 1 → P 2 → n < 3 → P n
+one-group zero P a b c l = a
+one-group (suc zero) P a b c l = b
+one-group (suc (suc zero)) P a b c l = c
+one-group (suc (suc (suc n))) P a b c l = absurd (omega arith)
+
+-- case A: the only valid placement of at most two moves
+only : ℕ → ℕ → ℕ → Bool
+only a b c = not (leb (groupMoves caseSettings (maskAt view7) (three a b c) 0) 2) || (eqb a 5 && eqb b 50 && eqb c 8)
+
+a-test : everywhere caseSettings only ≡ true
+unfolding only allBelow ones onesIn sumBelow spread shardValid groupMoves groupMovesAt
+a-test = refl
+
+i-test : everywhere (settingsWith 4 3) (λ a b c. false) ≡ true
+unfolding allBelow ones onesIn spread shardValid
+i-test = refl
+
+-- the placement of document 01's plan: 0 and 2, 1, 4 and 5, and 3
+abbrev pub planA : ℕ → ℕ
+planA = three 5 50 8
+
+pub a-valid : groupValid caseSettings 63 planA 0 ≡ true
+unfolding allBelow ones onesIn spread shardValid shardApart groupValid groupValidAt
+a-valid = refl
+
+pub a-moves : groupMoves caseSettings (maskAt view7) planA 0 ≡ 2
+unfolding ones onesIn sumBelow groupMoves groupMovesAt
+a-moves = refl
+
+-- the moves of a placement depend on its three masks
+three-moves : (P : ℕ → ℕ) → groupMoves caseSettings (maskAt view7) P 0 ≡ groupMoves caseSettings (maskAt view7) (three (P 0) (P 1) (P 2)) 0
+unfolding sumBelow groupMoves groupMovesAt
+three-moves P = refl
+
+-- case A: a valid placement of at most two moves is that of the plan
+pub a-only : (P : ℕ → ℕ) → groupValid caseSettings 63 P 0 ≡ true → groupMoves caseSettings (maskAt view7) P 0 ≤ 2 → (P 0 ≡ 5) × (P 1 ≡ 50) × (P 2 ≡ 8)
+unfolding only
+a-only P valid few =
+    let cheap : leb (groupMoves caseSettings (maskAt view7) (three (P 0) (P 1) (P 2)) 0) 2 ≡ true =
+    le-leb (groupMoves caseSettings (maskAt view7) (three (P 0) (P 1) (P 2)) 0) 2 (subst (λ (m : ℕ). m ≤ 2) (three-moves P) few) in
+    let same =
+    implied (leb (groupMoves caseSettings (maskAt view7) (three (P 0) (P 1) (P 2)) 0) 2) (eqb (P 0) 5 && eqb (P 1) 50 && eqb (P 2) 8)
+    (placed-at caseSettings only a-test P (group-apart caseSettings P refl (λ s l. one-group s (λ n. subgroup caseSettings n ≡ 0) refl refl refl l) valid))
+    cheap in
+    let two = and-left (eqb (P 0) 5 && eqb (P 1) 50) (eqb (P 2) 8) same in (
+      eqb-true (P 0) 5 (and-left (eqb (P 0) 5) (eqb (P 1) 50) two),
+      eqb-true (P 1) 50 (and-right (eqb (P 0) 5) (eqb (P 1) 50) two),
+      eqb-true (P 2) 8 (and-right (eqb (P 0) 5 && eqb (P 1) 50) (eqb (P 2) 8) same),
+    )
+
+-- case A: so is every placement with the least moves
+pub a-least : (P : ℕ → ℕ) → LeastMoves caseSettings 63 (maskAt view7) P 0 → (P 0 ≡ 5) × (P 1 ≡ 50) × (P 2 ≡ 8)
+a-least P l = a-only P (l .valid) (omega (arith, l .least planA a-valid, a-moves))
+
+-- case I: shard 0 needs 3
+pub i-none : Impossible (settingsWith 4 3) 63 0
+i-none =
+    record { none = λ P valid. clash (placed-at (settingsWith 4 3) (λ a b c. false) i-test P (group-apart (settingsWith 4 3) P refl (λ s l. one-group s (λ n. subgroup (settingsWith 4 3) n ≡ 0) refl refl refl l) valid)) refl }

@@ -1,0 +1,54 @@
+-- What document 01's runs start from: settings, kept view, and a desk with the reports.
+use Prim.Native.Nat.{ℕ, _+_, _-_}
+use mathlib.Core.List.{List, [], _∷_, _++_}
+use lib.ListN.{length, replicate}
+use Rattle.message_format.specs.declared.Contents.{Contents}
+use Rattle.report_views.specs.declared.Layout.{Layout}
+
+-- settings with a least group size and the needs of the three shards
+abbrev pub settingsWith : ℕ → ℕ → List ℕ
+settingsWith least need0 =
+    7 ∷ 3 ∷ least ∷ 3 ∷ 0 ∷ 0 ∷ 1 ∷ 1 ∷ 1 ∷ 2 ∷ 2 ∷ need0 ∷ 3 ∷ 1 ∷ []
+
+abbrev pub caseSettings : List ℕ
+caseSettings = settingsWith 4 2
+
+-- a report of view 7 with no termination; runs are its records of kind 3
+abbrev pub caseReport : ℕ → List ℕ → List ℕ
+caseReport node runs =
+    node ∷ 7 ∷ 127 ∷ 1 ∷ 256 ∷ 5 ∷ 0 ∷ 2 ∷ 257 ∷ 82 ∷ 0 ∷ 3 ∷ 258 ∷ 32 ∷ 0 ∷ runs
+
+-- no runs, and a run of shard 1
+abbrev pub noRuns : List ℕ
+noRuns = 0 ∷ []
+
+abbrev pub run1 : ℕ → ℕ → List ℕ
+run1 view count = 4 ∷ 769 ∷ view ∷ count ∷ 0 ∷ []
+
+-- the slot of a message: the message, then zeros
+abbrev pub slotOf : List ℕ → List ℕ
+slotOf w = w ++ replicate (512 - length w) 0
+
+-- the desk of case A: nodes 0 to 5 report; logs are empty but for shard 1 of nodes 1 and 4
+unfoldable pub desk : List ℕ
+desk =
+    slotOf (caseReport 0 noRuns)
+    ++ slotOf (caseReport 1 (run1 7 5))
+    ++ slotOf (caseReport 2 noRuns)
+    ++ slotOf (caseReport 3 noRuns)
+    ++ slotOf (caseReport 4 (run1 7 4))
+    ++ slotOf (caseReport 5 noRuns)
+    ++ replicate 13312 0
+
+-- view 7 of the runs
+abbrev pub view7 : Layout
+view7 = record { number = record { 0 = 7 }; members = 127; masks = 5 ∷ 82 ∷ 32 ∷ replicate 13 0 }
+
+-- a view of six members
+abbrev pub sixMembers : Layout
+sixMembers = record { number = record { 0 = 7 }; members = 63; masks = 5 ∷ 18 ∷ 32 ∷ replicate 13 0 }
+
+-- contents with two runs of shard 0, or one, or none
+abbrev pub logOf : ℕ → List ℕ → Contents
+logOf len runs =
+    record { node = record { 0 = 0 }; view = record { 0 = 7 }; members = 1; len = len; body = runs }

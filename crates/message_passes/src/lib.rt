@@ -1,0 +1,141 @@
+// The passes of rows 9 and 11 over the contents' records. Each gives the index of the first record that fails it, or the
+// number of records where none does.
+use base_ids::Node;
+use base_ids::View;
+use message_format::Form;
+ghost use mathlib.Core.Path.{_≡_};
+ghost use Prim.Native.Nat.{_<_, _≤_};
+ghost use Rattle.settings_values.specs.Settings.{Settings};
+ghost use Rattle.message_format.specs.Records.{carriedBy};
+ghost use Rattle.message_format.specs.Rows as Rows;
+ghost use Rattle.base_laws.specs.Loops.{firstBad};
+ghost use Rattle.message_records.specs.Gathered.{SmallShards};
+ghost use Rattle.message_passes.specs.Sequence.{followsAt, strayAt};
+
+// Row 9, first pass, at record j: its kind and its word 2.
+fn kind_at(form: Form, body: &[u32; 381], j: usize) -> bool
+    requires { ⌜ j < 127 ⌝ }
+    ensures { λ r. ⌜ r ≡ Rows.kindAt form (now (body .entry)) j ⌝ }
+{
+    let kind = message_fields::kind(body, j);
+    if !message_rows::kind_ok(form, kind) {
+        return false;
+    }
+    message_rows::plain(kind, message_fields::word2(body, j))
+}
+
+// Row 9, first pass.
+pub fn kinds(form: Form, body: &[u32; 381], len: usize) -> usize
+    requires { ⌜ len ≤ 127 ⌝ }
+    ensures { λ r. ⌜ r ≡ firstBad len (Rows.kindAt form (now (body .entry))) ⌝ }
+{
+    let mut j: usize = 0;
+    while j < len {
+        if !kind_at(form, body, j) {
+            return j;
+        }
+        j += 1;
+    }
+    len
+}
+
+// Row 9, second pass.
+pub fn shards(settings: &[u32], body: &[u32; 381], len: usize) -> usize
+    requires { ⌜ Settings (now settings) ⌝ }
+    requires { ⌜ len ≤ 127 ⌝ }
+    ensures { λ r. ⌜ r ≡ firstBad len (Rows.shardAt (now (settings .entry)) (now (body .entry))) ⌝ }
+{
+    let count = settings_values::shards(settings) as usize;
+    let mut j: usize = 0;
+    while j < len {
+        if count <= message_fields::shard(body, j) {
+            return j;
+        }
+        j += 1;
+    }
+    len
+}
+
+// Record j is the first or follows the record before it.
+fn follows(body: &[u32; 381], j: usize) -> bool
+    requires { ⌜ j < 127 ⌝ }
+    ensures { λ r. ⌜ r ≡ followsAt (now (body .entry)) j ⌝ }
+{
+    if j == 0 {
+        return true;
+    }
+    message_fields::precedes(body, j - 1, j)
+}
+
+// Record j is a holder or a cut for a shard that is not among those carried.
+fn stray(carried: u32, body: &[u32; 381], j: usize) -> bool
+    requires { ⌜ j < 127 ⌝ }
+    ensures { λ r. ⌜ r ≡ strayAt carried (now (body .entry)) j ⌝ }
+{
+    if message_fields::kind(body, j) < 4 {
+        return false;
+    }
+    !base_masks::has(carried, message_fields::shard(body, j))
+}
+
+// Row 9, third pass, at record j, with the shards that the node carries by the records before it.
+fn sequence_at(node: Node, carried: u32, body: &[u32; 381], j: usize) -> bool
+    requires { ⌜ j < 127 ⌝ }
+    requires { ⌜ carried ≡ carriedBy (node .0) (now body) j ⌝ }
+    ensures { λ r. ⌜ r ≡ Rows.sequenceAt (node .0) (now (body .entry)) j ⌝ }
+{
+    if !follows(body, j) {
+        return false;
+    }
+    !stray(carried, body, j)
+}
+
+// Row 9, third pass.
+pub fn sequence(node: Node, body: &[u32; 381], len: usize) -> usize
+    requires { ⌜ len ≤ 127 ⌝ }
+    requires { ⌜ SmallShards (now body) len ⌝ }
+    ensures { λ r. ⌜ r ≡ firstBad len (Rows.sequenceAt (node .0) (now (body .entry))) ⌝ }
+{
+    let mut carried: u32 = 0;
+    let mut j: usize = 0;
+    while j < len {
+        if !sequence_at(node, carried, body, j) {
+            return j;
+        }
+        carried = message_records::carried_more(carried, node, body, j);
+        j += 1;
+    }
+    len
+}
+
+// Row 11 at record j.
+fn position_at(form: Form, view: View, members: u32, body: &[u32; 381], j: usize) -> bool
+    requires { ⌜ j < 127 ⌝ }
+    ensures { λ r. ⌜ r ≡ Rows.row11At form (view .0) members (now (body .entry)) j ⌝ }
+{
+    let first = message_fields::word1(body, j);
+    let second = message_fields::word2(body, j);
+    message_rows::legal(
+        form,
+        view,
+        members,
+        message_fields::kind(body, j),
+        first,
+        second,
+    )
+}
+
+// Row 11.
+pub fn positions(form: Form, view: View, members: u32, body: &[u32; 381], len: usize) -> usize
+    requires { ⌜ len ≤ 127 ⌝ }
+    ensures { λ r. ⌜ r ≡ firstBad len (Rows.row11At form (view .0) members (now (body .entry))) ⌝ }
+{
+    let mut j: usize = 0;
+    while j < len {
+        if !position_at(form, view, members, body, j) {
+            return j;
+        }
+        j += 1;
+    }
+    len
+}

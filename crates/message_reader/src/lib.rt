@@ -1,0 +1,173 @@
+// Reads a message: its length (row 5), its chain (row 8) and what the records on the chain say.
+use base_ids::Node;
+use base_ids::Refusal;
+use base_ids::View;
+use message_format::Contents;
+use message_format::Form;
+use message_format::Reading;
+ghost use mathlib.Core.Bool.{true};
+ghost use mathlib.Core.Path.{_≡_};
+ghost use Prim.Native.Nat.{_<_, _≤_};
+ghost use Rattle.message_format.specs.Chain.{records, row5, row8};
+ghost use Rattle.message_format.specs.Messages.{contentsOf, messageRefusal, readingOf, recordsRefusal};
+ghost use Rattle.message_reader.specs.Walks.{SizedMessage};
+ghost use Rattle.message_reader.specs.Bodies.{recordStored};
+ghost use Rattle.message_reader.specs.Readings.{answer, nothing, headOf, readingUnder};
+ghost use Rattle.settings_values.specs.Settings.{Settings};
+
+// Row 5: 1 to 128 records of four words.
+pub fn length_ok(words: &[u32]) -> bool
+    ensures { λ r. ⌜ r ≡ row5 (now (words .entry)) ⌝ }
+{
+    if words.len() < 1 {
+        return false;
+    }
+    if 512 < words.len() {
+        return false;
+    }
+    words.len() % 4 == 0
+}
+
+// Row 8: each next index on the chain is larger than its own record's and lies inside the message, or is 0.
+pub fn chain_ok(words: &[u32]) -> bool
+    requires { ⌜ SizedMessage (now words) ⌝ }
+    ensures { λ r. ⌜ r ≡ row8 (now (words .entry)) ⌝ }
+{
+    let mut at: usize = 0;
+    loop {
+        let next = message_chain::step_from(words, at);
+        if next == 0 {
+            return true;
+        }
+        if next <= at {
+            return false;
+        }
+        if words.len() / 4 <= next {
+            return false;
+        }
+        at = next;
+    }
+}
+
+// Stores record i of the message as record j of the body: its words but the next index.
+fn store(body: &mut [u32; 381], j: usize, words: &[u32], i: usize)
+    requires { ⌜ (j < 127) × (i < records (now words)) ⌝ }
+    ensures { λ r. ⌜ now (body .exit) ≡ recordStored (now (words .entry)) (now (body .entry)) j i ⌝ }
+{
+    body[3 * j] = words[4 * i];
+    body[3 * j + 1] = words[4 * i + 1];
+    body[3 * j + 2] = words[4 * i + 2];
+}
+
+// What the head and the records that follow it on the chain say.
+pub fn contents_of(words: &[u32]) -> Contents
+    requires { ⌜ SizedMessage (now words) ⌝ }
+    requires { ⌜ row8 (now words) ≡ true ⌝ }
+    ensures { λ r. ⌜ r ≡ contentsOf (now (words .entry)) ⌝ }
+{
+    let mut body = [0u32; 381];
+    let mut len: usize = 0;
+    let mut at = message_chain::step_from(words, 0);
+    while at != 0 {
+        store(&mut body, len, words, at);
+        len += 1;
+        at = message_chain::step_from(words, at);
+    }
+    Contents {
+        node: Node(words[0]),
+        view: View(words[1]),
+        members: words[2],
+        len,
+        body,
+    }
+}
+
+// A refusal, with blank contents beside it.
+fn refuse(refusal: Refusal) -> Reading
+    ensures { λ r. ⌜ r ≡ nothing refusal ⌝ }
+{
+    Reading {
+        refusal,
+        contents: Contents {
+            node: Node(0),
+            view: View(0),
+            members: 0,
+            len: 0,
+            body: [0u32; 381],
+        },
+    }
+}
+
+// The contents, or blank ones beside a refusal.
+fn answer_with(refusal: Refusal, c: Contents) -> Reading
+    ensures { λ r. ⌜ r ≡ answer refusal c ⌝ }
+{
+    if refusal.number != 0 {
+        return refuse(refusal);
+    }
+    Reading {
+        refusal,
+        contents: c,
+    }
+}
+
+// Rows 6 and 7 of a message's head.
+fn head_of(form: Form, settings: &[u32], words: &[u32]) -> Refusal
+    requires { ⌜ Settings (now settings) ⌝ }
+    requires { ⌜ SizedMessage (now words) ⌝ }
+    ensures { λ r. ⌜ r ≡ headOf form (now (settings .entry)) (now (words .entry)) ⌝ }
+{
+    message_contents::head_refusal(form, settings, Node(words[0]), View(words[1]), words[2])
+}
+
+// Rows 9 to 11 of what a message says.
+fn records_of(form: Form, settings: &[u32], c: Contents) -> Refusal
+    requires { ⌜ Settings (now settings) ⌝ }
+    requires { ⌜ c .len ≤ 127 ⌝ }
+    ensures { λ r. ⌜ r ≡ recordsRefusal form (now (settings .entry)) (c .node .0) (c .view .0) (c .members) (c .body) (c .len) ⌝ }
+{
+    let node = c.node;
+    let view = c.view;
+    let members = c.members;
+    let len = c.len;
+    message_contents::records_refusal(form, settings, node, view, members, &c.body, len)
+}
+
+// Rows 5 to 11, and what the message says where they pass.
+pub fn read_under(form: Form, settings: &[u32], words: &[u32]) -> Reading
+    requires { ⌜ Settings (now settings) ⌝ }
+    ensures { λ r. ⌜ r ≡ readingUnder form (now (settings .entry)) (now (words .entry)) ⌝ }
+{
+    if !length_ok(words) {
+        return refuse(Refusal { number: 5 });
+    }
+    let head = head_of(form, settings, words);
+    if head.number != 0 {
+        return refuse(head);
+    }
+    if !chain_ok(words) {
+        return refuse(Refusal { number: 8 });
+    }
+    let c = contents_of(words);
+    let records = records_of(form, settings, c);
+    answer_with(records, c)
+}
+
+// The refusal of a message under right settings: rows 5 to 11.
+pub fn message_refusal(form: Form, settings: &[u32], words: &[u32]) -> Refusal
+    requires { ⌜ Settings (now settings) ⌝ }
+    ensures { λ r. ⌜ r ≡ messageRefusal form (now (settings .entry)) (now (words .entry)) ⌝ }
+{
+    let r = read_under(form, settings, words);
+    r.refusal
+}
+
+// Reads a report or an order: rows 2 and 5 to 11.
+pub fn read(form: Form, settings: &[u32], words: &[u32]) -> Reading
+    ensures { λ r. ⌜ r ≡ readingOf form (now (settings .entry)) (now (words .entry)) ⌝ }
+{
+    if !settings_check::check(settings) {
+        return refuse(Refusal { number: 2 });
+    }
+    read_under(form, settings, words)
+}

@@ -1,0 +1,112 @@
+// The tests of rows 7, 9 and 11 of document 01's table on plain numbers. Each gives what its definition in message_format says.
+use base_ids::Node;
+use base_ids::View;
+use message_format::Form;
+ghost use mathlib.Core.Path.{_≡_};
+ghost use Prim.Native.Nat.{_<_};
+ghost use Rattle.settings_values.specs.Settings.{Settings};
+ghost use Rattle.message_format.specs.Rows as Rows;
+
+// The limits of a view number.
+pub fn view_ok(form: Form, v: u32) -> bool
+    ensures { λ r. ⌜ r ≡ Rows.viewOk form v ⌝ }
+{
+    match form {
+        Form::Report => settings_values::from_to(1, 4294967294, v),
+        Form::Order => settings_values::from_to(2, 4294967295, v),
+    }
+}
+
+// Row 7: the view is in its limits, and the members mask has no bit from N up and has the head's node.
+pub fn row7(form: Form, settings: &[u32], node: Node, view: View, members: u32) -> bool
+    requires { ⌜ Settings (now settings) ⌝ }
+    ensures { λ r. ⌜ r ≡ Rows.row7 form (now (settings .entry)) (node .0) (view .0) members ⌝ }
+{
+    if !view_ok(form, view.0) {
+        return false;
+    }
+    if !base_masks::within(settings_values::nodes(settings) as usize, members) {
+        return false;
+    }
+    base_masks::has(members, node.0 as usize)
+}
+
+// The kinds that a message can have.
+pub fn kind_ok(form: Form, kind: u32) -> bool
+    ensures { λ r. ⌜ r ≡ Rows.kindOk form kind ⌝ }
+{
+    match form {
+        Form::Report => settings_values::from_to(1, 3, kind),
+        Form::Order => {
+            if settings_values::from_to(1, 2, kind) {
+                return true;
+            }
+            settings_values::from_to(4, 5, kind)
+        }
+    }
+}
+
+// Word 2 of kinds 1 and 4 is zero.
+pub fn plain(k: u32, word2: u32) -> bool
+    ensures { λ r. ⌜ r ≡ Rows.plain k word2 ⌝ }
+{
+    if k == 1 {
+        return word2 == 0;
+    }
+    if k == 4 {
+        return word2 == 0;
+    }
+    true
+}
+
+// (0, 0), or view and k from 1.
+pub fn position(v: u32, k: u32) -> bool
+    ensures { λ r. ⌜ r ≡ Rows.position v k ⌝ }
+{
+    if v == 0 {
+        return k == 0;
+    }
+    1 <= k
+}
+
+// The view of a position or run against the head's: not above it in a report, below it in an order.
+pub fn view_fits(form: Form, view: View, v: u32) -> bool
+    ensures { λ r. ⌜ r ≡ Rows.viewFits form (view .0) v ⌝ }
+{
+    match form {
+        Form::Report => v <= view.0,
+        Form::Order => v < view.0,
+    }
+}
+
+// Row 11 for a run: view and count from 1, and the view fits.
+fn run(form: Form, view: View, v: u32, count: u32) -> bool
+    ensures { λ r. ⌜ r ≡ Rows.legal form (view .0) 0 3 v count ⌝ }
+{
+    if v < 1 {
+        return false;
+    }
+    if count < 1 {
+        return false;
+    }
+    view_fits(form, view, v)
+}
+
+// Row 11 for a record's kind and words 1 and 2.
+pub fn legal(form: Form, view: View, members: u32, kind: u32, a: u32, b: u32) -> bool
+    ensures { λ r. ⌜ r ≡ Rows.legal form (view .0) members kind a b ⌝ }
+{
+    if kind == 1 {
+        return true;
+    }
+    if kind == 3 {
+        return run(form, view, a, b);
+    }
+    if kind == 4 {
+        return base_masks::has(members, a as usize);
+    }
+    if !position(a, b) {
+        return false;
+    }
+    view_fits(form, view, a)
+}

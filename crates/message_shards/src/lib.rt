@@ -1,0 +1,71 @@
+// Row 10 of document 01's table: the shards' masks of a view. Each function gives what its definition in message_format says.
+use base_ids::Shard;
+ghost use mathlib.Core.Path.{_≡_};
+ghost use Prim.Native.Nat.{_<_};
+ghost use lib.ListN.{getD};
+ghost use Rattle.base_laws.specs.Below.{allBelow};
+ghost use Rattle.settings_values.specs.Settings.{Settings, shards};
+ghost use Rattle.message_format.specs.Rows as Rows;
+
+// Shards s and t are of different subgroups or share no node.
+fn shard_apart(settings: &[u32], masks: &[u32; 16], s: u32, t: u32) -> bool
+    requires { ⌜ Settings (now settings) ⌝ }
+    requires { ⌜ s < shards (now settings) ⌝ }
+    requires { ⌜ t < shards (now settings) ⌝ }
+    ensures { λ r. ⌜ r ≡ Rows.shardApart (now (settings .entry)) (λ i. getD (now (masks .entry)) i 0) s t ⌝ }
+{
+    if settings_values::subgroup(settings, Shard(t))
+        != settings_values::subgroup(settings, Shard(s))
+    {
+        return true;
+    }
+    base_masks::disjoint(masks[t as usize], masks[s as usize])
+}
+
+// Shard s shares no node with a lower shard of its subgroup.
+pub fn apart_below(settings: &[u32], masks: &[u32; 16], s: u32) -> bool
+    requires { ⌜ Settings (now settings) ⌝ }
+    requires { ⌜ s < shards (now settings) ⌝ }
+    ensures { λ r. ⌜ r ≡ allBelow s (Rows.shardApart (now (settings .entry)) (λ i. getD (now (masks .entry)) i 0) s) ⌝ }
+{
+    let mut t: u32 = 0;
+    while t < s {
+        if !shard_apart(settings, masks, s, t) {
+            return false;
+        }
+        t += 1;
+    }
+    true
+}
+
+// Row 10 at shard s: it is not empty, lies inside the members and shares no node with a lower shard of its subgroup.
+fn row10_at(settings: &[u32], members: u32, masks: &[u32; 16], s: u32) -> bool
+    requires { ⌜ Settings (now settings) ⌝ }
+    requires { ⌜ s < shards (now settings) ⌝ }
+    ensures { λ r. ⌜ r ≡ Rows.row10At (now (settings .entry)) members (λ i. getD (now (masks .entry)) i 0) s ⌝ }
+{
+    let mask = masks[s as usize];
+    if mask < 1 {
+        return false;
+    }
+    if !base_masks::subset(mask, members) {
+        return false;
+    }
+    apart_below(settings, masks, s)
+}
+
+// Row 10, for the members and shard masks of a view.
+pub fn row10(settings: &[u32], members: u32, masks: &[u32; 16]) -> bool
+    requires { ⌜ Settings (now settings) ⌝ }
+    ensures { λ r. ⌜ r ≡ Rows.row10 (now (settings .entry)) members (λ i. getD (now (masks .entry)) i 0) ⌝ }
+{
+    let count = settings_values::shards(settings);
+    let mut s: u32 = 0;
+    while s < count {
+        if !row10_at(settings, members, masks, s) {
+            return false;
+        }
+        s += 1;
+    }
+    true
+}

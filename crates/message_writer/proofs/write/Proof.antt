@@ -1,0 +1,82 @@
+-- `message_writer::write` meets its contract. Both answers and the lent words after each follow from what `write_refusal` ensures: a
+-- refusal leaves the words as they were, and no refusal gives what `fill` requires, 512 words and at most 127 records.
+-- Assumes nothing.
+use Prim.Native.Nat.{ℕ, _≤_}
+use native.Mathlib.Omega.{arith}
+use mathlib.Core.List.{List}
+use mathlib.Core.Path.{_≡_, sym, ap, _∙_}
+use lib.ListN.{length}
+use borrow.Author.Needs.{needs}
+use borrow.Author.Tests.{eqb-true, ne-eqb}
+use Rattle.base_ids.specs.declared.Refusal.{Refusal}
+use Rattle.base_ids.specs.Refusals.{none, refused}
+use Rattle.message_format.specs.declared.Form.{Form}
+use Rattle.message_format.specs.declared.Contents.{Contents}
+use Rattle.message_format.specs.declared.Writing.{Writing}
+use Rattle.message_format.specs.Messages.{writeRefusal, writingOf, bufferAfter, messageLength, messageOf}
+use Rattle.message_format.specs.Passed.{contents-few, write-given}
+use Rattle.message_writer.proofs.write.Statement.{statement}
+use Rattle.message_writer.proofs.write.Tie as tie
+
+-- what the writer answers beside the refusal r
+abbrev writing : Refusal → ℕ → Writing
+writing r n = record { refusal = r; length = n }
+
+module _ (form : Form) (σ : List ℕ) (c : Contents) (buffer : List ℕ) (r : Refusal) (e : r ≡ writeRefusal form σ c buffer) where
+  refused-answer : (r .number ≡ 0 → ⊥) → writing r 0 ≡ writingOf form σ c buffer
+  unfolding writingOf
+  refused-answer h = rw (sym e, ne-eqb (r .number) 0 h)
+
+  refused-words : (r .number ≡ 0 → ⊥) → buffer ≡ bufferAfter form σ c buffer
+  unfolding bufferAfter
+  refused-words h = rw (sym e, ne-eqb (r .number) 0 h)
+
+  module _ (h : r .number ≡ 0) where
+    taken : writeRefusal form σ c buffer ≡ none
+    taken = sym e ∙ ap refused h
+
+    taken-answer : writing r (messageLength c) ≡ writingOf form σ c buffer
+    unfolding writingOf
+    taken-answer = rw (e, taken)
+
+    taken-words : (after : List ℕ) → after ≡ messageOf c 512 → after ≡ bufferAfter form σ c buffer
+    unfolding bufferAfter
+    taken-words after i = i ∙ rw taken
+
+    taken-length : length buffer ≡ 512
+    taken-length = eqb-true (length buffer) 512 (write-given form σ c buffer taken .buffer-passes)
+
+    taken-few : c .len ≤ 127
+    taken-few = contents-few form σ c (write-given form σ c buffer taken .contents-pass)
+
+returns : tie.Need-returns
+returns c = (
+  refused-answer _ _ _ _ _ (c .before .before .write-refusal .ensures) (c .if1 .taken),
+  refused-words _ _ _ _ _ (c .before .before .write-refusal .ensures) (c .if1 .taken),
+)
+
+fill-requires : tie.Need-fill-requires
+fill-requires c κs = (
+  taken-length _ _ _ _ _ (c .before .before .before .write-refusal .ensures) (c .before .if1 .left),
+  taken-few _ _ _ _ _ (c .before .before .before .write-refusal .ensures) (c .before .if1 .left),
+)
+
+add-t12 : tie.Need-add-t12
+add-t12 c =
+    let few = taken-few _ _ _ _ _ (c .before .before .before .before .before .before .before .write-refusal .ensures) (c .before .before .before .before .before .if1 .left) in
+    omega arith
+
+mul-t13 : tie.Need-mul-t13
+mul-t13 c =
+    let few = taken-few _ _ _ _ _ (c .before .before .before .before .before .before .before .write-refusal .ensures) (c .before .before .before .before .before .if1 .left) in
+    omega arith
+
+returns-2 : tie.Need-returns-2
+returns-2 c = (
+  taken-answer _ _ _ _ _ (c .before .before .before .before .before .before .before .write-refusal .ensures) (c .before .before .before .before .before .if1 .left),
+  taken-words _ _ _ _ _ (c .before .before .before .before .before .before .before .write-refusal .ensures) (c .before .before .before .before .before .if1 .left) _ (c .before .before .before .fill .ensures),
+)
+
+pub write-spec : {M : Type 1} → statement M
+write-spec =
+    tie.close (tie.spec (λ c κs. search needs) (λ c. search needs) returns fill-requires add-t12 mul-t13 (λ c. search needs) returns-2)

@@ -1,0 +1,154 @@
+// The placement of all four subgroups: a mask for each shard with the least moves in every subgroup, or the lowest subgroup
+// without a valid placement.
+use search_total::Solution;
+ghost use mathlib.Core.Path.{_≡_};
+ghost use mathlib.Core.Bool.{true, cond};
+ghost use Prim.Native.Nat.{_+_, _<_, _^_};
+ghost use lib.Dec.{eqb};
+ghost use lib.ListN.{getD};
+ghost use Rattle.base_laws.specs.Masks.{with};
+ghost use Rattle.settings_values.specs.Settings.{Settings, nodes};
+ghost use Rattle.search_theory.specs.Tables.{caseOf};
+ghost use Rattle.place_sheet.specs.Sheet.{sheetOf};
+ghost use Rattle.place_owners.specs.Tables.{groupCase};
+ghost use Rattle.place_owners.specs.Adding.{ownedBy, maskWith, masksWith};
+ghost use Rattle.search_total.specs.Post.{LeastAnswer};
+ghost use Rattle.place_layout.specs.Post.{LaidSoFar, OneMore, Placement};
+
+// Where every subgroup has a valid placement: a mask for each shard, 0 from S up, and the total of the moves. Else the lowest
+// subgroup without one, and nothing placed.
+pub struct Placed {
+    pub found: bool,
+    pub group: u32,
+    pub masks: [u32; 16],
+    pub total: u32,
+}
+
+// The search for one subgroup.
+fn least(sets: &[u8; 32], needs: &[u8; 16], prices: &[u8; 512]) -> Solution
+    ensures { λ r. ⌜ LeastAnswer (caseOf (now (sets .entry)) (now (needs .entry)) (now (prices .entry))) r ⌝ }
+{
+    search_hinted::least(sets, needs, prices)
+}
+
+// The owners of least moves of subgroup g.
+fn solve(settings: &[u32], held: u32, old: &[u32; 16], sheet: &[[u8; 16]; 16], g: u32) -> Solution
+    requires { ⌜ Settings (now settings) ⌝ }
+    requires { ⌜ held < 2 ^ nodes (now settings) ⌝ }
+    requires { ⌜ now sheet ≡ sheetOf (now settings) held (λ s. getD (now old) s 0) ⌝ }
+    ensures { λ r. ⌜ LeastAnswer (groupCase (now (settings .entry)) held (λ s. getD (now (old .entry)) s 0) g) r ⌝ }
+{
+    let sets = place_tables::sets(settings);
+    let needs = place_tables::needs(settings, g);
+    let prices = place_tables::prices(settings, held, old, sheet, g);
+    least(&sets, &needs, &prices)
+}
+
+// The mask with node n if shard s owns it.
+fn with_node(mask: u32, owner: u8, s: u32, n: usize) -> u32
+    requires { ⌜ n < 32 ⌝ }
+    ensures { λ r. ⌜ r ≡ cond (eqb owner s) (with mask n) mask ⌝ }
+{
+    if owner as u32 == s {
+        return base_masks::with(mask, n);
+    }
+    mask
+}
+
+// The nodes that shard s owns.
+fn owned_by(owners: &[u8; 32], s: u32) -> u32
+    ensures { λ r. ⌜ r ≡ ownedBy (now (owners .entry)) s ⌝ }
+{
+    let mut mask: u32 = 0;
+    let mut n: usize = 0;
+    while n < 32 {
+        mask = with_node(mask, owners[n], s, n);
+        n += 1;
+    }
+    mask
+}
+
+// The mask of shard s: the nodes that it owns if it is of subgroup g, else as it was.
+fn mask_with(settings: &[u32], g: u32, owners: &[u8; 32], was: u32, s: u32) -> u32
+    requires { ⌜ Settings (now settings) ⌝ }
+    ensures { λ r. ⌜ r ≡ maskWith (now (settings .entry)) g (now (owners .entry)) was s ⌝ }
+{
+    if !place_tables::in_group(settings, g, s) {
+        return was;
+    }
+    owned_by(owners, s)
+}
+
+// The masks, with those of subgroup g from its owners.
+fn masks_with(settings: &[u32], g: u32, owners: &[u8; 32], masks: &[u32; 16]) -> [u32; 16]
+    requires { ⌜ Settings (now settings) ⌝ }
+    ensures { λ r. ⌜ r ≡ masksWith (now (settings .entry)) g (now (owners .entry)) (now (masks .entry)) ⌝ }
+{
+    let mut all = [0u32; 16];
+    let mut s: u32 = 0;
+    while s < 16 {
+        all[s as usize] = mask_with(settings, g, owners, masks[s as usize], s);
+        s += 1;
+    }
+    all
+}
+
+// Subgroup g is placed beside the lower ones, or has no valid placement.
+fn place_group(
+    settings: &[u32],
+    held: u32,
+    old: &[u32; 16],
+    sheet: &[[u8; 16]; 16],
+    g: u32,
+    lower: Placed,
+) -> Placed
+    requires { ⌜ Settings (now settings) ⌝ }
+    requires { ⌜ held < 2 ^ nodes (now settings) ⌝ }
+    requires { ⌜ now sheet ≡ sheetOf (now settings) held (λ s. getD (now old) s 0) ⌝ }
+    requires { ⌜ g < 4 ⌝ }
+    requires { ⌜ LaidSoFar (now settings) held (λ s. getD (now old) s 0) g lower ⌝ }
+    ensures { λ r. ⌜ OneMore (now (settings .entry)) held (λ s. getD (now (old .entry)) s 0) g r ⌝ }
+{
+    let answer = solve(settings, held, old, sheet, g);
+    if !answer.exists {
+        return Placed {
+            found: false,
+            group: g,
+            masks: [0u32; 16],
+            total: 0,
+        };
+    }
+    let owners = answer.owners;
+    let was = lower.masks;
+    let masks = masks_with(settings, g, &owners, &was);
+    Placed {
+        found: true,
+        group: 0,
+        masks,
+        total: lower.total + answer.moves as u32,
+    }
+}
+
+// The placement of all four subgroups, from the held nodes and the shards' old members.
+pub fn place(settings: &[u32], held: u32, old: &[u32; 16]) -> Placed
+    requires { ⌜ Settings (now settings) ⌝ }
+    requires { ⌜ held < 2 ^ nodes (now settings) ⌝ }
+    ensures { λ r. ⌜ Placement (now (settings .entry)) held (λ s. getD (now (old .entry)) s 0) r ⌝ }
+{
+    let sheet = place_sheet::sheet(settings, held, old);
+    let mut placed = Placed {
+        found: true,
+        group: 0,
+        masks: [0u32; 16],
+        total: 0,
+    };
+    let mut g: u32 = 0;
+    while g < 4 {
+        placed = place_group(settings, held, old, &sheet, g, placed);
+        if !placed.found {
+            return placed;
+        }
+        g += 1;
+    }
+    placed
+}

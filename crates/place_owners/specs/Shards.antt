@@ -1,0 +1,106 @@
+-- What a valid placement of subgroup g says of each of its shards, and that this is all that it says.
+use mathlib.Core.Path.{_≡_}
+use mathlib.Core.Bool.{true, false, not, _&&_}
+use mathlib.Core.List.{List}
+use mathlib.Core.Logic.{⊎-elim}
+use Prim.Native.Nat.{ℕ, _<_}
+use lib.Dec.{eqb}
+use borrow.Author.Tests.{eqb-true, eq-eqb}
+use Rattle.base_laws.specs.Bools.{either, clash, no-false, and-both, and-left, and-right, or-left, or-right, or-holds, or-neither, or-fails-left, or-fails-right, not-of-true, not-of-false, of-not-false, of-not-true}
+use Rattle.base_laws.specs.Below.{allBelow, all-at, all-of}
+use Rattle.base_laws.specs.Masks.{has, count, subset, disjoint}
+use Rattle.settings_values.specs.Settings.{shards, setOf, subgroup, need}
+use Rattle.message_format.specs.Rows.{shardApart}
+use Rattle.place_groups.specs.Placements.{spread, shardValid, groupValidAt, groupValid}
+use Rattle.place_groups.specs.Spread.{apart}
+use Rattle.place_owners.specs.Cases.{ofGroup, of-group, group-shard, group-subgroup}
+
+-- ---- a mask of nodes of different failure sets
+
+module _ (σ : List ℕ) (mask : ℕ) where
+  pub spread-of : ((n m : ℕ) → n < 32 → m < n → has mask n ≡ true → has mask m ≡ true → setOf σ n ≡ setOf σ m → ⊥) → spread σ mask ≡ true
+  unfolding spread
+  spread-of f =
+      all-of 32 (λ n. allBelow n (apart σ mask n))
+      (λ n l. all-of n (apart σ mask n) (λ m k. no-false (apart σ mask n m) (λ e. meets n m l k e)))
+    where
+      meets : (n m : ℕ) → n < 32 → m < n → apart σ mask n m ≡ false → ⊥
+      meets n m l k e =
+          let both = of-not-false (has mask n && has mask m) (or-fails-left (not (has mask n && has mask m)) (not (eqb (setOf σ n) (setOf σ m))) e) in
+          let one = of-not-false (eqb (setOf σ n) (setOf σ m)) (or-fails-right (not (has mask n && has mask m)) (not (eqb (setOf σ n) (setOf σ m))) e) in
+          f n m l k (and-left (has mask n) (has mask m) both) (and-right (has mask n) (has mask m) both) (eqb-true (setOf σ n) (setOf σ m) one)
+
+  pub spread-apart : spread σ mask ≡ true → (n m : ℕ) → n < 32 → m < n → has mask n ≡ true → has mask m ≡ true → setOf σ n ≡ setOf σ m → ⊥
+  unfolding spread
+  spread-apart h n m l k p q e =
+      clash (all-at n (apart σ mask n) (all-at 32 (λ i. allBelow i (apart σ mask i)) h n l) m k)
+      (or-neither (not-of-true (and-both p q)) (not-of-true (eq-eqb (setOf σ n) (setOf σ m) e)))
+
+-- ---- a shard and the lower ones
+
+module _ (σ : List ℕ) (masks : ℕ → ℕ) (s t : ℕ) where
+  apart-of : (subgroup σ t ≡ subgroup σ s → disjoint (masks t) (masks s) ≡ true) → shardApart σ masks s t ≡ true
+  unfolding shardApart
+  apart-of f =
+      ⊎-elim
+      (λ e. or-right (not (eqb (subgroup σ t) (subgroup σ s))) (f (eqb-true (subgroup σ t) (subgroup σ s) e)))
+      (λ e. or-left (disjoint (masks t) (masks s)) (not-of-false e))
+      (either (eqb (subgroup σ t) (subgroup σ s)))
+
+  apart-disjoint : shardApart σ masks s t ≡ true → subgroup σ t ≡ subgroup σ s → disjoint (masks t) (masks s) ≡ true
+  unfolding shardApart
+  apart-disjoint h e =
+      ⊎-elim
+      (λ d. clash (eq-eqb (subgroup σ t) (subgroup σ s) e) (of-not-true (eqb (subgroup σ t) (subgroup σ s)) d))
+      (λ d. d)
+      (or-holds (not (eqb (subgroup σ t) (subgroup σ s))) (disjoint (masks t) (masks s)) h)
+
+-- shard s has as many held nodes as it needs, of different failure sets, and shares none with a lower shard of its subgroup
+pub record ShardPlaced (σ : List ℕ) (held : ℕ) (masks : ℕ → ℕ) (s : ℕ) : Type 0 where
+  pub inside : subset (masks s) held ≡ true
+  pub sized : count (masks s) ≡ need σ s
+  pub spreads : spread σ (masks s) ≡ true
+  pub shares : (t : ℕ) → t < s → subgroup σ t ≡ subgroup σ s → disjoint (masks t) (masks s) ≡ true
+
+module _ (σ : List ℕ) (held : ℕ) (masks : ℕ → ℕ) (s : ℕ) where
+  placed-test : ShardPlaced σ held masks s → (shardValid σ held masks s && allBelow s (shardApart σ masks s)) ≡ true
+  unfolding shardValid
+  placed-test w =
+      and-both (and-both (and-both (w .inside) (eq-eqb (count (masks s)) (need σ s) (w .sized))) (w .spreads))
+      (all-of s (shardApart σ masks s) (λ t l. apart-of σ masks s t (w .shares t l)))
+
+  test-placed : (shardValid σ held masks s && allBelow s (shardApart σ masks s)) ≡ true → ShardPlaced σ held masks s
+  unfolding shardValid
+  test-placed h =
+      let part = subset (masks s) held in
+      let size = eqb (count (masks s)) (need σ s) in
+      let valid : (part && size && spread σ (masks s)) ≡ true = and-left (shardValid σ held masks s) (allBelow s (shardApart σ masks s)) h in
+      let two : (part && size) ≡ true = and-left (part && size) (spread σ (masks s)) valid in
+      record {
+        inside = and-left part size two;
+        sized = eqb-true (count (masks s)) (need σ s) (and-right part size two);
+        spreads = and-right (part && size) (spread σ (masks s)) valid;
+        shares = λ t l e. apart-disjoint σ masks s t (all-at s (shardApart σ masks s) (and-right (shardValid σ held masks s) (allBelow s (shardApart σ masks s)) h) t l) e;
+      }
+
+-- ---- a valid placement
+
+module _ (σ : List ℕ) (held : ℕ) (masks : ℕ → ℕ) (g : ℕ) where
+  pub group-valid-of : ((s : ℕ) → ofGroup σ g s ≡ true → ShardPlaced σ held masks s) → groupValid σ held masks g ≡ true
+  unfolding groupValid groupValidAt
+  group-valid-of f =
+      all-of (shards σ) (groupValidAt σ held masks g)
+      (λ s l. ⊎-elim
+      (λ e. or-right (not (eqb (subgroup σ s) g)) (placed-test σ held masks s (f s (of-group σ g s l (eqb-true (subgroup σ s) g e)))))
+      (λ e. or-left (shardValid σ held masks s && allBelow s (shardApart σ masks s)) (not-of-false e))
+      (either (eqb (subgroup σ s) g)))
+
+  pub shard-placed : groupValid σ held masks g ≡ true → (s : ℕ) → ofGroup σ g s ≡ true → ShardPlaced σ held masks s
+  unfolding groupValid groupValidAt
+  shard-placed h s o =
+      test-placed σ held masks s
+      (⊎-elim
+      (λ d. clash (eq-eqb (subgroup σ s) g (group-subgroup σ g s o)) (of-not-true (eqb (subgroup σ s) g) d))
+      (λ d. d)
+      (or-holds (not (eqb (subgroup σ s) g)) (shardValid σ held masks s && allBelow s (shardApart σ masks s))
+      (all-at (shards σ) (groupValidAt σ held masks g) h s (group-shard σ g s o))))

@@ -1,0 +1,87 @@
+// The placement sheet, 16 by 16, by shard and failure set.
+use base_ids::Node;
+ghost use mathlib.Core.Path.{_≡_};
+ghost use Prim.Native.Nat.{_+_, _<_};
+ghost use lib.ListN.{getD};
+ghost use Rattle.base_laws.specs.Tables.{tabulate};
+ghost use Rattle.settings_values.specs.Settings.{Settings, nodes};
+ghost use Rattle.place_sheet.specs.Sheet.{sheetOf};
+ghost use Rattle.place_sheet.specs.Laws.{SetsBelow, SetsOf, entryBy};
+
+// The failure sets seen, with that of node n if it is in the mask.
+fn seen_with(settings: &[u32], mask: u32, seen: u32, n: u32) -> u32
+    requires { ⌜ Settings (now settings) ⌝ }
+    requires { ⌜ n < nodes (now settings) ⌝ }
+    ensures { λ r. ⌜ (SetsBelow (now (settings .entry)) mask n seen → SetsBelow (now (settings .entry)) mask (n + 1) r) ⌝ }
+{
+    if !base_masks::has(mask, n as usize) {
+        return seen;
+    }
+    base_masks::with(seen, settings_values::set_of(settings, Node(n)) as usize)
+}
+
+// The failure sets of the nodes in a mask.
+fn sets_of(settings: &[u32], mask: u32) -> u32
+    requires { ⌜ Settings (now settings) ⌝ }
+    ensures { λ r. ⌜ SetsOf (now (settings .entry)) mask r ⌝ }
+{
+    let count = settings_values::nodes(settings);
+    let mut seen: u32 = 0;
+    let mut n: u32 = 0;
+    while n < count {
+        seen = seen_with(settings, mask, seen, n);
+        n += 1;
+    }
+    seen
+}
+
+// The entry of shard s and failure set f, from the sets of the shard's held old members and those of all held nodes.
+fn entry(settings: &[u32], stay: u32, any: u32, s: u32, f: u32) -> u8
+    requires { ⌜ Settings (now settings) ⌝ }
+    ensures { λ r. ⌜ r ≡ entryBy (now (settings .entry)) stay any s f ⌝ }
+{
+    if s >= settings_values::shards(settings) {
+        return 2;
+    }
+    if f >= settings_values::sets(settings) {
+        return 2;
+    }
+    if base_masks::has(stay, f as usize) {
+        return 0;
+    }
+    if base_masks::has(any, f as usize) {
+        1
+    } else {
+        2
+    }
+}
+
+// The row of shard s.
+fn row(settings: &[u32], stay: u32, any: u32, s: u32) -> [u8; 16]
+    requires { ⌜ Settings (now settings) ⌝ }
+    ensures { λ r. ⌜ r ≡ tabulate 16 (entryBy (now (settings .entry)) stay any s) ⌝ }
+{
+    let mut r = [2u8; 16];
+    let mut f: u32 = 0;
+    while f < 16 {
+        r[f as usize] = entry(settings, stay, any, s, f);
+        f += 1;
+    }
+    r
+}
+
+// The sheet: 0 if a held old member of the shard is in the set, 1 if only other held nodes are, 2 if none, and 2 from S or F up.
+pub fn sheet(settings: &[u32], held: u32, old: &[u32; 16]) -> [[u8; 16]; 16]
+    requires { ⌜ Settings (now settings) ⌝ }
+    ensures { λ r. ⌜ r ≡ sheetOf (now (settings .entry)) held (λ s. getD (now (old .entry)) s 0) ⌝ }
+{
+    let any = sets_of(settings, held);
+    let mut rows = [[2u8; 16]; 16];
+    let mut s: u32 = 0;
+    while s < 16 {
+        let stay = sets_of(settings, held & old[s as usize]);
+        rows[s as usize] = row(settings, stay, any, s);
+        s += 1;
+    }
+    rows
+}

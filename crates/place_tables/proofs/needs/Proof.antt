@@ -1,0 +1,36 @@
+-- `place_tables::needs` meets its contract. The invariant: the entries below s are filled in. Assumes nothing.
+use Prim.Native.Nat.{_≤_, _-_}
+use mathlib.Core.Path.{_≡_}
+use native.Mathlib.Omega.{arith}
+use lib.ListN.{replicate}
+use borrow.Author.Needs.{needs}
+use Rattle.base_laws.specs.Tables.{filled, fill-start, fill-turn, fill-end}
+use Rattle.place_owners.specs.Cases.{needIn}
+use Rattle.place_tables.proofs.needs.Statement.{statement}
+use Rattle.place_tables.proofs.needs.Tie as tie
+
+abbrev Inv-loop : tie.InvT-loop
+Inv-loop settings g table₀ s₀ table s = (s ≤ 16) × (table ≡ filled s (needIn settings g) (replicate 16 0))
+
+abbrev μ-loop : tie.MeasureT-loop
+μ-loop settings g table₀ s₀ table s = 16 - s
+
+loop-holds : tie.Need-loop-holds Inv-loop μ-loop
+loop-holds c = let a = c .before .args in (omega arith, fill-start 16 0 (needIn (a .settings .now) (a .g)))
+
+loop-again : tie.Need-loop-again Inv-loop μ-loop
+loop-again c =
+    let a = c .before .before .before .before .args in
+    let l = c .before .before .loop in
+    (omega arith, fill-turn 16 0 (needIn (a .settings .now) (a .g)) (l .s) (l .table) (c .need-at .result) (omega arith) (l .inv .1) (c .need-at .ensures))
+
+returns : tie.Need-returns Inv-loop μ-loop
+returns c =
+    let a = c .before .before .before .args in
+    let l = c .before .loop in fill-end 16 0 (needIn (a .settings .now) (a .g)) (l .s) (l .table) (omega arith) (omega arith) (l .inv .1)
+
+pub needs-spec : {M : Type 1} → statement M
+needs-spec =
+    tie.close
+    (tie.spec Inv-loop μ-loop loop-holds (λ c κs. search needs) (λ c. search needs) (λ c. search needs) (λ c. search needs) (λ c. search needs)
+    loop-again returns)

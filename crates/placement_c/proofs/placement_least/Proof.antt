@@ -1,8 +1,0 @@
--- `placement_c::placement_least` passes on what `search::least` promises: an answer's moves are few. Assumes nothing.
-use borrow.Author.Needs.{needs}
-use Rattle.placement_c.specs.Number.{few}
-use Rattle.placement_c.proofs.placement_least.Statement.{statement}
-use Rattle.placement_c.proofs.placement_least.Tie as tie
-
-pub placement-least-spec : {M : Type 1} → statement M
-placement-least-spec = tie.close (tie.spec (λ c κs. search needs) (λ c κs. few (c .before .least .ensures)) (λ c. search needs))

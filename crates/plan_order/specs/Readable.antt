@@ -1,0 +1,40 @@
+-- What is asked of the desk for a node's order: the slots of the node and of every shard's holder can be read.
+use Prim.Native.Nat.{ℕ, _<_, _≤_}
+use mathlib.Core.Bool.{true}
+use mathlib.Core.List.{List}
+use mathlib.Core.Path.{_≡_, ap, ap₂, _∙_, subst⁻¹}
+use lib.ListN.{length, getD}
+use Rattle.base_laws.specs.Below.{lowest-le}
+use Rattle.message_format.specs.Chain.{place, ends, following, row8}
+use Rattle.message_format.specs.Messages.{contentsOf}
+use Rattle.base_ids.specs.declared.Position.{Position}
+use Rattle.message_format.specs.declared.Contents.{Contents}
+use Rattle.report_views.specs.declared.Plan.{Plan}
+use Rattle.report_views.specs.Cuts.{cutFrom}
+use Rattle.report_views.specs.Reports.{slot, reportOf}
+use Rattle.plan_order.specs.Orders.{plannedTarget, cutAgainst}
+
+-- node n's slot can be read: its chain is that of a message
+pub record ReadableSlot (d : List ℕ) (n : ℕ) : Type 0 where
+  pub words : length d ≡ 16384
+  pub below : n < 32
+  pub chained : row8 (slot d n) ≡ true
+
+-- so can the slot of each shard's holder, of the given number of shards
+pub record Holders (count : ℕ) (p : Plan) (d : List ℕ) : Type 0 where
+  pub holder : (s : ℕ) → s < count → ReadableSlot d (getD (p .holders) s 0)
+
+-- a report has at most 127 records
+pub report-few : (d : List ℕ) (n : ℕ) → reportOf d n .len ≤ 127
+unfolding reportOf contentsOf following
+report-few d n = lowest-le 127 (λ j. ends (slot d n) (place (slot d n) j))
+
+-- what is read is such a report
+pub read-few : (d : List ℕ) (n : ℕ) (h : Contents) → h ≡ reportOf d n → h .len ≤ 127
+read-few d n h e = subst⁻¹ (λ (c : Contents). c .len ≤ 127) e (report-few d n)
+
+-- the cut against a holder's report that has been read, up to the target
+pub cut-read : (p : Plan) (d b : List ℕ) (len s x : ℕ) (h : Contents) (t r : Position) → x ≡ getD (p .holders) s 0
+    → h ≡ reportOf d x → t ≡ plannedTarget p s → r ≡ cutFrom b len (h .body) (h .len) s t → r ≡ cutAgainst p d b len s
+cut-read p d b len s x h t r e f g k =
+    k ∙ ap₂ (λ (c : Contents) (q : Position). cutFrom b len (c .body) (c .len) s q) (f ∙ ap (reportOf d) e) g

@@ -1,0 +1,119 @@
+// The core of decide: from the settings, what is kept and the held reports to a plan, or to the reason why there is none yet.
+use base_ids::View;
+use place_layout::Placed;
+use report_views::Layout;
+use report_views::Plan;
+use report_views::Quorum;
+use report_views::Reason;
+use report_views::Standing;
+use report_views::Termination;
+ghost use mathlib.Core.Bool.{true};
+ghost use mathlib.Core.Path.{_≡_};
+ghost use Prim.Native.Nat.{_≤_};
+ghost use lib.ListN.{length};
+ghost use Rattle.settings_values.specs.Settings.{Settings};
+ghost use Rattle.report_views.specs.Empty.{noView, noPlan};
+ghost use Rattle.report_views.specs.Slots.{slotsOk};
+ghost use Rattle.report_views.specs.Soundness.{keptSound};
+ghost use Rattle.plan_restart.specs.Restarts as Restarts;
+ghost use Rattle.plan_restart.specs.Planning as Planning;
+
+// What the held reports allow. Met: the plan is there. Short: the first reason why there is none, wait 5 among them, and no plan.
+pub struct Verdict {
+    pub quorum: Quorum,
+    pub plan: Plan,
+}
+
+// No view: number 0, and nothing else.
+pub fn no_view() -> Layout
+    ensures { λ r. ⌜ r ≡ noView ⌝ }
+{
+    Layout {
+        number: View(0),
+        members: 0,
+        masks: [0u32; 16],
+    }
+}
+
+// No plan: every entry is zero.
+pub fn no_plan() -> Plan
+    ensures { λ r. ⌜ r ≡ noPlan ⌝ }
+{
+    Plan {
+        layout: no_view(),
+        total: 0,
+        holders: [0u32; 16],
+        targets: [0u32; 32],
+    }
+}
+
+// A wait for a reason.
+fn waiting(reason: Reason) -> Verdict
+    ensures { λ r. ⌜ r ≡ Restarts.waiting reason ⌝ }
+{
+    Verdict {
+        quorum: Quorum::Short(reason),
+        plan: no_plan(),
+    }
+}
+
+// The plan: the view after the kept one, with all held nodes, their placement, and the standing's holders and targets.
+fn plan_by(kept: Layout, held: u32, st: Standing, placed: Placed) -> Plan
+    requires { ⌜ kept .number .0 ≤ 4294967294 ⌝ }
+    ensures { λ r. ⌜ r ≡ Planning.planBy kept held st placed ⌝ }
+{
+    let number = kept.number;
+    let masks = placed.masks;
+    let holders = st.holders;
+    let targets = st.targets;
+    Plan {
+        layout: Layout {
+            number: View(number.0 + 1),
+            members: held,
+            masks,
+        },
+        total: placed.total,
+        holders,
+        targets,
+    }
+}
+
+// The plan if every subgroup is placed, else wait 5.
+fn verdict_by(kept: Layout, held: u32, st: Standing, placed: Placed) -> Verdict
+    requires { ⌜ kept .number .0 ≤ 4294967294 ⌝ }
+    ensures { λ r. ⌜ r ≡ Planning.verdictBy kept held st placed ⌝ }
+{
+    if !placed.found {
+        return waiting(Reason::NoPlacement(placed.group));
+    }
+    Verdict {
+        quorum: Quorum::Met,
+        plan: plan_by(kept, held, st, placed),
+    }
+}
+
+// A plan for the held nodes, or the first reason why there is none.
+pub fn restart(
+    settings: &[u32],
+    kept: Layout,
+    termination: Termination,
+    held: u32,
+    desk: &[u32],
+) -> Verdict
+    requires { ⌜ Settings (now settings) ⌝ }
+    requires { ⌜ length (now desk) ≡ 16384 ⌝ }
+    requires { ⌜ keptSound (now settings) kept termination held ≡ true ⌝ }
+    requires { ⌜ slotsOk (now settings) kept termination held (now desk) ≡ true ⌝ }
+    ensures { λ r. ⌜ Restarts.Restarts (now (settings .entry)) kept termination held (now (desk .entry)) r ⌝ }
+{
+    let st = plan_standing::standing(settings, kept, termination, held, desk);
+    let quorum = st.quorum;
+    match quorum {
+        Quorum::Short(reason) => waiting(reason),
+        Quorum::Met => {
+            let old = kept.masks;
+            let placed = place_layout::place(settings, held, &old);
+            verdict_by(kept, held, st, placed)
+        }
+    }
+}

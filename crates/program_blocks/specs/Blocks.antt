@@ -1,0 +1,168 @@
+-- An input is blocks of words, each preceded by its word count. Definitions, then their laws: how many bytes of a block have to be
+-- there before it is taken, and what the blocks are once they are.
+use Prim.Native.Nat.{ℕ, zero, suc, _+_, _*_, _-_, _/_, _≤_, _<_, min}
+use mathlib.Core.Bool.{Bool, cond}
+use mathlib.Core.Logic.{⊎-elim}
+use mathlib.Core.List.{List, [], _∷_, _++_}
+use mathlib.Core.Path.{_≡_, refl, sym, ap, ap₂, _∙_}
+use native.Mathlib.Omega.{arith}
+use lib.Dec.{ltb}
+use lib.ListN.{length, take, drop, length-append, length-take, length-drop, drop-of-length-le, List·getD-append}
+use lib.Seq.{take-all, take-at, drop-at, drop-append-le}
+use borrow.Author.Tests.{lt-ltb, le-ltb}
+use Rattle.base_laws.specs.Bools.{lt-or-le}
+use Rattle.word_bytes.specs.Words.{wordAt, wordsOf, length-words}
+
+-- the word that an input starts with, the word count of its first block
+abbrev pub blockCount : List ℕ → ℕ
+blockCount b = wordAt b 0
+
+-- the bytes of the first block: as many as its count says, or what is there
+unfoldable pub block : List ℕ → List ℕ
+block b = take (4 * blockCount b) (drop 4 b)
+
+-- what follows the first block
+unfoldable pub others : List ℕ → List ℕ
+others b = drop (4 * blockCount b) (drop 4 b)
+
+-- the whole words of some bytes; up to three bytes after them carry nothing
+unfoldable pub wholeWords : List ℕ → List ℕ
+wholeWords b = wordsOf b (length b / 4)
+
+-- the first k blocks. A cut count ends the input.
+unfoldable pub blocksBy : ℕ → List ℕ → List (List ℕ)
+blocksBy zero b = []
+blocksBy (suc k) b = cond (ltb (length b) 4) [] (wholeWords (block b) ∷ blocksBy k (others b))
+
+-- all blocks of an input: no more than it has bytes
+unfoldable pub blocks : List ℕ → List (List ℕ)
+blocks b = blocksBy (length b) b
+
+-- the bytes that the first block takes with its count, as far as they are looked at: 513 words are more than any right block has
+unfoldable pub needed : List ℕ → ℕ
+needed b = cond (ltb (length b) 4) 4 (cond (ltb (blockCount b) 513) (4 + 4 * blockCount b) 2056)
+
+-- ---- laws
+
+others-length : (b : List ℕ) → length (others b) ≤ length b - 4
+unfolding others
+others-length b = omega (arith, length-drop (4 * blockCount b) (drop 4 b), length-drop 4 b)
+
+-- enough is enough
+by-more : (j k : ℕ) (b : List ℕ) → length b ≤ j → length b ≤ k → blocksBy j b ≡ blocksBy k b
+unfolding blocksBy
+by-more zero zero b h m = refl
+by-more zero (suc k) b h m = sym (ap (λ (t : Bool). cond t [] (wholeWords (block b) ∷ blocksBy k (others b))) (lt-ltb (length b) 4 (omega arith)))
+by-more (suc j) zero b h m = ap (λ (t : Bool). cond t [] (wholeWords (block b) ∷ blocksBy j (others b))) (lt-ltb (length b) 4 (omega arith))
+by-more (suc j) (suc k) b h m =
+    ap (λ (l : List (List ℕ)). cond (ltb (length b) 4) [] (wholeWords (block b) ∷ l))
+    (by-more j k (others b) (omega (arith, others-length b)) (omega (arith, others-length b)))
+
+pub blocks-none : (b : List ℕ) → length b < 4 → blocks b ≡ []
+unfolding blocks blocksBy
+blocks-none b h =
+    by-more (length b) (suc (length b)) b (omega arith) (omega arith)
+    ∙ ap (λ (t : Bool). cond t [] (wholeWords (block b) ∷ blocksBy (length b) (others b))) (lt-ltb (length b) 4 h)
+
+blocks-some : (b : List ℕ) → 4 ≤ length b → blocks b ≡ wholeWords (block b) ∷ blocks (others b)
+unfolding blocks blocksBy
+blocks-some b h =
+    by-more (length b) (suc (length b)) b (omega arith) (omega arith)
+    ∙ ap (λ (t : Bool). cond t [] (wholeWords (block b) ∷ blocksBy (length b) (others b))) (le-ltb (length b) 4 h)
+    ∙ ap (λ (l : List (List ℕ)). wholeWords (block b) ∷ l)
+    (by-more (length b) (length (others b)) (others b) (omega (arith, others-length b)) (omega arith))
+
+-- a word of the first bytes
+count-append : (b c : List ℕ) → 4 ≤ length b → blockCount (b ++ c) ≡ blockCount b
+unfolding wordAt
+count-append b c h =
+    rw (List·getD-append b c 0 (4 * 0) (omega arith), List·getD-append b c 0 (4 * 0 + 1) (omega arith), List·getD-append b c 0 (4 * 0 + 2) (omega arith), List·getD-append b c 0 (4 * 0 + 3) (omega arith))
+
+pub length-whole : (b : List ℕ) → length (wholeWords b) ≡ length b / 4
+unfolding wholeWords
+length-whole b = length-words b (length b / 4)
+
+-- ---- needed
+
+pub needed-few : (b : List ℕ) → length b < 4 → needed b ≡ 4
+unfolding needed
+needed-few b h = rw (lt-ltb (length b) 4 h)
+
+pub needed-short : (b : List ℕ) → 4 ≤ length b → blockCount b < 513 → needed b ≡ 4 + 4 * blockCount b
+unfolding needed
+needed-short b h m = rw (le-ltb (length b) 4 h, lt-ltb (blockCount b) 513 m)
+
+pub needed-long : (b : List ℕ) → 4 ≤ length b → 513 ≤ blockCount b → needed b ≡ 2056
+unfolding needed
+needed-long b h m = rw (le-ltb (length b) 4 h, le-ltb (blockCount b) 513 m)
+
+-- from 4 to 2,056 bytes
+pub needed-ends : (b : List ℕ) → (4 ≤ needed b) × (needed b ≤ 2056)
+needed-ends b =
+    ⊎-elim (λ h. let e = needed-few b h in (omega arith, omega arith))
+    (λ h. ⊎-elim (λ m. let e = needed-short b h m in (omega arith, omega arith)) (λ m. let e = needed-long b h m in (omega arith, omega arith)) (lt-or-le (blockCount b) 513))
+    (lt-or-le (length b) 4)
+
+-- no more than the count says
+needed-le : (b : List ℕ) → 4 ≤ length b → needed b ≤ 4 + 4 * blockCount b
+needed-le b h =
+    ⊎-elim (λ m. let e = needed-short b h m in omega arith) (λ m. let e = needed-long b h m in omega arith) (lt-or-le (blockCount b) 513)
+
+-- a byte more: no more bytes are there than are needed
+pub needed-more : (b : List ℕ) (x : ℕ) → length b < needed b → length (b ++ (x ∷ [])) ≤ needed (b ++ (x ∷ []))
+unfolding needed
+needed-more b x h = ⊎-elim few many (lt-or-le (length b) 4)
+  where
+    size : length (b ++ (x ∷ [])) ≡ length b + 1
+    size = length-append b (x ∷ [])
+
+    few : length b < 4 → length (b ++ (x ∷ [])) ≤ needed (b ++ (x ∷ []))
+    few m = omega (arith, size, needed-ends (b ++ (x ∷ [])) .0)
+
+    many : 4 ≤ length b → length (b ++ (x ∷ [])) ≤ needed (b ++ (x ∷ []))
+    many m =
+        let e : needed (b ++ (x ∷ [])) ≡ needed b =
+        rw (count-append b (x ∷ []) m, le-ltb (length b) 4 m, le-ltb (length (b ++ (x ∷ []))) 4 (omega (arith, size))) in
+        omega (arith, size)
+
+-- ---- the blocks of an input whose first block is there
+
+-- a block that is cut short: what is there
+pub blocks-cut : (b : List ℕ) → 4 ≤ length b → length b < needed b → blocks b ≡ wholeWords (drop 4 b) ∷ []
+unfolding block others
+blocks-cut b h m =
+    let n : length (drop 4 b) ≤ 4 * blockCount b = omega (arith, length-drop 4 b, needed-le b h) in
+    blocks-some b h
+    ∙ ap₂ (λ (x y : List ℕ). wholeWords x ∷ blocks y) (take-all (4 * blockCount b) (drop 4 b) n) (drop-of-length-le (drop 4 b) n)
+    ∙ ap (λ (l : List (List ℕ)). wholeWords (drop 4 b) ∷ l) (blocks-none [] (omega arith))
+
+-- a whole block, and the others
+pub blocks-whole : (b c : List ℕ) → length b ≡ 4 + 4 * blockCount b → blocks (b ++ c) ≡ wholeWords (drop 4 b) ∷ blocks c
+unfolding block others
+blocks-whole b c h =
+    let e : blockCount (b ++ c) ≡ blockCount b = count-append b c (omega arith) in
+    let d : drop 4 (b ++ c) ≡ drop 4 b ++ c = drop-append-le 4 b c (omega arith) in
+    let n : length (drop 4 b) ≡ 4 * blockCount b = omega (arith, length-drop 4 b) in
+    blocks-some (b ++ c) (omega (arith, length-append b c))
+    ∙ ap₂ (λ (x y : List ℕ). wholeWords x ∷ blocks y)
+    (ap₂ (λ (k : ℕ) (l : List ℕ). take (4 * k) l) e d ∙ take-at (drop 4 b) c (4 * blockCount b) n)
+    (ap₂ (λ (k : ℕ) (l : List ℕ). drop (4 * k) l) e d ∙ drop-at (drop 4 b) c (4 * blockCount b) n)
+
+-- a block of which more is there than is looked at
+pub record Long (l : List (List ℕ)) : Type 0 where
+  pub first : List ℕ
+  pub rest : List (List ℕ)
+  pub is : l ≡ first ∷ rest
+  pub long : 512 < length first
+
+pub blocks-long : (b c : List ℕ) → length b ≡ 2056 → 513 ≤ blockCount b → Long (blocks (b ++ c))
+unfolding block others
+blocks-long b c h m =
+    let e : blockCount (b ++ c) ≡ blockCount b = count-append b c (omega arith) in
+    let n : length (block (b ++ c)) ≡ min (4 * blockCount (b ++ c)) (length (drop 4 (b ++ c))) = length-take (4 * blockCount (b ++ c)) (drop 4 (b ++ c)) in
+    record {
+      first = wholeWords (block (b ++ c));
+      rest = blocks (others (b ++ c));
+      is = blocks-some (b ++ c) (omega (arith, length-append b c));
+      long = omega (arith, length-whole (block (b ++ c)), length-drop 4 (b ++ c), length-append b c);
+    }

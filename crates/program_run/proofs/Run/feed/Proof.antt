@@ -1,0 +1,42 @@
+-- `program_run::Run::feed` meets its contract. The loop's invariant: the first i bytes are fed. Assumes nothing.
+use Prim.Native.Nat.{_≤_, _-_}
+use mathlib.Core.Path.{sym, _∙_, _≡_}
+use native.Mathlib.Omega.{arith}
+use lib.ListN.{length, take}
+use borrow.Author.Needs.{needs}
+use Rattle.program_run.specs.Machine.{Feeds}
+use Rattle.program_run.specs.Steps.{feeds-none, feeds-more, feeds-all}
+use Rattle.program_run.proofs.Run.feed.Statement.{statement}
+use Rattle.program_run.proofs.Run.feed.Tie as tie
+
+abbrev Inv-loop : tie.InvT-loop
+Inv-loop desk₀ bytes₀ fed run₀ i₀ desk bytes run i = (i ≤ length fed) × (Feeds run₀ desk₀ bytes₀ (take i fed) run desk bytes × (length desk ≡ length desk₀))
+
+abbrev μ-loop : tie.MeasureT-loop
+μ-loop desk₀ bytes₀ fed run₀ i₀ desk bytes run i = length fed - i
+
+loop-holds : tie.Need-loop-holds Inv-loop μ-loop
+loop-holds c = (search needs, (feeds-none (c .before .before .before .pre), search needs))
+
+push-requires : tie.Need-push-requires Inv-loop μ-loop
+push-requires c κs = c .before .before .before .before .loop .inv .1 .0 .ready
+
+add-i : tie.Need-add-i Inv-loop μ-loop
+add-i c = omega (arith, c .before .before .before .before .before .before .before .before .before .before .before .before .before .good .1 .1 .1)
+
+loop-again : tie.Need-loop-again Inv-loop μ-loop
+loop-again c = (search needs, (feeds-more (c .before .before .before .before .before .before .before .before .before .before .before .before .before .args .fed .now) _ (c .before .before .before .before .before .before .before .before .loop-test .taken) (c .before .before .before .before .before .before .before .before .before .loop .inv .1 .0) (c .before .before .before .before .push .ensures), c .before .before .before .before .push .kept .1 .0 ∙ c .before .before .before .before .before .before .before .before .before .loop .inv .1 .1))
+
+same-length : tie.Need-same-length Inv-loop μ-loop
+same-length c = c .before .loop .inv .1 .1
+
+same-length-2 : tie.Need-same-length-2 Inv-loop μ-loop
+same-length-2 c = c .before .loop .inv .1 .0 .ready .room ∙ sym (c .before .before .before .before .before .pre .room)
+
+returns : tie.Need-returns Inv-loop μ-loop
+returns c = feeds-all (c .before .before .before .before .before .args .fed .now) _ (c .loop-test .left) (c .before .loop .inv .1 .0)
+
+pub feed-spec : {M : Type 1} → statement M
+feed-spec =
+    tie.close
+    (tie.spec Inv-loop μ-loop loop-holds (λ c. search needs) push-requires add-i (λ c. search needs) loop-again same-length same-length-2 returns)

@@ -1,0 +1,360 @@
+-- What each step of a Run in memory leads to, over plain arguments.
+use Prim.Native.Nat.{ℕ, _+_, _-_, _≤_, _<_}
+use mathlib.Core.Bool.{true, false}
+use mathlib.Core.Logic.{⊎-elim}
+use mathlib.Core.List.{List, [], _∷_, _++_, append-assoc}
+use mathlib.Core.Path.{_≡_, refl, sym, ap, ap₂, _∙_, subst}
+use native.Mathlib.Numerals.{add-one}
+use native.Mathlib.Omega.{arith}
+use lib.ListN.{length, take, drop, getD, set, length-append, length-take, length-set}
+use lib.Seq.{take-all, take-suc, take-suc-set, append-snoc, length-take-le}
+use Rattle.base_laws.specs.Bools.{either}
+use Rattle.base_laws.specs.Tables.{part-front, part-end, padded, length-padded, front-padded}
+use Rattle.settings_values.specs.Settings.{settingsOk, Settings}
+use Rattle.settings_values.specs.Laws.{settings-give}
+use Rattle.base_ids.specs.declared.Refusal.{Refusal}
+use Rattle.base_ids.specs.Refusals.{refused, accepted}
+use Rattle.state_planner.specs.declared.State.{State}
+use Rattle.state_planner.specs.declared.Answer.{Answer}
+use Rattle.state_planner.specs.declared.Outcome.{Outcome}
+use Rattle.state_planner.specs.declared.Decision.{Decision}
+use Rattle.state_planner.specs.declared.Decided.{Decided}
+use Rattle.state_planner.specs.Refusing.{reportRefusal, decideRefusal, deskOk, isGathering}
+use Rattle.state_planner.specs.Events.{reported, deskAfter, afterReport}
+use Rattle.state_planner.specs.EventLaws.{outcome-accepted, outcome-refused, entry-settings}
+use Rattle.state_planner.specs.Decide.{Decides}
+use Rattle.state_planner.specs.States.{fresh}
+use Rattle.message_format.specs.Messages.{contentsOf}
+use Rattle.program_blocks.specs.declared.Block.{Block}
+use Rattle.program_blocks.specs.Blocks.{blocks, needed, wholeWords, length-whole, needed-ends, needed-more}
+use Rattle.program_blocks.specs.Held.{held}
+use Rattle.program_lines.specs.Lines.{numberLine, number-length}
+use Rattle.program_lines.specs.Puts.{Puts}
+use Rattle.program_decision.specs.Decisions.{decisionText, PutsDecision}
+use Rattle.program_run.specs.declared.Stage.{Stage}
+use Rattle.program_run.specs.declared.Stage.the-variants.{Opening, Open, Closed}
+use Rattle.program_run.specs.declared.Run.{Run}
+use Rattle.program_run.specs.Runs.{Progress, Underway, Ended, opened, told, taking, after, Prints}
+use Rattle.program_run.specs.RunLaws.{after-block, after-cut, after-none}
+use Rattle.program_run.specs.Machine.{progress, progressAt, closedBy, emptied, ahead, ReadyRun, Comes, Takes, Opens, Feeds, Closes, Writes}
+
+-- ---- a report
+
+-- accepted and refused, by the answer
+told-accepted : (σ : List ℕ) (x : State) (d w : List ℕ) → reported σ x d w .answer ≡ Answer.Accepted
+    → told σ x d w ≡ Underway σ (reported σ x d w .state) (deskAfter σ x d w)
+unfolding told reported
+told-accepted σ x d w h =
+    ⊎-elim (λ e. rw e)
+    (λ e.
+    let a = ap (λ (o : Outcome). o .answer) (outcome-refused (reportRefusal σ x d w) x (afterReport σ x (contentsOf w)) e) in
+    let z : _≡_ {A = ℕ} 0 1 = cc in
+    absurd (omega arith))
+    (either (accepted (reportRefusal σ x d w)))
+
+told-refused : (σ : List ℕ) (x : State) (d w : List ℕ) (r : Refusal) → reported σ x d w .answer ≡ Answer.Refused r
+    → told σ x d w ≡ Ended r
+unfolding told reported
+told-refused σ x d w r h =
+    ⊎-elim
+    (λ e.
+    let a = ap (λ (o : Outcome). o .answer) (outcome-accepted (reportRefusal σ x d w) x (afterReport σ x (contentsOf w)) e) in
+    let z : _≡_ {A = ℕ} 0 1 = cc in
+    absurd (omega arith))
+    (λ e.
+    let a = ap (λ (o : Outcome). o .answer) (outcome-refused (reportRefusal σ x d w) x (afterReport σ x (contentsOf w)) e) in
+    let s : reportRefusal σ x d w ≡ r = cc in
+    rw e (ap Ended s))
+    (either (accepted (reportRefusal σ x d w)))
+
+module _ (run : Run) (d : List ℕ) where
+  -- the stage of a run tells what it has come to
+  progress-is : (s : Stage) → run .stage ≡ s → progress run d ≡ progressAt s (take (run .words) (run .settings)) (run .state) d
+  progress-is s h = ap (λ (k : Stage). progressAt k (take (run .words) (run .settings)) (run .state) d) h
+
+  -- a report that is accepted, and one that is refused
+  module _ (w : List ℕ) (o : Outcome) (e : List ℕ) (h : run .stage ≡ Open) (few : run .words ≤ length (run .settings))
+      (given : o ≡ reported (take (run .words - 0) (run .settings)) (run .state) d w)
+      (desk : e ≡ deskAfter (take (run .words - 0) (run .settings)) (run .state) d w) where
+    own : o ≡ reported (take (run .words) (run .settings)) (run .state) d w
+    own = given ∙ ap (λ (σ : List ℕ). reported σ (run .state) d w) (part-front (run .words) (run .settings))
+
+    told-next : taking (progress run d) w ≡ told (take (run .words) (run .settings)) (run .state) d w
+    unfolding progressAt taking
+    told-next = ap (λ (p : Progress). taking p w) (progress-is Open h)
+
+    pub report-accepted : o .answer ≡ Answer.Accepted
+        → Takes run d w (record { stage = run .stage; state = o .state; settings = run .settings; words = run .words; pending = run .pending }) e
+    unfolding progressAt
+    report-accepted a =
+        record {
+          leads =
+              ap (λ (k : Stage). progressAt k (take (run .words) (run .settings)) (o .state) e) h
+              ∙ ap₂ (Underway (take (run .words) (run .settings))) (ap (λ (p : Outcome). p .state) own)
+              (desk ∙ ap (λ (σ : List ℕ). deskAfter σ (run .state) d w) (part-front (run .words) (run .settings)))
+              ∙ sym (told-next ∙ told-accepted (take (run .words) (run .settings)) (run .state) d w (sym (ap (λ (p : Outcome). p .answer) own) ∙ a));
+          pending = refl;
+          few = few;
+        }
+
+    pub report-refused : (x : Refusal) (r : Run) → o .answer ≡ Answer.Refused x → r ≡ closedBy run x → Takes run d w r e
+    unfolding progressAt
+    report-refused x r a c =
+        subst (λ (s : Run). Takes run d w s e) (sym c)
+        (record {
+          leads = sym (told-next ∙ told-refused (take (run .words) (run .settings)) (run .state) d w x (sym (ap (λ (p : Outcome). p .answer) own) ∙ a));
+          pending = refl;
+          few = few;
+        })
+
+-- ---- the settings
+
+pub settings-size : (w : List ℕ) → settingsOk w ≡ true → length w ≤ 52
+settings-size w h = let g = settings-give w h in omega (arith, g .sizes .words, g .sizes .nodes-to, g .sizes .shards-to)
+
+module _ (run : Run) (w : List ℕ) where
+  pub open-refused : (r : Run) → run .words ≤ length (run .settings) → settingsOk w ≡ false → r ≡ closedBy run (refused 2) → Opens run w r
+  unfolding progressAt opened
+  open-refused r few h c =
+      subst (λ (s : Run). Opens run w s) (sym c) (record { leads = λ d. rw h; pending = refl; few = few })
+
+  pub open-accepted : (x : State) (table : List ℕ) → settingsOk w ≡ true → x ≡ fresh → table ≡ padded 52 w
+      → Opens run w (record { stage = Open; state = x; settings = table; words = length w; pending = run .pending })
+  unfolding progressAt opened
+  open-accepted x table h e f =
+      let size : length w ≤ 52 = settings-size w h in
+      record {
+        leads =
+            λ d.
+            rw h
+            (ap₂ (λ (σ : List ℕ) (y : State). Underway σ y d) (ap (take (length w)) f ∙ front-padded 52 (length w) w size refl) e);
+        pending = refl;
+        few = omega (arith, length-padded 52 w, ap length f);
+      }
+
+-- ---- a block
+
+module _ (run : Run) (d w : List ℕ) where
+  pub takes-first : (r : Run) → run .stage ≡ Opening → Opens run w r → Takes run d w r d
+  unfolding progressAt taking
+  takes-first r h o =
+      record { leads = o .leads d ∙ sym (ap (λ (p : Progress). taking p w) (progress-is run d Opening h)); pending = o .pending; few = o .few }
+
+  pub takes-none : (x : Refusal) → run .stage ≡ Closed x → run .words ≤ length (run .settings) → Takes run d w run d
+  unfolding progressAt taking
+  takes-none x h few =
+      let e : progress run d ≡ Ended x = progress-is run d (Closed x) h in
+      record { leads = e ∙ sym (ap (λ (p : Progress). taking p w) e); pending = refl; few = few }
+
+-- the words of the block, as they are lent
+pub takes-as : (run : Run) (d v w : List ℕ) (r : Run) (e : List ℕ) → v ≡ w → Takes run d v r e → Takes run d w r e
+takes-as run d v w r e h t = subst (λ (x : List ℕ). Takes run d x r e) h t
+
+pub block-front : (b : Block) (bytes : List ℕ) → length bytes ≤ 2052 → b ≡ held bytes → take (b .len - 0) (b .table) ≡ wholeWords bytes
+block-front b bytes h e =
+    let size : length (wholeWords bytes) ≤ 513 = omega (arith, length-whole bytes) in
+    part-front (b .len) (b .table)
+    ∙ ap (λ (x : Block). take (x .len) (x .table)) e
+    ∙ front-padded 513 (length (wholeWords bytes)) (wholeWords bytes) size refl
+
+pub block-fits : (b : Block) (bytes : List ℕ) → length bytes ≤ 2052 → b ≡ held bytes → b .len ≤ length (b .table)
+block-fits b bytes h e =
+    omega (arith, length-whole bytes, ap (λ (x : Block). x .len) e, ap (λ (x : Block). length (x .table)) e, length-padded 513 (wholeWords bytes))
+
+-- the bytes of a block after its count
+pub comes-size : (run : Run) (bytes : List ℕ) (end : ℕ) → Comes run bytes end → length (take (end - 4) (drop 4 bytes)) ≤ 2052
+comes-size run bytes end c = omega (arith, c .room, c .within, length-take (end - 4) (drop 4 bytes))
+
+-- ---- a byte
+
+module _ (run : Run) (bytes : List ℕ) (ready : ReadyRun run bytes) where
+  pub pending-room : run .pending < length bytes
+  pending-room = omega (arith, needed-ends (take (run .pending) bytes) .1)
+
+  pub pending-few : run .pending < 2056
+  pending-few = omega (arith, pending-room, ready .room)
+
+  come-size : length (take (run .pending) bytes) ≡ run .pending
+  come-size = length-take-le (run .pending) bytes (omega (arith, pending-room))
+
+  module _ (d : List ℕ) (x : ℕ) (now : List ℕ) (stored : now ≡ set bytes (run .pending) x) where
+    -- the bytes that have come now
+    come : List ℕ
+    come = take (run .pending) bytes ++ (x ∷ [])
+
+    come-now : take (run .pending + 1) now ≡ come
+    unfolding come
+    come-now =
+        ap (take (run .pending + 1)) stored ∙ ap (λ (k : ℕ). take k (set bytes (run .pending) x)) (add-one (run .pending))
+        ∙ take-suc-set bytes (run .pending) x pending-room
+
+    room-now : length now ≡ 2056
+    room-now = ap length stored ∙ length-set bytes (run .pending) x ∙ ready .room
+
+    come-more : length come ≡ run .pending + 1
+    unfolding come
+    come-more = length-append (take (run .pending) bytes) (x ∷ []) ∙ ap (λ (k : ℕ). k + 1) come-size
+
+    come-then : (rest : List ℕ) → come ++ rest ≡ take (run .pending) bytes ++ (x ∷ rest)
+    unfolding come
+    come-then rest = append-snoc (take (run .pending) bytes) x rest
+
+    -- the block is not whole yet
+    pub push-waits : run .pending + 1 < needed (take (run .pending + 1 - 0) now)
+        → Feeds run d bytes (x ∷ [])
+        (record { stage = run .stage; state = run .state; settings = run .settings; words = run .words; pending = run .pending + 1 })
+        d now
+    unfolding ahead
+    push-waits h =
+        record {
+          ready =
+              record {
+                room = room-now;
+                coming = subst (λ (l : List ℕ). run .pending + 1 < needed l) (part-front (run .pending + 1) now) h;
+                few = ready .few;
+              };
+          same = λ rest. ap (λ (l : List ℕ). after (progress run d) (blocks l)) (ap (λ (l : List ℕ). l ++ rest) come-now ∙ come-then rest);
+        }
+
+    -- the block is whole, and is taken
+    module _ (h : needed (take (run .pending + 1 - 0) now) ≤ run .pending + 1) where
+      whole : length come ≡ needed come
+      unfolding come
+      whole =
+          let e : needed (take (run .pending + 1 - 0) now) ≡ needed come =
+          ap needed (part-front (run .pending + 1) now ∙ come-now) in
+          let c : run .pending < needed (take (run .pending) bytes) = ready .coming in
+          omega (arith, come-more, come-size, needed-more (take (run .pending) bytes) x (omega (arith, come-size)))
+
+      whole-from : 4 ≤ run .pending + 1
+      whole-from = omega (arith, whole, come-more, needed-ends come .0)
+
+      pub whole-comes : Comes run now (run .pending + 1)
+      whole-comes =
+          record { room = room-now; count = whole-from; within = omega (arith, pending-room, ready .room, room-now); few = ready .few }
+
+      pub push-takes : (r : Run) (e : List ℕ)
+          → Takes (emptied run) d (wholeWords (take (run .pending + 1 - 4) (drop 4 now))) r e
+          → Feeds run d bytes (x ∷ []) r e now
+      unfolding ahead
+      push-takes r e t =
+          let none : r .pending ≡ 0 = t .pending in
+          let block : take (run .pending + 1 - 4) (drop 4 now) ≡ drop 4 come =
+          part-end 4 (run .pending + 1) now ∙ ap (drop 4) come-now in
+          record {
+            ready =
+                record {
+                  room = room-now;
+                  coming = omega (arith, none, needed-ends (take (r .pending) now) .0);
+                  few = t .few;
+                };
+            same =
+                λ rest.
+                ap₂ (λ (p : Progress) (k : ℕ). after p (blocks (take k now ++ rest)))
+                (t .leads ∙ ap (λ (l : List ℕ). taking (progress run d) (wholeWords l)) block) none
+                ∙ sym (after-block (progress run d) come rest whole)
+                ∙ ap (λ (l : List ℕ). after (progress run d) (blocks l)) (come-then rest);
+          }
+
+-- ---- bytes one after another
+
+module _ {run : Run} {d bytes : List ℕ} where
+  pub feeds-none : ReadyRun run bytes → Feeds run d bytes [] run d bytes
+  feeds-none ready = record { ready = ready; same = λ rest. refl }
+
+  pub feeds-then : {s t : List ℕ} {r u : Run} {e f b c : List ℕ} → Feeds run d bytes s r e b → Feeds r e b t u f c
+      → Feeds run d bytes (s ++ t) u f c
+  feeds-then {s} {t} p q =
+      record {
+        ready = q .ready;
+        same = λ rest. q .same rest ∙ p .same (t ++ rest) ∙ ap (ahead run d bytes) (sym (append-assoc s t rest));
+      }
+
+  pub feeds-more : (fed : List ℕ) (i : ℕ) {r s : Run} {e f b c : List ℕ} → i < length fed
+      → Feeds run d bytes (take i fed) r e b → Feeds r e b (getD fed i 0 ∷ []) s f c → Feeds run d bytes (take (i + 1) fed) s f c
+  feeds-more fed i {s = s} {f = f} {c = c} l p q =
+      subst (λ (x : List ℕ). Feeds run d bytes x s f c) (sym (ap (λ (k : ℕ). take k fed) (add-one i) ∙ take-suc fed i 0 l)) (feeds-then p q)
+
+  pub feeds-all : (fed : List ℕ) (i : ℕ) {r : Run} {e b : List ℕ} → length fed ≤ i
+      → Feeds run d bytes (take i fed) r e b → Feeds run d bytes fed r e b
+  feeds-all fed i {r} {e} {b} l p = subst (λ (x : List ℕ). Feeds run d bytes x r e b) (take-all i fed l) p
+
+-- ---- the end of the input
+
+module _ (run : Run) (d bytes : List ℕ) (ready : ReadyRun run bytes) where
+  pub close-none : run .pending < 4 → Closes run d bytes run d
+  unfolding ahead
+  close-none h =
+      record { leads = sym (after-none (progress run d) (take (run .pending) bytes) (omega (arith, come-size run bytes ready))); few = ready .few }
+
+  pub cut-comes : 4 ≤ run .pending → Comes run bytes (run .pending)
+  cut-comes h = record { room = ready .room; count = h; within = omega (arith, pending-room run bytes ready); few = ready .few }
+
+  pub close-cut : 4 ≤ run .pending → (r : Run) (e : List ℕ) → Takes (emptied run) d (wholeWords (take (run .pending - 4) (drop 4 bytes))) r e
+      → Closes run d bytes r e
+  unfolding ahead
+  close-cut h r e t =
+      let s = come-size run bytes ready in
+      let c = ready .coming in
+      record {
+        leads =
+            t .leads ∙ ap (λ (l : List ℕ). taking (progress run d) (wholeWords l)) (part-end 4 (run .pending) bytes)
+            ∙ sym (after-cut (progress run d) (take (run .pending) bytes) (omega arith) (omega arith));
+        few = t .few;
+      }
+
+-- ---- what is printed
+
+module _ (run : Run) (d out after : List ℕ) (n : ℕ) where
+  pub writes-opening : run .stage ≡ Opening → Puts out 0 (numberLine (refused 2)) after n → Writes (progress run d) out after n
+  unfolding progressAt Prints
+  writes-opening h p =
+      record {
+        text = numberLine (refused 2);
+        prints = subst (λ (q : Progress). Prints q (numberLine (refused 2))) (sym (progress-is run d Opening h)) refl;
+        fits = number-length (refused 2);
+        puts = p;
+      }
+
+  pub writes-closed : (r : Refusal) → run .stage ≡ Closed r → Puts out 0 (numberLine r) after n → Writes (progress run d) out after n
+  unfolding progressAt Prints
+  writes-closed r h p =
+      record {
+        text = numberLine r;
+        prints = subst (λ (q : Progress). Prints q (numberLine r)) (sym (progress-is run d (Closed r) h)) refl;
+        fits = number-length r;
+        puts = p;
+      }
+
+  -- the text of a decision
+  pub writes-decision : (r : Decided) → run .stage ≡ Open → Decides (take (run .words - 0) (run .settings)) (run .state) d r
+      → PutsDecision (take (run .words - 0) (run .settings)) (r .decision) (r .state .plan) out after n → Writes (progress run d) out after n
+  unfolding progressAt Prints
+  writes-decision r h decides says =
+      record {
+        text = decisionText (take (run .words - 0) (run .settings)) (r .decision) (r .state .plan);
+        prints =
+            subst (λ (q : Progress). Prints q (decisionText (take (run .words - 0) (run .settings)) (r .decision) (r .state .plan)))
+            (sym (progress-is run d Open h))
+            (record {
+              decided = r;
+              decides = subst (λ (σ : List ℕ). Decides σ (run .state) d r) own decides;
+              says = ap (λ (σ : List ℕ). decisionText σ (r .decision) (r .state .plan)) own;
+            });
+        fits = says .fits;
+        puts = says .puts;
+      }
+    where
+      own : take (run .words - 0) (run .settings) ≡ take (run .words) (run .settings)
+      own = part-front (run .words) (run .settings)
+
+-- where decide plans the settings are right
+pub planned-settings : (σ : List ℕ) (x : State) (d : List ℕ) (r : Decided) → Decides σ x d r → r .decision ≡ Decision.Planned → Settings σ
+unfolding decideRefusal
+planned-settings σ x d r decides e =
+    ⊎-elim (λ h. entry-settings (deskOk d) σ x d (isGathering (x .phase)) h)
+    (λ h.
+    let a = ap (λ (q : Decided). q .decision) (decides .refused h) in
+    let z : _≡_ {A = ℕ} 0 1 = cc in
+    absurd (omega arith))
+    (either (accepted (decideRefusal σ x d)))

@@ -1,0 +1,52 @@
+-- The numbers that a report can be refused by beside what is kept: 5 to 13.
+use Prim.Native.Nat.{ℕ, _≤_}
+use mathlib.Core.Bool.{Bool}
+use mathlib.Core.Logic.{_⊎_, inl, inr, ⊎-elim}
+use mathlib.Core.List.{List}
+use mathlib.Core.Path.{_≡_, refl, subst⁻¹}
+use native.Mathlib.Omega.{arith}
+use Rattle.base_laws.specs.Bools.{either}
+use Rattle.base_ids.specs.declared.Refusal.{Refusal}
+use Rattle.base_ids.specs.Refusals.{none, accepted, unless, firstOf, unless-true, unless-false, first-none, first-refused, accepted-none}
+use Rattle.message_format.specs.declared.Form.the-variants.{Report}
+use Rattle.message_format.specs.Messages.{recordsRefusal, headRefusal, messageRefusal}
+use Rattle.report_views.specs.declared.Layout.{Layout}
+use Rattle.report_views.specs.declared.Termination.{Termination}
+use Rattle.report_kept.specs.Reports.{keptRefusal, refusalBeside}
+
+-- no refusal, or a number from 5 to 13
+abbrev pub InRows : Refusal → Type 0
+InRows r = (r .number ≡ 0) ⊎ ((5 ≤ r .number) × (r .number ≤ 13))
+
+in-none : InRows none
+in-none = inl refl
+
+in-unless : (ok : Bool) (k : ℕ) (rest : Refusal) → 5 ≤ k → k ≤ 13 → InRows rest → InRows (unless ok k rest)
+in-unless ok k rest l h r =
+    ⊎-elim (λ e. subst⁻¹ (λ (x : Refusal). InRows x) (unless-true ok k rest e) r)
+    (λ e. subst⁻¹ (λ (x : Refusal). InRows x) (unless-false ok k rest e) (inr (l, h)))
+    (either ok)
+
+in-first : (a b : Refusal) → InRows a → InRows b → InRows (firstOf a b)
+in-first a b p q =
+    ⊎-elim (λ e. subst⁻¹ (λ (x : Refusal). InRows x) (first-none a b (accepted-none a e)) q)
+    (λ e. subst⁻¹ (λ (x : Refusal). InRows x) (first-refused a b e) p)
+    (either (accepted a))
+
+in-message : (σ w : List ℕ) → InRows (messageRefusal Report σ w)
+unfolding messageRefusal headRefusal recordsRefusal
+in-message σ w =
+    in-unless _ 5 _ (omega arith) (omega arith)
+    (in-first _ _ (in-unless _ 6 _ (omega arith) (omega arith) (in-unless _ 7 _ (omega arith) (omega arith) in-none))
+    (in-unless _ 8 _ (omega arith) (omega arith)
+    (in-unless _ 9 _ (omega arith) (omega arith)
+    (in-unless _ 9 _ (omega arith) (omega arith)
+    (in-unless _ 9 _ (omega arith) (omega arith)
+    (in-unless _ 9 _ (omega arith) (omega arith)
+    (in-unless _ 10 _ (omega arith) (omega arith) (in-unless _ 11 _ (omega arith) (omega arith) in-none))))))))
+
+pub in-beside : (σ : List ℕ) (v : Layout) (t : Termination) (w : List ℕ) → InRows (refusalBeside σ v t w)
+unfolding refusalBeside keptRefusal
+in-beside σ v t w =
+    in-first _ _ (in-message σ w)
+    (in-unless _ 12 _ (omega arith) (omega arith) (in-unless _ 13 _ (omega arith) (omega arith) in-none))

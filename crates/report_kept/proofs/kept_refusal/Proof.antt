@@ -1,0 +1,29 @@
+-- `report_kept::kept_refusal` meets its contract: row by row. Assumes nothing.
+use mathlib.Core.Path.{sym}
+use borrow.Author.Needs.{needs}
+use borrow.Author.Tests.{not-true, not-false}
+use Rattle.base_ids.specs.Refusals.{unless}
+use Rattle.report_kept.specs.Reports.{keptRefusal}
+use Rattle.report_kept.proofs.kept_refusal.Statement.{statement}
+use Rattle.report_kept.proofs.kept_refusal.Tie as tie
+
+returns : tie.Need-returns
+unfolding keptRefusal unless
+returns c = let k = c .before .row12 in simp (sym (k .ensures), not-true (k .result) (c .if1 .taken))
+
+returns-2 : tie.Need-returns-2
+unfolding keptRefusal unless
+returns-2 c =
+    let k = c .before .before .before .row12 in
+    let l = c .before .row13 in
+    simp (sym (k .ensures), not-false (k .result) (c .before .before .if1 .left), sym (l .ensures), not-true (l .result) (c .if2 .taken))
+
+returns-3 : tie.Need-returns-3
+unfolding keptRefusal unless
+returns-3 c =
+    let k = c .before .before .before .row12 in
+    let l = c .before .row13 in
+    simp (sym (k .ensures), not-false (k .result) (c .before .before .if1 .left), sym (l .ensures), not-false (l .result) (c .if2 .left))
+
+pub kept-refusal-spec : {M : Type 1} → statement M
+kept-refusal-spec = tie.close (tie.spec (λ c κs. search needs) returns (λ c κs. search needs) returns-2 returns-3)

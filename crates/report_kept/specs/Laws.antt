@@ -1,0 +1,100 @@
+-- The functions' answers as the definitions: a view and a termination from the words of the body, what is kept case by
+-- case, and what acceptance gives of a report.
+use Prim.Native.Nat.{ℕ, _-_, _<_, _≤_}
+use mathlib.Core.Bool.{true, false}
+use mathlib.Core.List.{List}
+use mathlib.Core.Logic.{⊎-elim}
+use mathlib.Core.Path.{_≡_, refl, sym, ap, _∙_}
+use native.Mathlib.Omega.{arith}
+use lib.ListN.{getD, replicate}
+use borrow.Author.Tests.{eq-eqb, ne-eqb, lt-ltb, le-ltb, ltb-true}
+use Rattle.base_laws.specs.Bools.{either}
+use Rattle.base_laws.specs.Tables.{tabulate-same}
+use Rattle.settings_values.specs.Settings.{nodes, shards, Settings}
+use Rattle.base_ids.specs.declared.Refusal.{Refusal}
+use Rattle.base_ids.specs.Refusals.{none, accepted, accepted-none, first-left, first-none, first-refused}
+use Rattle.message_format.specs.declared.Form.the-variants.{Report}
+use Rattle.message_format.specs.declared.Contents.{Contents}
+use Rattle.message_format.specs.declared.Reading.{Reading}
+use Rattle.message_format.specs.Rows.{row6}
+use Rattle.message_format.specs.Messages.{messageRefusal, contentsOf}
+use Rattle.message_format.specs.Passed.{message-given}
+use Rattle.message_reader.specs.Readings.{readingUnder}
+use Rattle.report_views.specs.declared.Layout.{Layout}
+use Rattle.report_views.specs.declared.Termination.{Termination}
+use Rattle.report_views.specs.Reports.{terminated}
+use Rattle.report_kept.specs.Reports.{keptRefusal, refusalBeside, readingBeside, layoutOf, terminationOf, keeps, renewed}
+use Rattle.report_kept.specs.Words.{masksIn, positionsIn, madeFirst}
+
+-- ---- rows 5 to 13
+
+module _ (σ : List ℕ) (v : Layout) (t : Termination) (w : List ℕ) (r : Reading) (e : r ≡ readingUnder Report σ w) where
+  refusal-is : r .refusal ≡ messageRefusal Report σ w
+  unfolding readingUnder
+  refusal-is = ap (λ (x : Reading). x .refusal) e
+
+  pub beside-refused : (r .refusal .number ≡ 0 → ⊥) → r ≡ readingBeside σ v t w
+  unfolding readingBeside refusalBeside readingUnder
+  beside-refused h =
+      let bad : accepted (messageRefusal Report σ w) ≡ false = rw refusal-is at (ne-eqb (r .refusal .number) 0 h) in
+      e
+      ∙ ap (λ (k : Refusal). record { refusal = k; contents = readingUnder Report σ w .contents })
+      (sym (first-refused (messageRefusal Report σ w) (keptRefusal σ v t (contentsOf w)) bad))
+
+  pub beside-read : r .refusal .number ≡ 0 → (k : Refusal) → k ≡ keptRefusal σ v t (r .contents)
+      → record { refusal = k; contents = r .contents } ≡ readingBeside σ v t w
+  unfolding readingBeside refusalBeside readingUnder
+  beside-read h k f =
+      let good : accepted (messageRefusal Report σ w) ≡ true = rw refusal-is at (eq-eqb (r .refusal .number) 0 h) in
+      let same : r .contents ≡ contentsOf w = ap (λ (x : Reading). x .contents) e ∙ rw good in
+      rw (f, same, good, first-none (messageRefusal Report σ w) (keptRefusal σ v t (contentsOf w)) (accepted-none (messageRefusal Report σ w) good))
+
+-- what acceptance gives
+module _ (σ : List ℕ) (v : Layout) (t : Termination) (w : List ℕ) (taken : accepted (refusalBeside σ v t w) ≡ true) where
+  pub taken-message : messageRefusal Report σ w ≡ none
+  unfolding refusalBeside
+  taken-message = first-left (messageRefusal Report σ w) _ (accepted-none (refusalBeside σ v t w) taken)
+
+  pub taken-contents : readingUnder Report σ w .contents ≡ contentsOf w
+  unfolding readingUnder
+  taken-contents = rw taken-message
+
+  -- its node is one of the settings
+  pub taken-node : Settings σ → getD w 0 0 < 32
+  unfolding row6
+  taken-node right =
+      omega (arith, ltb-true (getD w 0 0) (nodes σ) (message-given Report σ w taken-message .head-passes .node-passes), right .sizes .nodes-to)
+
+-- ---- the view and the termination
+
+module _ (σ : List ℕ) (c : Contents) (n : ℕ) (e : n ≡ shards σ) where
+  pub layout-by : record { number = c .view; members = c .members; masks = masksIn (c .body) n } ≡ layoutOf σ c
+  unfolding layoutOf masksIn
+  layout-by = rw e
+
+  pub termination-by : terminated σ c ≡ true → record { made = true; positions = positionsIn (c .body) n } ≡ terminationOf σ c
+  unfolding terminationOf positionsIn
+  termination-by h = rw (h, e)
+
+pub termination-none : (σ : List ℕ) (c : Contents) → terminated σ c ≡ false
+    → record { made = false; positions = replicate 32 0 } ≡ terminationOf σ c
+unfolding terminationOf
+termination-none σ c h =
+    rw h (ap (λ (l : List ℕ). record { made = false; positions = l }) (tabulate-same 32 0 _ (λ k l. refl)))
+
+-- ---- what is kept
+
+module _ (σ : List ℕ) (v : Layout) (t : Termination) (c : Contents) where
+  pub renewed-greater : v .number .0 < c .view .0 → keeps (layoutOf σ c) (terminationOf σ c) ≡ renewed σ v t c
+  unfolding renewed
+  renewed-greater l = rw (lt-ltb (v .number .0) (c .view .0) l)
+
+  pub renewed-smaller : c .view .0 ≤ v .number .0 → (v .number .0 ≡ c .view .0 → ⊥) → keeps v t ≡ renewed σ v t c
+  unfolding renewed
+  renewed-smaller l h = rw (le-ltb (v .number .0) (c .view .0) l, ne-eqb (v .number .0) (c .view .0) h)
+
+  pub renewed-equal : v .number .0 ≡ c .view .0 → keeps v (madeFirst t (terminationOf σ c)) ≡ renewed σ v t c
+  unfolding renewed
+  renewed-equal h =
+      ⊎-elim (λ m. rw (le-ltb (v .number .0) (c .view .0) (omega arith), eq-eqb (v .number .0) (c .view .0) h, m))
+      (λ m. rw (le-ltb (v .number .0) (c .view .0) (omega arith), eq-eqb (v .number .0) (c .view .0) h, m)) (either (t .made))

@@ -1,0 +1,142 @@
+// A report against what is kept: rows 12 and 13, and whether its termination is kept.
+use message_format::Contents;
+use report_views::Layout;
+use report_views::Termination;
+ghost use mathlib.Core.Bool.{true, _&&_};
+ghost use mathlib.Core.Path.{_≡_};
+ghost use Prim.Native.Nat.{_<_, _≤_, _+_, _*_};
+ghost use Rattle.settings_values.specs.Settings.{Settings};
+ghost use Rattle.report_views.specs.Reports as Reports;
+ghost use Rattle.report_views.specs.Slots as Slots;
+ghost use Rattle.report_rows.specs.Comparisons.{masksSame, positionSame, positionsSame};
+
+// The report has these masks for its first count shards.
+fn same_masks(masks: &[u32; 16], body: &[u32; 381], count: usize) -> bool
+    requires { ⌜ count ≤ 16 ⌝ }
+    ensures { λ r. ⌜ r ≡ masksSame (now (masks .entry)) (now (body .entry)) count ⌝ }
+{
+    let mut s: usize = 0;
+    while s < count {
+        if message_fields::word1(body, s) != masks[s] {
+            return false;
+        }
+        s += 1;
+    }
+    true
+}
+
+// The report has the members and the shard masks of the view.
+fn same_view(settings: &[u32], v: Layout, c: Contents) -> bool
+    requires { ⌜ Settings (now settings) ⌝ }
+    ensures { λ r. ⌜ r ≡ Slots.sameView (now (settings .entry)) v c ⌝ }
+{
+    if c.members != v.members {
+        return false;
+    }
+    let count = settings_values::shards(settings) as usize;
+    same_masks(&v.masks, &c.body, count)
+}
+
+// The report is of the kept view.
+fn of_kept(v: Layout, c: Contents) -> bool
+    ensures { λ r. ⌜ r ≡ Slots.ofKept v c ⌝ }
+{
+    let view = c.view;
+    let number = v.number;
+    view.0 == number.0
+}
+
+// Row 12: a report with the kept number has its masks.
+pub fn row12(settings: &[u32], v: Layout, c: Contents) -> bool
+    requires { ⌜ Settings (now settings) ⌝ }
+    ensures { λ r. ⌜ r ≡ Slots.row12 (now (settings .entry)) v c ⌝ }
+{
+    if !of_kept(v, c) {
+        return true;
+    }
+    same_view(settings, v, c)
+}
+
+// A report that passes row 9 has a termination.
+pub fn terminated(settings: &[u32], c: Contents) -> bool
+    requires { ⌜ Settings (now settings) ⌝ }
+    ensures { λ r. ⌜ r ≡ Reports.terminated (now (settings .entry)) c ⌝ }
+{
+    let count = settings_values::shards(settings) as usize;
+    let len = c.len;
+    if len <= count {
+        return false;
+    }
+    message_fields::kind(&c.body, count) == 2
+}
+
+// Record s after the first count has the position of shard s.
+fn same_position(positions: &[u32; 32], body: &[u32; 381], count: usize, s: usize) -> bool
+    requires { ⌜ (count ≤ 16) × (s < 16) ⌝ }
+    ensures { λ r. ⌜ r ≡ positionSame (now (positions .entry)) (now (body .entry)) count s ⌝ }
+{
+    if message_fields::word1(body, count + s) != positions[2 * s] {
+        return false;
+    }
+    message_fields::word2(body, count + s) == positions[2 * s + 1]
+}
+
+// The positions after the first count records of the report are these.
+fn same_positions(positions: &[u32; 32], body: &[u32; 381], count: usize) -> bool
+    requires { ⌜ count ≤ 16 ⌝ }
+    ensures { λ r. ⌜ r ≡ positionsSame (now (positions .entry)) (now (body .entry)) count count ⌝ }
+{
+    let mut s: usize = 0;
+    while s < count {
+        if !same_position(positions, body, count, s) {
+            return false;
+        }
+        s += 1;
+    }
+    true
+}
+
+// The report's termination is the kept one.
+fn same_termination(settings: &[u32], t: Termination, c: Contents) -> bool
+    requires { ⌜ Settings (now settings) ⌝ }
+    ensures { λ r. ⌜ r ≡ Slots.sameTermination (now (settings .entry)) t c ⌝ }
+{
+    let count = settings_values::shards(settings) as usize;
+    same_positions(&t.positions, &c.body, count)
+}
+
+// The report is of the kept view and has a termination.
+fn kept_terminated(settings: &[u32], v: Layout, c: Contents) -> bool
+    requires { ⌜ Settings (now settings) ⌝ }
+    ensures { λ r. ⌜ r ≡ (Slots.ofKept v c && Reports.terminated (now (settings .entry)) c) ⌝ }
+{
+    if !of_kept(v, c) {
+        return false;
+    }
+    terminated(settings, c)
+}
+
+// Row 13: a termination of the kept view does not differ from the kept one.
+pub fn row13(settings: &[u32], v: Layout, t: Termination, c: Contents) -> bool
+    requires { ⌜ Settings (now settings) ⌝ }
+    ensures { λ r. ⌜ r ≡ Slots.row13 (now (settings .entry)) v t c ⌝ }
+{
+    if !kept_terminated(settings, v, c) {
+        return true;
+    }
+    if !t.made {
+        return true;
+    }
+    same_termination(settings, t, c)
+}
+
+// A termination of the kept view is kept.
+pub fn term_kept(settings: &[u32], v: Layout, t: Termination, c: Contents) -> bool
+    requires { ⌜ Settings (now settings) ⌝ }
+    ensures { λ r. ⌜ r ≡ Slots.termKept (now (settings .entry)) v t c ⌝ }
+{
+    if !kept_terminated(settings, v, c) {
+        return true;
+    }
+    t.made
+}

@@ -1,0 +1,63 @@
+// Views, terminations and waits as values. What the desk's reports say, the quorum, targets and holders stand in specs/.
+use base_ids::Shard;
+use base_ids::View;
+
+// A view: its number (0: none), its members and each shard's members. Entries from S up are 0.
+pub struct Layout {
+    pub number: View,
+    pub members: u32,
+    pub masks: [u32; 16],
+}
+
+// An epoch termination, if one was made: for each shard the position (view, k) at which its log ends, two words each.
+pub struct Termination {
+    pub made: bool,
+    pub positions: [u32; 32],
+}
+
+// Why no restart is possible yet.
+pub enum Reason {
+    // no view is kept
+    NoView,
+    // the held members of the kept view are not more than half of it
+    NoMajority,
+    // fewer nodes are held than the least group size
+    TooFew,
+    // this shard has no holder
+    NoHolder(Shard),
+    // this subgroup has no valid placement
+    NoPlacement(u32),
+}
+
+// Whether the quorum conditions are met, and if not the first that fails.
+pub enum Quorum {
+    Met,
+    Short(Reason),
+}
+
+// A plan: the new view, the moves of its placements, and each shard's holder and target (view, k). Entries from S up are 0.
+pub struct Plan {
+    pub layout: Layout,
+    pub total: u32,
+    pub holders: [u32; 16],
+    pub targets: [u32; 32],
+}
+
+// Where a restart stands.
+pub enum Phase {
+    // reports come in
+    Gathering,
+    // a plan stands, and nodes fetch what they lack
+    Ordered,
+    // all have fetched, and nodes prepare the new view
+    Preparing,
+    // all have prepared: the restart is done
+    Committed,
+}
+
+// What the held reports give: whether the quorum conditions are met, and each shard's holder (32: none) and target.
+pub struct Standing {
+    pub quorum: Quorum,
+    pub holders: [u32; 16],
+    pub targets: [u32; 32],
+}

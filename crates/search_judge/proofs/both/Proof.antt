@@ -1,0 +1,14 @@
+-- Each branch by its test. Assumes nothing.
+use borrow.Author.Tests.{eq-eqb, ne-eqb}
+use Rattle.search_judge.proofs.both.Statement.{statement}
+use Rattle.search_judge.proofs.both.Tie as tie
+
+returns : tie.Need-returns
+returns c = simp (eq-eqb _ _ (c .if1 .taken))
+
+returns-2 : tie.Need-returns-2
+returns-2 c = simp (ne-eqb _ _ (c .if1 .left))
+
+pub both-spec : {M : Type 1} → statement M
+both-spec =
+    tie.close (tie.spec returns returns-2)

@@ -1,0 +1,50 @@
+-- Least moves: the first placement within a bound that no valid placement stays below is the first of least moves.
+use mathlib.Core.Bool.{cond}
+use mathlib.Core.Logic.{⊎-elim}
+use Prim.Native.Nat.{ℕ, _+_, _≤_, _<_}
+use native.Mathlib.Omega.{arith}
+use borrow.Author.Tests.{lt-ltb, le-ltb}
+use Rattle.base_laws.specs.Bools.{lt-or-le}
+use Rattle.base_sums.specs.Sums.{sum-bound}
+use Rattle.search_theory.specs.Case.{Case, Valid, Within, Least, hasOwner, moves}
+use Rattle.search_theory.specs.Order.{First, None}
+
+-- a valid placement has at most 32 moves
+pub moves-most : {K : Case} {z : ℕ → ℕ} → Valid K z → moves K z ≤ 32
+unfolding moves
+moves-most {K} {z} v = omega (arith, sum-bound 32 1 (λ n. cond (hasOwner z n) (K .price (z n) n) 0) at)
+  where
+    at : (n : ℕ) → n < 32 → cond (hasOwner z n) (K .price (z n) n) 0 ≤ 1
+    at n l =
+        ⊎-elim (λ h. simp (lt-ltb (z n) 16 h) (omega (arith, v .allowed n l h))) (λ h. simp (le-ltb (z n) 16 h) (omega arith))
+        (lt-or-le (z n) 16)
+
+-- every valid placement has at least k moves
+pub record AtLeast (K : Case) (k : ℕ) : Type 0 where
+  pub bound : (y : ℕ → ℕ) → Valid K y → k ≤ moves K y
+
+pub at-least-none : {K : Case} → AtLeast K 0
+at-least-none = record { bound = λ y v. omega arith }
+
+pub at-least-more : {K : Case} {k : ℕ} → None (Within K k) → AtLeast K (k + 1)
+at-least-more {K} {k} n =
+    record { bound = λ y v. ⊎-elim (λ h. omega arith) (λ h. absurd (n .none y (record { valid = v; cheap = h }))) (lt-or-le k (moves K y)) }
+
+pub first-least : {K : Case} {k : ℕ} {z : ℕ → ℕ} → AtLeast K k → First (Within K k) z → First (Least K) z
+first-least {K} {k} {z} a f =
+    record {
+      is = record { valid = f .is .valid; least = λ y v. omega (arith, f .is .cheap, a .bound y v) };
+      first = λ y g. f .first y (record { valid = g .valid; cheap = omega (arith, g .least z (f .is .valid), f .is .cheap) });
+    }
+
+-- none within 32 moves: none at all
+pub none-all : {K : Case} {k : ℕ} → 32 ≤ k → None (Within K k) → None (Valid K)
+none-all h n = record { none = λ y v. n .none y (record { valid = v; cheap = omega (arith, moves-most v) }) }
+
+-- a bound above 32 is none
+pub none-above : {K : Case} {k : ℕ} → 32 < k → AtLeast K k → None (Valid K)
+none-above h a = record { none = λ y v. omega (arith, moves-most v, a .bound y v) }
+
+-- within 32 moves is within any larger number
+pub within-cap : {K : Case} {j k : ℕ} {z : ℕ → ℕ} → 32 ≤ j → Within K k z → Within K j z
+within-cap h w = record { valid = w .valid; cheap = omega (arith, moves-most (w .valid)) }

@@ -1,0 +1,24 @@
+-- From no owners and pair 0 the search's answer is that of all placements. Assumes nothing.
+use borrow.Author.Needs.{needs}
+use native.Mathlib.Omega.{arith}
+use Rattle.search_theory.specs.Case.{moves}
+use Rattle.search_theory.specs.Order.{first-start, none-start}
+use Rattle.search_total.specs.Answers.{ready-blank, within-found, within-none}
+use Rattle.search_total.proofs.plain_within.Statement.{statement}
+use Rattle.search_total.proofs.plain_within.Tie as tie
+
+seek-requires : tie.Need-seek-requires
+seek-requires c κs = (omega arith, ready-blank)
+
+returns : tie.Need-returns
+unfolding moves
+returns c =
+    within-found (first-start (c .before .before .seek .ensures .yes (c .before .if1 .taken))) (c .before .before .seek .ensures .owners)
+    (record { exists = c .some .ensures .exists; moves = c .some .ensures .moves; owners = c .some .ensures .owners })
+
+returns-2 : tie.Need-returns-2
+returns-2 c = within-none (none-start (c .before .before .seek .ensures .no (c .before .if1 .left))) (c .nothing .ensures)
+
+pub plain-within-spec : {M : Type 1} → statement M
+plain-within-spec =
+    tie.close (tie.spec seek-requires (λ c κs. search needs) (λ c κs. search needs) returns returns-2)

@@ -1,0 +1,87 @@
+-- From what a search found to the answer: the first placement, its moves, or that there is none.
+use mathlib.Core.Path.{_≡_, sym, ap, _∙_, subst}
+use mathlib.Core.Bool.{true, false}
+use mathlib.Core.List.{List}
+use Prim.Native.Nat.{ℕ, _≤_, _<_}
+use native.Mathlib.Omega.{arith}
+use lib.ListN.{length-replicate, getD-replicate}
+use Rattle.base_laws.specs.Bools.{clash}
+use Rattle.search_theory.specs.Case.{Case, Valid, Within, moves}
+use Rattle.search_theory.specs.Tables.{ownersOf}
+use Rattle.search_theory.specs.Order.{First, None, From, begun-start}
+use Rattle.search_theory.specs.Least.{AtLeast, first-least, none-all}
+use Rattle.search_total.specs.declared.Solution.{Solution}
+use Rattle.search_total.specs.Post.{Owners, ReadyFrom, WithinAnswer, LeastAnswer, noOwners}
+
+blank-owner : (n : ℕ) → n < 32 → ownersOf noOwners n ≡ 16
+blank-owner n l = getD-replicate 32 n 16 0 l
+
+pub owners-blank : Owners noOwners
+owners-blank = record { long = length-replicate {A = ℕ} 32 16; least = λ n l. omega (arith, blank-owner n l) }
+
+pub ready-blank : ReadyFrom noOwners 0
+ready-blank = record { owners = owners-blank; begun = begun-start (λ n l. omega (arith, blank-owner n l)) }
+
+-- what is known of an answer that has the owners p
+pub record HasOwners (K : Case) (p : List ℕ) (a : Solution) : Type 0 where
+  pub exists : a .exists ≡ true
+  pub moves : a .moves ≡ moves K (ownersOf p)
+  pub owners : a .owners ≡ p
+
+-- what is known of an answer that says that there is none
+pub record Empty (a : Solution) : Type 0 where
+  pub exists : a .exists ≡ false
+  pub moves : a .moves ≡ 0
+  pub owners : a .owners ≡ noOwners
+
+pub within-found : {K : Case} {k : ℕ} {p : List ℕ} {a : Solution} → First (Within K k) (ownersOf p) → Owners p → HasOwners K p a → WithinAnswer K k a
+within-found {K} {k} f o h =
+    record {
+      found = λ e. subst (λ (w : List ℕ). First (Within K k) (ownersOf w)) (sym (h .owners)) f;
+      exact = λ e. h .moves ∙ ap (λ (w : List ℕ). moves K (ownersOf w)) (sym (h .owners));
+      none = λ e. clash (h .exists) e;
+      empty = λ e. clash (h .exists) e;
+      owners = subst Owners (sym (h .owners)) o;
+    }
+
+pub within-none : {K : Case} {k : ℕ} {a : Solution} → None (Within K k) → Empty a → WithinAnswer K k a
+within-none n h =
+    record {
+      found = λ e. clash e (h .exists);
+      exact = λ e. clash e (h .exists);
+      none = λ e. n;
+      empty = λ e. (h .moves, h .owners);
+      owners = subst Owners (sym (h .owners)) owners-blank;
+    }
+
+-- the first within a bound that no valid placement stays below
+pub least-found : {K : Case} {k : ℕ} {a : Solution} → AtLeast K k → WithinAnswer K k a → a .exists ≡ true → LeastAnswer K a
+least-found b w e =
+    record {
+      found = λ d. first-least b (w .found d);
+      exact = w .exact;
+      none = λ d. clash e d;
+      empty = w .empty;
+      owners = w .owners;
+    }
+
+-- the same where the bound is 32 or more, and there may be none
+pub least-last : {K : Case} {k : ℕ} {a : Solution} → 32 ≤ k → AtLeast K k → WithinAnswer K k a → LeastAnswer K a
+least-last l b w =
+    record {
+      found = λ d. first-least b (w .found d);
+      exact = w .exact;
+      none = λ d. none-all l (w .none d);
+      empty = w .empty;
+      owners = w .owners;
+    }
+
+pub least-none : {K : Case} {a : Solution} → None (Valid K) → Empty a → LeastAnswer K a
+least-none n h =
+    record {
+      found = λ e. clash e (h .exists);
+      exact = λ e. clash e (h .exists);
+      none = λ e. n;
+      empty = λ e. (h .moves, h .owners);
+      owners = subst Owners (sym (h .owners)) owners-blank;
+    }

@@ -1,0 +1,110 @@
+-- The search's steps, from pair t + 1 to pair t: taking a pair, leaving it, undoing a take, and the end.
+use mathlib.Core.Path.{_≡_, refl, sym, ap, _∙_, subst}
+use mathlib.Core.Bool.{Bool, true, false, true≢false, false≢true}
+use mathlib.Core.List.{List}
+use Prim.Native.Nat.{ℕ, _+_, _/_, _%_, _≤_, _<_}
+use native.Mathlib.Nat.{le-antisymm}
+use native.Mathlib.Omega.{arith}
+use lib.ListN.{getD, set, length-set}
+use lib.Seq.{getD-set-same, getD-set-other, set-set, set-getD}
+use Rattle.base_laws.specs.Bools.{eq-or-ne}
+use mathlib.Core.Logic.{⊎-elim}
+use Rattle.search_theory.specs.Case.{Case}
+use Rattle.search_theory.specs.Tables.{ownersOf}
+use Rattle.search_theory.specs.Order.{takes, None, From, TakesPair, begun-leave, begun-take, first-leave, none-leave, first-take, none-take, first-end, none-end}
+use Rattle.search_judge.specs.Post.{Judged, Barred, Hopeless}
+use Rattle.search_total.specs.Post.{Owners, ReadyFrom, Sought}
+
+-- owners with pair t taken
+abbrev pub pairTaken : List ℕ → ℕ → List ℕ
+pairTaken o t = set o (t % 32) (t / 32)
+
+owners-set : {o : List ℕ} (n v : ℕ) → Owners o → n < 32 → v ≤ 16 → Owners (set o n v)
+owners-set {o} n v w l h =
+    record {
+      long = length-set o n v ∙ w .long;
+      least = λ m q. ⊎-elim
+          (λ e. subst (λ (j : ℕ). getD (set o n v) j 0 ≤ 16) (sym e) (subst (λ (a : ℕ). a ≤ 16) (sym (getD-set-same o n v 0 (omega (arith, w .long)))) h))
+          (λ e. subst (λ (a : ℕ). a ≤ 16) (sym (getD-set-other o n m v 0 e)) (w .least m q))
+          (eq-or-ne m n);
+    }
+
+pub taken : {o : List ℕ} {t : ℕ} → Owners o → TakesPair (ownersOf o) t (ownersOf (pairTaken o t))
+taken {o} {t} w =
+    record { there = getD-set-same o (t % 32) (t / 32) 0 (omega (arith, w .long)); else = λ n l e. getD-set-other o (t % 32) n (t / 32) 0 e }
+
+module _ {o : List ℕ} {t : ℕ} (l : t < 512) (r : ReadyFrom o t) where
+  pub ready-leave : ReadyFrom o (t + 1)
+  ready-leave = record { owners = r .owners; begun = begun-leave l (r .begun) }
+
+  pub ready-take : 16 ≤ ownersOf o (t % 32) → ReadyFrom (pairTaken o t) (t + 1)
+  ready-take f =
+      record { owners = owners-set (t % 32) (t / 32) (r .owners) (omega arith) (omega arith); begun = begun-take l (r .begun) f (taken (r .owners)) }
+
+  -- what was stored is put back
+  pub undone : 16 ≤ ownersOf o (t % 32) → set (pairTaken o t) (t % 32) 16 ≡ o
+  undone f =
+      set-set o (t % 32) (t / 32) 16
+      ∙ (ap (set o (t % 32)) (sym (le-antisymm (r .owners .least (t % 32) (omega arith)) f)) ∙ set-getD o (t % 32) 0)
+
+  -- no placement from here takes pair t
+  pub sought-leave : {K : Case} {k : ℕ} {p : List ℕ} {b : Bool} → ((y : ℕ → ℕ) → From K k (ownersOf o) t y → takes y t ≡ true → ⊥) →
+      Sought K k o (t + 1) p b → Sought K k o t p b
+  sought-leave h s =
+      record {
+        yes = λ e. first-leave l (r .begun) h (s .yes e);
+        no = λ e. none-leave l (r .begun) h (s .no e);
+        kept = s .kept;
+        owners = s .owners;
+      }
+
+  -- a placement was found with pair t taken
+  pub sought-take : {K : Case} {k : ℕ} {p : List ℕ} → 16 ≤ ownersOf o (t % 32) → Sought K k (pairTaken o t) (t + 1) p true → Sought K k o t p true
+  sought-take f s =
+      record {
+        yes = λ e. first-take l (r .begun) f (taken (r .owners)) (s .yes refl);
+        no = λ e. absurd (true≢false e);
+        kept = λ e. absurd (true≢false e);
+        owners = s .owners;
+      }
+
+  -- there is none with pair t taken
+  pub taken-none : {K : Case} {k : ℕ} → 16 ≤ ownersOf o (t % 32) → None (From K k (ownersOf (pairTaken o t)) (t + 1)) →
+      (y : ℕ → ℕ) → From K k (ownersOf o) t y → takes y t ≡ true → ⊥
+  taken-none f n = none-take l (r .begun) f (taken (r .owners)) n
+
+  -- the same, as the code has it: v is the shard of pair t
+  module _ {v : ℕ} (e : v ≡ t / 32) (f : 16 ≤ ownersOf o (t % 32)) where
+    pub ready-stored : ReadyFrom (set o (t % 32) v) (t + 1)
+    ready-stored = subst (λ (a : ℕ). ReadyFrom (set o (t % 32) a) (t + 1)) (sym e) (ready-take f)
+
+    pub sought-found : {K : Case} {k : ℕ} {p : List ℕ} {b : Bool} → b ≡ true → Sought K k (set o (t % 32) v) (t + 1) p b → Sought K k o t p true
+    sought-found {K} {k} {p} {b} g s =
+        sought-take f
+        (subst (λ (d : Bool). Sought K k (pairTaken o t) (t + 1) p d) g (subst (λ (a : ℕ). Sought K k (set o (t % 32) a) (t + 1) p b) e s))
+
+    module _ {K : Case} {k : ℕ} {q : List ℕ} {b : Bool} (g : b ≡ false) (s : Sought K k (set o (t % 32) v) (t + 1) q b) where
+      pub restored : set q (t % 32) 16 ≡ o
+      restored = ap (λ (w : List ℕ). set w (t % 32) 16) (s .kept g ∙ ap (set o (t % 32)) e) ∙ undone f
+
+      pub ready-restored : ReadyFrom (set q (t % 32) 16) (t + 1)
+      ready-restored = subst (λ (w : List ℕ). ReadyFrom w (t + 1)) (sym restored) ready-leave
+
+      pub sought-else : {p : List ℕ} {d : Bool} → Sought K k (set q (t % 32) 16) (t + 1) p d → Sought K k o t p d
+      sought-else {p} {d} h =
+          sought-leave (taken-none f (subst (λ (a : ℕ). None (From K k (ownersOf (set o (t % 32) a)) (t + 1))) e (s .no g)))
+          (subst (λ (w : List ℕ). Sought K k w (t + 1) p d) restored h)
+
+-- the pair is barred
+pub barred-none : {K : Case} {k : ℕ} {o : ℕ → ℕ} {t : ℕ} {b : Bool} → b ≡ true → Barred K o t b → (y : ℕ → ℕ) → From K k o t y → takes y t ≡ true → ⊥
+barred-none g b y f e = b .yes g y (f .within .valid) (f .agree) e
+
+-- all pairs decided
+pub sought-end : {K : Case} {k : ℕ} {o : List ℕ} {t : ℕ} {b : Bool} → t ≡ 512 → ReadyFrom o t → Judged K k (ownersOf o) b → Sought K k o t o b
+sought-end {K} {k} {o} {t} {b} d r j =
+    subst (λ (s : ℕ). Sought K k o s o b) (sym d)
+    record { yes = λ e. first-end (j .yes e); no = λ e. none-end (j .no e); kept = λ e. refl; owners = r .owners }
+
+-- nothing to hope for
+pub sought-hopeless : {K : Case} {k : ℕ} {o : List ℕ} {t : ℕ} {b : Bool} → ReadyFrom o t → b ≡ true → Hopeless K k (ownersOf o) t b → Sought K k o t o false
+sought-hopeless r g h = record { yes = λ e. absurd (false≢true e); no = λ e. h .yes g; kept = λ e. refl; owners = r .owners }

@@ -1,0 +1,34 @@
+-- The states that document 01's runs start from, and the desk of case C.
+use Prim.Native.Nat.{ℕ}
+use mathlib.Core.List.{List, [], _∷_, _++_}
+use lib.ListN.{replicate}
+use Rattle.report_views.specs.declared.Layout.{Layout}
+use Rattle.report_views.specs.declared.Phase.the-variants.{Gathering}
+use Rattle.history_cases.specs.Runs.{slotOf}
+use Rattle.report_views.specs.Empty.{noTermination}
+use Rattle.state_planner.specs.declared.State.{State}
+use Rattle.state_planner.specs.States.{noPlan}
+
+-- gathering: a kept view without a termination, and the held nodes
+abbrev pub gathered : Layout → ℕ → State
+gathered v held =
+    record {
+      phase = Gathering;
+      kept = v;
+      termination = noTermination;
+      held = held;
+      fetched = 0;
+      prepared = 0;
+      plan = noPlan;
+    }
+
+-- a report of view 7 of case C: members 0 to 5, empty logs
+abbrev pub reportOfSix : ℕ → List ℕ
+reportOfSix node =
+    node ∷ 7 ∷ 63 ∷ 1 ∷ 256 ∷ 5 ∷ 0 ∷ 2 ∷ 257 ∷ 18 ∷ 0 ∷ 3 ∷ 258 ∷ 32 ∷ 0 ∷ 0 ∷ []
+
+-- the desk of case C: nodes 0 to 3 report
+unfoldable pub deskOfSix : List ℕ
+deskOfSix =
+    slotOf (reportOfSix 0) ++ slotOf (reportOfSix 1) ++ slotOf (reportOfSix 2) ++ slotOf (reportOfSix 3)
+    ++ replicate 14336 0

@@ -1,0 +1,77 @@
+-- The states and desks that accepted events lead to from the fresh state. Each is sound, so rows 1 to 3 refuse no event of a run
+-- that goes by what the planner hands back. (A wait and an order change neither state nor desk.)
+use Prim.Native.Nat.{ℕ}
+use mathlib.Core.Bool.{Bool, true}
+use mathlib.Core.List.{List}
+use mathlib.Core.Logic.{⊎-elim}
+use mathlib.Core.Path.{_≡_, _∙_, subst⁻¹}
+use lib.ListN.{length, getD}
+use borrow.Author.Tests.{eq-eqb}
+use Rattle.settings_values.specs.Settings.{settingsOk}
+use Rattle.base_ids.specs.Refusals.{none, unless, unless-true}
+use Rattle.message_format.specs.Messages.{contentsOf}
+use Rattle.report_views.specs.declared.Plan.{Plan}
+use Rattle.report_views.specs.Soundness.{planSound}
+use Rattle.state_planner.specs.declared.State.{State}
+use Rattle.state_planner.specs.declared.Decided.{Decided}
+use Rattle.state_planner.specs.States.{sound, fresh, planned}
+use Rattle.state_planner.specs.Refusing.{deskOk, entryRefusal, reportRefusal, dropRefusal, decideRefusal, fetchedRefusal, preparedRefusal}
+use Rattle.state_planner.specs.Events.{afterReport, afterDrop, afterFetched, afterPrepared}
+use Rattle.report_desk.specs.Desk.{deskWith}
+use Rattle.state_planner.specs.Decide.{Decides}
+use Rattle.state_invariant.specs.Fresh.{fresh-sound}
+use Rattle.state_invariant.specs.AfterReport.{report-sound, report-desk}
+use Rattle.state_invariant.specs.AfterDrop.{drop-sound}
+use Rattle.state_invariant.specs.AfterMarks.{fetched-sound, prepared-sound}
+use Rattle.state_invariant.specs.AfterPlan.{plan-sound}
+use Rattle.state_invariant.specs.AfterDecide.{decided-state}
+
+pub data Reached (σ : List ℕ) : State → List ℕ → Type 0 where
+  starting : (d : List ℕ) → settingsOk σ ≡ true → deskOk d ≡ true → Reached σ fresh d
+  reporting : (x : State) (d w : List ℕ) → Reached σ x d → reportRefusal σ x d w ≡ none
+      → Reached σ (afterReport σ x (contentsOf w)) (deskWith d (getD w 0 0) w)
+  dropping : (x : State) (d : List ℕ) (n : ℕ) → Reached σ x d → dropRefusal σ x d n ≡ none → Reached σ (afterDrop x n) d
+  planning : (x : State) (d : List ℕ) (p : Plan) → Reached σ x d → decideRefusal σ x d ≡ none
+      → planSound σ (x .kept) (x .termination) (x .held) d p ≡ true → Reached σ (planned x p) d
+  fetching : (x : State) (d : List ℕ) (n : ℕ) → Reached σ x d → fetchedRefusal σ x d n ≡ none → Reached σ (afterFetched x n) d
+  preparing : (x : State) (d : List ℕ) (n : ℕ) → Reached σ x d → preparedRefusal σ x d n ≡ none → Reached σ (afterPrepared x n) d
+
+module _ (σ : List ℕ) where
+  pub reached-sound : {x : State} {d : List ℕ} → Reached σ x d → sound σ x d ≡ true
+  reached-sound (starting d s l) = fresh-sound σ d
+  reached-sound (reporting x d w r h) = report-sound σ x d w h
+  reached-sound (dropping x d n r h) = drop-sound σ x d n h
+  reached-sound (planning x d p r h s) = plan-sound σ x d p h s
+  reached-sound (fetching x d n r h) = fetched-sound σ x d n h
+  reached-sound (preparing x d n r h) = prepared-sound σ x d n h
+
+  pub reached-settings : {x : State} {d : List ℕ} → Reached σ x d → settingsOk σ ≡ true
+  reached-settings (starting d s l) = s
+  reached-settings (reporting x d w r h) = reached-settings r
+  reached-settings (dropping x d n r h) = reached-settings r
+  reached-settings (planning x d p r h s) = reached-settings r
+  reached-settings (fetching x d n r h) = reached-settings r
+  reached-settings (preparing x d n r h) = reached-settings r
+
+  pub reached-desk : {x : State} {d : List ℕ} → Reached σ x d → deskOk d ≡ true
+  reached-desk (starting d s l) = l
+  reached-desk (reporting x d w r h) = eq-eqb (length (deskWith d (getD w 0 0) w)) 16384 (report-desk σ x d w h)
+  reached-desk (dropping x d n r h) = reached-desk r
+  reached-desk (planning x d p r h s) = reached-desk r
+  reached-desk (fetching x d n r h) = reached-desk r
+  reached-desk (preparing x d n r h) = reached-desk r
+
+  -- of rows 1 to 4 only the last can refuse
+  pub reached-entry : (x : State) (d : List ℕ) → Reached σ x d → (inPhase : Bool) → entryRefusal (deskOk d) σ x d inPhase ≡ unless inPhase 4 none
+  unfolding entryRefusal
+  reached-entry x d r inPhase =
+      unless-true (deskOk d) 1 _ (reached-desk r)
+      ∙ unless-true (settingsOk σ) 2 _ (reached-settings r)
+      ∙ unless-true (sound σ x d) 3 _ (reached-sound r)
+
+  -- what decide hands back is reached too
+  pub reached-decide : (x : State) (d : List ℕ) (r : Decided) → Reached σ x d → decideRefusal σ x d ≡ none → Decides σ x d r → Reached σ (r .state) d
+  reached-decide x d r before h w =
+      ⊎-elim (λ e. subst⁻¹ (λ (y : State). Reached σ y d) e before)
+      (λ k. subst⁻¹ (λ (y : State). Reached σ y d) (k .1) (planning x d (k .0) before h (k .2)))
+      (decided-state σ x d r h w)

@@ -1,0 +1,122 @@
+-- What an order that is not refused gives: a sound plan and a held node. So the writer takes the node's order, and what the writer
+-- answers and leaves is what the event does.
+use Prim.Native.Nat.{ℕ}
+use mathlib.Core.Bool.{Bool, true, false, _&&_}
+use mathlib.Core.List.{List}
+use mathlib.Core.Path.{_≡_, refl, ap, _∙_}
+use lib.Dec.{eqb}
+use lib.ListN.{length}
+use borrow.Author.Tests.{eqb-true}
+use Rattle.base_laws.specs.Bools.{clash, and-left, and-right, and-fails-right}
+use Rattle.base_laws.specs.Masks.{has}
+use Rattle.settings_values.specs.Settings.{shards, settingsOk, Settings}
+use Rattle.settings_values.specs.Laws.{settings-give}
+use Rattle.base_ids.specs.Refusals.{refused, none, unless-false, first-refused}
+use Rattle.message_format.specs.declared.Form.the-variants.{Order}
+use Rattle.message_format.specs.Messages.{writeRefusal, writingOf, bufferAfter}
+use Rattle.message_format.specs.Passed.{write-none}
+use Rattle.report_views.specs.declared.Layout.{Layout}
+use Rattle.report_views.specs.declared.Termination.{Termination}
+use Rattle.report_views.specs.declared.Plan.{Plan}
+use Rattle.report_views.specs.declared.Phase.{Phase}
+use Rattle.report_views.specs.declared.Phase.the-variants.{Gathering, Ordered, Preparing, Committed}
+use Rattle.report_views.specs.Soundness.{planSound, planFits}
+use Rattle.plan_order.specs.Orders.{orderContents}
+use Rattle.plan_order.specs.Readable.{ReadableSlot, Holders}
+use Rattle.plan_order_laws.specs.Accepted.{planned-holders, held-readable, order-accepted}
+use Rattle.state_planner.specs.declared.State.{State}
+use Rattle.state_planner.specs.Refusing.{isOrdered, deskOk, entryRefusal, eventRefusal, orderRefusal}
+use Rattle.state_planner.specs.Entry.{Sound, sound-given, node-given}
+use Rattle.state_order.specs.Orders.{ordered, orderBuffer}
+
+module _ (σ : List ℕ) (x : State) (d : List ℕ) (n : ℕ) (buffer : List ℕ) where
+  -- row 1 for the buffer: a wrong length is refused before all else, and a right one leaves the rows of any event that names a node
+  pub buffer-wrong : eqb (length buffer) 512 ≡ false → orderRefusal σ x d n buffer ≡ refused 1
+  unfolding orderRefusal eventRefusal entryRefusal
+  buffer-wrong h =
+      let e = unless-false (deskOk d && eqb (length buffer) 512) 1 _ (and-fails-right (deskOk d) h) in
+      first-refused _ _ (ap (λ r. eqb (r .number) 0) e) ∙ e
+
+  pub buffer-right : eqb (length buffer) 512 ≡ true
+      → orderRefusal σ x d n buffer ≡ eventRefusal (deskOk d) σ x d (isOrdered (x .phase)) n (has (x .held) n)
+  unfolding orderRefusal
+  buffer-right h = rw h (ap (λ (b : Bool). eventRefusal b σ x d (isOrdered (x .phase)) n (has (x .held) n)) (go (deskOk d)))
+    where
+      go : (b : Bool) → (b && true) ≡ b
+      go true = refl
+      go false = refl
+
+-- a state that is ordered has a sound plan
+ordered-plan : (phase : Phase) (σ : List ℕ) (v : Layout) (t : Termination) (held : ℕ) (d : List ℕ) (p : Plan) → isOrdered phase ≡ true
+    → planFits phase σ v t held d p ≡ true → planSound σ v t held d p ≡ true
+unfolding planFits
+ordered-plan Gathering σ v t held d p e h = clash e refl
+ordered-plan Ordered σ v t held d p e h = h
+ordered-plan Preparing σ v t held d p e h = clash e refl
+ordered-plan Committed σ v t held d p e h = clash e refl
+
+-- what no refusal gives
+pub record OrderTaken (σ : List ℕ) (x : State) (d : List ℕ) (n : ℕ) (buffer : List ℕ) : Type 0 where
+  pub desk-words : length d ≡ 16384
+  pub buffer-words : eqb (length buffer) 512 ≡ true
+  pub settings-right : settingsOk σ ≡ true
+  pub state-sound : Sound σ x d
+  pub plan-sound : planSound σ (x .kept) (x .termination) (x .held) d (x .plan) ≡ true
+  pub node-held : has (x .held) n ≡ true
+
+module _ (σ : List ℕ) (x : State) (d : List ℕ) (n : ℕ) (buffer : List ℕ) (h : orderRefusal σ x d n buffer ≡ none) where
+  taken : OrderTaken σ x d n buffer
+  unfolding orderRefusal
+  taken =
+      let t = node-given (deskOk d && eqb (length buffer) 512) σ x d (isOrdered (x .phase)) n (has (x .held) n) h in
+      let e = t .entered in
+      let s = sound-given σ x d (e .state-sound) in
+      record {
+        desk-words = eqb-true (length d) 16384 (and-left (deskOk d) (eqb (length buffer) 512) (e .lengths-ok));
+        buffer-words = and-right (deskOk d) (eqb (length buffer) 512) (e .lengths-ok);
+        settings-right = e .settings-ok;
+        state-sound = s;
+        plan-sound = ordered-plan (x .phase) σ (x .kept) (x .termination) (x .held) d (x .plan) (e .in-phase) (s .plan-fits);
+        node-held = t .node-ok;
+      }
+
+  -- for the call that makes the contents
+  pub taken-settings : Settings σ
+  taken-settings = settings-give σ (taken .settings-right)
+
+  pub taken-node : ReadableSlot d n
+  taken-node =
+      held-readable σ (x .kept) (x .termination) (x .held) d (x .plan) taken-settings (taken .state-sound .kept-sound) (taken .state-sound .slots-ok)
+      (taken .plan-sound)
+      n
+      (taken .node-held)
+      (taken .desk-words)
+
+  pub taken-holders : Holders (shards σ) (x .plan) d
+  taken-holders =
+      planned-holders σ (x .kept) (x .termination) (x .held) d (x .plan) taken-settings (taken .state-sound .kept-sound) (taken .state-sound .slots-ok)
+      (taken .plan-sound)
+      (taken .desk-words)
+
+  -- the writer takes the node's order
+  pub writer-takes : writeRefusal Order σ (orderContents σ (x .plan) d n) buffer ≡ none
+  writer-takes =
+      write-none Order σ (orderContents σ (x .plan) d n) buffer
+      (record {
+        buffer-passes = taken .buffer-words;
+        settings-pass = taken .settings-right;
+        contents-pass =
+            order-accepted σ (x .kept) (x .termination) (x .held) d (x .plan) taken-settings (taken .state-sound .kept-sound) (taken .state-sound .slots-ok)
+            (taken .plan-sound)
+            n
+            (taken .node-held);
+      })
+
+  -- what it answers and leaves
+  pub written-answer : writingOf Order σ (orderContents σ (x .plan) d n) buffer ≡ ordered σ x d n buffer
+  unfolding writingOf ordered
+  written-answer = rw (writer-takes, h)
+
+  pub written-leaves : bufferAfter Order σ (orderContents σ (x .plan) d n) buffer ≡ orderBuffer σ x d n buffer
+  unfolding bufferAfter orderBuffer
+  written-leaves = rw (writer-takes, h)

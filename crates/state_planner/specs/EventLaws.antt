@@ -1,0 +1,66 @@
+-- Laws that the events' code uses: what acceptance gives, and what an event hands back by the refusal that its code found.
+use Prim.Native.Nat.{ℕ, _<_}
+use mathlib.Core.Bool.{Bool, true, false}
+use mathlib.Core.List.{List}
+use mathlib.Core.Path.{_≡_, refl, sym, ap, ap₂, _∙_}
+use native.Mathlib.Omega.{arith}
+use borrow.Author.Tests.{eq-eqb, ne-eqb}
+use Rattle.settings_values.specs.Settings.{Settings}
+use Rattle.settings_values.specs.Laws.{settings-give}
+use Rattle.base_ids.specs.declared.Refusal.{Refusal}
+use Rattle.base_ids.specs.Refusals.{accepted, accepted-none}
+use Rattle.report_views.specs.declared.Phase.{Phase}
+use Rattle.state_planner.specs.declared.State.{State}
+use Rattle.state_planner.specs.declared.Answer.{Answer}
+use Rattle.state_planner.specs.declared.Outcome.{Outcome}
+use Rattle.state_planner.specs.Refusing.{deskOk, entryRefusal, eventRefusal}
+use Rattle.state_planner.specs.Entry.{entry-given, node-given}
+use Rattle.state_planner.specs.Events.{outcome}
+
+module _ (lengths : Bool) (σ : List ℕ) (x : State) (d : List ℕ) (inPhase : Bool) where
+  pub entry-settings : accepted (entryRefusal lengths σ x d inPhase) ≡ true → Settings σ
+  entry-settings h =
+      settings-give σ (entry-given lengths σ x d inPhase (accepted-none (entryRefusal lengths σ x d inPhase) h) .settings-ok)
+
+module _ (r : Refusal) (x next : State) where
+  pub outcome-accepted : accepted r ≡ true → outcome r x next ≡ record { state = next; answer = Answer.Accepted }
+  unfolding outcome
+  outcome-accepted h = rw h
+
+  pub outcome-refused : accepted r ≡ false → outcome r x next ≡ record { state = x; answer = Answer.Refused r }
+  unfolding outcome
+  outcome-refused h = rw h
+
+-- r is what the code found of the refusal s
+module _ {r s : Refusal} (e : r ≡ s) (x next : State) where
+  pub settles-refused : (r .number ≡ 0 → ⊥) → record { state = x; answer = Answer.Refused r } ≡ outcome s x next
+  settles-refused h = sym (outcome-refused r x next (ne-eqb (r .number) 0 h)) ∙ ap (λ (k : Refusal). outcome k x next) e
+
+  pub settles-accepted : r .number ≡ 0 → record { state = next; answer = Answer.Accepted } ≡ outcome s x next
+  settles-accepted h = sym (outcome-accepted r x next (eq-eqb (r .number) 0 h)) ∙ ap (λ (k : Refusal). outcome k x next) e
+
+-- an event that names node n: p and q are what its code found of the phase and of the node, y of the next state
+module _ (σ : List ℕ) (x : State) (d : List ℕ) (p : Bool) (n : ℕ) (q : Bool) {inPhase ok : Bool} (f : p ≡ inPhase) (g : q ≡ ok) where
+  refusal : Refusal
+  refusal = eventRefusal (deskOk d) σ x d p n q
+
+  -- an accepted one names a node of the settings
+  below : accepted refusal ≡ true → n < 32
+  unfolding refusal
+  below h =
+      let t = node-given (deskOk d) σ x d p n q (accepted-none refusal h) in
+      omega (arith, t .node-below, settings-give σ (t .entered .settings-ok) .sizes .nodes-to)
+
+  pub event-settles : (y next : State) {o : Outcome} → o ≡ outcome (eventRefusal (deskOk d) σ x d p n q) x y → (n < 32 → y ≡ next)
+      → o ≡ outcome (eventRefusal (deskOk d) σ x d inPhase n ok) x next
+  unfolding refusal
+  event-settles y next e i =
+      e ∙ same (accepted refusal) refl ∙ ap₂ (λ (a b : Bool). outcome (eventRefusal (deskOk d) σ x d a n b) x next) f g
+    where
+      same : (b : Bool) → accepted refusal ≡ b → outcome refusal x y ≡ outcome refusal x next
+      same true h = ap (λ (z : State). outcome refusal x z) (i (below h))
+      same false h = outcome-refused refusal x y h ∙ sym (outcome-refused refusal x next h)
+
+-- a state by its phase and the marks changed, where the phase follows from the marks
+pub marks-step : (mk : Phase → ℕ → State) (ph : ℕ → Phase) {y : State} {p : Phase} {f g : ℕ} → y ≡ mk p f → p ≡ ph f → f ≡ g → y ≡ mk (ph g) g
+marks-step mk ph {f = f} i e h = i ∙ ap (λ (q : Phase). mk q f) e ∙ ap (λ (k : ℕ). mk (ph k) k) h

@@ -1,0 +1,209 @@
+// What the events ask of a state's parts: its phase, rows 1 to 4, 6 and 14, and the marks of its nodes.
+use base_ids::Refusal;
+use base_ids::View;
+use report_views::Layout;
+use report_views::Phase;
+use report_views::Plan;
+use report_views::Termination;
+ghost use mathlib.Core.Bool.{cond, not, _&&_};
+ghost use mathlib.Core.Path.{_≡_};
+ghost use Prim.Native.Nat.{_<_};
+ghost use lib.Dec.{eqb};
+ghost use lib.ListN.{length};
+ghost use Rattle.base_laws.specs.Masks.{has, with};
+ghost use Rattle.settings_values.specs.Settings.{Settings, settingsOk};
+ghost use Rattle.base_ids.specs.Refusals.{firstOf};
+ghost use Rattle.state_rows.specs.Phases as Phases;
+ghost use Rattle.state_rows.specs.Rows as Rows;
+
+pub fn is_gathering(phase: Phase) -> bool
+    ensures { λ r. ⌜ r ≡ Phases.isGathering phase ⌝ }
+{
+    match phase {
+        Phase::Gathering => true,
+        Phase::Ordered => false,
+        Phase::Preparing => false,
+        Phase::Committed => false,
+    }
+}
+
+pub fn is_ordered(phase: Phase) -> bool
+    ensures { λ r. ⌜ r ≡ Phases.isOrdered phase ⌝ }
+{
+    match phase {
+        Phase::Gathering => false,
+        Phase::Ordered => true,
+        Phase::Preparing => false,
+        Phase::Committed => false,
+    }
+}
+
+pub fn is_preparing(phase: Phase) -> bool
+    ensures { λ r. ⌜ r ≡ Phases.isPreparing phase ⌝ }
+{
+    match phase {
+        Phase::Gathering => false,
+        Phase::Ordered => false,
+        Phase::Preparing => true,
+        Phase::Committed => false,
+    }
+}
+
+pub fn is_committed(phase: Phase) -> bool
+    ensures { λ r. ⌜ r ≡ Phases.isCommitted phase ⌝ }
+{
+    match phase {
+        Phase::Gathering => false,
+        Phase::Ordered => false,
+        Phase::Preparing => false,
+        Phase::Committed => true,
+    }
+}
+
+// Row 3: the parts are sound beside the desk.
+fn is_sound(
+    settings: &[u32],
+    desk: &[u32],
+    phase: Phase,
+    kept: Layout,
+    termination: Termination,
+    held: u32,
+    fetched: u32,
+    prepared: u32,
+    plan: Plan,
+) -> bool
+    requires { ⌜ Settings (now settings) ⌝ }
+    requires { ⌜ length (now desk) ≡ 16384 ⌝ }
+    ensures { λ r. ⌜ r ≡ Rows.partsSound (now (settings .entry)) (now (desk .entry)) phase kept termination held fetched prepared plan ⌝ }
+{
+    if !state_sound_parts::kept_sound(settings, kept, termination, held) {
+        return false;
+    }
+    if !report_slots::slots_ok(settings, kept, termination, held, desk) {
+        return false;
+    }
+    if !state_sound_parts::marks_sound(phase, held, fetched, prepared) {
+        return false;
+    }
+    state_sound_plan::plan_fits(phase, settings, kept, termination, held, desk, plan)
+}
+
+// Rows 1 to 4.
+pub fn entry_refusal(
+    settings: &[u32],
+    desk: &[u32],
+    in_phase: bool,
+    phase: Phase,
+    kept: Layout,
+    termination: Termination,
+    held: u32,
+    fetched: u32,
+    prepared: u32,
+    plan: Plan,
+) -> Refusal
+    ensures { λ r. ⌜ r ≡ Rows.entryRows (eqb (length (now (desk .entry))) 16384) (settingsOk (now (settings .entry))) (Rows.partsSound (now (settings .entry)) (now (desk .entry)) phase kept termination held fetched prepared plan) in_phase ⌝ }
+{
+    if desk.len() != 16384 {
+        return Refusal { number: 1 };
+    }
+    if !settings_check::check(settings) {
+        return Refusal { number: 2 };
+    }
+    if !is_sound(
+        settings,
+        desk,
+        phase,
+        kept,
+        termination,
+        held,
+        fetched,
+        prepared,
+        plan,
+    ) {
+        return Refusal { number: 3 };
+    }
+    if !in_phase {
+        return Refusal { number: 4 };
+    }
+    Refusal { number: 0 }
+}
+
+// Rows 6 and 14, for a node that an event names.
+fn node_refusal(settings: &[u32], n: u32, ok: bool) -> Refusal
+    requires { ⌜ Settings (now settings) ⌝ }
+    ensures { λ r. ⌜ r ≡ Rows.nodeRefusal (now (settings .entry)) n ok ⌝ }
+{
+    if settings_values::nodes(settings) <= n {
+        return Refusal { number: 6 };
+    }
+    if !ok {
+        return Refusal { number: 14 };
+    }
+    Refusal { number: 0 }
+}
+
+// The refusal of an event that names a node.
+pub fn event_refusal(
+    settings: &[u32],
+    desk: &[u32],
+    in_phase: bool,
+    n: u32,
+    ok: bool,
+    phase: Phase,
+    kept: Layout,
+    termination: Termination,
+    held: u32,
+    fetched: u32,
+    prepared: u32,
+    plan: Plan,
+) -> Refusal
+    ensures { λ r. ⌜ r ≡ firstOf (Rows.entryRows (eqb (length (now (desk .entry))) 16384) (settingsOk (now (settings .entry))) (Rows.partsSound (now (settings .entry)) (now (desk .entry)) phase kept termination held fetched prepared plan) in_phase) (Rows.nodeRefusal (now (settings .entry)) n ok) ⌝ }
+{
+    let refusal = entry_refusal(
+        settings,
+        desk,
+        in_phase,
+        phase,
+        kept,
+        termination,
+        held,
+        fetched,
+        prepared,
+        plan,
+    );
+    if refusal.number != 0 {
+        return refusal;
+    }
+    node_refusal(settings, n, ok)
+}
+
+// The node is in one mask and not in the other.
+pub fn lacks(held: u32, marks: u32, n: u32) -> bool
+    ensures { λ r. ⌜ r ≡ (has held n && not (has marks n)) ⌝ }
+{
+    if !base_masks::has(held, n as usize) {
+        return false;
+    }
+    !base_masks::has(marks, n as usize)
+}
+
+// The marks with that of a node.
+pub fn mark(marks: u32, n: u32) -> u32
+    ensures { λ r. ⌜ (n < 32 → r ≡ with marks n) ⌝ }
+{
+    if n < 32 {
+        base_masks::with(marks, n as usize)
+    } else {
+        marks
+    }
+}
+
+// The phase when some nodes are marked: the next one when all held nodes are.
+pub fn phase_after(marks: u32, held: u32, phase: Phase, next: Phase) -> Phase
+    ensures { λ r. ⌜ r ≡ cond (eqb marks held) next phase ⌝ }
+{
+    if marks == held {
+        return next;
+    }
+    phase
+}

@@ -1,0 +1,17 @@
+use Rattle.report_views.specs.Soundness.{positionSound}
+use mathlib.Core.Path.{sym}
+use borrow.Author.Tests.{not-true, not-false}
+use borrow.Author.Needs.{needs}
+use Rattle.state_sound_parts.proofs.position_sound.Statement.{statement}
+use Rattle.state_sound_parts.proofs.position_sound.Tie as tie
+
+returns : tie.Need-returns
+unfolding positionSound
+returns c = simp (sym (c .before .position .ensures), not-true (c .before .position .result) (c .if1 .taken))
+
+returns-2 : tie.Need-returns-2
+unfolding positionSound
+returns-2 c = simp (sym (c .before .before .position .ensures), not-false (c .before .before .position .result) (c .before .if1 .left))
+
+pub position-sound-spec : {M : Type 1} → statement M
+position-sound-spec = tie.close (tie.spec (λ c κs. search needs) returns returns-2)

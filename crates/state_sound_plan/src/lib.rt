@@ -1,0 +1,164 @@
+// Whether a plan is sound: the standing of the held reports is found once, and the plan is held against it part by part.
+use report_views::Layout;
+use report_views::Phase;
+use report_views::Plan;
+use report_views::Quorum;
+use report_views::Standing;
+use report_views::Termination;
+ghost use mathlib.Core.Bool.{true};
+ghost use mathlib.Core.Path.{_≡_};
+ghost use Prim.Native.Nat.{_<_, _^_};
+ghost use lib.ListN.{length};
+ghost use Rattle.settings_values.specs.Settings.{Settings, nodes};
+ghost use Rattle.report_views.specs.Slots.{slotsOk};
+ghost use Rattle.report_views.specs.PlanLaws.{sameShard};
+ghost use Rattle.report_views.specs.Soundness as Soundness;
+ghost use Rattle.state_sound_plan.specs.Matches as Matches;
+
+// Waits 1 to 4 do not apply.
+fn is_met(q: Quorum) -> bool
+    ensures { λ r. ⌜ r ≡ Soundness.isMet q ⌝ }
+{
+    match q {
+        Quorum::Met => true,
+        Quorum::Short(_) => false,
+    }
+}
+
+// The plan's holder and target of shard s are the standing's.
+fn same_shard(p: Plan, st: Standing, s: usize) -> bool
+    requires { ⌜ s < 16 ⌝ }
+    ensures { λ r. ⌜ r ≡ sameShard p (st .holders) (st .targets) s ⌝ }
+{
+    if p.holders[s] != st.holders[s] {
+        return false;
+    }
+    if p.targets[2 * s] != st.targets[2 * s] {
+        return false;
+    }
+    p.targets[2 * s + 1] == st.targets[2 * s + 1]
+}
+
+// The plan's holders and targets are the standing's.
+fn same_shards(p: Plan, st: Standing) -> bool
+    ensures { λ r. ⌜ r ≡ Matches.sameShards p st ⌝ }
+{
+    let mut s: usize = 0;
+    while s < 16 {
+        if !same_shard(p, st, s) {
+            return false;
+        }
+        s += 1;
+    }
+    true
+}
+
+// The view w comes after v and has all held nodes.
+fn follows(v: Layout, held: u32, w: Layout) -> bool
+    ensures { λ r. ⌜ r ≡ Matches.follows v held w ⌝ }
+{
+    let old = v.number;
+    let new = w.number;
+    if new.0 as usize != old.0 as usize + 1 {
+        return false;
+    }
+    w.members == held
+}
+
+// The placement of every subgroup is valid.
+fn groups_valid(settings: &[u32], held: u32, w: Layout) -> bool
+    requires { ⌜ Settings (now settings) ⌝ }
+    requires { ⌜ held < 2 ^ nodes (now settings) ⌝ }
+    ensures { λ r. ⌜ r ≡ Matches.groupsValid (now (settings .entry)) held w ⌝ }
+{
+    let mut g: u32 = 0;
+    while g < 4 {
+        if !place_check::group_valid(settings, held, &w.masks, g) {
+            return false;
+        }
+        g += 1;
+    }
+    true
+}
+
+// The moves of all subgroups.
+fn all_moves(settings: &[u32], old: Layout, new: Layout) -> usize
+    requires { ⌜ Settings (now settings) ⌝ }
+    ensures { λ r. ⌜ r ≡ Soundness.allMoves (now (settings .entry)) old new ⌝ }
+{
+    let mut total: usize = 0;
+    let mut g: u32 = 0;
+    while g < 4 {
+        total += place_check::group_moves(settings, &old.masks, &new.masks, g) as usize;
+        g += 1;
+    }
+    total
+}
+
+// The plan agrees with the standing, its placements are valid and its total is that of their moves.
+fn matches(settings: &[u32], v: Layout, held: u32, p: Plan, st: Standing) -> bool
+    requires { ⌜ Settings (now settings) ⌝ }
+    requires { ⌜ held < 2 ^ nodes (now settings) ⌝ }
+    ensures { λ r. ⌜ r ≡ Matches.matches (now (settings .entry)) v held p st ⌝ }
+{
+    let quorum = st.quorum;
+    if !is_met(quorum) {
+        return false;
+    }
+    if !follows(v, held, p.layout) {
+        return false;
+    }
+    if !state_sound_parts::layout_tidy(settings, p.layout) {
+        return false;
+    }
+    if !same_shards(p, st) {
+        return false;
+    }
+    if !groups_valid(settings, held, p.layout) {
+        return false;
+    }
+    p.total as usize == all_moves(settings, v, p.layout)
+}
+
+// The plan is sound beside what is kept and the held reports.
+pub fn plan_sound(
+    settings: &[u32],
+    v: Layout,
+    t: Termination,
+    held: u32,
+    desk: &[u32],
+    p: Plan,
+) -> bool
+    requires { ⌜ Settings (now settings) ⌝ }
+    requires { ⌜ length (now desk) ≡ 16384 ⌝ }
+    requires { ⌜ slotsOk (now settings) v t held (now desk) ≡ true ⌝ }
+    requires { ⌜ held < 2 ^ nodes (now settings) ⌝ }
+    ensures { λ r. ⌜ r ≡ Soundness.planSound (now (settings .entry)) v t held (now (desk .entry)) p ⌝ }
+{
+    let st = plan_standing::standing(settings, v, t, held, desk);
+    matches(settings, v, held, p, st)
+}
+
+// The plan is as the phase says.
+pub fn plan_fits(
+    phase: Phase,
+    settings: &[u32],
+    v: Layout,
+    t: Termination,
+    held: u32,
+    desk: &[u32],
+    p: Plan,
+) -> bool
+    requires { ⌜ Settings (now settings) ⌝ }
+    requires { ⌜ length (now desk) ≡ 16384 ⌝ }
+    requires { ⌜ slotsOk (now settings) v t held (now desk) ≡ true ⌝ }
+    requires { ⌜ held < 2 ^ nodes (now settings) ⌝ }
+    ensures { λ r. ⌜ r ≡ Soundness.planFits phase (now (settings .entry)) v t held (now (desk .entry)) p ⌝ }
+{
+    match phase {
+        Phase::Gathering => state_sound_parts::plan_blank(p),
+        Phase::Ordered => plan_sound(settings, v, t, held, desk, p),
+        Phase::Preparing => plan_sound(settings, v, t, held, desk, p),
+        Phase::Committed => plan_sound(settings, v, t, held, desk, p),
+    }
+}

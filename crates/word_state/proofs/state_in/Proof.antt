@@ -1,0 +1,15 @@
+-- The parts are those of the definition.
+use Rattle.word_state.specs.StateWords.{stateIn}
+use borrow.Author.Needs.{needs}
+use Rattle.word_state.proofs.state_in.Statement.{statement}
+use Rattle.word_state.proofs.state_in.Tie as tie
+
+returns : tie.Need-returns
+unfolding stateIn
+returns c = rw (c .before .before .before .before .before .before .before .before .before .before .phase-of .ensures, c .before .before .before .before .before .before .before .before .before .layout-at .ensures, c .before .before .before .before .before .before .before .thirty-two .ensures, c .before .before .before .layout-at2 .ensures, c .before .sixteen .ensures, c .thirty-two2 .ensures)
+
+pub state-in-spec : {M : Type 1} → statement M
+state-in-spec =
+    tie.close
+    (tie.spec (λ c. search needs) (λ c κs. search needs) (λ c κs. search needs) (λ c. search needs) (λ c κs. search needs) (λ c. search needs)
+    (λ c. search needs) (λ c. search needs) (λ c κs. search needs) (λ c. search needs) (λ c κs. search needs) (λ c κs. search needs) returns)
