@@ -14,6 +14,10 @@ pub record LeastMajority (members c : ℕ) : Type 0 where
 pub half-and-one : (members : ℕ) → LeastMajority members (members / 2 + 1)
 half-and-one members = record { more = omega arith; least = λ d l. omega arith }
 
+-- there is one least majority
+pub least-unique : {members c d : ℕ} → LeastMajority members c → LeastMajority members d → c ≡ d
+least-unique {members} {c} {d} p q = omega (arith, p .least d (q .more), q .least c (p .more))
+
 -- at least the least majority is more than half
 pub enough-more : {members c : ℕ} → LeastMajority members c → (d : ℕ) → c ≤ d → members < 2 * d
 enough-more m d l = omega (arith, m .more)
