@@ -9,9 +9,7 @@ use report_views::Layout;
 use report_views::Termination;
 ghost use mathlib.Core.Path.{_≡_};
 ghost use Prim.Native.Nat.{_<_, _≤_};
-ghost use lib.ListN.{replicate};
 ghost use Rattle.settings_values.specs.Settings.{Settings};
-ghost use Rattle.report_views.specs.Logs.{start};
 ghost use Rattle.report_kept.specs.Reports as Reports;
 ghost use Rattle.report_kept.specs.Words.{maskIn, masksIn, positionIn, positionsIn, madeFirst};
 
@@ -101,23 +99,12 @@ fn position_in(body: &[u32; 381], count: usize, s: usize) -> Position
     }
 }
 
-// No position: (0, 0) for every shard.
-fn no_positions() -> [Position; 16]
-    ensures { λ r. ⌜ r ≡ replicate 16 start ⌝ }
-{
-    let p = Position {
-        view: View(0),
-        k: 0,
-    };
-    [p; 16]
-}
-
 // The positions that the records after the first count have.
 fn positions_in(body: &[u32; 381], count: usize) -> [Position; 16]
     requires { ⌜ count ≤ 16 ⌝ }
     ensures { λ r. ⌜ r ≡ positionsIn (now (body .entry)) count ⌝ }
 {
-    let mut positions = no_positions();
+    let mut positions = report_views::no_positions();
     let mut s: usize = 0;
     while s < 16 {
         positions[s] = position_in(body, count, s);
@@ -134,7 +121,7 @@ fn termination_of(settings: &[u32], c: Contents) -> Termination
     if !report_rows::terminated(settings, c) {
         return Termination {
             made: false,
-            positions: no_positions(),
+            positions: report_views::no_positions(),
         };
     }
     let count = settings_values::shards(settings) as usize;

@@ -3,6 +3,9 @@ use base_ids::Node;
 use base_ids::Position;
 use base_ids::Shard;
 use base_ids::View;
+ghost use mathlib.Core.Path.{_≡_};
+ghost use lib.ListN.{replicate};
+ghost use Rattle.report_views.specs.Logs.{start};
 
 // A view: its number (0: none), its members and each shard's members. Entries from S up are 0.
 pub struct Layout {
@@ -62,4 +65,15 @@ pub struct Standing {
     pub quorum: Quorum,
     pub holders: [Node; 16],
     pub targets: [Position; 16],
+}
+
+// No position: (0, 0) for every shard.
+pub fn no_positions() -> [Position; 16]
+    ensures { λ r. ⌜ r ≡ replicate 16 start ⌝ }
+{
+    let p = Position {
+        view: View(0),
+        k: 0,
+    };
+    [p; 16]
 }
