@@ -60,5 +60,4 @@ returns-3 c =
 pub report-spec : {M : Type 1} → statement M
 report-spec =
     tie.close
-    (tie.spec (λ c κs. search needs) (λ c κs. search needs) (λ c. search needs) returns read-beside-requires (λ c. search needs) returns-2
-    (λ c. search needs) store-requires after-report-requires (λ c. search needs) returns-3)
+    (tie.spec (λ c κs. search needs) (λ c κs. search needs) (λ c. search needs) returns read-beside-requires (λ c. search needs) returns-2 store-requires after-report-requires (λ c. search needs) returns-3)
