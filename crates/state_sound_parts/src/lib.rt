@@ -77,8 +77,7 @@ fn view_sound(settings: &[u32], v: Layout) -> bool
     requires { ⌜ Settings (now settings) ⌝ }
     ensures { λ r. ⌜ r ≡ Soundness.viewSound (now (settings .entry)) v ⌝ }
 {
-    let number = v.number;
-    if !message_rows::view_ok(message_format::Form::Report, number.0) {
+    if !message_rows::view_ok(message_format::Form::Report, v.number) {
         return false;
     }
     if !base_masks::within(settings_values::nodes(settings) as usize, v.members) {
@@ -94,10 +93,10 @@ fn view_sound(settings: &[u32], v: Layout) -> bool
 fn position_sound(number: View, p: Position) -> bool
     ensures { λ r. ⌜ r ≡ Soundness.positionSound (number .0) p ⌝ }
 {
-    let view = p.view;
-    if !message_rows::position(view.0, p.k) {
+    if !message_rows::position(p) {
         return false;
     }
+    let view = p.view;
     view.0 <= number.0
 }
 
