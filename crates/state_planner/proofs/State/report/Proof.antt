@@ -32,7 +32,7 @@ returns-2 c =
 
 store-requires : tie.Need-store-requires
 store-requires c κs =
-    let p = c .before .before .before .before in
+    let p = c .before .before .before in
     let a = p .before .before .before .before .before .before .before .before .before .before .before .before .args in
     let g = p .before .before .before .before .before .before .before .before .is-gathering in
     let e = p .before .before .before .before .before .before .entry-refusal in
@@ -41,7 +41,7 @@ store-requires c κs =
 
 after-report-requires : tie.Need-after-report-requires
 after-report-requires c κs =
-    let p = c .before .before .before .before .before .before .before in
+    let p = c .before .before .before .before .before .before in
     let a = p .before .before .before .before .before .before .before .before .before .before .before .before .args in
     let g = p .before .before .before .before .before .before .before .before .is-gathering in
     let e = p .before .before .before .before .before .before .entry-refusal in
@@ -50,7 +50,7 @@ after-report-requires c κs =
 
 returns-3 : tie.Need-returns-3
 returns-3 c =
-    let p = c .before .before .before .before .before .before .before .before in
+    let p = c .before .before .before .before .before .before .before in
     let g = p .before .before .before .before .before .before .before .before .is-gathering in
     let e = p .before .before .before .before .before .before .entry-refusal in
     let r = p .before .before .before .read-beside in
