@@ -7,12 +7,12 @@ use mathlib.Core.Logic.{_⊎_, inl, inr, ⊎-elim}
 use mathlib.Core.Path.{_≡_, refl, sym, ap, ap₂, _∙_}
 use native.Mathlib.Omega.{arith}
 use lib.Dec.{eqb, ltb}
-use lib.ListN.{length, getD, replicate, length-replicate, getD-replicate}
+use lib.ListN.{length, getD}
 use borrow.Author.Tests.{lt-ltb, le-ltb, ne-eqb, eq-eqb}
 use Rattle.base_laws.specs.Below.{lowest-cong}
 use Rattle.base_laws.specs.Bools.{either, and-left, and-fails-left, and-fails-right, lt-or-le}
 use Rattle.base_laws.specs.Masks.{has, has-zero, count}
-use Rattle.base_laws.specs.Tables.{tabulate, tabulate-ext, tabulate-cong, getD-tabulate, filled, length-filled, getD-filled, getD-filled-rest}
+use Rattle.base_laws.specs.Tables.{tabulate, tabulate-cong, getD-tabulate}
 use Rattle.base_ids.specs.declared.Node.{Node}
 use Rattle.base_ids.specs.declared.Position.{Position}
 use Rattle.settings_values.specs.Settings.{shards, Settings}
@@ -119,17 +119,6 @@ module _ (held : ℕ) (d candidates : List ℕ) (targets : List Position) (count
   able-held h c e = rw (h, e)
 
 -- ---- lists by shard
-
--- a list that was filled below count, and v from there on
-pub filled-else : {A : Type 0} (v : A) (n count : ℕ) (f : ℕ → A) → count ≤ n
-    → filled count f (replicate n v) ≡ tabulate n (λ k. cond (ltb k count) (f k) v)
-filled-else v n count f l =
-    tabulate-ext v n (λ k. cond (ltb k count) (f k) v) (filled count f (replicate n v))
-    (length-filled count f (replicate n v) (omega (arith, length-replicate n v)) ∙ length-replicate n v)
-    (λ k m.
-    ⊎-elim (λ i. getD-filled count f (replicate n v) k v i ∙ rw (lt-ltb k count i))
-    (λ i. getD-filled-rest count f (replicate n v) k v i ∙ getD-replicate n k v v m ∙ rw (le-ltb k count i))
-    (lt-or-le k count))
 
 pub positions-at : (count : ℕ) (p : ℕ → Position) (s : ℕ) → s < count → s < 16 → getD (positionsBelow count p) s start ≡ p s
 unfolding positionsBelow

@@ -5,10 +5,10 @@ use mathlib.Core.Path.{_≡_, sym, ap, _∙_}
 use native.Mathlib.Omega.{arith}
 use lib.ListN.{replicate, length-replicate}
 use borrow.Author.Needs.{needs}
-use Rattle.base_laws.specs.Tables.{filled, filled-none, filled-turn}
+use Rattle.base_laws.specs.Tables.{filled, filled-none, filled-turn, filled-else}
 use Rattle.base_ids.specs.declared.Node.{Node}
 use Rattle.report_views.specs.Quorums.{best}
-use Rattle.plan_standing.specs.Choices.{picked, holdersBy, filled-else}
+use Rattle.plan_standing.specs.Choices.{picked, holdersBy}
 use Rattle.report_ends.specs.Ends.{tableEnd}
 use Rattle.plan_standing.proofs.holders_of.Statement.{statement}
 use Rattle.plan_standing.proofs.holders_of.Tie as tie

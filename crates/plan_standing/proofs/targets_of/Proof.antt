@@ -4,9 +4,9 @@ use mathlib.Core.Path.{_≡_, ap, _∙_}
 use native.Mathlib.Omega.{arith}
 use borrow.Author.Needs.{needs}
 use lib.ListN.{replicate}
-use Rattle.base_laws.specs.Tables.{filled, fill-start, fill-turn}
+use Rattle.base_laws.specs.Tables.{filled, fill-start, fill-turn, filled-else}
 use Rattle.report_views.specs.Logs.{start}
-use Rattle.plan_standing.specs.Choices.{targetBy, positionsBelow, filled-else}
+use Rattle.plan_standing.specs.Choices.{targetBy, positionsBelow}
 use Rattle.plan_standing.proofs.targets_of.Statement.{statement}
 use Rattle.plan_standing.proofs.targets_of.Tie as tie
 
