@@ -32,6 +32,7 @@ def cargo(folder, *words):
 FIRST = [
     ("layout of the sources", ["rt", "fmt", "--check"]),
     ("crates by layer, definitions by name", ["python3", "tests/layers.py"]),
+    ("nodes, shards and views by their types", ["python3", "tests/types.py"]),
     ("proofs, wrong programs and runs", ["rt", "ci"]),
     ("wrong programs are refused for a fact", ["python3", "tests/edits.py"]),
     ("names and links in the documents", ["python3", "tests/promises.py"]),
@@ -137,7 +138,7 @@ def main():
     for part in first:
         part.run(live=True)
     side_by_side(then)
-    print("== seconds, passed, failed; from the fifth part on %d run at a time" % PROCESSORS)
+    print("== seconds, passed, failed; after the first %d parts %d run at a time" % (len(first), PROCESSORS))
     for part in first + then:
         print("%8.1f %6d %6d  %s" % (part.seconds, part.passed, part.failed, part.name))
     print("%8.1f seconds in all" % (time.time() - began))

@@ -382,14 +382,15 @@ zeros-left m n l =
     let parts : zeros n ++ zeros (m - n) ≡ zeros m = replicate-append-replicate n (m - n) 0 ∙ ap zeros sum in
     ap (drop n) (sym parts) ∙ drop-at (zeros n) (zeros (m - n)) n (length-replicate n 0)
 
--- zeros with the first elements filled
-pub filled-zeros : (n count : ℕ) (f : ℕ → ℕ) → count ≤ n → filled count f (replicate n 0) ≡ tabulate n (λ k. cond (ltb k count) (f k) 0)
-filled-zeros n count f l =
-    tabulate-ext 0 n (λ k. cond (ltb k count) (f k) 0) (filled count f (replicate n 0))
-    (length-filled count f (replicate n 0) (omega (arith, length-replicate {A = ℕ} n 0)) ∙ length-replicate n 0)
+-- a list that was filled below count, and v from there on
+pub filled-else : {A : Type 0} (v : A) (n count : ℕ) (f : ℕ → A) → count ≤ n
+    → filled count f (replicate n v) ≡ tabulate n (λ k. cond (ltb k count) (f k) v)
+filled-else v n count f l =
+    tabulate-ext v n (λ k. cond (ltb k count) (f k) v) (filled count f (replicate n v))
+    (length-filled count f (replicate n v) (omega (arith, length-replicate n v)) ∙ length-replicate n v)
     (λ k m.
-    ⊎-elim (λ i. getD-filled count f (replicate n 0) k 0 i ∙ rw (lt-ltb k count i))
-    (λ i. getD-filled-rest count f (replicate n 0) k 0 i ∙ getD-replicate n k 0 0 m ∙ rw (le-ltb k count i))
+    ⊎-elim (λ i. getD-filled count f (replicate n v) k v i ∙ rw (lt-ltb k count i))
+    (λ i. getD-filled-rest count f (replicate n v) k v i ∙ getD-replicate n k v v m ∙ rw (le-ltb k count i))
     (lt-or-le k count))
 
 -- ---- tables of pairs of words

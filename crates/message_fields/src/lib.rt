@@ -1,4 +1,5 @@
 // A record of a message's contents by its index: its words, kind and shard, and which of two comes first.
+use base_ids::Shard;
 ghost use mathlib.Core.Path.{_≡_};
 ghost use Prim.Native.Nat.{_<_};
 ghost use Rattle.message_format.specs.Records as Records;
@@ -20,11 +21,11 @@ pub fn kind(body: &[u32; 381], j: usize) -> u32
 }
 
 // The shard of record j.
-pub fn shard(body: &[u32; 381], j: usize) -> usize
+pub fn shard(body: &[u32; 381], j: usize) -> Shard
     requires { ⌜ j < 127 ⌝ }
-    ensures { λ r. ⌜ r ≡ Records.shard (now (body .entry)) j ⌝ }
+    ensures { λ r. ⌜ r .0 ≡ Records.shard (now (body .entry)) j ⌝ }
 {
-    (tag(body, j) % 256) as usize
+    Shard(tag(body, j) % 256)
 }
 
 // Word 1 of record j.

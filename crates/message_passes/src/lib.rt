@@ -45,10 +45,11 @@ pub fn shards(settings: &[u32], body: &[u32; 381], len: usize) -> usize
     requires { ⌜ len ≤ 127 ⌝ }
     ensures { λ r. ⌜ r ≡ firstBad len (Rows.shardAt (now (settings .entry)) (now (body .entry))) ⌝ }
 {
-    let count = settings_values::shards(settings) as usize;
+    let count = settings_values::shards(settings);
     let mut j: usize = 0;
     while j < len {
-        if count <= message_fields::shard(body, j) {
+        let shard = message_fields::shard(body, j);
+        if count <= shard.0 {
             return j;
         }
         j += 1;
@@ -75,7 +76,8 @@ fn stray(carried: u32, body: &[u32; 381], j: usize) -> bool
     if message_fields::kind(body, j) < 4 {
         return false;
     }
-    !base_masks::has(carried, message_fields::shard(body, j))
+    let shard = message_fields::shard(body, j);
+    !base_masks::has(carried, shard.0 as usize)
 }
 
 // Row 9, third pass, at record j, with the shards that the node carries by the records before it.

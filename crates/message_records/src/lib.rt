@@ -19,7 +19,8 @@ fn shards_more(mask: u32, k: u32, body: &[u32; 381], j: usize) -> u32
     if message_fields::kind(body, j) != k {
         return mask;
     }
-    base_masks::with(mask, message_fields::shard(body, j))
+    let shard = message_fields::shard(body, j);
+    base_masks::with(mask, shard.0 as usize)
 }
 
 // The shards that have a record of kind k.
@@ -49,7 +50,8 @@ pub fn carried_more(mask: u32, node: Node, body: &[u32; 381], j: usize) -> u32
     if !base_masks::has(message_fields::word1(body, j), node.0 as usize) {
         return mask;
     }
-    base_masks::with(mask, message_fields::shard(body, j))
+    let shard = message_fields::shard(body, j);
+    base_masks::with(mask, shard.0 as usize)
 }
 
 // The shards that the node carries, by the members that the records give.

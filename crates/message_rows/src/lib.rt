@@ -1,5 +1,6 @@
-// The tests of rows 7, 9 and 11 of document 01's table on plain numbers. Each gives what its definition in message_format says.
+// The tests of rows 7, 9 and 11 of document 01's table. Each gives what its definition in message_format says.
 use base_ids::Node;
+use base_ids::Position;
 use base_ids::View;
 use message_format::Form;
 ghost use mathlib.Core.Path.{_≡_};
@@ -8,12 +9,12 @@ ghost use Rattle.settings_values.specs.Settings.{Settings};
 ghost use Rattle.message_format.specs.Rows as Rows;
 
 // The limits of a view number.
-pub fn view_ok(form: Form, v: u32) -> bool
-    ensures { λ r. ⌜ r ≡ Rows.viewOk form v ⌝ }
+pub fn view_ok(form: Form, view: View) -> bool
+    ensures { λ r. ⌜ r ≡ Rows.viewOk form (view .0) ⌝ }
 {
     match form {
-        Form::Report => settings_values::from_to(1, 4294967294, v),
-        Form::Order => settings_values::from_to(2, 4294967295, v),
+        Form::Report => settings_values::from_to(1, 4294967294, view.0),
+        Form::Order => settings_values::from_to(2, 4294967295, view.0),
     }
 }
 
@@ -22,7 +23,7 @@ pub fn row7(form: Form, settings: &[u32], node: Node, view: View, members: u32) 
     requires { ⌜ Settings (now settings) ⌝ }
     ensures { λ r. ⌜ r ≡ Rows.row7 form (now (settings .entry)) (node .0) (view .0) members ⌝ }
 {
-    if !view_ok(form, view.0) {
+    if !view_ok(form, view) {
         return false;
     }
     if !base_masks::within(settings_values::nodes(settings) as usize, members) {
@@ -60,30 +61,31 @@ pub fn plain(k: u32, word2: u32) -> bool
 }
 
 // (0, 0), or view and k from 1.
-pub fn position(v: u32, k: u32) -> bool
-    ensures { λ r. ⌜ r ≡ Rows.position v k ⌝ }
+pub fn position(p: Position) -> bool
+    ensures { λ r. ⌜ r ≡ Rows.position (p .view .0) (p .k) ⌝ }
 {
-    if v == 0 {
-        return k == 0;
+    let view = p.view;
+    if view.0 == 0 {
+        return p.k == 0;
     }
-    1 <= k
+    1 <= p.k
 }
 
 // The view of a position or run against the head's: not above it in a report, below it in an order.
-pub fn view_fits(form: Form, view: View, v: u32) -> bool
-    ensures { λ r. ⌜ r ≡ Rows.viewFits form (view .0) v ⌝ }
+pub fn view_fits(form: Form, view: View, v: View) -> bool
+    ensures { λ r. ⌜ r ≡ Rows.viewFits form (view .0) (v .0) ⌝ }
 {
     match form {
-        Form::Report => v <= view.0,
-        Form::Order => v < view.0,
+        Form::Report => v.0 <= view.0,
+        Form::Order => v.0 < view.0,
     }
 }
 
 // Row 11 for a run: view and count from 1, and the view fits.
-fn run(form: Form, view: View, v: u32, count: u32) -> bool
-    ensures { λ r. ⌜ r ≡ Rows.legal form (view .0) 0 3 v count ⌝ }
+fn run(form: Form, view: View, v: View, count: u32) -> bool
+    ensures { λ r. ⌜ r ≡ Rows.legal form (view .0) 0 3 (v .0) count ⌝ }
 {
-    if v < 1 {
+    if v.0 < 1 {
         return false;
     }
     if count < 1 {
@@ -93,20 +95,24 @@ fn run(form: Form, view: View, v: u32, count: u32) -> bool
 }
 
 // Row 11 for a record's kind and words 1 and 2.
-pub fn legal(form: Form, view: View, members: u32, kind: u32, a: u32, b: u32) -> bool
-    ensures { λ r. ⌜ r ≡ Rows.legal form (view .0) members kind a b ⌝ }
+pub fn legal(form: Form, view: View, members: u32, kind: u32, word1: u32, word2: u32) -> bool
+    ensures { λ r. ⌜ r ≡ Rows.legal form (view .0) members kind word1 word2 ⌝ }
 {
     if kind == 1 {
         return true;
     }
     if kind == 3 {
-        return run(form, view, a, b);
+        return run(form, view, View(word1), word2);
     }
     if kind == 4 {
-        return base_masks::has(members, a as usize);
+        return base_masks::has(members, word1 as usize);
     }
-    if !position(a, b) {
+    let at = Position {
+        view: View(word1),
+        k: word2,
+    };
+    if !position(at) {
         return false;
     }
-    view_fits(form, view, a)
+    view_fits(form, view, at.view)
 }

@@ -8,29 +8,28 @@ ghost use Rattle.settings_values.specs.Settings.{Settings, shards};
 ghost use Rattle.message_format.specs.Rows as Rows;
 
 // Shards s and t are of different subgroups or share no node.
-fn shard_apart(settings: &[u32], masks: &[u32; 16], s: u32, t: u32) -> bool
+fn shard_apart(settings: &[u32], masks: &[u32; 16], s: Shard, t: Shard) -> bool
     requires { ⌜ Settings (now settings) ⌝ }
-    requires { ⌜ s < shards (now settings) ⌝ }
-    requires { ⌜ t < shards (now settings) ⌝ }
-    ensures { λ r. ⌜ r ≡ Rows.shardApart (now (settings .entry)) (λ i. getD (now (masks .entry)) i 0) s t ⌝ }
+    requires { ⌜ s .0 < shards (now settings) ⌝ }
+    requires { ⌜ t .0 < shards (now settings) ⌝ }
+    ensures { λ r. ⌜ r ≡ Rows.shardApart (now (settings .entry)) (λ i. getD (now (masks .entry)) i 0) (s .0) (t .0) ⌝ }
 {
-    if settings_values::subgroup(settings, Shard(t))
-        != settings_values::subgroup(settings, Shard(s))
-    {
+    if settings_values::subgroup(settings, t) != settings_values::subgroup(settings, s) {
         return true;
     }
-    base_masks::disjoint(masks[t as usize], masks[s as usize])
+    base_masks::disjoint(masks[t.0 as usize], masks[s.0 as usize])
 }
 
 // Shard s shares no node with a lower shard of its subgroup.
-pub fn apart_below(settings: &[u32], masks: &[u32; 16], s: u32) -> bool
+pub fn apart_below(settings: &[u32], masks: &[u32; 16], s: Shard) -> bool
     requires { ⌜ Settings (now settings) ⌝ }
-    requires { ⌜ s < shards (now settings) ⌝ }
-    ensures { λ r. ⌜ r ≡ allBelow s (Rows.shardApart (now (settings .entry)) (λ i. getD (now (masks .entry)) i 0) s) ⌝ }
+    requires { ⌜ s .0 < shards (now settings) ⌝ }
+    ensures { λ r. ⌜ r ≡ allBelow (s .0) (Rows.shardApart (now (settings .entry)) (λ i. getD (now (masks .entry)) i 0) (s .0)) ⌝ }
 {
+    let top = s.0;
     let mut t: u32 = 0;
-    while t < s {
-        if !shard_apart(settings, masks, s, t) {
+    while t < top {
+        if !shard_apart(settings, masks, s, Shard(t)) {
             return false;
         }
         t += 1;
@@ -39,12 +38,12 @@ pub fn apart_below(settings: &[u32], masks: &[u32; 16], s: u32) -> bool
 }
 
 // Row 10 at shard s: it is not empty, lies inside the members and shares no node with a lower shard of its subgroup.
-fn row10_at(settings: &[u32], members: u32, masks: &[u32; 16], s: u32) -> bool
+fn row10_at(settings: &[u32], members: u32, masks: &[u32; 16], s: Shard) -> bool
     requires { ⌜ Settings (now settings) ⌝ }
-    requires { ⌜ s < shards (now settings) ⌝ }
-    ensures { λ r. ⌜ r ≡ Rows.row10At (now (settings .entry)) members (λ i. getD (now (masks .entry)) i 0) s ⌝ }
+    requires { ⌜ s .0 < shards (now settings) ⌝ }
+    ensures { λ r. ⌜ r ≡ Rows.row10At (now (settings .entry)) members (λ i. getD (now (masks .entry)) i 0) (s .0) ⌝ }
 {
-    let mask = masks[s as usize];
+    let mask = masks[s.0 as usize];
     if mask < 1 {
         return false;
     }
@@ -62,7 +61,7 @@ pub fn row10(settings: &[u32], members: u32, masks: &[u32; 16]) -> bool
     let count = settings_values::shards(settings);
     let mut s: u32 = 0;
     while s < count {
-        if !row10_at(settings, members, masks, s) {
+        if !row10_at(settings, members, masks, Shard(s)) {
             return false;
         }
         s += 1;

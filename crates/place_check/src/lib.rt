@@ -11,27 +11,27 @@ ghost use Rattle.place_groups.specs.Placements as Placements;
 ghost use Rattle.place_groups.specs.Spread.{clashes, seenWith};
 
 // Node n is in the mask, and its failure set is among those seen.
-fn clash(settings: &[u32], mask: u32, seen: u32, n: u32) -> bool
+fn clash(settings: &[u32], mask: u32, seen: u32, n: Node) -> bool
     requires { ⌜ Settings (now settings) ⌝ }
-    requires { ⌜ n < nodes (now settings) ⌝ }
-    ensures { λ r. ⌜ r ≡ clashes (now (settings .entry)) mask seen n ⌝ }
+    requires { ⌜ n .0 < nodes (now settings) ⌝ }
+    ensures { λ r. ⌜ r ≡ clashes (now (settings .entry)) mask seen (n .0) ⌝ }
 {
-    if !base_masks::has(mask, n as usize) {
+    if !base_masks::has(mask, n.0 as usize) {
         return false;
     }
-    base_masks::has(seen, settings_values::set_of(settings, Node(n)) as usize)
+    base_masks::has(seen, settings_values::set_of(settings, n) as usize)
 }
 
 // The failure sets seen, with that of node n if it is in the mask.
-fn seen_with(settings: &[u32], mask: u32, seen: u32, n: u32) -> u32
+fn seen_with(settings: &[u32], mask: u32, seen: u32, n: Node) -> u32
     requires { ⌜ Settings (now settings) ⌝ }
-    requires { ⌜ n < nodes (now settings) ⌝ }
-    ensures { λ r. ⌜ r ≡ seenWith (now (settings .entry)) mask seen n ⌝ }
+    requires { ⌜ n .0 < nodes (now settings) ⌝ }
+    ensures { λ r. ⌜ r ≡ seenWith (now (settings .entry)) mask seen (n .0) ⌝ }
 {
-    if !base_masks::has(mask, n as usize) {
+    if !base_masks::has(mask, n.0 as usize) {
         return seen;
     }
-    base_masks::with(seen, settings_values::set_of(settings, Node(n)) as usize)
+    base_masks::with(seen, settings_values::set_of(settings, n) as usize)
 }
 
 // No two nodes of the mask are of one failure set.
@@ -44,40 +44,40 @@ fn spread(settings: &[u32], mask: u32) -> bool
     let mut seen: u32 = 0;
     let mut n: u32 = 0;
     while n < count {
-        if clash(settings, mask, seen, n) {
+        if clash(settings, mask, seen, Node(n)) {
             return false;
         }
-        seen = seen_with(settings, mask, seen, n);
+        seen = seen_with(settings, mask, seen, Node(n));
         n += 1;
     }
     true
 }
 
 // Shard s gets exactly as many held nodes as it needs, of different failure sets.
-fn shard_valid(settings: &[u32], held: u32, masks: &[u32; 16], s: u32) -> bool
+fn shard_valid(settings: &[u32], held: u32, masks: &[u32; 16], s: Shard) -> bool
     requires { ⌜ Settings (now settings) ⌝ }
-    requires { ⌜ s < shards (now settings) ⌝ }
+    requires { ⌜ s .0 < shards (now settings) ⌝ }
     requires { ⌜ held < 2 ^ nodes (now settings) ⌝ }
-    ensures { λ r. ⌜ r ≡ Placements.shardValid (now (settings .entry)) held (λ i. getD (now (masks .entry)) i 0) s ⌝ }
+    ensures { λ r. ⌜ r ≡ Placements.shardValid (now (settings .entry)) held (λ i. getD (now (masks .entry)) i 0) (s .0) ⌝ }
 {
-    let mask = masks[s as usize];
+    let mask = masks[s.0 as usize];
     if !base_masks::subset(mask, held) {
         return false;
     }
-    if base_masks::count(mask) != settings_values::need(settings, Shard(s)) {
+    if base_masks::count(mask) != settings_values::need(settings, s) {
         return false;
     }
     spread(settings, mask)
 }
 
 // Shard s is of another subgroup, or is valid and shares no node with a lower shard of its subgroup.
-fn group_valid_at(settings: &[u32], held: u32, masks: &[u32; 16], g: u32, s: u32) -> bool
+fn group_valid_at(settings: &[u32], held: u32, masks: &[u32; 16], g: u32, s: Shard) -> bool
     requires { ⌜ Settings (now settings) ⌝ }
-    requires { ⌜ s < shards (now settings) ⌝ }
+    requires { ⌜ s .0 < shards (now settings) ⌝ }
     requires { ⌜ held < 2 ^ nodes (now settings) ⌝ }
-    ensures { λ r. ⌜ r ≡ Placements.groupValidAt (now (settings .entry)) held (λ i. getD (now (masks .entry)) i 0) g s ⌝ }
+    ensures { λ r. ⌜ r ≡ Placements.groupValidAt (now (settings .entry)) held (λ i. getD (now (masks .entry)) i 0) g (s .0) ⌝ }
 {
-    if settings_values::subgroup(settings, Shard(s)) != g {
+    if settings_values::subgroup(settings, s) != g {
         return true;
     }
     if !shard_valid(settings, held, masks, s) {
@@ -95,7 +95,7 @@ pub fn group_valid(settings: &[u32], held: u32, masks: &[u32; 16], g: u32) -> bo
     let count = settings_values::shards(settings);
     let mut s: u32 = 0;
     while s < count {
-        if !group_valid_at(settings, held, masks, g, s) {
+        if !group_valid_at(settings, held, masks, g, Shard(s)) {
             return false;
         }
         s += 1;
@@ -112,16 +112,16 @@ fn moved(new: u32, old: u32) -> u32
 }
 
 // The moves in shard s, if it is of subgroup g.
-fn moves_at(settings: &[u32], old: &[u32; 16], masks: &[u32; 16], g: u32, s: u32) -> u32
+fn moves_at(settings: &[u32], old: &[u32; 16], masks: &[u32; 16], g: u32, s: Shard) -> u32
     requires { ⌜ Settings (now settings) ⌝ }
-    requires { ⌜ s < shards (now settings) ⌝ }
-    ensures { λ r. ⌜ r ≡ Placements.groupMovesAt (now (settings .entry)) (λ i. getD (now (old .entry)) i 0) (λ i. getD (now (masks .entry)) i 0) g s ⌝ }
+    requires { ⌜ s .0 < shards (now settings) ⌝ }
+    ensures { λ r. ⌜ r ≡ Placements.groupMovesAt (now (settings .entry)) (λ i. getD (now (old .entry)) i 0) (λ i. getD (now (masks .entry)) i 0) g (s .0) ⌝ }
     ensures { λ r. ⌜ r ≤ 32 ⌝ }
 {
-    if settings_values::subgroup(settings, Shard(s)) != g {
+    if settings_values::subgroup(settings, s) != g {
         return 0;
     }
-    moved(masks[s as usize], old[s as usize])
+    moved(masks[s.0 as usize], old[s.0 as usize])
 }
 
 // The moves of a placement of subgroup g.
@@ -133,7 +133,7 @@ pub fn group_moves(settings: &[u32], old: &[u32; 16], masks: &[u32; 16], g: u32)
     let mut total: u32 = 0;
     let mut s: u32 = 0;
     while s < count {
-        total += moves_at(settings, old, masks, g, s);
+        total += moves_at(settings, old, masks, g, Shard(s));
         s += 1;
     }
     total

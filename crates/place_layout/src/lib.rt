@@ -1,5 +1,7 @@
 // The placement of all four subgroups: a mask for each shard with the least moves in every subgroup, or the lowest subgroup
 // without a valid placement.
+use base_ids::Node;
+use base_ids::Shard;
 use search_total::Solution;
 ghost use mathlib.Core.Path.{_≡_};
 ghost use mathlib.Core.Bool.{true, cond};
@@ -45,33 +47,33 @@ fn solve(settings: &[u32], held: u32, old: &[u32; 16], sheet: &[[u8; 16]; 16], g
 }
 
 // The mask with node n if shard s owns it.
-fn with_node(mask: u32, owner: u8, s: u32, n: usize) -> u32
-    requires { ⌜ n < 32 ⌝ }
-    ensures { λ r. ⌜ r ≡ cond (eqb owner s) (with mask n) mask ⌝ }
+fn with_node(mask: u32, owner: u8, s: Shard, n: Node) -> u32
+    requires { ⌜ n .0 < 32 ⌝ }
+    ensures { λ r. ⌜ r ≡ cond (eqb owner (s .0)) (with mask (n .0)) mask ⌝ }
 {
-    if owner as u32 == s {
-        return base_masks::with(mask, n);
+    if owner as u32 == s.0 {
+        return base_masks::with(mask, n.0 as usize);
     }
     mask
 }
 
 // The nodes that shard s owns.
-fn owned_by(owners: &[u8; 32], s: u32) -> u32
-    ensures { λ r. ⌜ r ≡ ownedBy (now (owners .entry)) s ⌝ }
+fn owned_by(owners: &[u8; 32], s: Shard) -> u32
+    ensures { λ r. ⌜ r ≡ ownedBy (now (owners .entry)) (s .0) ⌝ }
 {
     let mut mask: u32 = 0;
-    let mut n: usize = 0;
+    let mut n: u32 = 0;
     while n < 32 {
-        mask = with_node(mask, owners[n], s, n);
+        mask = with_node(mask, owners[n as usize], s, Node(n));
         n += 1;
     }
     mask
 }
 
 // The mask of shard s: the nodes that it owns if it is of subgroup g, else as it was.
-fn mask_with(settings: &[u32], g: u32, owners: &[u8; 32], was: u32, s: u32) -> u32
+fn mask_with(settings: &[u32], g: u32, owners: &[u8; 32], was: u32, s: Shard) -> u32
     requires { ⌜ Settings (now settings) ⌝ }
-    ensures { λ r. ⌜ r ≡ maskWith (now (settings .entry)) g (now (owners .entry)) was s ⌝ }
+    ensures { λ r. ⌜ r ≡ maskWith (now (settings .entry)) g (now (owners .entry)) was (s .0) ⌝ }
 {
     if !place_tables::in_group(settings, g, s) {
         return was;
@@ -87,7 +89,7 @@ fn masks_with(settings: &[u32], g: u32, owners: &[u8; 32], masks: &[u32; 16]) ->
     let mut all = [0u32; 16];
     let mut s: u32 = 0;
     while s < 16 {
-        all[s as usize] = mask_with(settings, g, owners, masks[s as usize], s);
+        all[s as usize] = mask_with(settings, g, owners, masks[s as usize], Shard(s));
         s += 1;
     }
     all

@@ -1,5 +1,6 @@
 // The placement sheet, 16 by 16, by shard and failure set.
 use base_ids::Node;
+use base_ids::Shard;
 ghost use mathlib.Core.Path.{_≡_};
 ghost use Prim.Native.Nat.{_+_, _<_};
 ghost use lib.ListN.{getD};
@@ -9,15 +10,15 @@ ghost use Rattle.place_sheet.specs.Sheet.{sheetOf};
 ghost use Rattle.place_sheet.specs.Laws.{SetsBelow, SetsOf, entryBy};
 
 // The failure sets seen, with that of node n if it is in the mask.
-fn seen_with(settings: &[u32], mask: u32, seen: u32, n: u32) -> u32
+fn seen_with(settings: &[u32], mask: u32, seen: u32, n: Node) -> u32
     requires { ⌜ Settings (now settings) ⌝ }
-    requires { ⌜ n < nodes (now settings) ⌝ }
-    ensures { λ r. ⌜ (SetsBelow (now (settings .entry)) mask n seen → SetsBelow (now (settings .entry)) mask (n + 1) r) ⌝ }
+    requires { ⌜ n .0 < nodes (now settings) ⌝ }
+    ensures { λ r. ⌜ (SetsBelow (now (settings .entry)) mask (n .0) seen → SetsBelow (now (settings .entry)) mask (n .0 + 1) r) ⌝ }
 {
-    if !base_masks::has(mask, n as usize) {
+    if !base_masks::has(mask, n.0 as usize) {
         return seen;
     }
-    base_masks::with(seen, settings_values::set_of(settings, Node(n)) as usize)
+    base_masks::with(seen, settings_values::set_of(settings, n) as usize)
 }
 
 // The failure sets of the nodes in a mask.
@@ -29,18 +30,18 @@ fn sets_of(settings: &[u32], mask: u32) -> u32
     let mut seen: u32 = 0;
     let mut n: u32 = 0;
     while n < count {
-        seen = seen_with(settings, mask, seen, n);
+        seen = seen_with(settings, mask, seen, Node(n));
         n += 1;
     }
     seen
 }
 
 // The entry of shard s and failure set f, from the sets of the shard's held old members and those of all held nodes.
-fn entry(settings: &[u32], stay: u32, any: u32, s: u32, f: u32) -> u8
+fn entry(settings: &[u32], stay: u32, any: u32, s: Shard, f: u32) -> u8
     requires { ⌜ Settings (now settings) ⌝ }
-    ensures { λ r. ⌜ r ≡ entryBy (now (settings .entry)) stay any s f ⌝ }
+    ensures { λ r. ⌜ r ≡ entryBy (now (settings .entry)) stay any (s .0) f ⌝ }
 {
-    if s >= settings_values::shards(settings) {
+    if s.0 >= settings_values::shards(settings) {
         return 2;
     }
     if f >= settings_values::sets(settings) {
@@ -57,9 +58,9 @@ fn entry(settings: &[u32], stay: u32, any: u32, s: u32, f: u32) -> u8
 }
 
 // The row of shard s.
-fn row(settings: &[u32], stay: u32, any: u32, s: u32) -> [u8; 16]
+fn row(settings: &[u32], stay: u32, any: u32, s: Shard) -> [u8; 16]
     requires { ⌜ Settings (now settings) ⌝ }
-    ensures { λ r. ⌜ r ≡ tabulate 16 (entryBy (now (settings .entry)) stay any s) ⌝ }
+    ensures { λ r. ⌜ r ≡ tabulate 16 (entryBy (now (settings .entry)) stay any (s .0)) ⌝ }
 {
     let mut r = [2u8; 16];
     let mut f: u32 = 0;
@@ -80,7 +81,7 @@ pub fn sheet(settings: &[u32], held: u32, old: &[u32; 16]) -> [[u8; 16]; 16]
     let mut s: u32 = 0;
     while s < 16 {
         let stay = sets_of(settings, held & old[s as usize]);
-        rows[s as usize] = row(settings, stay, any, s);
+        rows[s as usize] = row(settings, stay, any, Shard(s));
         s += 1;
     }
     rows

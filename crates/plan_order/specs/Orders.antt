@@ -3,7 +3,6 @@ use Prim.Native.Nat.{ℕ, _+_, _*_, _-_, _/_, _%_}
 use mathlib.Core.Bool.{Bool, cond}
 use mathlib.Core.List.{List}
 use lib.Dec.{eqb, ltb}
-use lib.ListN.{getD}
 use Rattle.base_laws.specs.Below.{countBelow}
 use Rattle.base_laws.specs.Masks.{has}
 use Rattle.base_laws.specs.Tables.{tabulate}
@@ -11,8 +10,7 @@ use Rattle.settings_values.specs.Settings.{shards}
 use Rattle.base_ids.specs.declared.Position.{Position}
 use Rattle.message_format.specs.declared.Contents.{Contents}
 use Rattle.report_views.specs.declared.Plan.{Plan}
-use Rattle.report_views.specs.Logs.{pos}
-use Rattle.report_views.specs.Reports.{reportOf, maskAt}
+use Rattle.report_views.specs.Reports.{reportOf, maskAt, holderAt, targetAt}
 use Rattle.report_views.specs.Cuts.{cutFrom}
 use Rattle.base_laws.specs.Ranks.{nth}
 
@@ -28,13 +26,10 @@ carriedBelow p n s = countBelow s (carries p n)
 abbrev pub carried : List ℕ → Plan → ℕ → ℕ → ℕ
 carried σ p n i = nth (shards σ) (carries p n) i
 
-abbrev pub plannedTarget : Plan → ℕ → Position
-plannedTarget p s = pos (getD (p .targets) (2 * s) 0) (getD (p .targets) (2 * s + 1) 0)
-
 -- the cut for shard s of a node whose report has the body b of len records
 abbrev pub cutAgainst : Plan → List ℕ → List ℕ → ℕ → ℕ → Position
 cutAgainst p d b len s =
-    cutFrom b len (reportOf d (getD (p .holders) s 0) .body) (reportOf d (getD (p .holders) s 0) .len) s (plannedTarget p s)
+    cutFrom b len (reportOf d (holderAt p s) .body) (reportOf d (holderAt p s) .len) s (targetAt p s)
 
 -- the cut of node n for shard s
 abbrev pub cutOf : Plan → List ℕ → ℕ → ℕ → Position
@@ -50,7 +45,7 @@ positionRecord tag p part = triple tag (p .view .0) (p .k) part
 
 -- the record of the holder of shard s, and that of the cut
 abbrev pub holderRecord : Plan → ℕ → ℕ → ℕ
-holderRecord p s part = triple (1024 + s) (getD (p .holders) s 0) 0 part
+holderRecord p s part = triple (1024 + s) (holderAt p s) 0 part
 
 abbrev pub cutRecord : Plan → List ℕ → ℕ → ℕ → ℕ → ℕ
 cutRecord p d n s part = positionRecord (1280 + s) (cutOf p d n s) part
@@ -63,7 +58,7 @@ own σ p n = carriedBelow p n (shards σ)
 unfoldable pub orderRecord : List ℕ → Plan → List ℕ → ℕ → ℕ → ℕ → ℕ
 orderRecord σ p d n j part =
     cond (ltb j (shards σ)) (triple (256 + j) (maskAt (p .layout) j) 0 part)
-    (cond (ltb j (2 * shards σ)) (positionRecord (512 + (j - shards σ)) (plannedTarget p (j - shards σ)) part)
+    (cond (ltb j (2 * shards σ)) (positionRecord (512 + (j - shards σ)) (targetAt p (j - shards σ)) part)
     (cond (ltb j (2 * shards σ + own σ p n)) (holderRecord p (carried σ p n (j - 2 * shards σ)) part)
     (cutRecord p d n (carried σ p n (j - 2 * shards σ - own σ p n)) part)))
 

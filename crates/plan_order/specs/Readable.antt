@@ -11,8 +11,8 @@ use Rattle.base_ids.specs.declared.Position.{Position}
 use Rattle.message_format.specs.declared.Contents.{Contents}
 use Rattle.report_views.specs.declared.Plan.{Plan}
 use Rattle.report_views.specs.Cuts.{cutFrom}
-use Rattle.report_views.specs.Reports.{slot, reportOf}
-use Rattle.plan_order.specs.Orders.{plannedTarget, cutAgainst}
+use Rattle.report_views.specs.Reports.{slot, reportOf, holderAt, targetAt}
+use Rattle.plan_order.specs.Orders.{cutAgainst}
 
 -- node n's slot can be read: its chain is that of a message
 pub record ReadableSlot (d : List ℕ) (n : ℕ) : Type 0 where
@@ -22,7 +22,7 @@ pub record ReadableSlot (d : List ℕ) (n : ℕ) : Type 0 where
 
 -- so can the slot of each shard's holder, of the given number of shards
 pub record Holders (count : ℕ) (p : Plan) (d : List ℕ) : Type 0 where
-  pub holder : (s : ℕ) → s < count → ReadableSlot d (getD (p .holders) s 0)
+  pub holder : (s : ℕ) → s < count → ReadableSlot d (holderAt p s)
 
 -- a report has at most 127 records
 pub report-few : (d : List ℕ) (n : ℕ) → reportOf d n .len ≤ 127
@@ -34,7 +34,7 @@ pub read-few : (d : List ℕ) (n : ℕ) (h : Contents) → h ≡ reportOf d n �
 read-few d n h e = subst⁻¹ (λ (c : Contents). c .len ≤ 127) e (report-few d n)
 
 -- the cut against a holder's report that has been read, up to the target
-pub cut-read : (p : Plan) (d b : List ℕ) (len s x : ℕ) (h : Contents) (t r : Position) → x ≡ getD (p .holders) s 0
-    → h ≡ reportOf d x → t ≡ plannedTarget p s → r ≡ cutFrom b len (h .body) (h .len) s t → r ≡ cutAgainst p d b len s
+pub cut-read : (p : Plan) (d b : List ℕ) (len s x : ℕ) (h : Contents) (t r : Position) → x ≡ holderAt p s
+    → h ≡ reportOf d x → t ≡ targetAt p s → r ≡ cutFrom b len (h .body) (h .len) s t → r ≡ cutAgainst p d b len s
 cut-read p d b len s x h t r e f g k =
     k ∙ ap₂ (λ (c : Contents) (q : Position). cutFrom b len (c .body) (c .len) s q) (f ∙ ap (reportOf d) e) g

@@ -11,16 +11,16 @@ use Rattle.base_laws.specs.Below.{count-le}
 use Rattle.base_laws.specs.Tables.{getD-tabulate}
 use Rattle.settings_values.specs.Settings.{shards}
 use Rattle.report_views.specs.declared.Plan.{Plan}
-use Rattle.report_views.specs.Reports.{maskAt}
+use Rattle.report_views.specs.Reports.{maskAt, targetAt}
 use Rattle.base_laws.specs.Ranks.{nth-rank, rank-rises}
-use Rattle.plan_order.specs.Orders.{carries, carriedBelow, own, plannedTarget, triple, positionRecord, holderRecord, cutRecord, orderRecord, orderLen, orderWord, orderBody}
+use Rattle.plan_order.specs.Orders.{carries, carriedBelow, own, triple, positionRecord, holderRecord, cutRecord, orderRecord, orderLen, orderWord, orderBody}
 
 module _ (σ : List ℕ) (p : Plan) (d : List ℕ) (n : ℕ) where
   pub members-record : (s part : ℕ) → s < shards σ → orderRecord σ p d n s part ≡ triple (256 + s) (maskAt (p .layout) s) 0 part
   unfolding orderRecord
   members-record s part l = rw (lt-ltb s (shards σ) l)
 
-  pub target-record : (s part : ℕ) → s < shards σ → orderRecord σ p d n (shards σ + s) part ≡ positionRecord (512 + s) (plannedTarget p s) part
+  pub target-record : (s part : ℕ) → s < shards σ → orderRecord σ p d n (shards σ + s) part ≡ positionRecord (512 + s) (targetAt p s) part
   unfolding orderRecord
   target-record s part l =
       let e : shards σ + s - shards σ ≡ s = omega arith in

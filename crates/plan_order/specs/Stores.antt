@@ -19,8 +19,8 @@ use Rattle.base_ids.specs.declared.Position.{Position}
 use Rattle.message_format.specs.declared.Contents.{Contents}
 use Rattle.report_views.specs.declared.Layout.{Layout}
 use Rattle.report_views.specs.declared.Plan.{Plan}
-use Rattle.report_views.specs.Reports.{reportOf, maskAt}
-use Rattle.plan_order.specs.Orders.{carries, carriedBelow, own, plannedTarget, cutAgainst, triple, orderRecord, orderLen, orderWord, orderBody, orderContents}
+use Rattle.report_views.specs.Reports.{reportOf, maskAt, holderAt, targetAt}
+use Rattle.plan_order.specs.Orders.{carries, carriedBelow, own, cutAgainst, triple, orderRecord, orderLen, orderWord, orderBody, orderContents}
 use Rattle.plan_order.specs.Recorded.{members-record, target-record, holder-record, cut-record, len-few}
 
 -- a body in which record j has the words x, y and z
@@ -33,7 +33,7 @@ storeMembers v s b = wordsStored b s (256 + s) (maskAt v s) 0
 
 -- the target of shard s, of the given number of shards
 abbrev pub storeTarget : ℕ → Plan → ℕ → List ℕ → List ℕ
-storeTarget count p s b = wordsStored b (count + s) (512 + s) (plannedTarget p s .view .0) (plannedTarget p s .k)
+storeTarget count p s b = wordsStored b (count + s) (512 + s) (targetAt p s .view .0) (targetAt p s .k)
 
 -- the record x s, y s, z s for shard s where node n carries it; the records of carried shards begin at `from`
 abbrev pub storeCarried : ℕ → Plan → ℕ → (ℕ → ℕ) → (ℕ → ℕ) → (ℕ → ℕ) → ℕ → List ℕ → List ℕ
@@ -41,7 +41,7 @@ storeCarried from p n x y z s b = cond (carries p n s) (wordsStored b (from + ca
 
 -- the holder of shard s
 abbrev pub storeHolder : ℕ → Plan → ℕ → ℕ → List ℕ → List ℕ
-storeHolder from p n = storeCarried from p n (λ s. 1024 + s) (λ s. getD (p .holders) s 0) (λ s. 0)
+storeHolder from p n = storeCarried from p n (λ s. 1024 + s) (λ s. holderAt p s) (λ s. 0)
 
 -- the cut of shard s, of a node whose report has the body `own` of len records
 abbrev pub storeCutOf : ℕ → Plan → List ℕ → List ℕ → ℕ → ℕ → ℕ → List ℕ → List ℕ

@@ -5,20 +5,19 @@ use native.Mathlib.Omega.{arith}
 use mathlib.Core.Bool.{Bool, true, false, cond, not}
 use mathlib.Core.List.{List}
 use mathlib.Core.Path.{_≡_, refl, subst⁻¹}
-use lib.ListN.{getD}
 use Rattle.base_laws.specs.Masks.{has, within-has}
 use Rattle.settings_values.specs.Settings.{nodes, shards, Settings}
 use Rattle.message_format.specs.Rows.{row10, position}
 use Rattle.report_views.specs.declared.Layout.{Layout}
 use Rattle.report_views.specs.declared.Termination.{Termination}
 use Rattle.report_views.specs.declared.Plan.{Plan}
-use Rattle.report_views.specs.Reports.{reportOf, viewOf, endAt, maskAt, positionAt, slot}
+use Rattle.report_views.specs.Reports.{reportOf, viewOf, endAt, maskAt, positionAt, slot, holderAt, targetAt}
 use Rattle.report_views.specs.Slots.{slotsOk}
 use Rattle.report_views.specs.Quorums.{candidate, best, target, holder}
 use Rattle.report_views.specs.Best.{best-found}
 use Rattle.report_views.specs.CutLaws.{Runs, passed-runs, cut-position, cut-view}
 use Rattle.report_views.specs.Meets.{slot-given, report-records, candidate-given, holder-given, able-candidate}
-use Rattle.plan_order.specs.Orders.{plannedTarget, cutOf}
+use Rattle.plan_order.specs.Orders.{cutOf}
 use Rattle.plan_order_laws.specs.Says.{saying}
 use Rattle.plan_order_laws.specs.Passing.{Fitting}
 use Rattle.plan_order_laws.specs.Sound.{KeptView, PlanSound}
@@ -58,13 +57,13 @@ module _ (σ : List ℕ) (v : Layout) (t : Termination) (held : ℕ) (d : List �
           let b = best-found (candidate v held d s) (endAt d s) 32 (holder v t held d s) (ps .met .holders s l) (holder-candidate s l) in
           candidate-end s (best (candidate v held d s) (endAt d s) 32) l (b .below) (b .picked)
 
-  planned-legal : (s : ℕ) → s < shards σ → Legal (v .number .0) (plannedTarget p s)
+  planned-legal : (s : ℕ) → s < shards σ → Legal (v .number .0) (targetAt p s)
   planned-legal s l = subst⁻¹ (Legal (v .number .0)) (ps .target-is s l) (target-legal s l)
 
-  holder-node : (s : ℕ) → s < shards σ → getD (p .holders) s 0 < 32
+  holder-node : (s : ℕ) → s < shards σ → holderAt p s < 32
   holder-node s l = subst⁻¹ (λ (x : ℕ). x < 32) (ps .holder-is s l) (ps .met .holders s l)
 
-  holder-held : (s : ℕ) → s < shards σ → has held (getD (p .holders) s 0) ≡ true
+  holder-held : (s : ℕ) → s < shards σ → has held (holderAt p s) ≡ true
   holder-held s l =
       subst⁻¹ (λ (x : ℕ). has held x ≡ true) (ps .holder-is s l)
       (candidate-given v held d s (holder v t held d s) (holder-candidate s l) .is-held)
@@ -84,16 +83,16 @@ module _ (σ : List ℕ) (v : Layout) (t : Termination) (held : ℕ) (d : List �
     pub node-below : n < nodes σ
     node-below = within-has (nodes σ) held (k .held-within) n mine
 
-    cut-legal : (s : ℕ) → s < shards σ → Legal (plannedTarget p s .view .0) (cutOf p d n s)
+    cut-legal : (s : ℕ) → s < shards σ → Legal (targetAt p s .view .0) (cutOf p d n s)
     cut-legal s l =
         let own = held-runs s n l (omega (arith, node-below, w .sizes .nodes-to)) mine in
-        let other = held-runs s (getD (p .holders) s 0) l (holder-node s l) (holder-held s l) in
-        let h = getD (p .holders) s 0 in
+        let other = held-runs s (holderAt p s) l (holder-node s l) (holder-held s l) in
+        let h = holderAt p s in
         record {
           is-position =
-              cut-position (reportOf d n .body) (reportOf d n .len) (reportOf d h .body) (reportOf d h .len) s (plannedTarget p s)
+              cut-position (reportOf d n .body) (reportOf d n .len) (reportOf d h .body) (reportOf d h .len) s (targetAt p s)
               own other (planned-legal s l .is-position);
-          no-later = cut-view (reportOf d n .body) (reportOf d n .len) (reportOf d h .body) (reportOf d h .len) s (plannedTarget p s);
+          no-later = cut-view (reportOf d n .body) (reportOf d n .len) (reportOf d h .body) (reportOf d h .len) s (targetAt p s);
         }
 
     -- what the order says is as rows 10 and 11 ask
@@ -104,7 +103,7 @@ module _ (σ : List ℕ) (v : Layout) (t : Termination) (held : ℕ) (d : List �
           target-legal = λ s l. planned-legal s l .is-position;
           target-earlier = λ s l. omega (arith, planned-legal s l .no-later, ps .number-next);
           holder-node = holder-node;
-          holder-member = λ s l. subst⁻¹ (λ (x : ℕ). has x (getD (p .holders) s 0) ≡ true) (ps .members-held) (holder-held s l);
+          holder-member = λ s l. subst⁻¹ (λ (x : ℕ). has x (holderAt p s) ≡ true) (ps .members-held) (holder-held s l);
           cut-legal = λ s l c. cut-legal s l .is-position;
           cut-earlier = λ s l c. omega (arith, cut-legal s l .no-later, planned-legal s l .no-later, ps .number-next);
         }
@@ -114,4 +113,4 @@ module _ (σ : List ℕ) (v : Layout) (t : Termination) (held : ℕ) (d : List �
     readable e = slot-readable e n (omega (arith, node-below, w .sizes .nodes-to)) mine
 
   pub holders-readable : length d ≡ 16384 → Holders (shards σ) p d
-  holders-readable e = record { holder = λ s l. slot-readable e (getD (p .holders) s 0) (holder-node s l) (holder-held s l) }
+  holders-readable e = record { holder = λ s l. slot-readable e (holderAt p s) (holder-node s l) (holder-held s l) }

@@ -6,9 +6,9 @@ use mathlib.Core.Path.{_≡_, refl, ap, _∙_}
 use lib.ListN.{getD}
 use Rattle.settings_values.specs.Settings.{shards}
 use Rattle.report_views.specs.declared.Plan.{Plan}
-use Rattle.report_views.specs.Reports.{maskAt}
+use Rattle.report_views.specs.Reports.{maskAt, holderAt, targetAt}
 use Rattle.base_laws.specs.Ranks.{rank-rises}
-use Rattle.plan_order.specs.Orders.{carries, carriedBelow, own, plannedTarget, cutOf, triple, orderRecord, orderLen, orderBody}
+use Rattle.plan_order.specs.Orders.{carries, carriedBelow, own, cutOf, triple, orderRecord, orderLen, orderBody}
 use Rattle.plan_order.specs.Recorded.{members-record, target-record, holder-record, cut-record, word-at}
 use Rattle.plan_order_laws.specs.Parts.{Saying, RecordSays, OrderBody}
 
@@ -17,8 +17,8 @@ abbrev pub saying : Plan → List ℕ → ℕ → Saying
 saying p d n =
     record {
       members = maskAt (p .layout);
-      target = plannedTarget p;
-      holder = λ s. getD (p .holders) s 0;
+      target = targetAt p;
+      holder = λ s. holderAt p s;
       cut = cutOf p d n;
     }
 

@@ -6,7 +6,6 @@ use mathlib.Core.List.{List}
 use mathlib.Core.Logic.{⊎-elim}
 use mathlib.Core.Path.{_≡_, refl, ap₂}
 use lib.Dec.{eqb, leb}
-use lib.ListN.{getD}
 use borrow.Author.Tests.{eqb-true, leb-true, lt-ltb}
 use Rattle.base_laws.specs.Bools.{clash, and-left, and-right, or-holds}
 use Rattle.base_laws.specs.Below.{allBelow, all-at}
@@ -20,11 +19,11 @@ use Rattle.report_views.specs.declared.Plan.{Plan}
 use Rattle.report_views.specs.declared.Quorum.{Quorum}
 use Rattle.report_views.specs.declared.Quorum.the-variants.{Met, Short}
 use Rattle.report_views.specs.Logs.{pos}
-use Rattle.report_views.specs.Reports.{maskAt, positionAt}
+use Rattle.report_views.specs.Reports.{maskAt, positionAt, holderAt, targetAt}
 use Rattle.report_views.specs.Quorums.{target, holder, quorumOf}
 use Rattle.report_views.specs.Meets.{QuorumMet, quorum-given}
-use Rattle.report_views.specs.Soundness.{layoutBlank, nothingKept, positionSound, layoutTidy, viewSound, termSoundAt, termSound, keptSound, isMet, targetAt, shardPlanned, allMoves, planSound}
-use Rattle.plan_order.specs.Orders.{plannedTarget}
+use Rattle.report_views.specs.Slots.{samePosition}
+use Rattle.report_views.specs.Soundness.{layoutBlank, nothingKept, positionSound, layoutTidy, viewSound, termSoundAt, termSound, keptSound, isMet, shardPlanned, allMoves, planSound}
 
 -- what a view that is kept soundly gives
 pub record KeptView (σ : List ℕ) (v : Layout) (t : Termination) (held : ℕ) : Type 0 where
@@ -39,8 +38,8 @@ pub record PlanSound (σ : List ℕ) (v : Layout) (t : Termination) (held : ℕ)
   pub met : QuorumMet σ v t held d
   pub number-next : p .layout .number .0 ≡ v .number .0 + 1
   pub members-held : p .layout .members ≡ held
-  pub holder-is : (s : ℕ) → s < shards σ → getD (p .holders) s 0 ≡ holder v t held d s
-  pub target-is : (s : ℕ) → s < shards σ → plannedTarget p s ≡ target v t held d s
+  pub holder-is : (s : ℕ) → s < shards σ → holderAt p s ≡ holder v t held d s
+  pub target-is : (s : ℕ) → s < shards σ → targetAt p s ≡ target v t held d s
   pub groups-valid : (g : ℕ) → g < 4 → groupValid σ held (maskAt (p .layout)) g ≡ true
 
 met-of : (q : Quorum) → isMet q ≡ true → q ≡ Met
@@ -109,11 +108,10 @@ module _ (σ : List ℕ) (v : Layout) (t : Termination) (held : ℕ) (d : List �
       h
 
   shard-tests : (s : ℕ) → s < shards σ →
-      (eqb (getD (p .holders) s 0) (holder v t held d s) ≡ true) × (eqb (targetAt p s .0) (target v t held d s .view .0) ≡ true)
-      × (eqb (targetAt p s .1) (target v t held d s .k) ≡ true)
+      (eqb (holderAt p s) (holder v t held d s) ≡ true) × (samePosition (targetAt p s) (target v t held d s) ≡ true)
   unfolding shardPlanned
   shard-tests s l =
-      three (eqb (getD (p .holders) s 0) (holder v t held d s)) (eqb (targetAt p s .0) (target v t held d s .view .0)) (eqb (targetAt p s .1) (target v t held d s .k))
+      two (eqb (holderAt p s) (holder v t held d s)) (samePosition (targetAt p s) (target v t held d s))
       (rw (lt-ltb s (shards σ) l) at (all-at 16 (shardPlanned σ v t held d p) (plan-tests .3) s (omega (arith, w .sizes .shards-to))))
 
   pub plan-given : PlanSound σ v t held d p
@@ -122,9 +120,10 @@ module _ (σ : List ℕ) (v : Layout) (t : Termination) (held : ℕ) (d : List �
         met = quorum-given σ v t held d (met-of (quorumOf σ v t held d) (plan-tests .0));
         number-next = eqb-true (p .layout .number .0) (v .number .0 + 1) (plan-tests .1);
         members-held = eqb-true (p .layout .members) held (plan-tests .2);
-        holder-is = λ s l. eqb-true (getD (p .holders) s 0) (holder v t held d s) (shard-tests s l .0);
+        holder-is = λ s l. eqb-true (holderAt p s) (holder v t held d s) (shard-tests s l .0);
         target-is = λ s l.
-            ap₂ pos (eqb-true (targetAt p s .0) (target v t held d s .view .0) (shard-tests s l .1))
-            (eqb-true (targetAt p s .1) (target v t held d s .k) (shard-tests s l .2));
+            let e = two (eqb (targetAt p s .view .0) (target v t held d s .view .0)) (eqb (targetAt p s .k) (target v t held d s .k)) (shard-tests s l .1) in
+            ap₂ pos (eqb-true (targetAt p s .view .0) (target v t held d s .view .0) (e .0))
+            (eqb-true (targetAt p s .k) (target v t held d s .k) (e .1));
         groups-valid = λ g l. all-at 4 (groupValid σ held (maskAt (p .layout))) (plan-tests .4) g l;
       }

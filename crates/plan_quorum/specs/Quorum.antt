@@ -6,13 +6,13 @@ use mathlib.Core.Path.{_≡_, ap, _∙_}
 use native.Mathlib.Omega.{arith}
 use lib.Bits.{bitAnd}
 use lib.Dec.{eqb, leb, ltb}
-use lib.ListN.{getD}
 use borrow.Author.Tests.{lt-ltb, le-ltb, ne-eqb, eq-eqb}
 use Rattle.base_laws.specs.Below.{lowest}
 use Rattle.base_laws.specs.Masks.{has, count}
 use Rattle.base_majority.specs.Majority.{LeastMajority, enough-is-more}
 use Rattle.settings_values.specs.Settings.{least, shards}
-use Rattle.report_views.specs.Quorums.{holder, majority}
+use Rattle.base_ids.specs.declared.Node.{Node}
+use Rattle.report_views.specs.Reports.{nodeAt}
 use Rattle.report_views.specs.declared.Layout.{Layout}
 use Rattle.report_views.specs.declared.Quorum.{Quorum}
 use Rattle.report_views.specs.declared.Quorum.the-variants.{Met, Short}
@@ -23,11 +23,11 @@ abbrev pub mostHeld : ℕ → ℕ → Bool
 mostHeld members held = ltb (count members) (2 * count (bitAnd held members))
 
 -- the lowest of the first count shards that has no holder
-unfoldable pub firstWithout : List ℕ → ℕ → ℕ
-firstWithout holders n = lowest n (λ s. eqb (getD holders s 0) 32)
+unfoldable pub firstWithout : List Node → ℕ → ℕ
+firstWithout holders n = lowest n (λ s. eqb (nodeAt holders s) 32)
 
 -- waits 1 to 4, from the holders
-unfoldable pub quorumBy : List ℕ → Layout → ℕ → List ℕ → Quorum
+unfoldable pub quorumBy : List ℕ → Layout → ℕ → List Node → Quorum
 quorumBy σ v held holders =
     cond (eqb (v .number .0) 0) (Short NoView)
     (cond (not (mostHeld (v .members) held)) (Short NoMajority)
@@ -41,7 +41,7 @@ pub least-held : (members held m c : ℕ) → m ≡ count members → LeastMajor
 least-held members held m c e h =
     enough-is-more h (count (bitAnd held members)) ∙ ap (λ (x : ℕ). ltb x (2 * count (bitAnd held members))) e
 
-module _ (σ : List ℕ) (v : Layout) (held : ℕ) (holders : List ℕ) where
+module _ (σ : List ℕ) (v : Layout) (held : ℕ) (holders : List Node) where
   pub quorum-view : v .number .0 ≡ 0 → Short NoView ≡ quorumBy σ v held holders
   unfolding quorumBy
   quorum-view e = rw (eq-eqb (v .number .0) 0 e)

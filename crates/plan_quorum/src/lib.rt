@@ -1,4 +1,5 @@
 // Waits 1 to 4, from the kept view, the held nodes and each shard's holder.
+use base_ids::Node;
 use base_ids::Shard;
 use report_views::Layout;
 use report_views::Quorum;
@@ -9,13 +10,14 @@ ghost use Rattle.settings_values.specs.Settings.{Settings};
 ghost use Rattle.plan_quorum.specs.Quorum.{mostHeld, firstWithout, quorumBy};
 
 // The lowest of the first count shards that has no holder, or count.
-fn first_without(holders: &[u32; 16], count: usize) -> usize
+fn first_without(holders: [Node; 16], count: usize) -> usize
     requires { ⌜ count ≤ 16 ⌝ }
-    ensures { λ r. ⌜ r ≡ firstWithout (now (holders .entry)) count ⌝ }
+    ensures { λ r. ⌜ r ≡ firstWithout holders count ⌝ }
 {
     let mut s: usize = 0;
     while s < count {
-        if holders[s] == 32 {
+        let holder = holders[s];
+        if holder.0 == 32 {
             return s;
         }
         s += 1;
@@ -31,9 +33,9 @@ fn most_held(members: u32, held: u32) -> bool
 }
 
 // Waits 1 to 4: the first that applies.
-pub fn quorum(settings: &[u32], v: Layout, held: u32, holders: &[u32; 16]) -> Quorum
+pub fn quorum(settings: &[u32], v: Layout, held: u32, holders: [Node; 16]) -> Quorum
     requires { ⌜ Settings (now settings) ⌝ }
-    ensures { λ r. ⌜ r ≡ quorumBy (now (settings .entry)) v held (now (holders .entry)) ⌝ }
+    ensures { λ r. ⌜ r ≡ quorumBy (now (settings .entry)) v held holders ⌝ }
 {
     let number = v.number;
     if number.0 == 0 {

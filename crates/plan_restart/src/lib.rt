@@ -1,4 +1,5 @@
 // The core of decide: from the settings, what is kept and the held reports to a plan, or to the reason why there is none yet.
+use base_ids::Node;
 use base_ids::View;
 use place_layout::Placed;
 use report_views::Layout;
@@ -39,11 +40,12 @@ pub fn no_view() -> Layout
 pub fn no_plan() -> Plan
     ensures { λ r. ⌜ r ≡ noPlan ⌝ }
 {
+    let nobody = Node(0);
     Plan {
         layout: no_view(),
         total: 0,
-        holders: [0u32; 16],
-        targets: [0u32; 32],
+        holders: [nobody; 16],
+        targets: report_views::no_positions(),
     }
 }
 

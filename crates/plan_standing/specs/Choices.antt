@@ -1,33 +1,35 @@
 -- How the code comes to candidates, targets, able nodes and holders: by node, a mask of shards; by shard, the best of the nodes
 -- whose mask has it. Each equals its definition.
-use Prim.Native.Nat.{ℕ, _+_, _*_, _/_, _<_, _≤_}
+use Prim.Native.Nat.{ℕ, _<_, _≤_}
 use mathlib.Core.Bool.{Bool, true, false, cond, _&&_}
 use mathlib.Core.List.{List}
 use mathlib.Core.Logic.{_⊎_, inl, inr, ⊎-elim}
 use mathlib.Core.Path.{_≡_, refl, sym, ap, ap₂, _∙_}
 use native.Mathlib.Omega.{arith}
 use lib.Dec.{eqb, ltb}
-use lib.ListN.{length, getD, set, replicate, length-replicate, getD-replicate}
+use lib.ListN.{length, getD}
 use borrow.Author.Tests.{lt-ltb, le-ltb, ne-eqb, eq-eqb}
 use Rattle.base_laws.specs.Below.{lowest-cong}
 use Rattle.base_laws.specs.Bools.{either, and-left, and-fails-left, and-fails-right, lt-or-le}
 use Rattle.base_laws.specs.Masks.{has, has-zero, count}
-use Rattle.base_laws.specs.Tables.{tabulate, tabulate-ext, tabulate-cong, getD-tabulate, pair-set}
+use Rattle.base_laws.specs.Tables.{tabulate, tabulate-cong, getD-tabulate}
+use Rattle.base_ids.specs.declared.Node.{Node}
 use Rattle.base_ids.specs.declared.Position.{Position}
 use Rattle.settings_values.specs.Settings.{shards, Settings}
 use Rattle.message_format.specs.declared.Contents.{Contents}
 use Rattle.report_views.specs.Best.{best-cong, best-le, best-given}
-use Rattle.report_views.specs.Logs.{pos, start, hasUpdate}
+use Rattle.report_views.specs.Logs.{start, hasUpdate}
 use Rattle.report_views.specs.Meets.{candidate-given}
 use Rattle.report_views.specs.Quorums.{candidate, best, target, able, holder, majority, unheld, firstUnheld, quorumOf}
-use Rattle.report_views.specs.Reports.{reportOf, viewOf, endAt, hasAt, maskAt, positionAt}
-use Rattle.report_views.specs.Standings.{positionWord, holdersOf, targetsOf, standingOf}
+use Rattle.report_views.specs.Reports.{reportOf, viewOf, endAt, hasAt, maskAt, positionAt, nodeAt}
+use Rattle.report_views.specs.PlanLaws.{holders-at}
+use Rattle.report_views.specs.Standings.{holdersOf, targetsOf, standingOf}
 use Rattle.report_views.specs.declared.Layout.{Layout}
 use Rattle.report_views.specs.declared.Quorum.{Quorum}
 use Rattle.report_views.specs.declared.Standing.{Standing}
 use Rattle.report_views.specs.declared.Termination.{Termination}
 use Rattle.plan_quorum.specs.Quorum.{firstWithout, quorumBy}
-use Rattle.report_ends.specs.Ends.{endsTable, tableEnd, table-end, table-short, table-past, desk-past, word-view, word-k, word-same}
+use Rattle.report_ends.specs.Ends.{endsTable, tableEnd, table-end, table-short, table-past, desk-past}
 use Rattle.base_laws.specs.Picked.{maskBelow, mask-at, mask-cong, mask-empty}
 
 -- node n's mask has shard s
@@ -38,31 +40,31 @@ picked masks s n = has (getD masks n 0) s
 unfoldable pub candidateShards : Layout → ℕ → ℕ → List ℕ → ℕ → ℕ
 candidateShards v count held d n = maskBelow count (λ s. candidate v held d s n)
 
--- the target of shard s, from the ends and the candidates
-unfoldable pub targetBy : List (List ℕ) → List ℕ → Termination → ℕ → Position
-targetBy table candidates t s =
-    cond (t .made) (positionAt t s) (tableEnd table s (best (picked candidates s) (tableEnd table s) 32))
+-- the target of shard s, from the kept position if a termination is made, or else from the ends and the candidates
+unfoldable pub targetFrom : List (List ℕ) → List ℕ → Bool → Position → ℕ → Position
+targetFrom table candidates made kept s =
+    cond made kept (tableEnd table s (best (picked candidates s) (tableEnd table s) 32))
 
--- the positions of the first count shards, two words each, then zeros
-unfoldable pub positionsBelow : ℕ → (ℕ → Position) → List ℕ
-positionsBelow count p = tabulate 32 (λ i. cond (ltb (i / 2) count) (positionWord p i) 0)
+abbrev pub targetBy : List (List ℕ) → List ℕ → Termination → ℕ → Position
+targetBy table candidates t s = targetFrom table candidates (t .made) (positionAt t s) s
 
--- the position of shard s in such a list
-abbrev pub positionFrom : List ℕ → ℕ → Position
-positionFrom l s = pos (getD l (2 * s) 0) (getD l (2 * s + 1) 0)
+-- the positions of the first count shards, then (0, 0)
+unfoldable pub positionsBelow : ℕ → (ℕ → Position) → List Position
+positionsBelow count p = tabulate 16 (λ s. cond (ltb s count) (p s) start)
 
 -- shard s is one of the mask, and the log of it in the body has its position in the list
-unfoldable pub hasTarget : List ℕ → ℕ → ℕ → List ℕ → ℕ → Bool
-hasTarget b len mine targets s = has mine s && hasUpdate b len s (positionFrom targets s)
+unfoldable pub hasTarget : List ℕ → ℕ → ℕ → List Position → ℕ → Bool
+hasTarget b len mine targets s = has mine s && hasUpdate b len s (getD targets s start)
 
 -- the shards, of the first count, of which node n is a candidate that has the target
-unfoldable pub ableRow : ℕ → List ℕ → List ℕ → List ℕ → ℕ → ℕ → ℕ
+unfoldable pub ableRow : ℕ → List ℕ → List ℕ → List Position → ℕ → ℕ → ℕ
 ableRow held d candidates targets count n =
     cond (has held n) (maskBelow count (hasTarget (reportOf d n .body) (reportOf d n .len) (getD candidates n 0) targets)) 0
 
 -- the holder of each of the first count shards, then zeros
-unfoldable pub holdersBy : List (List ℕ) → List ℕ → ℕ → List ℕ
-holdersBy table ables count = tabulate 16 (λ s. cond (ltb s count) (best (picked ables s) (tableEnd table s) 32) 0)
+unfoldable pub holdersBy : List (List ℕ) → List ℕ → ℕ → List Node
+holdersBy table ables count =
+    tabulate 16 (λ s. cond (ltb s count) (record { 0 = best (picked ables s) (tableEnd table s) 32 }) (record { 0 = 0 }))
 
 -- ---- candidates
 
@@ -89,33 +91,24 @@ module _ (v : Layout) (count held : ℕ) (d : List ℕ) (n : ℕ) where
 
 -- ---- a target
 
-module _ (table : List (List ℕ)) (list : List ℕ) (t : Termination) (s : ℕ) where
-  pub target-made : t .made ≡ true → positionAt t s ≡ targetBy table list t s
-  unfolding targetBy
-  target-made h = rw h
+module _ (table : List (List ℕ)) (list : List ℕ) (kept : Position) (s : ℕ) where
+  pub target-made : (made : Bool) → made ≡ true → kept ≡ targetFrom table list made kept s
+  unfolding targetFrom
+  target-made made h = rw h
 
-  module _ (h : t .made ≡ false) (b : ℕ) (e : b ≡ best (picked list s) (tableEnd table s) 32) where
-    pub target-best : tableEnd table s b ≡ targetBy table list t s
-    unfolding targetBy
+  module _ (made : Bool) (h : made ≡ false) (b : ℕ) (e : b ≡ best (picked list s) (tableEnd table s) 32) where
+    pub target-best : tableEnd table s b ≡ targetFrom table list made kept s
+    unfolding targetFrom
     target-best = rw (h, e)
 
-    pub target-none : length table ≡ 32 → 32 ≤ b → start ≡ targetBy table list t s
+    pub target-none : length table ≡ 32 → 32 ≤ b → start ≡ targetFrom table list made kept s
     target-none whole l =
         let z : b ≡ 32 = omega (arith, best-le (picked list s) (tableEnd table s) 32) in
         sym (ap (tableEnd table s) z ∙ table-short table s whole) ∙ target-best
 
 -- ---- able nodes
 
-module _ (b : List ℕ) (len mine : ℕ) (targets : List ℕ) (s : ℕ) where
-  pub target-others : has mine s ≡ false → false ≡ hasTarget b len mine targets s
-  unfolding hasTarget
-  target-others h = rw h
-
-  pub target-mine : has mine s ≡ true → (p : Position) → p ≡ positionFrom targets s → hasUpdate b len s p ≡ hasTarget b len mine targets s
-  unfolding hasTarget
-  target-mine h p e = rw (h, e)
-
-module _ (held : ℕ) (d candidates targets : List ℕ) (count n : ℕ) where
+module _ (held : ℕ) (d candidates : List ℕ) (targets : List Position) (count n : ℕ) where
   pub able-unheld : has held n ≡ false → 0 ≡ ableRow held d candidates targets count n
   unfolding ableRow
   able-unheld h = rw h
@@ -125,42 +118,12 @@ module _ (held : ℕ) (d candidates targets : List ℕ) (count n : ℕ) where
   unfolding ableRow
   able-held h c e = rw (h, e)
 
--- ---- lists of positions
+-- ---- lists by shard
 
-pub positions-none : (p : ℕ → Position) → replicate 32 0 ≡ positionsBelow 0 p
-unfolding positionsBelow
-positions-none p =
-    tabulate-ext 0 32 (λ i. cond (ltb (i / 2) 0) (positionWord p i) 0) (replicate 32 0) (length-replicate {A = ℕ} 32 0)
-    (λ i l. getD-replicate 32 i 0 0 l ∙ rw (le-ltb (i / 2) 0 (omega arith)))
-
--- a turn: the position of shard s is stored
-pub positions-more : (p : ℕ → Position) (s : ℕ) (l : List ℕ) (q : Position) → s < 16 → l ≡ positionsBelow s p → q ≡ p s
-    → set (set l (2 * s) (q .view .0)) (2 * s + 1) (q .k) ≡ positionsBelow (s + 1) p
-unfolding positionsBelow
-positions-more p s l q m e h =
-    rw (e, h)
-    (pair-set 32 (λ i. cond (ltb (i / 2) s) (positionWord p i) 0) (λ i. cond (ltb (i / 2) (s + 1)) (positionWord p i) 0) s (p s .view .0) (p s .k)
-    (omega arith)
-    (now (2 * s) (omega arith) ∙ word-view p s)
-    (now (2 * s + 1) (omega arith) ∙ word-k p s)
-    (λ i k d. ⊎-elim (λ j. rw (lt-ltb (i / 2) s j, lt-ltb (i / 2) (s + 1) (omega arith)))
-    (λ j. rw (le-ltb (i / 2) s j, le-ltb (i / 2) (s + 1) (later i j d))) (lt-or-le (i / 2) s)))
-  where
-    now : (i : ℕ) → i / 2 ≡ s → cond (ltb (i / 2) (s + 1)) (positionWord p i) 0 ≡ positionWord p i
-    now i k = rw (lt-ltb (i / 2) (s + 1) (omega arith))
-
-    later : (i : ℕ) → s ≤ i / 2 → (i / 2 ≡ s → ⊥) → s + 1 ≤ i / 2
-    later i j d = ⊎-elim (λ k. absurd (d (omega arith))) (λ k. k) (lt-or-le (i / 2) (s + 1))
-
-pub positions-at : (count : ℕ) (p : ℕ → Position) (s : ℕ) → s < count → s < 16 → positionFrom (positionsBelow count p) s ≡ p s
+pub positions-at : (count : ℕ) (p : ℕ → Position) (s : ℕ) → s < count → s < 16 → getD (positionsBelow count p) s start ≡ p s
 unfolding positionsBelow
 positions-at count p s l m =
-    ap₂ (λ (v k : ℕ). pos v k)
-    (getD-tabulate 32 (λ i. cond (ltb (i / 2) count) (positionWord p i) 0) (2 * s) 0 (omega arith) ∙ now (2 * s) (omega arith) ∙ word-view p s)
-    (getD-tabulate 32 (λ i. cond (ltb (i / 2) count) (positionWord p i) 0) (2 * s + 1) 0 (omega arith) ∙ now (2 * s + 1) (omega arith) ∙ word-k p s)
-  where
-    now : (i : ℕ) → i / 2 ≡ s → cond (ltb (i / 2) count) (positionWord p i) 0 ≡ positionWord p i
-    now i k = rw (lt-ltb (i / 2) count (omega arith))
+    getD-tabulate 16 (λ i. cond (ltb i count) (p i) start) s start m ∙ rw (lt-ltb s count l)
 
 -- ---- what the code computes is what is defined
 
@@ -168,13 +131,13 @@ module _ (σ : List ℕ) (v : Layout) (t : Termination) (held : ℕ) (d : List �
   abbrev pub candidatesTable : List ℕ
   candidatesTable = tabulate 32 (candidateShards v (shards σ) held d)
 
-  abbrev pub targetsList : List ℕ
+  abbrev pub targetsList : List Position
   targetsList = positionsBelow (shards σ) (targetBy (endsTable held d) candidatesTable t)
 
   abbrev pub ablesTable : List ℕ
   ablesTable = tabulate 32 (ableRow held d candidatesTable targetsList (shards σ))
 
-  abbrev pub holdersList : List ℕ
+  abbrev pub holdersList : List Node
   holdersList = holdersBy (endsTable held d) ablesTable (shards σ)
 
   few : (s : ℕ) → s < shards σ → s < 16
@@ -202,7 +165,7 @@ module _ (σ : List ℕ) (v : Layout) (t : Termination) (held : ℕ) (d : List �
       (lt-or-le (best f (endAt d s) 32) 32)
 
   target-is : (s : ℕ) → s < shards σ → targetBy (endsTable held d) candidatesTable t s ≡ target v t held d s
-  unfolding targetBy target
+  unfolding targetFrom target
   target-is s l = go (either (t .made))
     where
       b : ℕ
@@ -224,15 +187,12 @@ module _ (σ : List ℕ) (v : Layout) (t : Termination) (held : ℕ) (d : List �
   pub targets-is : targetsList ≡ targetsOf σ v t held d
   unfolding positionsBelow targetsOf
   targets-is =
-      tabulate-cong 32 (λ i. cond (ltb (i / 2) (shards σ)) (positionWord (targetBy (endsTable held d) candidatesTable t) i) 0)
-      (λ i. cond (ltb (i / 2) (shards σ)) (positionWord (target v t held d) i) 0)
-      (λ i m.
-      ⊎-elim
-      (λ l. rw (lt-ltb (i / 2) (shards σ) l) (word-same (targetBy (endsTable held d) candidatesTable t) (target v t held d) i (target-is (i / 2) l)))
-      (λ l. rw (le-ltb (i / 2) (shards σ) l))
-      (lt-or-le (i / 2) (shards σ)))
+      tabulate-cong 16 (λ s. cond (ltb s (shards σ)) (targetBy (endsTable held d) candidatesTable t s) start)
+      (λ s. cond (ltb s (shards σ)) (target v t held d s) start)
+      (λ s m.
+      ⊎-elim (λ l. rw (lt-ltb s (shards σ) l) (target-is s l)) (λ l. rw (le-ltb s (shards σ) l)) (lt-or-le s (shards σ)))
 
-  target-from : (s : ℕ) → s < shards σ → positionFrom targetsList s ≡ target v t held d s
+  target-from : (s : ℕ) → s < shards σ → getD targetsList s start ≡ target v t held d s
   target-from s l = positions-at (shards σ) (targetBy (endsTable held d) candidatesTable t) s l (few s l) ∙ target-is s l
 
   unheld-none : (s n : ℕ) → has held n ≡ false → candidate v held d s n ≡ false
@@ -268,18 +228,21 @@ module _ (σ : List ℕ) (v : Layout) (t : Termination) (held : ℕ) (d : List �
   pub holders-is : holdersList ≡ holdersOf σ v t held d
   unfolding holdersBy holdersOf
   holders-is =
-      tabulate-cong 16 (λ s. cond (ltb s (shards σ)) (best (picked ablesTable s) (tableEnd (endsTable held d) s) 32) 0)
-      (λ s. cond (ltb s (shards σ)) (holder v t held d s) 0)
+      let f : ℕ → Node = λ s.
+      cond (ltb s (shards σ)) (record { 0 = best (picked ablesTable s) (tableEnd (endsTable held d) s) 32 }) (record { 0 = 0 }) in
+      let g : ℕ → Node = λ s. record { 0 = cond (ltb s (shards σ)) (holder v t held d s) 0 } in
+      tabulate-cong 16 f g
       (λ s m.
-      ⊎-elim (λ l. rw (lt-ltb s (shards σ) l) (holder-is s l)) (λ l. rw (le-ltb s (shards σ) l)) (lt-or-le s (shards σ)))
+      ⊎-elim (λ l. rw (lt-ltb s (shards σ) l) (ap (λ (x : ℕ). record { 0 = x }) (holder-is s l))) (λ l. rw (le-ltb s (shards σ) l))
+      (lt-or-le s (shards σ)))
 
   without-is : firstWithout (holdersOf σ v t held d) (shards σ) ≡ firstUnheld σ v t held d
-  unfolding firstWithout firstUnheld holdersOf
+  unfolding firstWithout firstUnheld
   without-is =
-      lowest-cong (shards σ) (λ s. eqb (getD (holdersOf σ v t held d) s 0) 32) (unheld v t held d)
+      lowest-cong (shards σ) (λ s. eqb (nodeAt (holdersOf σ v t held d) s) 32) (unheld v t held d)
       (λ s l.
-      let at : getD (holdersOf σ v t held d) s 0 ≡ holder v t held d s =
-      getD-tabulate 16 (λ s. cond (ltb s (shards σ)) (holder v t held d s) 0) s 0 (few s l) ∙ rw (lt-ltb s (shards σ) l) in
+      let at : nodeAt (holdersOf σ v t held d) s ≡ holder v t held d s =
+      holders-at σ v t held d s (few s l) ∙ rw (lt-ltb s (shards σ) l) in
       ap (λ (x : ℕ). eqb x 32) at)
 
   quorum-is : quorumBy σ v held (holdersOf σ v t held d) ≡ quorumOf σ v t held d
@@ -287,7 +250,7 @@ module _ (σ : List ℕ) (v : Layout) (t : Termination) (held : ℕ) (d : List �
   quorum-is = rw without-is
 
   -- the three together
-  pub standing-is : (q : Quorum) (hs ts : List ℕ) → ts ≡ targetsList → hs ≡ holdersList → q ≡ quorumBy σ v held hs
+  pub standing-is : (q : Quorum) (hs : List Node) (ts : List Position) → ts ≡ targetsList → hs ≡ holdersList → q ≡ quorumBy σ v held hs
       → _≡_ {A = Standing} (record { quorum = q; holders = hs; targets = ts }) (standingOf σ v t held d)
   unfolding standingOf
   standing-is q hs ts e h k =
@@ -295,7 +258,7 @@ module _ (σ : List ℕ) (v : Layout) (t : Termination) (held : ℕ) (d : List �
       rw (k, hh, e ∙ targets-is, quorum-is)
 
   -- step by step, as the code goes
-  pub standing-built : (n : ℕ) (table : List (List ℕ)) (list ts ables hs : List ℕ) (q : Quorum)
+  pub standing-built : (n : ℕ) (table : List (List ℕ)) (list : List ℕ) (ts : List Position) (ables : List ℕ) (hs : List Node) (q : Quorum)
       → n ≡ shards σ → table ≡ endsTable held d → list ≡ tabulate 32 (candidateShards v n held d)
       → ts ≡ positionsBelow n (targetBy table list t) → ables ≡ tabulate 32 (ableRow held d list ts n)
       → hs ≡ holdersBy table ables n → q ≡ quorumBy σ v held hs

@@ -1,31 +1,34 @@
 // What the held reports give together: whether the quorum conditions are met, and each shard's target and holder. Nodes are
 // passed twice, and each time a node's slot is read once: for the ends of its logs, then for the targets that it has.
+use base_ids::Node;
 use base_ids::Position;
 use base_ids::Shard;
 use base_ids::View;
 use report_views::Layout;
 use report_views::Standing;
 use report_views::Termination;
-ghost use mathlib.Core.Bool.{true};
+ghost use mathlib.Core.Bool.{true, _&&_};
 ghost use mathlib.Core.Path.{_≡_};
 ghost use Prim.Native.Nat.{_<_, _≤_, _+_, _*_};
 ghost use lib.ListN.{length, getD};
 ghost use Rattle.base_laws.specs.Masks as Masks;
 ghost use Rattle.base_laws.specs.Tables.{tabulate};
 ghost use Rattle.settings_values.specs.Settings.{Settings};
+ghost use Rattle.report_views.specs.Logs.{hasUpdate};
 ghost use Rattle.report_views.specs.Slots.{slotsOk};
 ghost use Rattle.report_views.specs.Quorums as Quorums;
 ghost use Rattle.report_views.specs.Best.{bestWith};
 ghost use Rattle.report_views.specs.Standings.{standingOf};
 ghost use Rattle.base_laws.specs.Picked.{maskBelow};
 ghost use Rattle.report_ends.specs.Ends.{tableEnd, ReadableDesk};
-ghost use Rattle.plan_standing.specs.Choices.{picked, candidateShards, targetBy, positionsBelow, positionFrom, hasTarget, ableRow, holdersBy};
+ghost use Rattle.plan_standing.specs.Choices.{picked, candidateShards, targetFrom, targetBy, positionsBelow, hasTarget, ableRow, holdersBy};
 
-// The shards, of the first count, of which node n is a member.
-fn member_shards(masks: &[u32; 16], count: usize, n: usize) -> u32
+// The shards, of the first count, of which a node is a member.
+fn member_shards(masks: &[u32; 16], count: usize, node: Node) -> u32
     requires { ⌜ count ≤ 16 ⌝ }
-    ensures { λ r. ⌜ r ≡ maskBelow count (λ s. Masks.has (getD (now (masks .entry)) s 0) n) ⌝ }
+    ensures { λ r. ⌜ r ≡ maskBelow count (λ s. Masks.has (getD (now (masks .entry)) s 0) (node .0)) ⌝ }
 {
+    let n = node.0 as usize;
     let mut m: u32 = 0;
     let mut s: usize = 0;
     while s < count {
@@ -37,12 +40,13 @@ fn member_shards(masks: &[u32; 16], count: usize, n: usize) -> u32
     m
 }
 
-// The shards, of the first count, of which node n is a candidate: it is held, reported the kept view and is a member.
-fn candidate_shards(v: Layout, count: usize, held: u32, desk: &[u32], n: usize) -> u32
-    requires { ⌜ (length (now desk) ≡ 16384) × (n < 32) ⌝ }
+// The shards, of the first count, of which a node is a candidate: it is held, reported the kept view and is a member.
+fn candidate_shards(v: Layout, count: usize, held: u32, desk: &[u32], node: Node) -> u32
+    requires { ⌜ (length (now desk) ≡ 16384) × (node .0 < 32) ⌝ }
     requires { ⌜ count ≤ 16 ⌝ }
-    ensures { λ r. ⌜ r ≡ candidateShards v count held (now (desk .entry)) n ⌝ }
+    ensures { λ r. ⌜ r ≡ candidateShards v count held (now (desk .entry)) (node .0) ⌝ }
 {
+    let n = node.0 as usize;
     if !base_masks::has(held, n) {
         return 0;
     }
@@ -50,7 +54,7 @@ fn candidate_shards(v: Layout, count: usize, held: u32, desk: &[u32], n: usize) 
     if desk[512 * n + 1] != number.0 {
         return 0;
     }
-    member_shards(&v.masks, count, n)
+    member_shards(&v.masks, count, node)
 }
 
 // The candidates, by node.
@@ -62,116 +66,120 @@ fn candidates(v: Layout, count: usize, held: u32, desk: &[u32]) -> [u32; 32]
     let mut list = [0u32; 32];
     let mut n: usize = 0;
     while n < 32 {
-        list[n] = candidate_shards(v, count, held, desk, n);
+        list[n] = candidate_shards(v, count, held, desk, Node(n as u32));
         n += 1;
     }
     list
 }
 
-// Node n or the best so far (32: none), whichever has the later end; the best so far where they are the same.
-fn better(table: &[[u32; 32]; 32], list: &[u32; 32], s: usize, n: usize, b: usize) -> usize
-    requires { ⌜ (s < 16) × (n < 32) ⌝ }
-    requires { ⌜ b ≤ 32 ⌝ }
-    ensures { λ r. ⌜ r ≡ bestWith (picked (now (list .entry)) s) (tableEnd (now (table .entry)) s) 32 n b ⌝ }
+// A node or the best so far (32: none), whichever has the later end; the best so far where they are the same.
+fn better(table: &[[u32; 32]; 32], list: &[u32; 32], shard: Shard, node: Node, best: Node) -> Node
+    requires { ⌜ (shard .0 < 16) × (node .0 < 32) ⌝ }
+    requires { ⌜ best .0 ≤ 32 ⌝ }
+    ensures { λ r. ⌜ r .0 ≡ bestWith (picked (now (list .entry)) (shard .0)) (tableEnd (now (table .entry)) (shard .0)) 32 (node .0) (best .0) ⌝ }
 {
-    if !base_masks::has(list[n], s) {
-        return b;
+    if !base_masks::has(list[node.0 as usize], shard.0 as usize) {
+        return best;
     }
-    if 32 <= b {
-        return n;
+    if 32 <= best.0 {
+        return node;
     }
     if base_ids::not_after(
-        report_ends::end_at(table, s, n),
-        report_ends::end_at(table, s, b),
+        report_ends::end_at(table, shard, node),
+        report_ends::end_at(table, shard, best),
     ) {
-        return b;
+        return best;
     }
-    n
+    node
 }
 
-// Of the nodes that are picked for shard s, the lowest with the greatest end, or 32.
-fn best_of(table: &[[u32; 32]; 32], list: &[u32; 32], s: usize) -> usize
-    requires { ⌜ s < 16 ⌝ }
-    ensures { λ r. ⌜ r ≡ Quorums.best (picked (now (list .entry)) s) (tableEnd (now (table .entry)) s) 32 ⌝ }
+// Of the nodes that are picked for a shard, the lowest with the greatest end, or 32.
+fn best_of(table: &[[u32; 32]; 32], list: &[u32; 32], shard: Shard) -> Node
+    requires { ⌜ shard .0 < 16 ⌝ }
+    ensures { λ r. ⌜ r .0 ≡ Quorums.best (picked (now (list .entry)) (shard .0)) (tableEnd (now (table .entry)) (shard .0)) 32 ⌝ }
 {
-    let mut b: usize = 32;
-    let mut n: usize = 0;
+    let mut best = Node(32);
+    let mut n: u32 = 0;
     while n < 32 {
-        b = better(table, list, s, n, b);
+        best = better(table, list, shard, Node(n), best);
         n += 1;
     }
-    b
+    best
 }
 
-// The position of shard s in a list of positions.
-fn position_from(list: &[u32; 32], s: usize) -> Position
-    requires { ⌜ s < 16 ⌝ }
-    ensures { λ r. ⌜ r ≡ positionFrom (now (list .entry)) s ⌝ }
-{
-    Position {
-        view: View(list[2 * s]),
-        k: list[2 * s + 1],
-    }
-}
-
-// The target of shard s: the kept termination's position, or else the greatest end among candidates.
-fn target_of(table: &[[u32; 32]; 32], list: &[u32; 32], t: Termination, s: usize) -> Position
-    requires { ⌜ s < 16 ⌝ }
+// The target of a shard: the kept termination's position, or else the greatest end among candidates.
+fn target_of(
+    table: &[[u32; 32]; 32],
+    list: &[u32; 32],
+    made: bool,
+    kept: Position,
+    shard: Shard,
+) -> Position
+    requires { ⌜ shard .0 < 16 ⌝ }
     requires { ⌜ length (now table) ≡ 32 ⌝ }
-    ensures { λ r. ⌜ r ≡ targetBy (now (table .entry)) (now (list .entry)) t s ⌝ }
+    ensures { λ r. ⌜ r ≡ targetFrom (now (table .entry)) (now (list .entry)) made kept (shard .0) ⌝ }
 {
-    if t.made {
-        return position_from(&t.positions, s);
+    if made {
+        return kept;
     }
-    let b = best_of(table, list, s);
-    if 32 <= b {
+    let best = best_of(table, list, shard);
+    if 32 <= best.0 {
         return Position {
             view: View(0),
             k: 0,
         };
     }
-    report_ends::end_at(table, s, b)
+    report_ends::end_at(table, shard, best)
 }
 
-// The targets of the first count shards.
-fn targets_of(table: &[[u32; 32]; 32], list: &[u32; 32], t: Termination, count: usize) -> [u32; 32]
+// The targets of the first count shards: the kept termination's positions, or else the greatest ends among candidates.
+fn targets_of(
+    table: &[[u32; 32]; 32],
+    list: &[u32; 32],
+    t: Termination,
+    count: usize,
+) -> [Position; 16]
     requires { ⌜ length (now table) ≡ 32 ⌝ }
     requires { ⌜ count ≤ 16 ⌝ }
     ensures { λ r. ⌜ r ≡ positionsBelow count (targetBy (now (table .entry)) (now (list .entry)) t) ⌝ }
 {
-    let mut targets = [0u32; 32];
+    let kept = t.positions;
+    let mut targets = report_views::no_positions();
     let mut s: usize = 0;
     while s < count {
-        let p = target_of(table, list, t, s);
-        let view = p.view;
-        report_ends::put_position(&mut targets, s, view.0, p.k);
+        targets[s] = target_of(table, list, t.made, kept[s], Shard(s as u32));
         s += 1;
     }
     targets
 }
 
 // Shard s is one of the mask, and the log of it has its target.
-fn has_target(body: &[u32; 381], len: usize, mine: u32, targets: &[u32; 32], s: usize) -> bool
+fn has_target(body: &[u32; 381], len: usize, mine: u32, target: Position, shard: Shard) -> bool
     requires { ⌜ len ≤ 127 ⌝ }
-    requires { ⌜ s < 16 ⌝ }
-    ensures { λ r. ⌜ r ≡ hasTarget (now (body .entry)) len mine (now (targets .entry)) s ⌝ }
+    ensures { λ r. ⌜ r ≡ (Masks.has mine (shard .0) && hasUpdate (now (body .entry)) len (shard .0) target) ⌝ }
 {
-    if !base_masks::has(mine, s) {
+    if !base_masks::has(mine, shard.0 as usize) {
         return false;
     }
-    report_logs::has_update(body, len, Shard(s as u32), position_from(targets, s))
+    report_logs::has_update(body, len, shard, target)
 }
 
 // The shards of a mask, of the first count, whose logs have their targets.
-fn able_shards(body: &[u32; 381], len: usize, mine: u32, targets: &[u32; 32], count: usize) -> u32
+fn able_shards(
+    body: &[u32; 381],
+    len: usize,
+    mine: u32,
+    targets: [Position; 16],
+    count: usize,
+) -> u32
     requires { ⌜ len ≤ 127 ⌝ }
     requires { ⌜ count ≤ 16 ⌝ }
-    ensures { λ r. ⌜ r ≡ maskBelow count (hasTarget (now (body .entry)) len mine (now (targets .entry))) ⌝ }
+    ensures { λ r. ⌜ r ≡ maskBelow count (hasTarget (now (body .entry)) len mine targets) ⌝ }
 {
     let mut m: u32 = 0;
     let mut s: usize = 0;
     while s < count {
-        if has_target(body, len, mine, targets, s) {
+        if has_target(body, len, mine, targets[s], Shard(s as u32)) {
             m = base_masks::with(m, s);
         }
         s += 1;
@@ -179,60 +187,60 @@ fn able_shards(body: &[u32; 381], len: usize, mine: u32, targets: &[u32; 32], co
     m
 }
 
-// The shards of which node n is a candidate that has the target.
+// The shards of which a node is a candidate that has the target.
 fn able_row(
     held: u32,
     desk: &[u32],
     list: &[u32; 32],
-    targets: &[u32; 32],
+    targets: [Position; 16],
     count: usize,
-    n: usize,
+    node: Node,
 ) -> u32
     requires { ⌜ ReadableDesk held (now desk) ⌝ }
-    requires { ⌜ (count ≤ 16) × (n < 32) ⌝ }
-    ensures { λ r. ⌜ r ≡ ableRow held (now (desk .entry)) (now (list .entry)) (now (targets .entry)) count n ⌝ }
+    requires { ⌜ (count ≤ 16) × (node .0 < 32) ⌝ }
+    ensures { λ r. ⌜ r ≡ ableRow held (now (desk .entry)) (now (list .entry)) targets count (node .0) ⌝ }
 {
+    let n = node.0 as usize;
     if !base_masks::has(held, n) {
         return 0;
     }
     let mine = list[n];
-    let c = report_slots::report_at(desk, n);
+    let c = report_slots::report_at(desk, node);
     let len = c.len;
     able_shards(&c.body, len, mine, targets, count)
 }
 
 // The candidates that have the target, by node.
-fn ables(held: u32, desk: &[u32], list: &[u32; 32], targets: &[u32; 32], count: usize) -> [u32; 32]
+fn ables(
+    held: u32,
+    desk: &[u32],
+    list: &[u32; 32],
+    targets: [Position; 16],
+    count: usize,
+) -> [u32; 32]
     requires { ⌜ ReadableDesk held (now desk) ⌝ }
     requires { ⌜ count ≤ 16 ⌝ }
-    ensures { λ r. ⌜ r ≡ tabulate 32 (ableRow held (now (desk .entry)) (now (list .entry)) (now (targets .entry)) count) ⌝ }
+    ensures { λ r. ⌜ r ≡ tabulate 32 (ableRow held (now (desk .entry)) (now (list .entry)) targets count) ⌝ }
 {
     let mut able = [0u32; 32];
     let mut n: usize = 0;
     while n < 32 {
-        able[n] = able_row(held, desk, list, targets, count, n);
+        able[n] = able_row(held, desk, list, targets, count, Node(n as u32));
         n += 1;
     }
     able
 }
 
-// The holder of shard s, or 32.
-fn holder_of(table: &[[u32; 32]; 32], list: &[u32; 32], s: usize) -> u32
-    requires { ⌜ s < 16 ⌝ }
-    ensures { λ r. ⌜ r ≡ Quorums.best (picked (now (list .entry)) s) (tableEnd (now (table .entry)) s) 32 ⌝ }
-{
-    best_of(table, list, s) as u32
-}
-
 // The holders of the first count shards.
-fn holders_of(table: &[[u32; 32]; 32], list: &[u32; 32], count: usize) -> [u32; 16]
+fn holders_of(table: &[[u32; 32]; 32], list: &[u32; 32], count: usize) -> [Node; 16]
     requires { ⌜ count ≤ 16 ⌝ }
     ensures { λ r. ⌜ r ≡ holdersBy (now (table .entry)) (now (list .entry)) count ⌝ }
 {
-    let mut holders = [0u32; 16];
+    let none = Node(0);
+    let mut holders = [none; 16];
     let mut s: usize = 0;
     while s < count {
-        holders[s] = holder_of(table, list, s);
+        holders[s] = best_of(table, list, Shard(s as u32));
         s += 1;
     }
     holders
@@ -249,10 +257,10 @@ pub fn standing(settings: &[u32], v: Layout, t: Termination, held: u32, desk: &[
     let table = report_ends::ends_table(held, desk);
     let list = candidates(v, count, held, desk);
     let targets = targets_of(&table, &list, t, count);
-    let able = ables(held, desk, &list, &targets, count);
+    let able = ables(held, desk, &list, targets, count);
     let holders = holders_of(&table, &able, count);
     Standing {
-        quorum: plan_quorum::quorum(settings, v, held, &holders),
+        quorum: plan_quorum::quorum(settings, v, held, holders),
         holders,
         targets,
     }

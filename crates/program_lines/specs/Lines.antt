@@ -6,10 +6,12 @@ use mathlib.Core.Path.{_≡_, sym, ap}
 use native.Mathlib.Numerals.{add-one}
 use native.Mathlib.Omega.{arith}
 use lib.ListN.{length, getD, length-append}
+use Rattle.base_ids.specs.declared.Position.{Position}
 use Rattle.base_ids.specs.declared.Refusal.{Refusal}
 use Rattle.report_views.specs.declared.Plan.{Plan}
 use Rattle.report_views.specs.declared.Reason.{Reason}
 use Rattle.report_views.specs.declared.Reason.the-variants.{NoView, NoMajority, TooFew, NoHolder, NoPlacement}
+use Rattle.report_views.specs.Reports.{holderAt, targetAt}
 use Rattle.report_views.specs.Quorums.{numberOf, valueOf}
 use Rattle.program_lines.specs.Text.{field, line, membersBelow, field-length, line-length, members-length}
 
@@ -71,9 +73,9 @@ waitLine (NoPlacement g) = waitFor (numberOf (NoPlacement g)) (valueOf (NoPlacem
 unfoldable pub shardLine : Plan → ℕ → List ℕ
 shardLine p s =
     field shardLabel s
-    ++ (field holderLabel (getD (p .holders) s 0)
-    ++ (field targetLabel (getD (p .targets) (2 * s) 0)
-    ++ (field space (getD (p .targets) (2 * s + 1) 0)
+    ++ (field holderLabel (holderAt p s)
+    ++ (field targetLabel (targetAt p s .view .0)
+    ++ (field space (targetAt p s .k)
     ++ (membersLabel
     ++ (membersBelow 32 (getD (p .layout .masks) s 0)
     ++ newline)))))
@@ -91,15 +93,15 @@ planLines p n = line viewLabel (p .layout .number .0) ++ (line movesLabel (p .to
 unfoldable pub carriers : ℕ → List ℕ
 carriers m = membersLabel ++ (membersBelow 32 m ++ newline)
 
--- the line of shard s by its numbers: holder, target and mask
-unfoldable pub shardText : ℕ → ℕ → ℕ → ℕ → ℕ → List ℕ
-shardText s h v k m = (field shardLabel s ++ field holderLabel h) ++ ((field targetLabel v ++ field space k) ++ carriers m)
+-- the line of shard s by its holder, target and mask
+unfoldable pub shardText : ℕ → ℕ → Position → ℕ → List ℕ
+shardText s h t m =
+    (field shardLabel s ++ field holderLabel h) ++ ((field targetLabel (t .view .0) ++ field space (t .k)) ++ carriers m)
 
 -- ---- laws
 
 pub shard-text : (p : Plan) (s : ℕ)
-    → shardLine p s
-    ≡ shardText s (getD (p .holders) s 0) (getD (p .targets) (2 * s) 0) (getD (p .targets) (2 * s + 1) 0) (getD (p .layout .masks) s 0)
+    → shardLine p s ≡ shardText s (holderAt p s) (targetAt p s) (getD (p .layout .masks) s 0)
 unfolding shardLine shardText carriers
 shard-text p s = sym (simp append-assoc)
 
@@ -131,7 +133,7 @@ shard-length : (p : Plan) (s : ℕ) → length (shardLine p s) ≤ 432
 unfolding shardLine
 shard-length p s =
     simp length-append
-    (omega (arith, field-length shardLabel s, field-length holderLabel (getD (p .holders) s 0), field-length targetLabel (getD (p .targets) (2 * s) 0), field-length space (getD (p .targets) (2 * s + 1) 0), members-length (getD (p .layout .masks) s 0) 32))
+    (omega (arith, field-length shardLabel s, field-length holderLabel (holderAt p s), field-length targetLabel (targetAt p s .view .0), field-length space (targetAt p s .k), members-length (getD (p .layout .masks) s 0) 32))
 
 shards-length : (p : Plan) (n : ℕ) → length (shardLines p n) ≤ 432 * n
 unfolding shardLines

@@ -1,6 +1,9 @@
 // What a run prints, as text in lent bytes. Each function puts its text from a place on and answers the place after it; what
 // would lie past the end of the bytes is left out.
+use base_ids::Node;
+use base_ids::Position;
 use base_ids::Refusal;
+use base_ids::Shard;
 use report_views::Plan;
 use report_views::Reason;
 ghost use mathlib.Core.List.{[], _∷_, _++_};
@@ -115,22 +118,22 @@ fn put_carriers(out: &mut [u8], at: usize, mask: u32) -> usize
     put_byte(out, members, b'\n')
 }
 
-// The line of a shard by its numbers.
-fn put_numbers(
+// The line of a shard by its holder, target and mask.
+fn put_entry(
     out: &mut [u8],
     at: usize,
-    s: u32,
-    holder: u32,
-    view: u32,
-    k: u32,
+    s: Shard,
+    holder: Node,
+    target: Position,
     mask: u32,
 ) -> usize
     requires { ⌜ at ≤ length (now out) ⌝ }
-    ensures { λ r. ⌜ Puts (now (out .entry)) at (Lines.shardText s holder view k mask) (now (out .exit)) r ⌝ }
+    ensures { λ r. ⌜ Puts (now (out .entry)) at (Lines.shardText (s .0) (holder .0) target mask) (now (out .exit)) r ⌝ }
 {
-    let target = put_fields(out, at, b"shard ", s, b" holder ", holder);
-    let members = put_fields(out, target, b" target ", view, b" ", k);
-    put_carriers(out, members, mask)
+    let view = target.view;
+    let first = put_fields(out, at, b"shard ", s.0, b" holder ", holder.0);
+    let second = put_fields(out, first, b" target ", view.0, b" ", target.k);
+    put_carriers(out, second, mask)
 }
 
 // The line of a shard.
@@ -140,13 +143,12 @@ fn put_shard(out: &mut [u8], at: usize, plan: Plan, s: usize) -> usize
     ensures { λ r. ⌜ Puts (now (out .entry)) at (Lines.shardLine plan s) (now (out .exit)) r ⌝ }
 {
     let layout = plan.layout;
-    put_numbers(
+    put_entry(
         out,
         at,
-        s as u32,
+        Shard(s as u32),
         plan.holders[s],
-        plan.targets[2 * s],
-        plan.targets[2 * s + 1],
+        plan.targets[s],
         layout.masks[s],
     )
 }

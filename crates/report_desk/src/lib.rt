@@ -1,4 +1,5 @@
 // The desk: a message stored in a node's slot.
+use base_ids::Node;
 ghost use mathlib.Core.Path.{_≡_};
 ghost use Prim.Native.Nat.{_<_};
 ghost use lib.ListN.{length, getD};
@@ -24,11 +25,11 @@ fn copy(slot: &mut [u32], message: &[u32])
     }
 }
 
-// Copies the message to node n's slot of the desk.
-pub fn store(desk: &mut [u32], n: usize, message: &[u32])
-    requires { ⌜ (length (now desk) ≡ 16384) × (n < 32) ⌝ }
-    ensures { λ r. ⌜ now (desk .exit) ≡ deskWith (now (desk .entry)) n (now (message .entry)) ⌝ }
+// Copies the message to a node's slot of the desk.
+pub fn store(desk: &mut [u32], node: Node, message: &[u32])
+    requires { ⌜ (length (now desk) ≡ 16384) × (node .0 < 32) ⌝ }
+    ensures { λ r. ⌜ now (desk .exit) ≡ deskWith (now (desk .entry)) (node .0) (now (message .entry)) ⌝ }
 {
-    let at = 512 * n;
+    let at = 512 * (node.0 as usize);
     copy(&mut desk[at..at + 512], message);
 }

@@ -26,7 +26,7 @@ use Rattle.report_views.specs.Logs.{pos, start, run, endOf}
 use Rattle.report_views.specs.Meets.{slot-given}
 use Rattle.report_views.specs.Reports.{slot, reportOf, viewOf, endAt}
 use Rattle.report_views.specs.Slots.{slotsOk}
-use Rattle.report_views.specs.Standings.{positionWord}
+use Rattle.report_views.specs.PositionTables.{positionWord}
 use Rattle.report_views.specs.declared.Layout.{Layout}
 use Rattle.report_views.specs.declared.Termination.{Termination}
 use Rattle.report_slots.specs.Desk.{getD-slot}

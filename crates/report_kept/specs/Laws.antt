@@ -11,6 +11,7 @@ use borrow.Author.Tests.{eq-eqb, ne-eqb, lt-ltb, le-ltb, ltb-true}
 use Rattle.base_laws.specs.Bools.{either}
 use Rattle.base_laws.specs.Tables.{tabulate-same}
 use Rattle.settings_values.specs.Settings.{nodes, shards, Settings}
+use Rattle.base_ids.specs.declared.Position.{Position}
 use Rattle.base_ids.specs.declared.Refusal.{Refusal}
 use Rattle.base_ids.specs.Refusals.{none, accepted, accepted-none, first-left, first-none, first-refused}
 use Rattle.message_format.specs.declared.Form.the-variants.{Report}
@@ -22,6 +23,7 @@ use Rattle.message_format.specs.Passed.{message-given}
 use Rattle.message_reader.specs.Readings.{readingUnder}
 use Rattle.report_views.specs.declared.Layout.{Layout}
 use Rattle.report_views.specs.declared.Termination.{Termination}
+use Rattle.report_views.specs.Logs.{start}
 use Rattle.report_views.specs.Reports.{terminated}
 use Rattle.report_kept.specs.Reports.{keptRefusal, refusalBeside, readingBeside, layoutOf, terminationOf, keeps, renewed}
 use Rattle.report_kept.specs.Words.{masksIn, positionsIn, madeFirst}
@@ -77,10 +79,10 @@ module _ (σ : List ℕ) (c : Contents) (n : ℕ) (e : n ≡ shards σ) where
   termination-by h = rw (h, e)
 
 pub termination-none : (σ : List ℕ) (c : Contents) → terminated σ c ≡ false
-    → record { made = false; positions = replicate 32 0 } ≡ terminationOf σ c
+    → record { made = false; positions = replicate 16 start } ≡ terminationOf σ c
 unfolding terminationOf
 termination-none σ c h =
-    rw h (ap (λ (l : List ℕ). record { made = false; positions = l }) (tabulate-same 32 0 _ (λ k l. refl)))
+    rw h (ap (λ (l : List Position). record { made = false; positions = l }) (tabulate-same 16 start _ (λ k l. refl)))
 
 -- ---- what is kept
 

@@ -1,5 +1,5 @@
 -- A report taken in: when it is refused beside what is kept, and what is kept after it.
-use Prim.Native.Nat.{ℕ, _/_}
+use Prim.Native.Nat.{ℕ}
 use mathlib.Core.Bool.{cond, not, _&&_}
 use mathlib.Core.List.{List}
 use lib.Dec.{eqb, ltb}
@@ -15,9 +15,9 @@ use Rattle.message_format.specs.Messages.{messageRefusal, contentsOf}
 use Rattle.message_reader.specs.Readings.{readingUnder}
 use Rattle.report_views.specs.declared.Layout.{Layout}
 use Rattle.report_views.specs.declared.Termination.{Termination}
+use Rattle.report_views.specs.Logs.{start}
 use Rattle.report_views.specs.Reports.{terminated, terminatedAt}
 use Rattle.report_views.specs.Slots.{row12, row13}
-use Rattle.report_views.specs.Standings.{positionWord}
 use Rattle.report_kept.specs.declared.Kept.{Kept}
 
 -- rows 12 and 13 of what a report says
@@ -50,8 +50,7 @@ unfoldable pub terminationOf : List ℕ → Contents → Termination
 terminationOf σ c =
     record {
       made = terminated σ c;
-      positions =
-          tabulate 32 (λ i. cond (terminated σ c && ltb (i / 2) (shards σ)) (positionWord (terminatedAt σ c) i) 0);
+      positions = tabulate 16 (λ s. cond (terminated σ c && ltb s (shards σ)) (terminatedAt σ c s) start);
     }
 
 abbrev pub keeps : Layout → Termination → Kept

@@ -1,5 +1,7 @@
 // A report taken in: rows 5 to 13, the view and the termination that it gives, what is kept afterwards, and its slot of the desk.
+use base_ids::Position;
 use base_ids::Refusal;
+use base_ids::View;
 use message_format::Contents;
 use message_format::Form;
 use message_format::Reading;
@@ -80,31 +82,33 @@ fn layout_of(settings: &[u32], c: Contents) -> Layout
     }
 }
 
-// Word i of the positions, two words each, that the records after the first count have; 0 from the position count up.
-fn position_in(body: &[u32; 381], count: usize, i: usize) -> u32
+// The position that record s after the first count has; (0, 0) from the position count up.
+fn position_in(body: &[u32; 381], count: usize, s: usize) -> Position
     requires { ⌜ count ≤ 16 ⌝ }
-    ensures { λ r. ⌜ r ≡ positionIn (now (body .entry)) count i ⌝ }
+    ensures { λ r. ⌜ r ≡ positionIn (now (body .entry)) count s ⌝ }
 {
-    let s = i / 2;
     if count <= s {
-        return 0;
+        return Position {
+            view: View(0),
+            k: 0,
+        };
     }
-    if i % 2 == 0 {
-        return body[3 * (count + s) + 1];
+    Position {
+        view: View(body[3 * (count + s) + 1]),
+        k: body[3 * (count + s) + 2],
     }
-    body[3 * (count + s) + 2]
 }
 
 // The positions that the records after the first count have.
-fn positions_in(body: &[u32; 381], count: usize) -> [u32; 32]
+fn positions_in(body: &[u32; 381], count: usize) -> [Position; 16]
     requires { ⌜ count ≤ 16 ⌝ }
     ensures { λ r. ⌜ r ≡ positionsIn (now (body .entry)) count ⌝ }
 {
-    let mut positions = [0u32; 32];
-    let mut i: usize = 0;
-    while i < 32 {
-        positions[i] = position_in(body, count, i);
-        i += 1;
+    let mut positions = report_views::no_positions();
+    let mut s: usize = 0;
+    while s < 16 {
+        positions[s] = position_in(body, count, s);
+        s += 1;
     }
     positions
 }
@@ -117,7 +121,7 @@ fn termination_of(settings: &[u32], c: Contents) -> Termination
     if !report_rows::terminated(settings, c) {
         return Termination {
             made: false,
-            positions: [0u32; 32],
+            positions: report_views::no_positions(),
         };
     }
     let count = settings_values::shards(settings) as usize;

@@ -1,5 +1,5 @@
 -- A report's masks and positions against those of what is kept, shard by shard, and the parts of rows 12 and 13.
-use Prim.Native.Nat.{ℕ, _+_, _*_, _<_, _≤_}
+use Prim.Native.Nat.{ℕ, _+_, _<_, _≤_}
 use mathlib.Core.Bool.{Bool, true, false, _&&_}
 use mathlib.Core.List.{List}
 use mathlib.Core.Path.{_≡_, sym, ap, _∙_}
@@ -10,25 +10,26 @@ use borrow.Author.Tests.{eq-eqb, ne-eqb, lt-ltb, le-ltb}
 use Rattle.base_laws.specs.Bools.{and-rest, and-fails-left, and-fails-right, unasked}
 use Rattle.base_laws.specs.Below.{allBelow}
 use Rattle.settings_values.specs.Settings.{shards}
+use Rattle.base_ids.specs.declared.Position.{Position}
 use Rattle.message_format.specs.declared.Contents.{Contents}
 use Rattle.message_format.specs.Records.{word1, word2, kind, membersOf}
 use Rattle.report_views.specs.declared.Layout.{Layout}
 use Rattle.report_views.specs.declared.Termination.{Termination}
+use Rattle.report_views.specs.Logs.{pos, start}
 use Rattle.report_views.specs.Reports.{terminated}
-use Rattle.report_views.specs.Slots.{ofKept, sameView, sameTermination, row13}
+use Rattle.report_views.specs.Slots.{ofKept, sameView, samePosition, sameTermination, row13}
 
 -- the body has these masks for its first n shards
 unfoldable pub masksSame : List ℕ → List ℕ → ℕ → Bool
 masksSame masks b n = allBelow n (λ s. eqb (membersOf b s) (getD masks s 0))
 
--- record s after the first count has the position of shard s
-abbrev pub positionSame : List ℕ → List ℕ → ℕ → ℕ → Bool
-positionSame positions b count s =
-    eqb (word1 b (count + s)) (getD positions (2 * s) 0) && eqb (word2 b (count + s)) (getD positions (2 * s + 1) 0)
+-- record j has this position
+abbrev pub recordSame : Position → List ℕ → ℕ → Bool
+recordSame p b j = samePosition (pos (word1 b j) (word2 b j)) p
 
 -- the n records after the first count have these positions
-unfoldable pub positionsSame : List ℕ → List ℕ → ℕ → ℕ → Bool
-positionsSame positions b count n = allBelow n (positionSame positions b count)
+unfoldable pub positionsSame : List Position → List ℕ → ℕ → ℕ → Bool
+positionsSame positions b count n = allBelow n (λ s. recordSame (getD positions s start) b (count + s))
 
 -- ---- the parts of a comparison, with n for the number of shards
 

@@ -1,4 +1,5 @@
 // A report against what is kept: rows 12 and 13, and whether its termination is kept.
+use base_ids::Position;
 use message_format::Contents;
 use report_views::Layout;
 use report_views::Termination;
@@ -8,7 +9,7 @@ ghost use Prim.Native.Nat.{_<_, _≤_, _+_, _*_};
 ghost use Rattle.settings_values.specs.Settings.{Settings};
 ghost use Rattle.report_views.specs.Reports as Reports;
 ghost use Rattle.report_views.specs.Slots as Slots;
-ghost use Rattle.report_rows.specs.Comparisons.{masksSame, positionSame, positionsSame};
+ghost use Rattle.report_rows.specs.Comparisons.{masksSame, recordSame, positionsSame};
 
 // The report has these masks for its first count shards.
 fn same_masks(masks: &[u32; 16], body: &[u32; 381], count: usize) -> bool
@@ -70,25 +71,26 @@ pub fn terminated(settings: &[u32], c: Contents) -> bool
     message_fields::kind(&c.body, count) == 2
 }
 
-// Record s after the first count has the position of shard s.
-fn same_position(positions: &[u32; 32], body: &[u32; 381], count: usize, s: usize) -> bool
-    requires { ⌜ (count ≤ 16) × (s < 16) ⌝ }
-    ensures { λ r. ⌜ r ≡ positionSame (now (positions .entry)) (now (body .entry)) count s ⌝ }
+// Record j has this position.
+fn same_position(p: Position, body: &[u32; 381], j: usize) -> bool
+    requires { ⌜ j < 127 ⌝ }
+    ensures { λ r. ⌜ r ≡ recordSame p (now (body .entry)) j ⌝ }
 {
-    if message_fields::word1(body, count + s) != positions[2 * s] {
+    let v = p.view;
+    if message_fields::word1(body, j) != v.0 {
         return false;
     }
-    message_fields::word2(body, count + s) == positions[2 * s + 1]
+    message_fields::word2(body, j) == p.k
 }
 
 // The positions after the first count records of the report are these.
-fn same_positions(positions: &[u32; 32], body: &[u32; 381], count: usize) -> bool
+fn same_positions(positions: [Position; 16], body: &[u32; 381], count: usize) -> bool
     requires { ⌜ count ≤ 16 ⌝ }
-    ensures { λ r. ⌜ r ≡ positionsSame (now (positions .entry)) (now (body .entry)) count count ⌝ }
+    ensures { λ r. ⌜ r ≡ positionsSame positions (now (body .entry)) count count ⌝ }
 {
     let mut s: usize = 0;
     while s < count {
-        if !same_position(positions, body, count, s) {
+        if !same_position(positions[s], body, count + s) {
             return false;
         }
         s += 1;
@@ -102,7 +104,8 @@ fn same_termination(settings: &[u32], t: Termination, c: Contents) -> bool
     ensures { λ r. ⌜ r ≡ Slots.sameTermination (now (settings .entry)) t c ⌝ }
 {
     let count = settings_values::shards(settings) as usize;
-    same_positions(&t.positions, &c.body, count)
+    let positions = t.positions;
+    same_positions(positions, &c.body, count)
 }
 
 // The report is of the kept view and has a termination.

@@ -1,4 +1,5 @@
 // What a slot of the desk says, and the soundness of the held nodes' slots.
+use base_ids::Node;
 use message_format::Contents;
 use message_format::Form;
 use report_views::Layout;
@@ -13,23 +14,23 @@ ghost use Rattle.report_views.specs.Reports as Reports;
 ghost use Rattle.report_views.specs.Slots as Slots;
 ghost use Rattle.report_slots.specs.Desk.{reportFits};
 
-// Node n's report.
-pub fn report_at(desk: &[u32], n: usize) -> Contents
-    requires { ⌜ (length (now desk) ≡ 16384) × (n < 32) ⌝ }
-    requires { ⌜ row8 (Reports.slot (now desk) n) ≡ true ⌝ }
-    ensures { λ r. ⌜ r ≡ Reports.reportOf (now (desk .entry)) n ⌝ }
+// A node's report.
+pub fn report_at(desk: &[u32], node: Node) -> Contents
+    requires { ⌜ (length (now desk) ≡ 16384) × (node .0 < 32) ⌝ }
+    requires { ⌜ row8 (Reports.slot (now desk) (node .0)) ≡ true ⌝ }
+    ensures { λ r. ⌜ r ≡ Reports.reportOf (now (desk .entry)) (node .0) ⌝ }
 {
-    let at = 512 * n;
+    let at = 512 * (node.0 as usize);
     message_reader::contents_of(&desk[at..at + 512])
 }
 
-// A report fits what is kept as node n's: the node's own, of no later view, and under rows 12 and 13.
-fn report_fits(settings: &[u32], v: Layout, t: Termination, c: Contents, n: usize) -> bool
+// A report fits what is kept as a node's: the node's own, of no later view, and under rows 12 and 13.
+fn report_fits(settings: &[u32], v: Layout, t: Termination, c: Contents, node: Node) -> bool
     requires { ⌜ Settings (now settings) ⌝ }
-    ensures { λ r. ⌜ r ≡ reportFits (now (settings .entry)) v t c n ⌝ }
+    ensures { λ r. ⌜ r ≡ reportFits (now (settings .entry)) v t c (node .0) ⌝ }
 {
-    let node = c.node;
-    if node.0 as usize != n {
+    let own = c.node;
+    if own.0 != node.0 {
         return false;
     }
     let view = c.view;
@@ -46,19 +47,19 @@ fn report_fits(settings: &[u32], v: Layout, t: Termination, c: Contents, n: usiz
     report_rows::term_kept(settings, v, t, c)
 }
 
-// Node n's slot is its valid report under rows 5 to 13, and fits what is kept.
-fn slot_ok(settings: &[u32], v: Layout, t: Termination, desk: &[u32], n: usize) -> bool
+// A node's slot is its valid report under rows 5 to 13, and fits what is kept.
+fn slot_ok(settings: &[u32], v: Layout, t: Termination, desk: &[u32], node: Node) -> bool
     requires { ⌜ Settings (now settings) ⌝ }
-    requires { ⌜ (length (now desk) ≡ 16384) × (n < 32) ⌝ }
-    ensures { λ r. ⌜ r ≡ Slots.slotOk (now (settings .entry)) v t (now (desk .entry)) n ⌝ }
+    requires { ⌜ (length (now desk) ≡ 16384) × (node .0 < 32) ⌝ }
+    ensures { λ r. ⌜ r ≡ Slots.slotOk (now (settings .entry)) v t (now (desk .entry)) (node .0) ⌝ }
 {
-    let at = 512 * n;
+    let at = 512 * (node.0 as usize);
     let r = message_reader::read_under(Form::Report, settings, &desk[at..at + 512]);
     let refusal = r.refusal;
     if refusal.number != 0 {
         return false;
     }
-    report_fits(settings, v, t, r.contents, n)
+    report_fits(settings, v, t, r.contents, node)
 }
 
 // Every held node's slot is sound.
@@ -70,7 +71,7 @@ pub fn slots_ok(settings: &[u32], v: Layout, t: Termination, held: u32, desk: &[
     let mut n: usize = 0;
     while n < 32 {
         if base_masks::has(held, n) {
-            if !slot_ok(settings, v, t, desk, n) {
+            if !slot_ok(settings, v, t, desk, Node(n as u32)) {
                 return false;
             }
         }

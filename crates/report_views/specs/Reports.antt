@@ -1,4 +1,5 @@
--- The desk: 512 words for each node. A slot is read as a message of 512 words.
+-- The desk: 512 words for each node. A slot is read as a message of 512 words. And the entries of a view, a termination and a
+-- plan by shard.
 use Prim.Native.Nat.{ℕ, _+_, _*_}
 use mathlib.Core.Bool.{Bool, _&&_}
 use mathlib.Core.List.{List}
@@ -6,13 +7,15 @@ use lib.Dec.{eqb, ltb}
 use lib.ListN.{getD}
 use Rattle.base_laws.specs.Tables.{part}
 use Rattle.settings_values.specs.Settings.{shards}
+use Rattle.base_ids.specs.declared.Node.{Node}
 use Rattle.base_ids.specs.declared.Position.{Position}
 use Rattle.message_format.specs.declared.Contents.{Contents}
 use Rattle.message_format.specs.Records.{kind, word1, word2}
 use Rattle.message_format.specs.Messages.{contentsOf}
 use Rattle.report_views.specs.declared.Layout.{Layout}
 use Rattle.report_views.specs.declared.Termination.{Termination}
-use Rattle.report_views.specs.Logs.{pos, endOf, holds, hasUpdate}
+use Rattle.report_views.specs.declared.Plan.{Plan}
+use Rattle.report_views.specs.Logs.{pos, start, endOf, holds, hasUpdate}
 
 -- the words of node n's slot
 unfoldable pub slot : List ℕ → ℕ → List ℕ
@@ -52,4 +55,16 @@ maskAt v s = getD (v .masks) s 0
 
 -- the position of shard s in a termination
 abbrev pub positionAt : Termination → ℕ → Position
-positionAt t s = pos (getD (t .positions) (2 * s) 0) (getD (t .positions) (2 * s + 1) 0)
+positionAt t s = getD (t .positions) s start
+
+-- the node at place s of a list
+abbrev pub nodeAt : List Node → ℕ → ℕ
+nodeAt l s = getD l s (record { 0 = 0 }) .0
+
+-- the holder of shard s in a plan
+abbrev pub holderAt : Plan → ℕ → ℕ
+holderAt p s = nodeAt (p .holders) s
+
+-- the target of shard s in a plan
+abbrev pub targetAt : Plan → ℕ → Position
+targetAt p s = getD (p .targets) s start

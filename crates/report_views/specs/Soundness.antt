@@ -1,6 +1,6 @@
 -- When the planner's state is sound, part by part. What means nothing is zero, so that a state has one representation:
 -- entries from S up, a view that is not kept, a termination that is not made, a plan while gathering.
-use Prim.Native.Nat.{ℕ, _+_, _*_}
+use Prim.Native.Nat.{ℕ, _+_}
 use mathlib.Core.Bool.{Bool, true, false, cond, not, _&&_, _||_}
 use mathlib.Core.List.{List}
 use lib.Dec.{eqb, leb, ltb}
@@ -9,6 +9,7 @@ use Rattle.base_laws.specs.Below.{allBelow}
 use Rattle.base_laws.specs.Masks.{within, subset}
 use Rattle.base_sums.specs.Sums.{sumBelow}
 use Rattle.settings_values.specs.Settings.{nodes, shards}
+use Rattle.base_ids.specs.declared.Position.{Position}
 use Rattle.message_format.specs.declared.Form.the-variants.{Report}
 use Rattle.message_format.specs.Rows.{viewOk, row10, position}
 use Rattle.place_groups.specs.Placements.{groupValid, groupMoves}
@@ -19,7 +20,9 @@ use Rattle.report_views.specs.declared.Phase.{Phase}
 use Rattle.report_views.specs.declared.Phase.the-variants.{Gathering, Ordered, Preparing, Committed}
 use Rattle.report_views.specs.declared.Quorum.{Quorum}
 use Rattle.report_views.specs.declared.Quorum.the-variants.{Met, Short}
-use Rattle.report_views.specs.Reports.{maskAt, positionAt}
+use Rattle.report_views.specs.Logs.{isStart}
+use Rattle.report_views.specs.Reports.{maskAt, positionAt, holderAt, targetAt}
+use Rattle.report_views.specs.Slots.{samePosition}
 use Rattle.report_views.specs.Quorums.{target, holder, quorumOf}
 
 -- the first n entries of a list are zero
@@ -41,14 +44,13 @@ viewSound σ v =
     && layoutTidy σ v
 
 -- a position of a termination obeys row 11 as in a report of the view
-unfoldable pub positionSound : ℕ → ℕ → ℕ → Bool
-positionSound number view k = position view k && leb view number
+unfoldable pub positionSound : ℕ → Position → Bool
+positionSound number p = position (p .view .0) (p .k) && leb (p .view .0) number
 
 -- the position of shard s in a termination; where there is none it is zero
 unfoldable pub termSoundAt : List ℕ → Layout → Termination → ℕ → Bool
 termSoundAt σ v t s =
-    cond (t .made && ltb s (shards σ)) (positionSound (v .number .0) (positionAt t s .view .0) (positionAt t s .k))
-    (eqb (positionAt t s .view .0) 0 && eqb (positionAt t s .k) 0)
+    cond (t .made && ltb s (shards σ)) (positionSound (v .number .0) (positionAt t s)) (isStart (positionAt t s))
 
 unfoldable pub termSound : List ℕ → Layout → Termination → Bool
 termSound σ v t = allBelow 16 (termSoundAt σ v t)
@@ -70,25 +72,20 @@ marksSound Committed held fetched prepared = eqb fetched held && eqb prepared he
 
 -- no plan
 unfoldable pub planBlank : Plan → Bool
-planBlank p = layoutBlank (p .layout) && eqb (p .total) 0 && allZero (p .holders) 16 && allZero (p .targets) 32
+planBlank p =
+    layoutBlank (p .layout) && eqb (p .total) 0 && allBelow 16 (λ s. eqb (holderAt p s) 0 && isStart (targetAt p s))
 
 -- waits 1 to 4 do not apply
 unfoldable pub isMet : Quorum → Bool
 isMet Met = true
 isMet (Short r) = false
 
--- the position of shard s among a plan's targets
-abbrev pub targetAt : Plan → ℕ → ℕ × ℕ
-targetAt p s = (getD (p .targets) (2 * s) 0, getD (p .targets) (2 * s + 1) 0)
-
 -- the plan's holder and target of shard s are those of the held reports; from S up they are zero
 unfoldable pub shardPlanned : List ℕ → Layout → Termination → ℕ → List ℕ → Plan → ℕ → Bool
 shardPlanned σ v t held d p s =
     cond (ltb s (shards σ))
-    (eqb (getD (p .holders) s 0) (holder v t held d s)
-    && eqb (targetAt p s .0) (target v t held d s .view .0)
-    && eqb (targetAt p s .1) (target v t held d s .k))
-    (eqb (getD (p .holders) s 0) 0 && eqb (targetAt p s .0) 0 && eqb (targetAt p s .1) 0)
+    (eqb (holderAt p s) (holder v t held d s) && samePosition (targetAt p s) (target v t held d s))
+    (eqb (holderAt p s) 0 && isStart (targetAt p s))
 
 -- the moves of all four subgroups
 unfoldable pub allMoves : List ℕ → Layout → Layout → ℕ

@@ -1,6 +1,11 @@
 // Views, terminations and waits as values. What the desk's reports say, the quorum, targets and holders stand in specs/.
+use base_ids::Node;
+use base_ids::Position;
 use base_ids::Shard;
 use base_ids::View;
+ghost use mathlib.Core.Path.{_≡_};
+ghost use lib.ListN.{replicate};
+ghost use Rattle.report_views.specs.Logs.{start};
 
 // A view: its number (0: none), its members and each shard's members. Entries from S up are 0.
 pub struct Layout {
@@ -9,10 +14,10 @@ pub struct Layout {
     pub masks: [u32; 16],
 }
 
-// An epoch termination, if one was made: for each shard the position (view, k) at which its log ends, two words each.
+// An epoch termination, if one was made: for each shard the position at which its log ends. Entries from S up are (0, 0).
 pub struct Termination {
     pub made: bool,
-    pub positions: [u32; 32],
+    pub positions: [Position; 16],
 }
 
 // Why no restart is possible yet.
@@ -35,12 +40,12 @@ pub enum Quorum {
     Short(Reason),
 }
 
-// A plan: the new view, the moves of its placements, and each shard's holder and target (view, k). Entries from S up are 0.
+// A plan: the new view, the moves of its placements, and each shard's holder and target. Entries from S up are 0.
 pub struct Plan {
     pub layout: Layout,
     pub total: u32,
-    pub holders: [u32; 16],
-    pub targets: [u32; 32],
+    pub holders: [Node; 16],
+    pub targets: [Position; 16],
 }
 
 // Where a restart stands.
@@ -58,6 +63,17 @@ pub enum Phase {
 // What the held reports give: whether the quorum conditions are met, and each shard's holder (32: none) and target.
 pub struct Standing {
     pub quorum: Quorum,
-    pub holders: [u32; 16],
-    pub targets: [u32; 32],
+    pub holders: [Node; 16],
+    pub targets: [Position; 16],
+}
+
+// No position: (0, 0) for every shard.
+pub fn no_positions() -> [Position; 16]
+    ensures { λ r. ⌜ r ≡ replicate 16 start ⌝ }
+{
+    let p = Position {
+        view: View(0),
+        k: 0,
+    };
+    [p; 16]
 }

@@ -1,4 +1,5 @@
 // Row 2: whether the words of the settings are right.
+use base_ids::Shard;
 ghost use mathlib.Core.Bool.{true};
 ghost use mathlib.Core.Path.{_≡_};
 ghost use Prim.Native.Nat.{_<_, _≤_};
@@ -53,12 +54,12 @@ fn nodes_ok(settings: &[u32]) -> bool
 }
 
 // Subgroup 0 to 3, and a need from 1 to F.
-fn shard_ok(settings: &[u32], s: usize) -> bool
+fn shard_ok(settings: &[u32], shard: Shard) -> bool
     requires { ⌜ Sizes (now settings) ⌝ }
-    requires { ⌜ s < shards (now settings) ⌝ }
-    ensures { λ r. ⌜ r ≡ shardOk (now (settings .entry)) s ⌝ }
+    requires { ⌜ shard .0 < shards (now settings) ⌝ }
+    ensures { λ r. ⌜ r ≡ shardOk (now (settings .entry)) (shard .0) ⌝ }
 {
-    let word = settings_values::shard_word(settings, s);
+    let word = settings_values::shard_word(settings, shard);
     if 3 < word / 256 {
         return false;
     }
@@ -69,10 +70,10 @@ fn shards_ok(settings: &[u32]) -> bool
     requires { ⌜ Sizes (now settings) ⌝ }
     ensures { λ r. ⌜ r ≡ shardsOk (now (settings .entry)) ⌝ }
 {
-    let count = base_ids::wide(settings[3]);
-    let mut s: usize = 0;
+    let count = settings[3];
+    let mut s: u32 = 0;
     while s < count {
-        if !shard_ok(settings, s) {
+        if !shard_ok(settings, Shard(s)) {
             return false;
         }
         s += 1;

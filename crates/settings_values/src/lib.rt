@@ -13,12 +13,13 @@ pub fn from_to(low: u32, high: u32, x: u32) -> bool
 }
 
 // The word of a shard.
-pub fn shard_word(settings: &[u32], s: usize) -> u32
+pub fn shard_word(settings: &[u32], shard: Shard) -> u32
     requires { ⌜ Sizes (now settings) ⌝ }
-    requires { ⌜ s < shards (now settings) ⌝ }
-    ensures { λ r. ⌜ r ≡ shardWord (now (settings .entry)) s ⌝ }
+    requires { ⌜ shard .0 < shards (now settings) ⌝ }
+    ensures { λ r. ⌜ r ≡ shardWord (now (settings .entry)) (shard .0) ⌝ }
 {
     let n = base_ids::wide(settings[0]);
+    let s = shard.0 as usize;
     settings[4 + n + s]
 }
 
@@ -70,7 +71,7 @@ pub fn subgroup(settings: &[u32], shard: Shard) -> u32
     requires { ⌜ shard .0 < shards (now settings) ⌝ }
     ensures { λ r. ⌜ r ≡ subgroup (now (settings .entry)) (shard .0) ⌝ }
 {
-    shard_word(settings, shard.0 as usize) / 256
+    shard_word(settings, shard) / 256
 }
 
 // How many members from different failure sets a shard needs.
@@ -79,5 +80,5 @@ pub fn need(settings: &[u32], shard: Shard) -> u32
     requires { ⌜ shard .0 < shards (now settings) ⌝ }
     ensures { λ r. ⌜ r ≡ need (now (settings .entry)) (shard .0) ⌝ }
 {
-    shard_word(settings, shard.0 as usize) % 256
+    shard_word(settings, shard) % 256
 }

@@ -11,16 +11,16 @@ ghost use Rattle.state_planner.specs.Refusing.{orderRefusal};
 ghost use Rattle.state_order.specs.Orders.{ordered, orderBuffer};
 
 // Rows 1 to 4, 6 and 14. The buffer's length comes first: with the desk's it makes row 1.
-fn order_refusal(settings: &[u32], x: State, desk: &[u32], n: u32, buffer: &[u32]) -> Refusal
-    ensures { λ r. ⌜ r ≡ orderRefusal (now (settings .entry)) x (now (desk .entry)) n (now (buffer .entry)) ⌝ }
+fn order_refusal(settings: &[u32], x: State, desk: &[u32], node: Node, buffer: &[u32]) -> Refusal
+    ensures { λ r. ⌜ r ≡ orderRefusal (now (settings .entry)) x (now (desk .entry)) (node .0) (now (buffer .entry)) ⌝ }
 {
     if buffer.len() != 512 {
         return Refusal { number: 1 };
     }
     let phase = x.phase;
     let in_phase = state_rows::is_ordered(phase);
-    let known = base_masks::has(x.held, n as usize);
-    state_planner::event_refusal(settings, x, desk, in_phase, n, known)
+    let known = base_masks::has(x.held, node.0 as usize);
+    state_planner::event_refusal(settings, x, desk, in_phase, node, known)
 }
 
 // Writes the node's order into 512 lent words, and answers its length; a refusal leaves the words as they were.
@@ -28,7 +28,7 @@ pub fn order(settings: &[u32], x: State, desk: &[u32], node: Node, buffer: &mut 
     ensures answer { λ r. ⌜ r ≡ ordered (now (settings .entry)) x (now (desk .entry)) (node .0) (now (buffer .entry)) ⌝ }
     ensures words { λ r. ⌜ now (buffer .exit) ≡ orderBuffer (now (settings .entry)) x (now (desk .entry)) (node .0) (now (buffer .entry)) ⌝ }
 {
-    let refusal = order_refusal(settings, x, desk, node.0, buffer);
+    let refusal = order_refusal(settings, x, desk, node, buffer);
     if refusal.number != 0 {
         return Writing { refusal, length: 0 };
     }

@@ -103,17 +103,17 @@ pub fn event_refusal(
     x: State,
     desk: &[u32],
     in_phase: bool,
-    n: u32,
+    node: Node,
     ok: bool,
 ) -> Refusal
-    ensures { λ r. ⌜ r ≡ Refusing.eventRefusal (Refusing.deskOk (now (desk .entry))) (now (settings .entry)) x (now (desk .entry)) in_phase n ok ⌝ }
+    ensures { λ r. ⌜ r ≡ Refusing.eventRefusal (Refusing.deskOk (now (desk .entry))) (now (settings .entry)) x (now (desk .entry)) in_phase (node .0) ok ⌝ }
 {
     let phase = x.phase;
     state_rows::event_refusal(
         settings,
         desk,
         in_phase,
-        n,
+        node,
         ok,
         phase,
         x.kept,
@@ -131,13 +131,13 @@ fn settled(
     x: State,
     desk: &[u32],
     in_phase: bool,
-    n: u32,
+    node: Node,
     ok: bool,
     next: State,
 ) -> Outcome
-    ensures { λ r. ⌜ r ≡ Events.outcome (Refusing.eventRefusal (Refusing.deskOk (now (desk .entry))) (now (settings .entry)) x (now (desk .entry)) in_phase n ok) x next ⌝ }
+    ensures { λ r. ⌜ r ≡ Events.outcome (Refusing.eventRefusal (Refusing.deskOk (now (desk .entry))) (now (settings .entry)) x (now (desk .entry)) in_phase (node .0) ok) x next ⌝ }
 {
-    let refusal = event_refusal(settings, x, desk, in_phase, n, ok);
+    let refusal = event_refusal(settings, x, desk, in_phase, node, ok);
     if refusal.number != 0 {
         return Outcome {
             state: x,
@@ -187,13 +187,13 @@ fn after_report(settings: &[u32], x: State, c: Contents) -> State
 }
 
 // While gathering the node is no longer held; while ordered or preparing gathering starts again.
-fn after_drop(x: State, n: u32) -> State
-    ensures { λ r. ⌜ r ≡ Events.afterDrop x n ⌝ }
+fn after_drop(x: State, node: Node) -> State
+    ensures { λ r. ⌜ r ≡ Events.afterDrop x (node .0) ⌝ }
 {
     let phase = x.phase;
     match phase {
         Phase::Gathering => {
-            let held = base_masks::without(x.held, n as usize);
+            let held = base_masks::without(x.held, node.0 as usize);
             of_parts(
                 phase,
                 x.kept,
@@ -211,10 +211,10 @@ fn after_drop(x: State, n: u32) -> State
 }
 
 // The node is marked, and preparing follows when every held node is.
-fn after_fetched(x: State, n: u32) -> State
-    ensures { λ r. ⌜ (n < 32 → r ≡ Events.afterFetched x n) ⌝ }
+fn after_fetched(x: State, node: Node) -> State
+    ensures { λ r. ⌜ (node .0 < 32 → r ≡ Events.afterFetched x (node .0)) ⌝ }
 {
-    let fetched = state_rows::mark(x.fetched, n);
+    let fetched = state_rows::mark(x.fetched, node);
     let phase = state_rows::phase_after(fetched, x.held, Phase::Ordered, Phase::Preparing);
     of_parts(
         phase,
@@ -228,10 +228,10 @@ fn after_fetched(x: State, n: u32) -> State
 }
 
 // The node is marked, and committed follows when every held node is.
-fn after_prepared(x: State, n: u32) -> State
-    ensures { λ r. ⌜ (n < 32 → r ≡ Events.afterPrepared x n) ⌝ }
+fn after_prepared(x: State, node: Node) -> State
+    ensures { λ r. ⌜ (node .0 < 32 → r ≡ Events.afterPrepared x (node .0)) ⌝ }
 {
-    let prepared = state_rows::mark(x.prepared, n);
+    let prepared = state_rows::mark(x.prepared, node);
     let phase = state_rows::phase_after(prepared, x.held, Phase::Preparing, Phase::Committed);
     of_parts(
         phase,
@@ -293,7 +293,7 @@ impl State {
             kept: plan_restart::no_view(),
             termination: Termination {
                 made: false,
-                positions: [0u32; 32],
+                positions: report_views::no_positions(),
             },
             held: 0,
             fetched: 0,
@@ -326,7 +326,7 @@ impl State {
         }
         let contents = reading.contents;
         let node = contents.node;
-        report_desk::store(desk, node.0 as usize, message);
+        report_desk::store(desk, node, message);
         Outcome {
             state: after_report(settings, self, contents),
             answer: Answer::Accepted,
@@ -337,18 +337,17 @@ impl State {
     pub fn drop(self, settings: &[u32], desk: &[u32], node: Node) -> Outcome
         ensures { λ r. ⌜ r ≡ Events.dropped (now (settings .entry)) self (now (desk .entry)) (node .0) ⌝ }
     {
-        let n = node.0;
         let phase = self.phase;
         let in_phase = !state_rows::is_committed(phase);
-        let known = base_masks::has(self.held, n as usize);
+        let known = base_masks::has(self.held, node.0 as usize);
         settled(
             settings,
             self,
             desk,
             in_phase,
-            n,
+            node,
             known,
-            after_drop(self, n),
+            after_drop(self, node),
         )
     }
 
@@ -356,18 +355,17 @@ impl State {
     pub fn fetched(self, settings: &[u32], desk: &[u32], node: Node) -> Outcome
         ensures { λ r. ⌜ r ≡ Events.fetchedOf (now (settings .entry)) self (now (desk .entry)) (node .0) ⌝ }
     {
-        let n = node.0;
         let phase = self.phase;
         let in_phase = state_rows::is_ordered(phase);
-        let known = state_rows::lacks(self.held, self.fetched, n);
+        let known = state_rows::lacks(self.held, self.fetched, node);
         settled(
             settings,
             self,
             desk,
             in_phase,
-            n,
+            node,
             known,
-            after_fetched(self, n),
+            after_fetched(self, node),
         )
     }
 
@@ -375,18 +373,17 @@ impl State {
     pub fn prepared(self, settings: &[u32], desk: &[u32], node: Node) -> Outcome
         ensures { λ r. ⌜ r ≡ Events.preparedOf (now (settings .entry)) self (now (desk .entry)) (node .0) ⌝ }
     {
-        let n = node.0;
         let phase = self.phase;
         let in_phase = state_rows::is_preparing(phase);
-        let known = state_rows::lacks(self.held, self.prepared, n);
+        let known = state_rows::lacks(self.held, self.prepared, node);
         settled(
             settings,
             self,
             desk,
             in_phase,
-            n,
+            node,
             known,
-            after_prepared(self, n),
+            after_prepared(self, node),
         )
     }
 

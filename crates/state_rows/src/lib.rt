@@ -1,4 +1,5 @@
 // What the events ask of a state's parts: its phase, rows 1 to 4, 6 and 14, and the marks of its nodes.
+use base_ids::Node;
 use base_ids::Refusal;
 use base_ids::View;
 use report_views::Layout;
@@ -129,11 +130,11 @@ pub fn entry_refusal(
 }
 
 // Rows 6 and 14, for a node that an event names.
-fn node_refusal(settings: &[u32], n: u32, ok: bool) -> Refusal
+fn node_refusal(settings: &[u32], node: Node, ok: bool) -> Refusal
     requires { ⌜ Settings (now settings) ⌝ }
-    ensures { λ r. ⌜ r ≡ Rows.nodeRefusal (now (settings .entry)) n ok ⌝ }
+    ensures { λ r. ⌜ r ≡ Rows.nodeRefusal (now (settings .entry)) (node .0) ok ⌝ }
 {
-    if settings_values::nodes(settings) <= n {
+    if settings_values::nodes(settings) <= node.0 {
         return Refusal { number: 6 };
     }
     if !ok {
@@ -147,7 +148,7 @@ pub fn event_refusal(
     settings: &[u32],
     desk: &[u32],
     in_phase: bool,
-    n: u32,
+    node: Node,
     ok: bool,
     phase: Phase,
     kept: Layout,
@@ -157,7 +158,7 @@ pub fn event_refusal(
     prepared: u32,
     plan: Plan,
 ) -> Refusal
-    ensures { λ r. ⌜ r ≡ firstOf (Rows.entryRows (eqb (length (now (desk .entry))) 16384) (settingsOk (now (settings .entry))) (Rows.partsSound (now (settings .entry)) (now (desk .entry)) phase kept termination held fetched prepared plan) in_phase) (Rows.nodeRefusal (now (settings .entry)) n ok) ⌝ }
+    ensures { λ r. ⌜ r ≡ firstOf (Rows.entryRows (eqb (length (now (desk .entry))) 16384) (settingsOk (now (settings .entry))) (Rows.partsSound (now (settings .entry)) (now (desk .entry)) phase kept termination held fetched prepared plan) in_phase) (Rows.nodeRefusal (now (settings .entry)) (node .0) ok) ⌝ }
 {
     let refusal = entry_refusal(
         settings,
@@ -174,25 +175,25 @@ pub fn event_refusal(
     if refusal.number != 0 {
         return refusal;
     }
-    node_refusal(settings, n, ok)
+    node_refusal(settings, node, ok)
 }
 
 // The node is in one mask and not in the other.
-pub fn lacks(held: u32, marks: u32, n: u32) -> bool
-    ensures { λ r. ⌜ r ≡ (has held n && not (has marks n)) ⌝ }
+pub fn lacks(held: u32, marks: u32, node: Node) -> bool
+    ensures { λ r. ⌜ r ≡ (has held (node .0) && not (has marks (node .0))) ⌝ }
 {
-    if !base_masks::has(held, n as usize) {
+    if !base_masks::has(held, node.0 as usize) {
         return false;
     }
-    !base_masks::has(marks, n as usize)
+    !base_masks::has(marks, node.0 as usize)
 }
 
 // The marks with that of a node.
-pub fn mark(marks: u32, n: u32) -> u32
-    ensures { λ r. ⌜ (n < 32 → r ≡ with marks n) ⌝ }
+pub fn mark(marks: u32, node: Node) -> u32
+    ensures { λ r. ⌜ (node .0 < 32 → r ≡ with marks (node .0)) ⌝ }
 {
-    if n < 32 {
-        base_masks::with(marks, n as usize)
+    if node.0 < 32 {
+        base_masks::with(marks, node.0 as usize)
     } else {
         marks
     }

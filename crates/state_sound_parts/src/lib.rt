@@ -1,4 +1,6 @@
 // Row 3: whether the planner's state is sound beside a desk, part by part. Each function gives what its definition says.
+use base_ids::Node;
+use base_ids::Position;
 use base_ids::View;
 use report_views::Layout;
 use report_views::Phase;
@@ -11,6 +13,9 @@ ghost use mathlib.Core.Path.{_≡_};
 ghost use Prim.Native.Nat.{_<_};
 ghost use lib.ListN.{length};
 ghost use Rattle.settings_values.specs.Settings.{Settings, nodes, shards};
+ghost use Rattle.base_laws.specs.Below.{allBelow};
+ghost use Rattle.report_views.specs.Logs as Logs;
+ghost use Rattle.report_views.specs.Reports as Reports;
 ghost use Rattle.report_views.specs.Soundness as Soundness;
 
 // Every entry is zero.
@@ -72,8 +77,7 @@ fn view_sound(settings: &[u32], v: Layout) -> bool
     requires { ⌜ Settings (now settings) ⌝ }
     ensures { λ r. ⌜ r ≡ Soundness.viewSound (now (settings .entry)) v ⌝ }
 {
-    let number = v.number;
-    if !message_rows::view_ok(message_format::Form::Report, number.0) {
+    if !message_rows::view_ok(message_format::Form::Report, v.number) {
         return false;
     }
     if !base_masks::within(settings_values::nodes(settings) as usize, v.members) {
@@ -86,23 +90,25 @@ fn view_sound(settings: &[u32], v: Layout) -> bool
 }
 
 // The position of a shard in a termination that is made: row 11 as in a report.
-fn position_sound(number: View, view: u32, k: u32) -> bool
-    ensures { λ r. ⌜ r ≡ Soundness.positionSound (number .0) view k ⌝ }
+fn position_sound(number: View, p: Position) -> bool
+    ensures { λ r. ⌜ r ≡ Soundness.positionSound (number .0) p ⌝ }
 {
-    if !message_rows::position(view, k) {
+    if !message_rows::position(p) {
         return false;
     }
-    view <= number.0
+    let view = p.view;
+    view.0 <= number.0
 }
 
-// No position: both words are zero.
-fn no_position(view: u32, k: u32) -> bool
-    ensures { λ r. ⌜ r ≡ (eqb view 0 && eqb k 0) ⌝ }
+// No position: (0, 0).
+fn no_position(p: Position) -> bool
+    ensures { λ r. ⌜ r ≡ Logs.isStart p ⌝ }
 {
-    if view != 0 {
+    let view = p.view;
+    if view.0 != 0 {
         return false;
     }
-    k == 0
+    p.k == 0
 }
 
 // The position of shard s, or zero where there is none.
@@ -112,15 +118,14 @@ fn term_sound_at(settings: &[u32], v: Layout, t: Termination, s: usize) -> bool
     ensures { λ r. ⌜ r ≡ Soundness.termSoundAt (now (settings .entry)) v t s ⌝ }
 {
     let positions = t.positions;
-    let view = positions[2 * s];
-    let k = positions[2 * s + 1];
+    let p = positions[s];
     if !t.made {
-        return no_position(view, k);
+        return no_position(p);
     }
     if settings_values::shards(settings) as usize <= s {
-        return no_position(view, k);
+        return no_position(p);
     }
-    position_sound(v.number, view, k)
+    position_sound(v.number, p)
 }
 
 fn term_sound(settings: &[u32], v: Layout, t: Termination) -> bool
@@ -213,6 +218,32 @@ pub fn marks_sound(phase: Phase, held: u32, fetched: u32, prepared: u32) -> bool
     }
 }
 
+// No holder and no target.
+fn nothing_planned(holder: Node, target: Position) -> bool
+    ensures { λ r. ⌜ r ≡ (eqb (holder .0) 0 && Logs.isStart target) ⌝ }
+{
+    if holder.0 != 0 {
+        return false;
+    }
+    no_position(target)
+}
+
+// No shard has a holder or a target.
+fn shards_blank(p: Plan) -> bool
+    ensures { λ r. ⌜ r ≡ allBelow 16 (λ s. eqb (Reports.holderAt p s) 0 && Logs.isStart (Reports.targetAt p s)) ⌝ }
+{
+    let holders = p.holders;
+    let targets = p.targets;
+    let mut s: usize = 0;
+    while s < 16 {
+        if !nothing_planned(holders[s], targets[s]) {
+            return false;
+        }
+        s += 1;
+    }
+    true
+}
+
 // No plan.
 pub fn plan_blank(p: Plan) -> bool
     ensures { λ r. ⌜ r ≡ Soundness.planBlank p ⌝ }
@@ -223,8 +254,5 @@ pub fn plan_blank(p: Plan) -> bool
     if p.total != 0 {
         return false;
     }
-    if !zeros(&p.holders) {
-        return false;
-    }
-    zeros(&p.targets)
+    shards_blank(p)
 }

@@ -34,15 +34,6 @@ matches σ v held p st =
     && groupsValid σ held (p .layout)
     && eqb (p .total) (allMoves σ v (p .layout))
 
--- two equal entries of three: the third decides
-pub third-decides : (p : Plan) (holders targets : List ℕ) (s : ℕ)
-    → eqb (getD (p .holders) s 0) (getD holders s 0) ≡ true
-    → eqb (getD (p .targets) (2 * s) 0) (getD targets (2 * s) 0) ≡ true
-    → eqb (getD (p .targets) (2 * s + 1) 0) (getD targets (2 * s + 1) 0) ≡ sameShard p holders targets s
-unfolding sameShard
-third-decides p holders targets s a b =
-    sym (ap₂ (λ (x y : Bool). x && y && eqb (getD (p .targets) (2 * s + 1) 0) (getD targets (2 * s + 1) 0)) a b)
-
 regroup : (x n m : Bool) → (x && (n && m)) ≡ (x && n && m)
 regroup true n m = refl
 regroup false n m = refl

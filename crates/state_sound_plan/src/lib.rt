@@ -1,17 +1,19 @@
 // Whether a plan is sound: the standing of the held reports is found once, and the plan is held against it part by part.
+use base_ids::Node;
+use base_ids::Position;
 use report_views::Layout;
 use report_views::Phase;
 use report_views::Plan;
 use report_views::Quorum;
 use report_views::Standing;
 use report_views::Termination;
-ghost use mathlib.Core.Bool.{true};
+ghost use mathlib.Core.Bool.{true, _&&_};
 ghost use mathlib.Core.Path.{_≡_};
 ghost use Prim.Native.Nat.{_<_, _^_};
+ghost use lib.Dec.{eqb};
 ghost use lib.ListN.{length};
 ghost use Rattle.settings_values.specs.Settings.{Settings, nodes};
-ghost use Rattle.report_views.specs.Slots.{slotsOk};
-ghost use Rattle.report_views.specs.PlanLaws.{sameShard};
+ghost use Rattle.report_views.specs.Slots.{samePosition, slotsOk};
 ghost use Rattle.report_views.specs.Soundness as Soundness;
 ghost use Rattle.state_sound_plan.specs.Matches as Matches;
 
@@ -25,27 +27,32 @@ fn is_met(q: Quorum) -> bool
     }
 }
 
-// The plan's holder and target of shard s are the standing's.
-fn same_shard(p: Plan, st: Standing, s: usize) -> bool
-    requires { ⌜ s < 16 ⌝ }
-    ensures { λ r. ⌜ r ≡ sameShard p (st .holders) (st .targets) s ⌝ }
+// Two shards' holders and targets are the same.
+fn same_shard(holder: Node, target: Position, other: Node, goal: Position) -> bool
+    ensures { λ r. ⌜ r ≡ (eqb (holder .0) (other .0) && samePosition target goal) ⌝ }
 {
-    if p.holders[s] != st.holders[s] {
+    if holder.0 != other.0 {
         return false;
     }
-    if p.targets[2 * s] != st.targets[2 * s] {
+    let v = target.view;
+    let w = goal.view;
+    if v.0 != w.0 {
         return false;
     }
-    p.targets[2 * s + 1] == st.targets[2 * s + 1]
+    target.k == goal.k
 }
 
 // The plan's holders and targets are the standing's.
 fn same_shards(p: Plan, st: Standing) -> bool
     ensures { λ r. ⌜ r ≡ Matches.sameShards p st ⌝ }
 {
+    let holders = p.holders;
+    let targets = p.targets;
+    let others = st.holders;
+    let goals = st.targets;
     let mut s: usize = 0;
     while s < 16 {
-        if !same_shard(p, st, s) {
+        if !same_shard(holders[s], targets[s], others[s], goals[s]) {
             return false;
         }
         s += 1;

@@ -1,20 +1,25 @@
 -- Each state has one representation: what was encoded decodes to the state, and what decodes is what the state encodes to.
-use mathlib.Core.Path.{_≡_, refl, sym, ap, _∙_}
+use mathlib.Core.Path.{_≡_, refl, sym, ap, ap₂, _∙_}
 use mathlib.Core.Logic.{⊎-elim}
 use mathlib.Core.Bool.{Bool, true, false, cond}
 use mathlib.Core.List.{List}
-use Prim.Native.Nat.{ℕ, zero, suc, _+_, _-_, _≤_, _<_}
+use Prim.Native.Nat.{ℕ, zero, suc, _+_, _*_, _/_, _%_, _-_, _≤_, _<_}
 use native.Mathlib.Omega.{arith}
 use lib.Dec.{eqb, ltb, lit<, lit≤}
 use lib.ListN.{length, getD}
-use borrow.Author.Tests.{eq-eqb, le-leb, lt-ltb, le-ltb}
-use Rattle.base_laws.specs.Bools.{lt-or-le, and-both}
+use borrow.Author.Tests.{eq-eqb, ne-eqb, le-leb, lt-ltb, le-ltb}
+use Rattle.base_laws.specs.Bools.{lt-or-le, eq-or-ne, and-both}
 use Rattle.base_laws.specs.Below.{all-of}
-use Rattle.base_laws.specs.Tables.{tabulate-ext, length-tabulate, getD-tabulate}
+use Rattle.base_laws.specs.Tables.{tabulate, tabulate-ext, length-tabulate, getD-tabulate}
+use Rattle.base_ids.specs.declared.Node.{Node}
+use Rattle.base_ids.specs.declared.Position.{Position}
 use Rattle.report_views.specs.declared.Phase.{Phase}
 use Rattle.report_views.specs.declared.Phase.the-variants.{Gathering, Ordered, Preparing, Committed}
+use Rattle.report_views.specs.Logs.{pos, start}
+use Rattle.report_views.specs.Reports.{nodeAt, positionAt, holderAt, targetAt}
+use Rattle.report_views.specs.PositionTables.{positionWord}
 use Rattle.state_planner.specs.declared.State.{State}
-use Rattle.word_state.specs.StateWords.{phaseNumber, flag, keptWord, planWord, stateWord, stateWords, phaseOf, span, layoutAt, stateIn, restZero, isState, decoded}
+use Rattle.word_state.specs.StateWords.{phaseNumber, flag, keptWord, planWord, stateWord, stateWords, phaseOf, span, nodesAt, positionsAt, layoutAt, stateIn, restZero, isState, decoded}
 use Rattle.word_state.specs.Laws.{stated}
 
 -- one row of a table of words
@@ -29,6 +34,32 @@ getD-span : (w : List ℕ) (at n k : ℕ) → at ≤ k → k < at + n → getD (
 unfolding span
 getD-span w at n k l h =
     getD-tabulate n (λ i. getD w (at + i) 0) (k - at) 0 (omega arith) ∙ ap (λ (i : ℕ). getD w i 0) (omega arith)
+
+-- node k of those from a place on
+node-span : (w : List ℕ) (at k : ℕ) → at ≤ k → k < at + 16 → nodeAt (nodesAt w at) (k - at) ≡ getD w k 0
+unfolding nodesAt
+node-span w at k l h =
+    let f : ℕ → Node = λ s. record { 0 = getD w (at + s) 0 } in
+    ap (λ (n : Node). n .0) (getD-tabulate 16 f (k - at) (record { 0 = 0 }) (omega arith)) ∙ ap (λ (i : ℕ). getD w i 0) (omega arith)
+
+-- word i of a position
+word-of : (p : Position) (i v : ℕ) → (i % 2 ≡ 0 → p .view .0 ≡ v) → (i % 2 ≡ 1 → p .k ≡ v) → positionWord (λ s. p) i ≡ v
+word-of p i v even odd =
+    ⊎-elim (λ e. rw (eq-eqb (i % 2) 0 e) (even e)) (λ e. rw (ne-eqb (i % 2) 0 e) (odd (half i e))) (eq-or-ne (i % 2) 0)
+  where
+    half : (i : ℕ) → (i % 2 ≡ 0 → ⊥) → i % 2 ≡ 1
+    half i e = omega arith
+
+-- word k of the positions from a place on
+position-span : (w : List ℕ) (at k : ℕ) → at ≤ k → k < at + 32
+    → positionWord (λ s. getD (positionsAt w at) s start) (k - at) ≡ getD w k 0
+unfolding positionsAt
+position-span w at k l h =
+    let i : ℕ = k - at in
+    let f : ℕ → Position = λ s. pos (getD w (at + 2 * s) 0) (getD w (at + 2 * s + 1) 0) in
+    let e : getD (tabulate 16 f) (i / 2) start ≡ f (i / 2) = getD-tabulate 16 f (i / 2) start (omega arith) in
+    ap (λ (p : Position). positionWord (λ s. p) i) e
+    ∙ word-of (f (i / 2)) i (getD w k 0) (λ z. ap (λ (j : ℕ). getD w j 0) (omega arith)) (λ z. ap (λ (j : ℕ). getD w j 0) (omega arith))
 
 phase-back : (n : ℕ) → n ≤ 3 → phaseNumber (phaseOf n) ≡ n
 unfolding phaseOf
@@ -55,7 +86,7 @@ module _ (w : List ℕ) (h : isState w ≡ true) where
       (λ l1. row k 2 (λ l. here 1 k (omega arith))
       (λ l2. row k 3 (λ l. here 2 k (omega arith))
       (λ l3. row k 4 (λ l. flag-back (getD w 3 0) (stated w h .flag) ∙ here 3 k (omega arith))
-      (λ l4. row k 20 (λ l. getD-span w 4 16 k l4 l) (λ l5. getD-span w 20 32 k l5 m)))))
+      (λ l4. row k 20 (λ l. getD-span w 4 16 k l4 l) (λ l5. position-span w 20 k l5 m)))))
 
   plan-back : (k : ℕ) → 55 ≤ k → k < 122 → planWord (stateIn w .plan) k ≡ getD w k 0
   unfolding planWord stateIn layoutAt
@@ -64,7 +95,7 @@ module _ (w : List ℕ) (h : isState w ≡ true) where
       (λ l1. row k 57 (λ l. here 56 k (omega arith))
       (λ l2. row k 58 (λ l. here 57 k (omega arith))
       (λ l3. row k 74 (λ l. getD-span w 58 16 k l3 l)
-      (λ l4. row k 90 (λ l. getD-span w 74 16 k l4 l) (λ l5. getD-span w 90 32 k l5 m)))))
+      (λ l4. row k 90 (λ l. node-span w 74 k l4 l) (λ l5. position-span w 90 k l5 m)))))
 
   word-back : (k : ℕ) → k < 160 → stateWord (stateIn w) k ≡ getD w k 0
   unfolding stateWord stateIn
@@ -84,10 +115,10 @@ module _ (w : List ℕ) (h : isState w ≡ true) where
 -- the arrays of a state have their lengths
 pub record SizedState (x : State) : Type 0 where
   pub masks : length (x .kept .masks) ≡ 16
-  pub positions : length (x .termination .positions) ≡ 32
+  pub positions : length (x .termination .positions) ≡ 16
   pub plan-masks : length (x .plan .layout .masks) ≡ 16
   pub holders : length (x .plan .holders) ≡ 16
-  pub targets : length (x .plan .targets) ≡ 32
+  pub targets : length (x .plan .targets) ≡ 16
 
 phase-there : (p : Phase) → phaseOf (phaseNumber p) ≡ p
 unfolding phaseOf
@@ -127,12 +158,45 @@ module _ (x : State) where
       sym (tabulate-ext 0 n (λ i. getD (stateWords x) (at + i) 0) l e
       (λ i q. ap (λ (j : ℕ). getD l j 0) (omega arith) ∙ sym (h (at + i) (omega arith) (omega arith)) ∙ sym (word (at + i) (omega arith))))
 
+  -- nodes and positions of the state from a place on
+  nodes-are : (at : ℕ) (l : List Node) → at + 16 ≤ 160 → length l ≡ 16
+      → ((k : ℕ) → at ≤ k → k < at + 16 → stateWord x k ≡ nodeAt l (k - at)) → nodesAt (stateWords x) at ≡ l
+  unfolding nodesAt
+  nodes-are at l m e h =
+      sym (tabulate-ext (record { 0 = 0 }) 16 (λ s. record { 0 = getD (stateWords x) (at + s) 0 }) l e
+      (λ s q. ap (λ (n : ℕ). record { 0 = n }) (here-is s q)))
+    where
+      here-is : (s : ℕ) → s < 16 → nodeAt l s ≡ getD (stateWords x) (at + s) 0
+      here-is s q =
+          ap (nodeAt l) (omega arith) ∙ sym (h (at + s) (omega arith) (omega arith)) ∙ sym (word (at + s) (omega arith))
+
+  positions-are : (at : ℕ) (l : List Position) → at + 32 ≤ 160 → length l ≡ 16
+      → ((k : ℕ) → at ≤ k → k < at + 32 → stateWord x k ≡ positionWord (λ s. getD l s start) (k - at)) → positionsAt (stateWords x) at ≡ l
+  unfolding positionsAt
+  positions-are at l m e h =
+      sym (tabulate-ext start 16 (λ s. pos (getD (stateWords x) (at + 2 * s) 0) (getD (stateWords x) (at + 2 * s + 1) 0)) l e
+      (λ s q. ap₂ pos (view-is s q) (k-is s q)))
+    where
+      view-is : (s : ℕ) → s < 16 → getD l s start .view .0 ≡ getD (stateWords x) (at + 2 * s) 0
+      view-is s q =
+          let back : at + 2 * s - at ≡ 2 * s = omega arith in
+          let even : 2 * s % 2 ≡ 0 = omega arith in
+          let half : 2 * s / 2 ≡ s = omega arith in
+          sym (word (at + 2 * s) (omega arith) ∙ h (at + 2 * s) (omega arith) (omega arith) ∙ rw (back, even, half))
+
+      k-is : (s : ℕ) → s < 16 → getD l s start .k ≡ getD (stateWords x) (at + 2 * s + 1) 0
+      k-is s q =
+          let back : at + 2 * s + 1 - at ≡ 2 * s + 1 = omega arith in
+          let odd : (2 * s + 1) % 2 ≡ 1 = omega arith in
+          let half : (2 * s + 1) / 2 ≡ s = omega arith in
+          sym (word (at + 2 * s + 1) (omega arith) ∙ h (at + 2 * s + 1) (omega arith) (omega arith) ∙ rw (back, odd, half))
+
   masks-at : (k : ℕ) → 4 ≤ k → k < 20 → stateWord x k ≡ getD (x .kept .masks) (k - 4) 0
   unfolding stateWord keptWord
   masks-at k l m =
       simp (lt-ltb k 52 (omega arith), le-ltb k 1 (omega arith), le-ltb k 2 (omega arith), le-ltb k 3 (omega arith), le-ltb k 4 l, lt-ltb k 20 m)
 
-  positions-at : (k : ℕ) → 20 ≤ k → k < 52 → stateWord x k ≡ getD (x .termination .positions) (k - 20) 0
+  positions-at : (k : ℕ) → 20 ≤ k → k < 52 → stateWord x k ≡ positionWord (positionAt (x .termination)) (k - 20)
   unfolding stateWord keptWord
   positions-at k l m =
       simp (lt-ltb k 52 m, le-ltb k 1 (omega arith), le-ltb k 2 (omega arith), le-ltb k 3 (omega arith), le-ltb k 4 (omega arith), le-ltb k 20 l)
@@ -148,13 +212,13 @@ module _ (x : State) where
       plan-at k (omega arith) (omega arith)
       ∙ simp (le-ltb k 56 (omega arith), le-ltb k 57 (omega arith), le-ltb k 58 l, lt-ltb k 74 m)
 
-  holders-at : (k : ℕ) → 74 ≤ k → k < 90 → stateWord x k ≡ getD (x .plan .holders) (k - 74) 0
+  holders-at : (k : ℕ) → 74 ≤ k → k < 90 → stateWord x k ≡ holderAt (x .plan) (k - 74)
   unfolding planWord
   holders-at k l m =
       plan-at k (omega arith) (omega arith)
       ∙ simp (le-ltb k 56 (omega arith), le-ltb k 57 (omega arith), le-ltb k 58 (omega arith), le-ltb k 74 l, lt-ltb k 90 m)
 
-  targets-at : (k : ℕ) → 90 ≤ k → k < 122 → stateWord x k ≡ getD (x .plan .targets) (k - 90) 0
+  targets-at : (k : ℕ) → 90 ≤ k → k < 122 → stateWord x k ≡ positionWord (targetAt (x .plan)) (k - 90)
   unfolding planWord
   targets-at k l m =
       plan-at k (omega arith) m
@@ -174,8 +238,8 @@ module _ (x : State) where
       let made : eqb (getD (stateWords x) 3 0) 1 ≡ x .termination .made =
       ap (λ (n : ℕ). eqb n 1) (word 3 (lit< tt)) ∙ flag-there (x .termination .made) in
       let masks : span (stateWords x) 4 16 ≡ x .kept .masks = span-is 4 16 (x .kept .masks) (lit≤ tt) (s .masks) masks-at in
-      let positions : span (stateWords x) 20 32 ≡ x .termination .positions =
-      span-is 20 32 (x .termination .positions) (lit≤ tt) (s .positions) positions-at in
+      let positions : positionsAt (stateWords x) 20 ≡ x .termination .positions =
+      positions-are 20 (x .termination .positions) (lit≤ tt) (s .positions) positions-at in
       let held : getD (stateWords x) 52 0 ≡ x .held = word 52 (lit< tt) in
       let fetched : getD (stateWords x) 53 0 ≡ x .fetched = word 53 (lit< tt) in
       let prepared : getD (stateWords x) 54 0 ≡ x .prepared = word 54 (lit< tt) in
@@ -184,10 +248,10 @@ module _ (x : State) where
       let total : getD (stateWords x) 57 0 ≡ x .plan .total = word 57 (lit< tt) in
       let plan-masks : span (stateWords x) 58 16 ≡ x .plan .layout .masks =
       span-is 58 16 (x .plan .layout .masks) (lit≤ tt) (s .plan-masks) plan-masks-at in
-      let holders : span (stateWords x) 74 16 ≡ x .plan .holders =
-      span-is 74 16 (x .plan .holders) (lit≤ tt) (s .holders) holders-at in
-      let targets : span (stateWords x) 90 32 ≡ x .plan .targets =
-      span-is 90 32 (x .plan .targets) (lit≤ tt) (s .targets) targets-at in
+      let holders : nodesAt (stateWords x) 74 ≡ x .plan .holders =
+      nodes-are 74 (x .plan .holders) (lit≤ tt) (s .holders) holders-at in
+      let targets : positionsAt (stateWords x) 90 ≡ x .plan .targets =
+      positions-are 90 (x .plan .targets) (lit≤ tt) (s .targets) targets-at in
       rw (phase, number, members, made, masks, positions, held, fetched, prepared, plan-number, plan-members, total, plan-masks, holders, targets)
 
   is-there : isState (stateWords x) ≡ true

@@ -7,17 +7,22 @@
 --   4 to 19   kept view: shard masks           90 to 121   plan: targets, (view, k) for each shard
 --   20 to 51  termination, (view, k)           122 to 159  zero
 --   52 to 54  held, fetched, prepared
-use Prim.Native.Nat.{ℕ, _+_, _-_}
+use Prim.Native.Nat.{ℕ, _+_, _*_, _-_}
 use mathlib.Core.Bool.{Bool, true, false, cond, _&&_}
 use mathlib.Core.List.{List}
 use lib.Dec.{eqb, leb, ltb}
 use lib.ListN.{length, getD}
 use Rattle.base_laws.specs.Below.{allBelow}
 use Rattle.base_laws.specs.Tables.{tabulate}
+use Rattle.base_ids.specs.declared.Node.{Node}
+use Rattle.base_ids.specs.declared.Position.{Position}
 use Rattle.report_views.specs.declared.Layout.{Layout}
 use Rattle.report_views.specs.declared.Plan.{Plan}
 use Rattle.report_views.specs.declared.Phase.{Phase}
 use Rattle.report_views.specs.declared.Phase.the-variants.{Gathering, Ordered, Preparing, Committed}
+use Rattle.report_views.specs.Logs.{pos}
+use Rattle.report_views.specs.Reports.{positionAt, holderAt, targetAt}
+use Rattle.report_views.specs.PositionTables.{positionWord}
 use Rattle.state_planner.specs.declared.State.{State}
 use Rattle.state_planner.specs.States.{fresh}
 use Rattle.word_state.specs.declared.Decoded.{Decoded}
@@ -40,7 +45,7 @@ keptWord x k =
     (cond (ltb k 2) (x .kept .number .0)
     (cond (ltb k 3) (x .kept .members)
     (cond (ltb k 4) (flag (x .termination .made))
-    (cond (ltb k 20) (getD (x .kept .masks) (k - 4) 0) (getD (x .termination .positions) (k - 20) 0)))))
+    (cond (ltb k 20) (getD (x .kept .masks) (k - 4) 0) (positionWord (positionAt (x .termination)) (k - 20))))))
 
 -- words 55 to 121
 unfoldable pub planWord : Plan → ℕ → ℕ
@@ -49,7 +54,7 @@ planWord p k =
     (cond (ltb k 57) (p .layout .members)
     (cond (ltb k 58) (p .total)
     (cond (ltb k 74) (getD (p .layout .masks) (k - 58) 0)
-    (cond (ltb k 90) (getD (p .holders) (k - 74) 0) (getD (p .targets) (k - 90) 0)))))
+    (cond (ltb k 90) (holderAt p (k - 74)) (positionWord (targetAt p) (k - 90))))))
 
 -- word k
 unfoldable pub stateWord : State → ℕ → ℕ
@@ -70,6 +75,14 @@ phaseOf n = cond (eqb n 0) Gathering (cond (eqb n 1) Ordered (cond (eqb n 2) Pre
 unfoldable pub span : List ℕ → ℕ → ℕ → List ℕ
 span w at n = tabulate n (λ k. getD w (at + k) 0)
 
+-- 16 nodes from a place on
+unfoldable pub nodesAt : List ℕ → ℕ → List Node
+nodesAt w at = tabulate 16 (λ s. record { 0 = getD w (at + s) 0 })
+
+-- 16 positions from a place on, two words each
+unfoldable pub positionsAt : List ℕ → ℕ → List Position
+positionsAt w at = tabulate 16 (λ s. pos (getD w (at + 2 * s) 0) (getD w (at + 2 * s + 1) 0))
+
 -- a view's number and members, and its masks after another word
 unfoldable pub layoutAt : List ℕ → ℕ → Layout
 layoutAt w at =
@@ -80,7 +93,7 @@ stateIn w =
     record {
       phase = phaseOf (getD w 0 0);
       kept = layoutAt w 1;
-      termination = record { made = eqb (getD w 3 0) 1; positions = span w 20 32 };
+      termination = record { made = eqb (getD w 3 0) 1; positions = positionsAt w 20 };
       held = getD w 52 0;
       fetched = getD w 53 0;
       prepared = getD w 54 0;
@@ -88,8 +101,8 @@ stateIn w =
           record {
             layout = layoutAt w 55;
             total = getD w 57 0;
-            holders = span w 74 16;
-            targets = span w 90 32;
+            holders = nodesAt w 74;
+            targets = positionsAt w 90;
           };
     }
 

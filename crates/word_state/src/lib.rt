@@ -1,4 +1,6 @@
 // The planner's state as 160 words, and back.
+use base_ids::Node;
+use base_ids::Position;
 use base_ids::View;
 use report_views::Layout;
 use report_views::Phase;
@@ -8,6 +10,7 @@ use state_planner::State;
 ghost use mathlib.Core.Path.{_≡_};
 ghost use Prim.Native.Nat.{_+_, _≤_, _<_};
 ghost use lib.ListN.{length};
+ghost use Rattle.report_views.specs.PositionTables.{positionWord};
 ghost use Rattle.word_state.specs.StateWords as StateWords;
 
 // What words say: whether they are a state, and the state; the fresh state where they are none.
@@ -31,6 +34,17 @@ fn flag(made: bool) -> u32
     ensures { λ r. ⌜ r ≡ StateWords.flag made ⌝ }
 {
     if made { 1 } else { 0 }
+}
+
+// A word of a position: its view where i is even, its k where i is odd.
+fn position_word(p: Position, i: usize) -> u32
+    ensures { λ r. ⌜ r ≡ positionWord (λ s. p) i ⌝ }
+{
+    let view = p.view;
+    if i % 2 == 0 {
+        return view.0;
+    }
+    p.k
 }
 
 // Words 0 to 51: the phase, the kept view and its termination.
@@ -58,7 +72,7 @@ fn kept_word(x: State, k: usize) -> u32
     if k < 20 {
         return masks[k - 4];
     }
-    positions[k - 20]
+    position_word(positions[(k - 20) / 2], k - 20)
 }
 
 // Words 55 to 121: the plan.
@@ -83,9 +97,10 @@ fn plan_word(p: Plan, k: usize) -> u32
         return masks[k - 58];
     }
     if k < 90 {
-        return holders[k - 74];
+        let holder = holders[k - 74];
+        return holder.0;
     }
-    targets[k - 90]
+    position_word(targets[(k - 90) / 2], k - 90)
 }
 
 // Word k of a state.
@@ -160,14 +175,38 @@ fn sixteen(words: &[u32], at: usize) -> [u32; 16]
     out
 }
 
-// The 32 words from a place on.
-fn thirty_two(words: &[u32], at: usize) -> [u32; 32]
-    requires { ⌜ at + 32 ≤ length (now words) ⌝ }
-    ensures { λ r. ⌜ r ≡ StateWords.span (now (words .entry)) at 32 ⌝ }
+// The 16 nodes from a place on.
+fn nodes_at(words: &[u32], at: usize) -> [Node; 16]
+    requires { ⌜ at + 16 ≤ length (now words) ⌝ }
+    ensures { λ r. ⌜ r ≡ StateWords.nodesAt (now (words .entry)) at ⌝ }
 {
-    let mut out = [0u32; 32];
-    copy_from(words, at, &mut out);
-    out
+    let mut nodes = [Node(0); 16];
+    let mut s: usize = 0;
+    while s < 16 {
+        nodes[s] = Node(words[at + s]);
+        s += 1;
+    }
+    nodes
+}
+
+// The 16 positions from a place on, two words each.
+fn positions_at(words: &[u32], at: usize) -> [Position; 16]
+    requires { ⌜ at + 32 ≤ length (now words) ⌝ }
+    ensures { λ r. ⌜ r ≡ StateWords.positionsAt (now (words .entry)) at ⌝ }
+{
+    let mut positions = [Position {
+        view: View(0),
+        k: 0,
+    }; 16];
+    let mut s: usize = 0;
+    while s < 16 {
+        positions[s] = Position {
+            view: View(words[at + 2 * s]),
+            k: words[at + 2 * s + 1],
+        };
+        s += 1;
+    }
+    positions
 }
 
 // The view whose number and members stand from a place on, and its masks after another word.
@@ -192,7 +231,7 @@ fn state_in(words: &[u32]) -> State
         kept: layout_at(words, 1),
         termination: Termination {
             made: words[3] == 1,
-            positions: thirty_two(words, 20),
+            positions: positions_at(words, 20),
         },
         held: words[52],
         fetched: words[53],
@@ -200,8 +239,8 @@ fn state_in(words: &[u32]) -> State
         plan: Plan {
             layout: layout_at(words, 55),
             total: words[57],
-            holders: sixteen(words, 74),
-            targets: thirty_two(words, 90),
+            holders: nodes_at(words, 74),
+            targets: positions_at(words, 90),
         },
     }
 }

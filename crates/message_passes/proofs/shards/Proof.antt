@@ -34,17 +34,17 @@ loop-holds c = let a = c .before .before .args in
     (search needs, all-none (shardAt (a .settings .now) (a .body .now)))
 
 returns : tie.Need-returns Inv-loop μ-loop
-returns c = let a = c .before .before .before .before .before .before .args in
-    let l = c .before .before .before .loop in
+returns c = let a = c .before .before .before .before .before .before .before .args in
+    let l = c .before .before .before .before .loop in
     sym (bad-at (a .len) (shardAt (a .settings .now) (a .body .now)) (l .j) (omega arith) (l .inv .1)
-    (fails (a .settings .now) (a .body .now) (l .j) _ _ (c .before .before .before .before .shards .ensures) (c .before .shard .ensures) (c .if1 .taken)))
+    (fails (a .settings .now) (a .body .now) (l .j) _ _ (c .before .before .before .before .before .shards .ensures) (c .before .before .shard .ensures) (c .if1 .taken)))
 
 loop-again : tie.Need-loop-again Inv-loop μ-loop
-loop-again c = let a = c .before .before .before .before .before .before .args in
-    let l = c .before .before .before .loop in (
+loop-again c = let a = c .before .before .before .before .before .before .before .args in
+    let l = c .before .before .before .before .loop in (
       omega arith,
       all-more (l .j) (shardAt (a .settings .now) (a .body .now)) (l .inv .1)
-          (passes (a .settings .now) (a .body .now) (l .j) _ _ (c .before .before .before .before .shards .ensures) (c .before .shard .ensures) (c .if1 .left)),
+          (passes (a .settings .now) (a .body .now) (l .j) _ _ (c .before .before .before .before .before .shards .ensures) (c .before .before .shard .ensures) (c .if1 .left)),
     )
 
 returns-2 : tie.Need-returns-2 Inv-loop μ-loop
@@ -54,6 +54,4 @@ returns-2 c = let a = c .before .before .before .before .args in
 
 pub shards-spec : {M : Type 1} → statement M
 shards-spec =
-    tie.close
-    (tie.spec Inv-loop μ-loop (λ c κs. search needs) (λ c. search needs) loop-holds (λ c κs. search needs) returns (λ c. search needs)
-    (λ c. search needs) loop-again returns-2)
+    tie.close (tie.spec Inv-loop μ-loop (λ c κs. search needs) loop-holds (λ c κs. search needs) returns (λ c. search needs) (λ c. search needs) loop-again returns-2)

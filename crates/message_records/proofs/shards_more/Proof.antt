@@ -9,8 +9,8 @@ returns : tie.Need-returns
 returns c = simp (sym (c .before .kind .ensures), ne-eqb _ _ (c .if1 .taken))
 
 returns-2 : tie.Need-returns-2
-returns-2 c = simp (sym (c .before .before .before .kind .ensures), eq-eqb _ _ (c .before .before .if1 .left), sym (c .before .shard .ensures), sym (c .with .ensures))
+returns-2 c = simp (sym (c .before .before .before .before .kind .ensures), eq-eqb _ _ (c .before .before .before .if1 .left), sym (c .before .before .shard .ensures), sym (c .with .ensures))
 
 pub shards-more-spec : {M : Type 1} → statement M
 shards-more-spec =
-    tie.close (tie.spec (λ c κs. search needs) returns (λ c κs. search needs) (λ c κs. search needs) returns-2)
+    tie.close (tie.spec (λ c κs. search needs) returns (λ c κs. search needs) (λ c. search needs) (λ c κs. search needs) returns-2)

@@ -28,7 +28,7 @@ returns-3 : tie.Need-returns-3
 unfolding legal
 returns-3 c = let a = c .before .before .before .before .args in
     simp (ne-eqb _ _ (c .before .before .before .if1 .left), ne-eqb _ _ (c .before .before .if2 .left), eq-eqb _ _ (c .before .if3 .taken))
-    (c .has .ensures ∙ holder (a .members) (a .a) (c .before .before .before .before .fits .members .fits))
+    (c .has .ensures ∙ holder (a .members) (a .word1) (c .before .before .before .before .fits .members .fits))
 
 returns-4 : tie.Need-returns-4
 unfolding legal

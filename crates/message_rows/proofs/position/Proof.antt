@@ -8,11 +8,11 @@ use Rattle.message_rows.proofs.position.Tie as tie
 
 returns : tie.Need-returns
 unfolding position
-returns c = simp (eq-eqb _ _ (c .if1 .taken), lt-leb 1 (c .before .args .v) (omega arith), or-false)
+returns c = simp (eq-eqb _ _ (c .before .if1 .taken), lt-leb 1 (c .before .before .before .before .args .p .view .0) (omega arith), or-false)
 
 returns-2 : tie.Need-returns-2
 unfolding position
-returns-2 c = simp (ne-eqb _ _ (c .if1 .left), le-leb 1 (c .before .args .v) (omega arith))
+returns-2 c = simp (ne-eqb _ _ (c .before .if1 .left), le-leb 1 (c .before .before .before .before .args .p .view .0) (omega arith))
 
 pub position-spec : {M : Type 1} → statement M
 position-spec = tie.close (tie.spec returns returns-2)

@@ -20,4 +20,4 @@ returns-3 c = simp (le-ltb _ _ (c .before .before .before .if1 .left), le-leb _ 
 
 pub row10-at-spec : {M : Type 1} → statement M
 row10-at-spec =
-    tie.close (tie.spec (λ c. search needs) (λ c. search needs) returns (λ c κs. search needs) returns-2 (λ c κs. search needs) returns-3)
+    tie.close (tie.spec (λ c. search needs) (λ c. search needs) (λ c. search needs) returns (λ c κs. search needs) returns-2 (λ c κs. search needs) returns-3)

@@ -12,10 +12,8 @@ returns c = simp (sym (c .before .before .subgroup .ensures), sym (c .before .su
 
 returns-2 : tie.Need-returns-2
 unfolding shardApart
-returns-2 c = simp (sym (c .before .before .before .before .before .subgroup .ensures), sym (c .before .before .before .before .subgroup2 .ensures), eq-eqb _ _ (c .before .before .before .if1 .left), sym (c .disjoint .ensures))
+returns-2 c = simp (sym (c .before .before .before .before .before .before .before .subgroup .ensures), sym (c .before .before .before .before .before .before .subgroup2 .ensures), eq-eqb _ _ (c .before .before .before .before .before .if1 .left), sym (c .disjoint .ensures))
 
 pub shard-apart-spec : {M : Type 1} → statement M
 shard-apart-spec =
-    tie.close
-    (tie.spec (λ c κs. search needs) (λ c κs. search needs) returns (λ c. search needs) (λ c. search needs) (λ c. search needs) (λ c. search needs)
-    (λ c κs. search needs) returns-2)
+    tie.close (tie.spec (λ c κs. search needs) (λ c κs. search needs) returns (λ c. search needs) (λ c. search needs) (λ c. search needs) (λ c. search needs) (λ c. search needs) (λ c. search needs) (λ c κs. search needs) returns-2)

@@ -15,4 +15,4 @@ returns-2 c = simp (sym (c .before .before .before .has .ensures), not-false (c 
 
 pub clash-spec : {M : Type 1} → statement M
 clash-spec =
-    tie.close (tie.spec (λ c κs. search needs) returns (λ c κs. search needs) (λ c. search needs) (λ c κs. search needs) returns-2)
+    tie.close (tie.spec (λ c. search needs) (λ c κs. search needs) returns (λ c κs. search needs) (λ c. search needs) (λ c κs. search needs) returns-2)

@@ -12,8 +12,8 @@ returns c = simp (sym (c .before .has .ensures), not-true (c .before .has .resul
 
 with-requires : tie.Need-with-requires
 with-requires c κs =
-    let s = c .before .before .before .before .pre .0 in
-    omega (arith, c .set-of .ensures, s .set-below (c .before .before .before .before .args .n) (c .before .before .before .before .pre .1), s .sizes .sets-to)
+    let s = c .before .before .before .before .before .pre .0 in
+    omega (arith, c .set-of .ensures, s .set-below (c .before .before .before .before .before .args .n .0) (c .before .before .before .before .before .pre .1), s .sizes .sets-to)
 
 returns-2 : tie.Need-returns-2
 unfolding seenWith
@@ -21,4 +21,4 @@ returns-2 c = simp (sym (c .before .before .before .has .ensures), not-false (c 
 
 pub seen-with-spec : {M : Type 1} → statement M
 seen-with-spec =
-    tie.close (tie.spec (λ c κs. search needs) returns (λ c κs. search needs) (λ c. search needs) with-requires returns-2)
+    tie.close (tie.spec (λ c. search needs) (λ c κs. search needs) returns (λ c κs. search needs) (λ c. search needs) with-requires returns-2)

@@ -19,11 +19,11 @@ returns-2 c = simp (sym (c .before .before .before .before .subset .ensures), no
 
 spread-requires : tie.Need-spread-requires
 spread-requires c κs =
-    let p = c .before .before .before .before .before .before .before .pre in
-    let a = c .before .before .before .before .before .before .before .args in
+    let p = c .before .before .before .before .before .before .before .before .pre in
+    let a = c .before .before .before .before .before .before .before .before .args in
     let k = c .before .before .before .before .subset in
-    let inside : subset (getD (a .masks .now) (a .s) 0) (a .held) ≡ true = sym (k .ensures) ∙ not-false (k .result) (c .before .before .before .if1 .left) in
-    (p .0, omega (arith, p .1 .1, subset-le (getD (a .masks .now) (a .s) 0) (a .held) inside))
+    let inside : subset (getD (a .masks .now) (a .s .0) 0) (a .held) ≡ true = sym (k .ensures) ∙ not-false (k .result) (c .before .before .before .if1 .left) in
+    (p .0, omega (arith, p .1 .1, subset-le (getD (a .masks .now) (a .s .0) 0) (a .held) inside))
 
 returns-3 : tie.Need-returns-3
 unfolding shardValid
@@ -31,6 +31,4 @@ returns-3 c = simp (sym (c .before .before .before .before .before .subset .ensu
 
 pub shard-valid-spec : {M : Type 1} → statement M
 shard-valid-spec =
-    tie.close
-    (tie.spec (λ c. search needs) (λ c. search needs) (λ c κs. search needs) returns (λ c κs. search needs) (λ c κs. search needs) returns-2
-    spread-requires returns-3)
+    tie.close (tie.spec (λ c. search needs) (λ c. search needs) (λ c. search needs) (λ c κs. search needs) returns (λ c κs. search needs) (λ c κs. search needs) returns-2 spread-requires returns-3)

@@ -12,7 +12,7 @@ unfolding maskWith
 returns c =
     let a = c .before .before .before .args in
     let i = c .before .in-group in
-    sym (ap (λ (b : Bool). cond b (ownedBy (a .owners .now) (a .s)) (a .was)) (sym (i .ensures) ∙ not-true (i .result) (c .if1 .taken)))
+    sym (ap (λ (b : Bool). cond b (ownedBy (a .owners .now) (a .s .0)) (a .was)) (sym (i .ensures) ∙ not-true (i .result) (c .if1 .taken)))
 
 returns-2 : tie.Need-returns-2
 unfolding maskWith
@@ -20,7 +20,7 @@ returns-2 c =
     let a = c .before .before .before .before .args in
     let i = c .before .before .in-group in
     c .owned-by .ensures
-    ∙ sym (ap (λ (b : Bool). cond b (ownedBy (a .owners .now) (a .s)) (a .was)) (sym (i .ensures) ∙ not-false (i .result) (c .before .if1 .left)))
+    ∙ sym (ap (λ (b : Bool). cond b (ownedBy (a .owners .now) (a .s .0)) (a .was)) (sym (i .ensures) ∙ not-false (i .result) (c .before .if1 .left)))
 
 pub mask-with-spec : {M : Type 1} → statement M
 mask-with-spec = tie.close (tie.spec (λ c κs. search needs) returns (λ c κs. search needs) returns-2)

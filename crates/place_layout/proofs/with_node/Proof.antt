@@ -9,12 +9,12 @@ use Rattle.place_layout.proofs.with_node.Tie as tie
 
 returns : tie.Need-returns
 returns c =
-    let a = c .before .before .args in
-    c .with .ensures ∙ sym (ap (λ (b : Bool). cond b (with (a .mask) (a .n)) (a .mask)) (eq-eqb (a .owner) (a .s) (c .before .if1 .taken)))
+    let a = c .before .before .before .before .args in
+    c .with .ensures ∙ sym (ap (λ (b : Bool). cond b (with (a .mask) (a .n .0)) (a .mask)) (eq-eqb (a .owner) (a .s .0) (c .before .before .if1 .taken)))
 
 returns-2 : tie.Need-returns-2
 returns-2 c =
-    let a = c .before .args in sym (ap (λ (b : Bool). cond b (with (a .mask) (a .n)) (a .mask)) (ne-eqb (a .owner) (a .s) (c .if1 .left)))
+    let a = c .before .before .args in sym (ap (λ (b : Bool). cond b (with (a .mask) (a .n .0)) (a .mask)) (ne-eqb (a .owner) (a .s .0) (c .if1 .left)))
 
 pub with-node-spec : {M : Type 1} → statement M
-with-node-spec = tie.close (tie.spec (λ c κs. search needs) returns returns-2)
+with-node-spec = tie.close (tie.spec (λ c. search needs) (λ c κs. search needs) returns returns-2)

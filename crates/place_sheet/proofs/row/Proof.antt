@@ -10,25 +10,25 @@ use Rattle.place_sheet.proofs.row.Statement.{statement}
 use Rattle.place_sheet.proofs.row.Tie as tie
 
 abbrev Inv-loop : tie.InvT-loop
-Inv-loop settings stay any s r₀ f₀ r f = (f ≤ 16) × (r ≡ filled f (entryBy settings stay any s) (replicate 16 2))
+Inv-loop settings stay any s r₀ f₀ r f = (f ≤ 16) × (r ≡ filled f (entryBy settings stay any (s .0)) (replicate 16 2))
 
 abbrev μ-loop : tie.MeasureT-loop
 μ-loop settings stay any s r₀ f₀ r f = 16 - f
 
 loop-holds : tie.Need-loop-holds Inv-loop μ-loop
-loop-holds c = let a = c .before .args in (omega arith, fill-start 16 2 (entryBy (a .settings .now) (a .stay) (a .any) (a .s)))
+loop-holds c = let a = c .before .args in (omega arith, fill-start 16 2 (entryBy (a .settings .now) (a .stay) (a .any) (a .s .0)))
 
 loop-again : tie.Need-loop-again Inv-loop μ-loop
 loop-again c =
     let a = c .before .before .before .before .args in
     let l = c .before .before .loop in
-    (omega arith, fill-turn 16 2 (entryBy (a .settings .now) (a .stay) (a .any) (a .s)) (l .f) (l .r) (c .entry .result) (omega arith) (l .inv .1) (c .entry .ensures))
+    (omega arith, fill-turn 16 2 (entryBy (a .settings .now) (a .stay) (a .any) (a .s .0)) (l .f) (l .r) (c .entry .result) (omega arith) (l .inv .1) (c .entry .ensures))
 
 returns : tie.Need-returns Inv-loop μ-loop
 returns c =
     let a = c .before .before .before .args in
     let l = c .before .loop in
-    fill-end 16 2 (entryBy (a .settings .now) (a .stay) (a .any) (a .s)) (l .f) (l .r) (omega arith) (omega arith) (l .inv .1)
+    fill-end 16 2 (entryBy (a .settings .now) (a .stay) (a .any) (a .s .0)) (l .f) (l .r) (omega arith) (omega arith) (l .inv .1)
 
 array-write-r : tie.Need-array-write-r Inv-loop μ-loop
 array-write-r c = omega arith

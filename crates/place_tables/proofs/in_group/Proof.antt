@@ -10,12 +10,12 @@ use Rattle.place_tables.proofs.in_group.Tie as tie
 
 returns : tie.Need-returns
 returns c =
-    let a = c .before .before .before .args in sym (group-past (a .settings .now) (a .g) (a .s) (omega (arith, c .before .shards .ensures)))
+    let a = c .before .before .before .before .args in sym (group-past (a .settings .now) (a .g) (a .shard .0) (omega (arith, c .before .before .shards .ensures)))
 
 returns-2 : tie.Need-returns-2
 returns-2 c =
-    let a = c .before .before .before .before .args in
-    ap (λ (x : ℕ). eqb x (a .g)) (c .subgroup .ensures) ∙ sym (group-is (a .settings .now) (a .g) (a .s) (omega (arith, c .before .before .shards .ensures)))
+    let a = c .before .before .before .before .before .args in
+    ap (λ (x : ℕ). eqb x (a .g)) (c .subgroup .ensures) ∙ sym (group-is (a .settings .now) (a .g) (a .shard .0) (omega (arith, c .before .before .before .shards .ensures)))
 
 pub in-group-spec : {M : Type 1} → statement M
 in-group-spec = tie.close (tie.spec (λ c κs. search needs) returns (λ c κs. search needs) returns-2)

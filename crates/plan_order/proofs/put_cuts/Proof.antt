@@ -9,11 +9,11 @@ use Rattle.plan_order.proofs.put_cuts.Statement.{statement}
 use Rattle.plan_order.proofs.put_cuts.Tie as tie
 
 abbrev Inv-loop : tie.InvT-loop
-Inv-loop body₀ own len plan count desk n from layout j₀ s₀ body j s =
-    Storing from plan n (storeCutOf from plan desk own len n) count body₀ body j s
+Inv-loop body₀ own len plan count desk node from layout j₀ s₀ body j s =
+    Storing from plan (node .0) (storeCutOf from plan desk own len (node .0)) count body₀ body j s
 
 abbrev μ-loop : tie.MeasureT-loop
-μ-loop body₀ own len plan count desk n from layout j₀ s₀ body j s = count - s
+μ-loop body₀ own len plan count desk node from layout j₀ s₀ body j s = count - s
 
 loop-holds : tie.Need-loop-holds Inv-loop μ-loop
 loop-holds c = storing-start _ _ _ _ _ _ (c .before .before .pre .0 .0)
@@ -42,13 +42,13 @@ loop-again c =
     (λ w.
     let carried = sym (c .before .carries .ensures) ∙ w .0 .taken in
     storing-hit (i .inv) (c .if1 .body) (c .if1 .j) l carried
-    (record-hit (a .from) (a .plan) (a .n) (i .s) (1280 + i .s) _ _ (i .body) (c .if1 .body) carried (i .j) (i .inv .next)
+    (record-hit (a .from) (a .plan) (a .node .0) (i .s) (1280 + i .s) _ _ (i .body) (c .if1 .body) carried (i .j) (i .inv .next)
     (position-stored (i .body) (c .if1 .body) (i .j) (1280 + i .s) (w .1 .result) _ (w .1 .ensures) (w .5 ∙ w .4 .ensures)))
     (w .6))
     (λ w.
     let skipped = sym (c .before .carries .ensures) ∙ w .0 .left in
     storing-miss (i .inv) (c .if1 .body) (c .if1 .j) l skipped
-    (record-miss (a .from) (a .plan) (a .n) (i .s) (1280 + i .s) _ _ (i .body) (c .if1 .body) skipped (w .1))
+    (record-miss (a .from) (a .plan) (a .node .0) (i .s) (1280 + i .s) _ _ (i .body) (c .if1 .body) skipped (w .1))
     (w .2))
     (c .if1 .came)
 
@@ -58,5 +58,4 @@ returns c = storing-end (c .before .loop .inv) (c .loop-test .left)
 pub put-cuts-spec : {M : Type 1} → statement M
 put-cuts-spec =
     tie.close
-    (tie.spec Inv-loop μ-loop loop-holds carries-requires cut-for-requires (λ c. search needs) (λ c. search needs) put-requires add-j
-    (λ c. search needs) (λ c. search needs) loop-again returns)
+    (tie.spec Inv-loop μ-loop loop-holds (λ c. search needs) carries-requires (λ c. search needs) cut-for-requires (λ c. search needs) (λ c. search needs) put-requires add-j (λ c. search needs) (λ c. search needs) loop-again returns)

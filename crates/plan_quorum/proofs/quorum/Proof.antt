@@ -12,18 +12,18 @@ use Rattle.plan_quorum.proofs.quorum.Tie as tie
 
 returns : tie.Need-returns
 returns c = let a = c .before .before .before .before .args in
-    quorum-view (a .settings .now) (a .v) (a .held) (a .holders .now) (c .if1 .taken)
+    quorum-view (a .settings .now) (a .v) (a .held) (a .holders) (c .if1 .taken)
 
 returns-2 : tie.Need-returns-2
 returns-2 c = let a = c .before .before .before .before .before .before .args in
     let m = c .before .most-held in
-    quorum-most (a .settings .now) (a .v) (a .held) (a .holders .now) (c .before .before .if1 .left) (sym (m .ensures) ∙ not-true (m .result) (c .if2 .taken))
+    quorum-most (a .settings .now) (a .v) (a .held) (a .holders) (c .before .before .if1 .left) (sym (m .ensures) ∙ not-true (m .result) (c .if2 .taken))
 
 returns-3 : tie.Need-returns-3
 returns-3 c = let a = c .before .before .before .before .before .before .before .before .before .args in
     let m = c .before .before .before .before .most-held in
     let few : count (a .held) < least (a .settings .now) = omega (arith, c .before .before .count .ensures, c .before .least .ensures) in
-    quorum-few (a .settings .now) (a .v) (a .held) (a .holders .now) (c .before .before .before .before .before .if1 .left) (sym (m .ensures) ∙ not-false (m .result) (c .before .before .before .if2 .left)) few
+    quorum-few (a .settings .now) (a .v) (a .held) (a .holders) (c .before .before .before .before .before .if1 .left) (sym (m .ensures) ∙ not-false (m .result) (c .before .before .before .if2 .left)) few
 
 returns-4 : tie.Need-returns-4
 returns-4 c = let e = c .before .before .before .before in
@@ -32,7 +32,7 @@ returns-4 c = let e = c .before .before .before .before in
     let n = c .before .before .wide in
     let s = c .before .first-without in
     let enough : least (a .settings .now) ≤ count (a .held) = omega (arith, e .before .before .count .ensures, e .before .least .ensures, e .if3 .left) in
-    quorum-holder (a .settings .now) (a .v) (a .held) (a .holders .now) (e .before .before .before .before .before .if1 .left) (sym (m .ensures) ∙ not-false (m .result) (e .before .before .before .if2 .left)) enough
+    quorum-holder (a .settings .now) (a .v) (a .held) (a .holders) (e .before .before .before .before .before .if1 .left) (sym (m .ensures) ∙ not-false (m .result) (e .before .before .before .if2 .left)) enough
     (n .result) (s .result) (n .ensures ∙ c .before .before .before .shards .ensures) (s .ensures) (c .if4 .taken)
 
 returns-5 : tie.Need-returns-5
@@ -42,7 +42,7 @@ returns-5 c = let e = c .before .before .before .before in
     let n = c .before .before .wide in
     let s = c .before .first-without in
     let enough : least (a .settings .now) ≤ count (a .held) = omega (arith, e .before .before .count .ensures, e .before .least .ensures, e .if3 .left) in
-    quorum-met (a .settings .now) (a .v) (a .held) (a .holders .now) (e .before .before .before .before .before .if1 .left) (sym (m .ensures) ∙ not-false (m .result) (e .before .before .before .if2 .left)) enough
+    quorum-met (a .settings .now) (a .v) (a .held) (a .holders) (e .before .before .before .before .before .if1 .left) (sym (m .ensures) ∙ not-false (m .result) (e .before .before .before .if2 .left)) enough
     (n .result) (s .result) (n .ensures ∙ c .before .before .before .shards .ensures) (s .ensures) (c .if4 .left)
 
 pub quorum-spec : {M : Type 1} → statement M

@@ -17,23 +17,22 @@ abbrev μ-loop : tie.MeasureT-loop
 
 loop-holds : tie.Need-loop-holds Inv-loop μ-loop
 loop-holds c = let a = c .before .args in
-    (search needs, sym (filled-none (ableRow (a .held) (a .desk .now) (a .list .now) (a .targets .now) (a .count)) (replicate 32 0)))
+    (search needs, sym (filled-none (ableRow (a .held) (a .desk .now) (a .list .now) (a .targets) (a .count)) (replicate 32 0)))
 
 loop-again : tie.Need-loop-again Inv-loop μ-loop
 loop-again c = let a = c .before .before .before .before .args in
     let l = c .before .before .loop in
     let few = length-replicate {A = ℕ} 32 0 in
-    (omega arith, filled-turn (l .n) (ableRow (a .held) (a .desk .now) (a .list .now) (a .targets .now) (a .count)) (replicate 32 0) (l .able) (c .able-row .result) (omega (arith, few)) (l .inv .1) (c .able-row .ensures))
+    (omega arith, filled-turn (l .n) (ableRow (a .held) (a .desk .now) (a .list .now) (a .targets) (a .count)) (replicate 32 0) (l .able) (c .able-row .result) (omega (arith, few)) (l .inv .1) (c .able-row .ensures))
 
 returns : tie.Need-returns Inv-loop μ-loop
 returns c = let a = c .before .before .before .args in
     let l = c .before .loop in
-    let f = ableRow (a .held) (a .desk .now) (a .list .now) (a .targets .now) (a .count) in
+    let f = ableRow (a .held) (a .desk .now) (a .list .now) (a .targets) (a .count) in
     let z : l .n ≡ 32 = omega arith in
     l .inv .1 ∙ ap (λ (k : ℕ). filled k f (replicate 32 0)) z ∙ filled-all 32 f (replicate 32 0) (length-replicate {A = ℕ} 32 0)
 
 pub ables-spec : {M : Type 1} → statement M
 ables-spec =
     tie.close
-    (tie.spec Inv-loop μ-loop loop-holds (λ c κs. search needs) (λ c. search needs) (λ c. search needs) (λ c. search needs) (λ c. search needs)
-    loop-again returns)
+    (tie.spec Inv-loop μ-loop loop-holds (λ c. search needs) (λ c κs. search needs) (λ c. search needs) (λ c. search needs) (λ c. search needs) (λ c. search needs) loop-again returns)

@@ -11,33 +11,33 @@ use Rattle.plan_standing.proofs.best_of.Statement.{statement}
 use Rattle.plan_standing.proofs.best_of.Tie as tie
 
 abbrev Inv-loop : tie.InvT-loop
-Inv-loop table list s b₀ n₀ b n = (n ≤ 32) × (b ≡ bestSoFar (picked list s) (tableEnd table s) 32 n)
+Inv-loop table list shard b₀ n₀ b n = (n ≤ 32) × (b .0 ≡ bestSoFar (picked list (shard .0)) (tableEnd table (shard .0)) 32 n)
 
 abbrev μ-loop : tie.MeasureT-loop
-μ-loop table list s b₀ n₀ b n = 32 - n
+μ-loop table list shard b₀ n₀ b n = 32 - n
 
 loop-holds : tie.Need-loop-holds Inv-loop μ-loop
 loop-holds c = let a = c .args in
-    (search needs, sym (best-start (picked (a .list .now) (a .s)) (tableEnd (a .table .now) (a .s)) 32))
+    (search needs, sym (best-start (picked (a .list .now) (a .shard .0)) (tableEnd (a .table .now) (a .shard .0)) 32))
 
 better-requires : tie.Need-better-requires Inv-loop μ-loop
 better-requires c κs = let a = c .before .before .args in
     let l = c .before .loop in
-    let few = best-so-far-le (picked (a .list .now) (a .s)) (tableEnd (a .table .now) (a .s)) 32 (l .n) (l .inv .0) in
+    let few = best-so-far-le (picked (a .list .now) (a .shard .0)) (tableEnd (a .table .now) (a .shard .0)) 32 (l .n) (l .inv .0) in
     omega (arith, few, l .inv .1)
 
 loop-again : tie.Need-loop-again Inv-loop μ-loop
 loop-again c = let a = c .before .before .before .args in
     let l = c .before .before .loop in
-    let f = picked (a .list .now) (a .s) in
-    let e = tableEnd (a .table .now) (a .s) in
+    let f = picked (a .list .now) (a .shard .0) in
+    let e = tableEnd (a .table .now) (a .shard .0) in
     (omega arith, c .better .ensures ∙ ap (bestWith f e 32 (l .n)) (l .inv .1) ∙ best-step f e 32 (l .n) (l .inv .0) ∙ ap (bestSoFar f e 32) (sym (add-one (l .n))))
 
 returns : tie.Need-returns Inv-loop μ-loop
 returns c = let a = c .before .before .args in
     let l = c .before .loop in
-    let f = picked (a .list .now) (a .s) in
-    let e = tableEnd (a .table .now) (a .s) in
+    let f = picked (a .list .now) (a .shard .0) in
+    let e = tableEnd (a .table .now) (a .shard .0) in
     let z : l .n ≡ 32 = omega arith in
     l .inv .1 ∙ ap (bestSoFar f e 32) z ∙ best-all f e 32
 

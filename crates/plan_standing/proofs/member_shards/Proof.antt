@@ -22,14 +22,14 @@ abbrev μ-loop : tie.MeasureT-loop
 μ-loop masks count n m₀ s₀ m s = count - s
 
 loop-holds : tie.Need-loop-holds Inv-loop μ-loop
-loop-holds c = let a = c .args in
-    (search needs, sym (mask-none (member (a .masks .now) (a .n))))
+loop-holds c = let a = c .before .args in
+    (search needs, sym (mask-none (member (a .masks .now) (a .node .0))))
 
 loop-again : tie.Need-loop-again Inv-loop μ-loop
-loop-again c = let a = c .before .before .before .before .before .args in
+loop-again c = let a = c .before .before .before .before .before .before .args in
     let l = c .before .before .before .before .loop in
     let h = c .before .has in
-    let f = member (a .masks .now) (a .n) in (
+    let f = member (a .masks .now) (a .node .0) in (
       omega arith,
       ⊎-elim
           (λ w. w .2 ∙ w .1 .ensures ∙ ap (λ (x : ℕ). with x (l .s)) (l .inv .1) ∙ mask-hit (l .s) f (sym (h .ensures) ∙ w .0 .taken))
@@ -38,13 +38,12 @@ loop-again c = let a = c .before .before .before .before .before .args in
     )
 
 returns : tie.Need-returns Inv-loop μ-loop
-returns c = let a = c .before .before .args in
+returns c = let a = c .before .before .before .args in
     let l = c .before .loop in
     let z : l .s ≡ a .count = omega arith in
-    l .inv .1 ∙ ap (λ (k : ℕ). maskBelow k (member (a .masks .now) (a .n))) z
+    l .inv .1 ∙ ap (λ (k : ℕ). maskBelow k (member (a .masks .now) (a .node .0))) z
 
 pub member-shards-spec : {M : Type 1} → statement M
 member-shards-spec =
     tie.close
-    (tie.spec Inv-loop μ-loop loop-holds (λ c. search needs) (λ c. search needs) (λ c κs. search needs) (λ c κs. search needs) (λ c. search needs)
-    (λ c. search needs) loop-again returns)
+    (tie.spec Inv-loop μ-loop (λ c. search needs) loop-holds (λ c. search needs) (λ c. search needs) (λ c κs. search needs) (λ c κs. search needs) (λ c. search needs) (λ c. search needs) loop-again returns)

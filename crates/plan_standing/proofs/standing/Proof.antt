@@ -12,20 +12,24 @@ ends-table-requires c κs = let s = c .before .before .before .before in
     readable (s .args .settings .now) (s .args .v) (s .args .t) (s .args .held) (s .args .desk .now) (s .pre .1 .0) (s .pre .1 .1)
 
 ables-requires : tie.Need-ables-requires
-ables-requires c κs = let s = c .before .before .before .before .before .before .before .before .before .before .before in
-    let n = c .before .before .before .before .before .before .before .wide in
-    let m = c .before .before .before .before .before .before .before .before .shards in
+ables-requires c κs = let s = c .before .before .before .before .before .before .before .before .before .before in
+    let n = c .before .before .before .before .before .before .wide in
+    let m = c .before .before .before .before .before .before .before .shards in
     (readable (s .args .settings .now) (s .args .v) (s .args .t) (s .args .held) (s .args .desk .now) (s .pre .1 .0) (s .pre .1 .1), omega (arith, n .ensures, m .ensures, s .pre .0 .sizes .shards-to))
 
 returns : tie.Need-returns
-returns c = let x = c .before .before .before .before .before .before .before .before in
-    let y = x .before .before .before in
-    let s = y .before .before .before .before .before .before in
-    let n = y .before .before .wide in
-    let m = y .before .before .before .shards in
-    standing-built (s .args .settings .now) (s .args .v) (s .args .t) (s .args .held) (s .args .desk .now) (s .pre .0) (s .pre .1 .0)
-    (n .result) (y .before .ends-table .result) (y .candidates .result) (x .targets-of .result) (c .before .before .before .before .before .ables .result) (c .before .before .holders-of .result) (c .quorum .result)
-    (n .ensures ∙ m .ensures) (y .before .ends-table .ensures) (y .candidates .ensures) (x .targets-of .ensures) (c .before .before .before .before .before .ables .ensures) (c .before .before .holders-of .ensures) (c .quorum .ensures)
+returns c = let s = c .before .before .before .before .before .before .before .before .before .before .before .before .before .before .before in
+    let a = s .args in
+    let n = c .before .before .before .before .before .before .before .before .before .before .before .wide in
+    let m = c .before .before .before .before .before .before .before .before .before .before .before .before .shards in
+    let table = c .before .before .before .before .before .before .before .before .before .before .ends-table in
+    let list = c .before .before .before .before .before .before .before .before .before .candidates in
+    let goals = c .before .before .before .before .before .before .targets-of in
+    let able = c .before .before .before .before .ables in
+    let chosen = c .before .holders-of in
+    standing-built (a .settings .now) (a .v) (a .t) (a .held) (a .desk .now) (s .pre .0) (s .pre .1 .0)
+    (n .result) (table .result) (list .result) (goals .result) (able .result) (chosen .result) (c .quorum .result)
+    (n .ensures ∙ m .ensures) (table .ensures) (list .ensures) (goals .ensures) (able .ensures) (chosen .ensures) (c .quorum .ensures)
 
 pub standing-spec : {M : Type 1} → statement M
 standing-spec =

@@ -6,11 +6,10 @@ use Rattle.program_lines.proofs.put_shard.Statement.{statement}
 use Rattle.program_lines.proofs.put_shard.Tie as tie
 
 returns : tie.Need-returns
-returns c = puts-as (shard-text _ _) (c .before .before .put-numbers .ensures)
+returns c = puts-as (shard-text _ _) (c .before .before .put-entry .ensures)
 
 pub put-shard-spec : {M : Type 1} → statement M
 put-shard-spec =
     tie.close
     (tie.spec (λ c. search needs) (λ c. search needs) (λ c. search needs) (λ c. search needs) (λ c. search needs) (λ c. search needs)
-    (λ c. search needs) (λ c. search needs) (λ c. search needs) (λ c. search needs) (λ c. search needs) (λ c. search needs) (λ c κs. search needs)
-    (λ c. search needs) returns)
+    (λ c. search needs) (λ c κs. search needs) (λ c. search needs) returns)

@@ -1,7 +1,6 @@
--- `report_kept::position_in` meets its contract: by whether there is such a shard, and which word of its position it is.
--- Assumes nothing.
+-- `report_kept::position_in` meets its contract: by whether there is such a shard. Assumes nothing.
 use borrow.Author.Needs.{needs}
-use borrow.Author.Tests.{lt-ltb, le-ltb, eq-eqb, ne-eqb}
+use borrow.Author.Tests.{lt-ltb, le-ltb}
 use Rattle.report_kept.proofs.position_in.Statement.{statement}
 use Rattle.report_kept.proofs.position_in.Tie as tie
 
@@ -9,13 +8,10 @@ returns : tie.Need-returns
 returns c = simp (le-ltb _ _ (c .if1 .taken))
 
 returns-2 : tie.Need-returns-2
-returns-2 c = simp (lt-ltb _ _ (c .before .before .if1 .left), eq-eqb _ _ (c .before .if2 .taken))
-
-returns-3 : tie.Need-returns-3
-returns-3 c = simp (lt-ltb _ _ (c .before .before .if1 .left), ne-eqb _ _ (c .before .if2 .left))
+returns-2 c = simp (lt-ltb _ _ (c .before .before .if1 .left))
 
 pub position-in-spec : {M : Type 1} → statement M
 position-in-spec =
     tie.close
-    (tie.spec returns (λ c. search needs) (λ c. search needs) (λ c. search needs) (λ c. search needs) (λ c. search needs) returns-2
-    (λ c. search needs) (λ c. search needs) (λ c. search needs) (λ c. search needs) (λ c. search needs) returns-3)
+    (tie.spec returns (λ c. search needs) (λ c. search needs) (λ c. search needs) (λ c. search needs) (λ c. search needs)
+    (λ c. search needs) (λ c. search needs) (λ c. search needs) (λ c. search needs) (λ c. search needs) returns-2)

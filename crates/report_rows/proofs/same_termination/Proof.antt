@@ -6,9 +6,9 @@ use Rattle.report_rows.proofs.same_termination.Statement.{statement}
 use Rattle.report_rows.proofs.same_termination.Tie as tie
 
 returns : tie.Need-returns
-returns c = let a = c .before .before .before .before .before .before .before .args in
-    let n = c .before .before .before .before .before .shards in
-    c .same-positions .ensures ∙ term-positions (a .settings .now) (a .t2) (a .t3) (n .result) (n .ensures)
+returns c = let a = c .before .before .before .before .before .before .args in
+    let n = c .before .before .before .before .shards in
+    c .same-positions .ensures ∙ term-positions (a .settings .now) (a .t) (a .t3) (n .result) (n .ensures)
 
 pub same-termination-spec : {M : Type 1} → statement M
 same-termination-spec =

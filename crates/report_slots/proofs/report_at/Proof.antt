@@ -7,8 +7,8 @@ use Rattle.report_slots.proofs.report_at.Tie as tie
 
 contents-of-requires : tie.Need-contents-of-requires
 unfolding slot
-contents-of-requires c κs = let s = c .before .before in
-    (slot-sized (s .args .desk .now) (s .args .n) (s .pre .0 .0) (s .pre .0 .1), s .pre .1)
+contents-of-requires c κs = let s = c .before .before .before in
+    (slot-sized (s .args .desk .now) (s .args .node .0) (s .pre .0 .0) (s .pre .0 .1), s .pre .1)
 
 returns : tie.Need-returns
 unfolding slot reportOf
@@ -17,5 +17,4 @@ returns c = c .contents-of .ensures
 pub report-at-spec : {M : Type 1} → statement M
 report-at-spec =
     tie.close
-    (tie.spec (λ c. search needs) (λ c. search needs) (λ c. search needs) (λ c. search needs) (λ c. search needs) (λ c. search needs)
-    contents-of-requires returns)
+    (tie.spec (λ c. search needs) (λ c. search needs) (λ c. search needs) (λ c. search needs) (λ c. search needs) (λ c. search needs) (λ c. search needs) contents-of-requires returns)

@@ -29,5 +29,4 @@ returns-5 c = simp (eq-eqb _ _ (c .before .before .before .before .before .befor
 pub report-fits-spec : {M : Type 1} → statement M
 report-fits-spec =
     tie.close
-    (tie.spec (λ c. search needs) returns returns-2 (λ c κs. search needs) returns-3 (λ c κs. search needs) returns-4 (λ c κs. search needs)
-    returns-5)
+    (tie.spec returns returns-2 (λ c κs. search needs) returns-3 (λ c κs. search needs) returns-4 (λ c κs. search needs) returns-5)

@@ -8,18 +8,17 @@ use Rattle.report_slots.proofs.slot_ok.Tie as tie
 
 returns : tie.Need-returns
 unfolding slot
-returns c = let a = c .before .before .before .before .before .before .before .args in
+returns c = let a = c .before .before .before .before .before .before .before .before .args in
     let r = c .before .before .before .read-under in
-    slot-refused (a .settings .now) (a .v) (a .t) (a .desk .now) (a .n) (r .result) (r .ensures) (c .if1 .taken)
+    slot-refused (a .settings .now) (a .v) (a .t) (a .desk .now) (a .node .0) (r .result) (r .ensures) (c .if1 .taken)
 
 returns-2 : tie.Need-returns-2
 unfolding slot
-returns-2 c = let a = c .before .before .before .before .before .before .before .before .args in
+returns-2 c = let a = c .before .before .before .before .before .before .before .before .before .args in
     let r = c .before .before .before .before .read-under in
-    c .report-fits .ensures ∙ slot-read (a .settings .now) (a .v) (a .t) (a .desk .now) (a .n) (r .result) (r .ensures) (c .before .if1 .left)
+    c .report-fits .ensures ∙ slot-read (a .settings .now) (a .v) (a .t) (a .desk .now) (a .node .0) (r .result) (r .ensures) (c .before .if1 .left)
 
 pub slot-ok-spec : {M : Type 1} → statement M
 slot-ok-spec =
     tie.close
-    (tie.spec (λ c. search needs) (λ c. search needs) (λ c. search needs) (λ c. search needs) (λ c. search needs) (λ c. search needs)
-    (λ c κs. search needs) returns (λ c κs. search needs) returns-2)
+    (tie.spec (λ c. search needs) (λ c. search needs) (λ c. search needs) (λ c. search needs) (λ c. search needs) (λ c. search needs) (λ c. search needs) (λ c κs. search needs) returns (λ c κs. search needs) returns-2)

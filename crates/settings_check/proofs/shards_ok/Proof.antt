@@ -17,28 +17,28 @@ abbrev μ-loop : tie.MeasureT-loop
 μ-loop settings count s₀ s = count - s
 
 loop-holds : tie.Need-loop-holds Inv-loop μ-loop
-loop-holds c = (search needs, all-none (shardOk (c .before .before .before .args .settings .now)))
+loop-holds c = (search needs, all-none (shardOk (c .before .before .args .settings .now)))
 
 returns : tie.Need-returns Inv-loop μ-loop
 unfolding shardsOk
-returns c = let σ = c .before .before .before .before .before .before .before .args .settings .now in
+returns c = let σ = c .before .before .before .before .before .before .args .settings .now in
     let s = c .before .before .before .loop .s in
     let k = c .before .shard-ok in
     sym (all-fails (shards σ) (shardOk σ) s (omega arith) (sym (k .ensures) ∙ not-true (k .result) (c .if1 .taken)))
 
 loop-again : tie.Need-loop-again Inv-loop μ-loop
-loop-again c = let σ = c .before .before .before .before .before .before .before .args .settings .now in
+loop-again c = let σ = c .before .before .before .before .before .before .args .settings .now in
     let s = c .before .before .before .loop .s in
     let k = c .before .shard-ok in
     (omega arith, all-more s (shardOk σ) (c .before .before .before .loop .inv .1) (sym (k .ensures) ∙ not-false (k .result) (c .if1 .left)))
 
 returns-2 : tie.Need-returns-2 Inv-loop μ-loop
 unfolding shardsOk
-returns-2 c = let σ = c .before .before .before .before .before .args .settings .now in
+returns-2 c = let σ = c .before .before .before .before .args .settings .now in
     sym (all-fewer (shards σ) (c .before .loop .s) (shardOk σ) (omega arith) (c .before .loop .inv .1))
 
 pub shards-ok-spec : {M : Type 1} → statement M
 shards-ok-spec =
     tie.close
-    (tie.spec Inv-loop μ-loop (λ c. search needs) (λ c κs. search needs) loop-holds (λ c κs. search needs) returns (λ c. search needs)
+    (tie.spec Inv-loop μ-loop (λ c. search needs) loop-holds (λ c κs. search needs) returns (λ c. search needs)
     (λ c. search needs) loop-again returns-2)

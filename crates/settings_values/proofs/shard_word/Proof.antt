@@ -7,10 +7,10 @@ use Rattle.settings_values.proofs.shard_word.Statement.{statement}
 use Rattle.settings_values.proofs.shard_word.Tie as tie
 
 returns : tie.Need-returns
-returns c = let a = c .before .before .before .before .args in
-    ap (λ (n : ℕ). getD (a .settings .now) (4 + n + a .s) 0) (c .before .wide .ensures)
+returns c = let a = c .before .before .before .before .before .args in
+    ap (λ (n : ℕ). getD (a .settings .now) (4 + n + a .shard .0) 0) (c .before .before .wide .ensures)
 
 pub shard-word-spec : {M : Type 1} → statement M
 shard-word-spec =
     tie.close
-    (tie.spec (λ c. search needs) (λ c κs. search needs) (λ c. search needs) (λ c. search needs) (λ c. search needs) (λ c. search needs) returns)
+    (tie.spec (λ c. search needs) (λ c κs. search needs) (λ c. search needs) (λ c. search needs) (λ c. search needs) (λ c. search needs) (λ c. search needs) returns)

@@ -13,11 +13,11 @@ returns c = sym (buffer-wrong _ _ _ _ _ (ne-eqb _ _ (c .if1 .taken)))
 
 returns-2 : tie.Need-returns-2
 returns-2 c =
-    let a = c .before .before .before .before .before .before .before .args in
+    let a = c .before .before .before .before .before .before .before .before .args in
     c .event-refusal .ensures
-    ∙ ap₂ (λ (p q : Bool). eventRefusal (deskOk (a .desk .now)) (a .settings .now) (a .x) (a .desk .now) p (a .n) q) (c .before .before .is-ordered .ensures) (c .before .has .ensures)
-    ∙ sym (buffer-right _ _ _ _ (a .buffer .now) (eq-eqb _ _ (c .before .before .before .if1 .left)))
+    ∙ ap₂ (λ (p q : Bool). eventRefusal (deskOk (a .desk .now)) (a .settings .now) (a .x) (a .desk .now) p (a .node .0) q) (c .before .before .before .is-ordered .ensures) (c .before .has .ensures)
+    ∙ sym (buffer-right _ _ _ _ (a .buffer .now) (eq-eqb _ _ (c .before .before .before .before .if1 .left)))
 
 pub order-refusal-spec : {M : Type 1} → statement M
 order-refusal-spec =
-    tie.close (tie.spec returns (λ c κs. search needs) (λ c κs. search needs) (λ c κs. search needs) returns-2)
+    tie.close (tie.spec returns (λ c κs. search needs) (λ c. search needs) (λ c κs. search needs) (λ c κs. search needs) returns-2)

@@ -8,7 +8,7 @@ use Rattle.state_planner.proofs.after_drop.Tie as tie
 
 returns : tie.Need-returns
 unfolding droppedIn holding
-returns c = simp (c .before .before .enum-told .given .1, c .of-parts .ensures, sym (c .before .without .ensures))
+returns c = simp (c .before .before .before .enum-told .given .1, c .of-parts .ensures, sym (c .before .without .ensures))
 
 returns-2 : tie.Need-returns-2
 unfolding droppedIn
@@ -25,5 +25,4 @@ returns-4 c = simp (c .enum-told4 .given .1)
 pub after-drop-spec : {M : Type 1} → statement M
 after-drop-spec =
     tie.close
-    (tie.spec (λ c. search needs) (λ c κs. search needs) (λ c κs. search needs) (λ c. search needs) (λ c κs. search needs) (λ c. search needs)
-    (λ c κs. search needs) (λ c. search needs) returns returns-2 returns-3 returns-4)
+    (tie.spec (λ c. search needs) (λ c. search needs) (λ c κs. search needs) (λ c κs. search needs) (λ c. search needs) (λ c κs. search needs) (λ c. search needs) (λ c. search needs) (λ c. search needs) returns returns-2 returns-3 returns-4)

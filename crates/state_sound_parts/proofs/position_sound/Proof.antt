@@ -11,7 +11,7 @@ returns c = simp (sym (c .before .position .ensures), not-true (c .before .posit
 
 returns-2 : tie.Need-returns-2
 unfolding positionSound
-returns-2 c = simp (sym (c .before .before .position .ensures), not-false (c .before .before .position .result) (c .before .if1 .left))
+returns-2 c = simp (sym (c .before .before .before .before .position .ensures), not-false (c .before .before .before .before .position .result) (c .before .before .before .if1 .left))
 
 pub position-sound-spec : {M : Type 1} → statement M
 position-sound-spec = tie.close (tie.spec (λ c κs. search needs) returns returns-2)

@@ -1,26 +1,17 @@
 -- `state_sound_plan::same_shard` meets its contract: the three tests as the definition has them. Assumes nothing.
 use borrow.Author.Tests.{eq-eqb, ne-eqb}
-use Rattle.report_views.specs.PlanLaws.{sameShard}
-use Rattle.state_sound_plan.specs.Matches.{third-decides}
 use borrow.Author.Needs.{needs}
 use Rattle.state_sound_plan.proofs.same_shard.Statement.{statement}
 use Rattle.state_sound_plan.proofs.same_shard.Tie as tie
 
 returns : tie.Need-returns
-unfolding sameShard
 returns c = simp (ne-eqb _ _ (c .if1 .taken))
 
 returns-2 : tie.Need-returns-2
-unfolding sameShard
-returns-2 c = simp (eq-eqb _ _ (c .before .before .before .if1 .left), ne-eqb _ _ (c .if2 .taken))
+returns-2 c = simp (eq-eqb _ _ (c .before .before .before .before .before .if1 .left), ne-eqb _ _ (c .if2 .taken))
 
 returns-3 : tie.Need-returns-3
-returns-3 c = let a = c .before .before .before .before .before .before .before .before .args in
-    third-decides (a .t1) (a .t2 .holders) (a .t2 .targets) (a .s) (eq-eqb _ _ (c .before .before .before .before .before .if1 .left)) (eq-eqb _ _ (c .before .before .if2 .left))
+returns-3 c = simp (eq-eqb _ _ (c .before .before .before .before .before .before .before .if1 .left), eq-eqb _ _ (c .before .before .if2 .left))
 
 pub same-shard-spec : {M : Type 1} → statement M
-same-shard-spec =
-    tie.close
-    (tie.spec (λ c. search needs) (λ c. search needs) (λ c. search needs) (λ c. search needs) returns (λ c. search needs) (λ c. search needs)
-    (λ c. search needs) (λ c. search needs) (λ c. search needs) (λ c. search needs) returns-2 (λ c. search needs) (λ c. search needs)
-    (λ c. search needs) (λ c. search needs) (λ c. search needs) (λ c. search needs) (λ c. search needs) (λ c. search needs) returns-3)
+same-shard-spec = tie.close (tie.spec returns returns-2 returns-3)

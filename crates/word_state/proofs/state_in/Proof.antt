@@ -6,7 +6,7 @@ use Rattle.word_state.proofs.state_in.Tie as tie
 
 returns : tie.Need-returns
 unfolding stateIn
-returns c = rw (c .before .before .before .before .before .before .before .before .before .before .phase-of .ensures, c .before .before .before .before .before .before .before .before .before .layout-at .ensures, c .before .before .before .before .before .before .before .thirty-two .ensures, c .before .before .before .layout-at2 .ensures, c .before .sixteen .ensures, c .thirty-two2 .ensures)
+returns c = rw (c .before .before .before .before .before .before .before .before .before .before .phase-of .ensures, c .before .before .before .before .before .before .before .before .before .layout-at .ensures, c .before .before .before .before .before .before .before .positions-at .ensures, c .before .before .before .layout-at2 .ensures, c .before .nodes-at .ensures, c .positions-at2 .ensures)
 
 pub state-in-spec : {M : Type 1} → statement M
 state-in-spec =

@@ -11,8 +11,8 @@ use Rattle.state_planner.proofs.State.drop.Tie as tie
 returns : tie.Need-returns
 unfolding dropped dropRefusal
 returns c =
-    let a = c .before .before .before .before .before .before .args in
-    event-settles (a .settings .now) (a .self) (a .desk .now) _ (a .node .0) _ (ap not (c .before .before .before .is-committed .ensures)) (c .before .before .has .ensures) _ _
+    let a = c .before .before .before .before .before .before .before .args in
+    event-settles (a .settings .now) (a .self) (a .desk .now) _ (a .node .0) _ (ap not (c .before .before .before .before .is-committed .ensures)) (c .before .before .has .ensures) _ _
     (c .settled .ensures) (λ h. c .before .after-drop .ensures)
 
 pub drop-spec : {M : Type 1} → statement M

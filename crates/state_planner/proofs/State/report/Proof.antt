@@ -32,7 +32,7 @@ returns-2 c =
 
 store-requires : tie.Need-store-requires
 store-requires c κs =
-    let p = c .before .before .before .before in
+    let p = c .before .before .before in
     let a = p .before .before .before .before .before .before .before .before .before .before .before .before .args in
     let g = p .before .before .before .before .before .before .before .before .is-gathering in
     let e = p .before .before .before .before .before .before .entry-refusal in
@@ -41,7 +41,7 @@ store-requires c κs =
 
 after-report-requires : tie.Need-after-report-requires
 after-report-requires c κs =
-    let p = c .before .before .before .before .before .before .before in
+    let p = c .before .before .before .before .before .before in
     let a = p .before .before .before .before .before .before .before .before .before .before .before .before .args in
     let g = p .before .before .before .before .before .before .before .before .is-gathering in
     let e = p .before .before .before .before .before .before .entry-refusal in
@@ -50,7 +50,7 @@ after-report-requires c κs =
 
 returns-3 : tie.Need-returns-3
 returns-3 c =
-    let p = c .before .before .before .before .before .before .before .before in
+    let p = c .before .before .before .before .before .before .before in
     let g = p .before .before .before .before .before .before .before .before .is-gathering in
     let e = p .before .before .before .before .before .before .entry-refusal in
     let r = p .before .before .before .read-beside in
@@ -60,5 +60,4 @@ returns-3 c =
 pub report-spec : {M : Type 1} → statement M
 report-spec =
     tie.close
-    (tie.spec (λ c κs. search needs) (λ c κs. search needs) (λ c. search needs) returns read-beside-requires (λ c. search needs) returns-2
-    (λ c. search needs) store-requires after-report-requires (λ c. search needs) returns-3)
+    (tie.spec (λ c κs. search needs) (λ c κs. search needs) (λ c. search needs) returns read-beside-requires (λ c. search needs) returns-2 store-requires after-report-requires (λ c. search needs) returns-3)

@@ -1,0 +1,13 @@
+-- Each answer follows from the test on the way to it.
+use borrow.Author.Tests.{eq-eqb, ne-eqb}
+use Rattle.word_state.proofs.position_word.Statement.{statement}
+use Rattle.word_state.proofs.position_word.Tie as tie
+
+returns : tie.Need-returns
+returns c = simp (eq-eqb _ _ (c .if1 .taken))
+
+returns-2 : tie.Need-returns-2
+returns-2 c = simp (ne-eqb _ _ (c .if1 .left))
+
+pub position-word-spec : {M : Type 1} → statement M
+position-word-spec = tie.close (tie.spec returns returns-2)
