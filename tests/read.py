@@ -5,7 +5,7 @@ docs/PROMISES.md lists their files and types under "What has to be read"; this s
 - it lists each after those that it builds on, and within its file each definition stands before every law;
 - its figures are right, to a twentieth.
 
-Delivered are the calls for C, the planner's calls, and the program restart with its library (ROOTS). A definition is whatever the text of
+Delivered are the calls for C, the planner's calls, and the programs with restart's library (ROOTS). A definition is whatever the text of
 a contract or of another definition names: a definition with its equations, a record or data type with its fields, a struct or enum of the
 code. Its lines are counted without comments and empty lines. Laws, which no definition names, and what the kit defines do not count.
 
@@ -13,18 +13,14 @@ code. Its lines are counted without comments and empty lines. Laws, which no def
 
 The last line is `N passed, M failed`."""
 import functools
+import glob
 import os
 import re
 import sys
 
-# The delivered functions of a crate: those whose head starts so.
-ROOTS = {
-    "c_planner": 'pub extern "C" fn ',
-    "state_planner": "pub fn ",
-    "state_order": "pub fn ",
-    "program_run": "pub fn ",
-    "restart": "fn answer",
-}
+# The delivered functions of a crate, by how their heads start: the calls for C, the planner's, the run of restart, and every program's.
+ROOTS = {"c_planner": 'pub extern "C" fn ', "state_planner": "pub fn ", "state_order": "pub fn ", "program_run": "pub fn "}
+ROOTS.update({path.split("/")[1]: "fn " for path in sorted(glob.glob("crates/*/src/main.rt"))})
 DECIDE = {"state_planner": "pub fn decide"}
 
 NAME = r'[^\s(){}.;,@"]+'
@@ -154,7 +150,8 @@ def found_in(path, name):
     if not module or not os.path.isdir("crates/" + module.group(1)):
         return KIT
     crate, declared, file = module.groups()
-    return types_of(crate)[declared] if declared else specs_of(crate, file).names[name]
+    names = types_of(crate) if declared else specs_of(crate, file).names
+    return names.get(declared or name) or sys.exit("not read: %s of %s" % (name, path))
 
 
 class Reader:
@@ -294,6 +291,8 @@ class Specs:
             self.new(tokens[0], around).texts.append(("type", tokens[end + 1 :], tokens[2 : end - 1]))
             # a law is never unfolded
             self.laws = self.laws or not self.unfolds and not {"abbrev", "unfoldable"} & set(part[0][1].split())
+        elif getattr(self.scope.names.get(tokens[0]), "file", None) != self.file:
+            sys.exit("not read: %s/%s: %s" % (self.crate, self.file, part[0][1]))
         else:
             self.scope.names[tokens[0]].texts.append(("equation", tokens, below))
         self.scope.names[tokens[0]].lines += len(part)
@@ -306,7 +305,7 @@ def specs_of(crate, file):
 
 # ---- Code: types and contracts.
 
-TYPE = re.compile(r"(?ms)^pub (struct|enum) (\w+)(?:<[^>]*>)?(?: \{(.*?)^\}|\((.*?)\);)")
+TYPE = re.compile(r"(?ms)^(?:pub )?(struct|enum) (\w+)(?:<[^>]*>)?(?: \{(.*?)^\}|\((.*?)\);)")
 
 
 @functools.lru_cache(None)
@@ -349,11 +348,11 @@ def delivered(roots):
     for crate, start in roots.items():
         found = re.findall(r"(?ms)^ *(%s.*?)^ *\{$" % re.escape(start), source_of(crate))
         if not found:
-            raise ValueError("%s has no %s" % (crate, start))
+            sys.exit("not read: no %sof %s" % (start, crate))
         for head in found:
             signature, *clauses = re.split(r"(?m)^ *(?:requires|ensures)\b[^{]*\{", head)
             if signature.count("fn ") != 1 or not clauses:
-                raise ValueError("%s has a function without a contract: %s" % (crate, signature))
+                sys.exit("not read: a function of %s without a contract: %s" % (crate, signature))
             name, parameters = re.search(r"fn (\w+)\(([^)]*)\)", signature).groups()
             made = Definition(crate, "src", name, functools.partial(scope_of, crate))
             bound = re.findall(r"(\w+):", parameters)
