@@ -26,8 +26,9 @@ DECIDE = {"state_planner": "pub fn decide"}
 NAME = r'[^\s(){}.;,@"]+'
 TOKEN = re.compile(r'"[^"]*"|%s(?:\.%s)*|\.%s|[(){}.;,@]' % (NAME, NAME, NAME))
 MARKS = ("pub", "abbrev", "unfoldable", "axiom")
-# Words of the language and of contracts, and names that are there without a `use`.
-WORDS = ("record", "let", "in", "λ", "Type", "where", "→", "×", "=", ":", "_", "⌜", "⌝", "⊥", "now", "self")
+# Words of the language and of contracts, and names that every file has without a `use`.
+WORDS = ("record", "let", "in", "λ", "Type", "where", "→", "×", "=", ":", "_", "⌜", "⌝", "now", "self")
+PRIM = ("⊥", "absurd", "¬", "Unit", "tt", "Dec", "yes", "no")
 KIT = "the kit's"
 
 
@@ -114,7 +115,7 @@ class Scope:
     """What the names of a file stand for: a Definition, or KIT."""
 
     def __init__(self):
-        self.names, self.aliases = {}, {}
+        self.names, self.aliases = dict.fromkeys(PRIM, KIT), {}
 
     def use(self, text):
         """`use PATH.{a, b as c}`, `use PATH as X` or, in code, `use crate::Type`."""
