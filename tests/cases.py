@@ -125,6 +125,37 @@ def more_plans():
     yield "subgroup 3 without a placement", blocks(changed(narrow, 9, 3 * 256 + 2), *parts), "wait 5 3\n"
 
 
+def cures():
+    """README's cures of waits 4 and 5, and what comes near to them and cures nothing."""
+    five = [of_case_a(n) for n in range(5)]
+    yield "wait 4, the shard's machine under an older view", after(*five, report(5, view=6)), "wait 4 2\n"
+    yield "wait 4, cured under the kept view", after(*five, report(5, view=6), of_case_a(5)), PLAN
+    # A kept termination: a log without its update is no cure.
+    ended = termination([(0, 0), (7, 5), (0, 0)])
+    kept = [of_case_a(n) for n in (0, 2, 3, 5)] + [report(1, ended + runs(1, (7, 3)))]
+    yield "wait 4, the termination's update is missing", after(*kept), "wait 4 1\n"
+    yield "wait 4, another log without it", after(*kept, of_case_a(4)), "wait 4 1\n"
+    yield "wait 4, cured by a log that has it", after(*kept, report(6, runs(1, (7, 5)))), (
+        "view 8\nmoves 1\nshard 0 holder 0 target 0 0 members 0 2\nshard 1 holder 6 target 7 5 members 1 3 6\n"
+        "shard 2 holder 5 target 0 0 members 5\n"
+    )
+    # Two shards that need both failure sets: set 1 has one machine back, and the cure is its other one.
+    two = [4, 2, 1, 2, 0, 0, 1, 1, 2, 2]
+    four = [report(n, view=1, members=15, masks=[5, 10]) for n in range(4)]
+    yield "wait 5, one machine of set 1", blocks(two, *four[:3]), "wait 5 0\n"
+    yield "wait 5, cured by a set that is back already", blocks(two, *four), (
+        "view 2\nmoves 0\nshard 0 holder 0 target 0 0 members 0 2\nshard 1 holder 1 target 0 0 members 1 3\n"
+    )
+    # A set that has as many back as there are shards gives no more by another.
+    three = [5, 2, 1, 2, 0, 0, 0, 1, 1, 2, 2]
+    back = [report(n, view=1, members=31, masks=[9, 18]) for n in (0, 1, 3, 2, 4)]
+    yield "wait 5, two machines of set 0", blocks(three, *back[:3]), "wait 5 0\n"
+    yield "wait 5, a third one", blocks(three, *back[:4]), "wait 5 0\n"
+    yield "wait 5, cured by set 1", blocks(three, *back[:3], back[4]), (
+        "view 2\nmoves 0\nshard 0 holder 0 target 0 0 members 0 3\nshard 1 holder 1 target 0 0 members 1 4\n"
+    )
+
+
 def refused():
     """A run for each number that restart can give: 2 and 5 to 13."""
     good = of_case_a(0)
@@ -242,7 +273,7 @@ def own_input():
 
 
 def main():
-    rows = list(named()) + list(more_plans()) + list(cut()) + list(counts()) + list(long_runs())
+    rows = list(named()) + list(more_plans()) + list(cures()) + list(cut()) + list(counts()) + list(long_runs())
     rows += [(name, data, "number %d\n" % number) for name, data, number in refused()]
     tried = [(name, data, text, False) for name, data, text in rows]
     tried += [(name + ", byte by byte", data, text, True) for name, data, text in named()]
