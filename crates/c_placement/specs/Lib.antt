@@ -1,2 +1,3 @@
 -- The definitions that the contracts of the C functions cite.
 pub mod Number
+pub mod Rows

@@ -2,12 +2,13 @@
 use base_ids::Node;
 use base_ids::Shard;
 ghost use mathlib.Core.Path.{_≡_};
-ghost use Prim.Native.Nat.{_<_, _^_};
+ghost use mathlib.Core.Bool.{true};
+ghost use Prim.Native.Nat.{_+_, _*_, _<_, _^_};
 ghost use lib.ListN.{getD};
-ghost use Rattle.settings_values.specs.Settings.{Settings, nodes, shards, setOf};
+ghost use Rattle.settings_values.specs.Settings.{Settings, nodes, setOf};
 ghost use Rattle.place_sheet.specs.Sheet.{sheetOf, sheetAt};
 ghost use Rattle.place_owners.specs.Cases.{ofGroup, setIn, needIn, priceIn};
-ghost use Rattle.place_owners.specs.Tables.{setsTable, needsTable, pricesTable};
+ghost use Rattle.place_owners.specs.Tables.{setsTable, needsTable, pricesTable, pricesBelow};
 
 // Shard s is one, of subgroup g.
 pub fn in_group(settings: &[u32], g: u32, s: u32) -> bool
@@ -74,7 +75,7 @@ pub fn needs(settings: &[u32], g: u32) -> [u8; 16]
 fn entry(settings: &[u32], held: u32, old: &[u32; 16], sheet: &[[u8; 16]; 16], s: u32, n: u32) -> u8
     requires { ⌜ Settings (now settings) ⌝ }
     requires { ⌜ now sheet ≡ sheetOf (now settings) held (λ i. getD (now old) i 0) ⌝ }
-    requires { ⌜ s < shards (now settings) ⌝ }
+    requires { ⌜ s < 16 ⌝ }
     requires { ⌜ n < nodes (now settings) ⌝ }
     ensures { λ r. ⌜ r ≡ sheetAt (now (settings .entry)) held (λ i. getD (now (old .entry)) i 0) s (setOf (now (settings .entry)) n) ⌝ }
 {
@@ -82,7 +83,8 @@ fn entry(settings: &[u32], held: u32, old: &[u32; 16], sheet: &[[u8; 16]; 16], s
     sheet[s as usize][f]
 }
 
-// The price of shard s and node n. Where the sheet says that no node of its set is held, the node need not be looked at.
+// The price of shard s of subgroup g and node n, as far as the sheet tells it: an entry of 2 says that the node is not held, one of 1 that
+// no held node of its set was a member. Only at an entry of 0 the old members are looked at.
 fn price_at(
     settings: &[u32],
     held: u32,
@@ -95,11 +97,9 @@ fn price_at(
     requires { ⌜ Settings (now settings) ⌝ }
     requires { ⌜ held < 2 ^ nodes (now settings) ⌝ }
     requires { ⌜ now sheet ≡ sheetOf (now settings) held (λ i. getD (now old) i 0) ⌝ }
+    requires { ⌜ ofGroup (now settings) g s ≡ true ⌝ }
     ensures { λ r. ⌜ r ≡ priceIn (now (settings .entry)) held (λ i. getD (now (old .entry)) i 0) g s n ⌝ }
 {
-    if !in_group(settings, g, s) {
-        return 2;
-    }
     if n >= settings_values::nodes(settings) {
         return 2;
     }
@@ -107,14 +107,41 @@ fn price_at(
     if least == 2 {
         return 2;
     }
-    let was = old[s as usize];
     if !base_masks::has(held, n as usize) {
         return 2;
     }
+    if least == 1 {
+        return 1;
+    }
+    let was = old[s as usize];
     if base_masks::has(was, n as usize) {
         0
     } else {
         1
+    }
+}
+
+// The table so far, with the prices of shard s of subgroup g.
+fn price_row(
+    settings: &[u32],
+    held: u32,
+    old: &[u32; 16],
+    sheet: &[[u8; 16]; 16],
+    g: u32,
+    s: u32,
+    table: &mut [u8; 512],
+)
+    requires { ⌜ Settings (now settings) ⌝ }
+    requires { ⌜ held < 2 ^ nodes (now settings) ⌝ }
+    requires { ⌜ now sheet ≡ sheetOf (now settings) held (λ i. getD (now old) i 0) ⌝ }
+    requires { ⌜ ofGroup (now settings) g s ≡ true ⌝ }
+    requires { ⌜ now table ≡ pricesBelow (now settings) held (λ i. getD (now old) i 0) g (s * 32) ⌝ }
+    ensures { λ r. ⌜ now (table .exit) ≡ pricesBelow (now (settings .entry)) held (λ i. getD (now (old .entry)) i 0) g (s * 32 + 32) ⌝ }
+{
+    let mut n: u32 = 0;
+    while n < 32 {
+        table[(s * 32 + n) as usize] = price_at(settings, held, old, sheet, g, s, n);
+        n += 1;
     }
 }
 
@@ -132,10 +159,12 @@ pub fn prices(
     ensures { λ r. ⌜ r ≡ pricesTable (now (settings .entry)) held (λ i. getD (now (old .entry)) i 0) g ⌝ }
 {
     let mut table = [2u8; 512];
-    let mut t: u32 = 0;
-    while t < 512 {
-        table[t as usize] = price_at(settings, held, old, sheet, g, t / 32, t % 32);
-        t += 1;
+    let mut s: u32 = 0;
+    while s < 16 {
+        if in_group(settings, g, s) {
+            price_row(settings, held, old, sheet, g, s, &mut table);
+        }
+        s += 1;
     }
     table
 }

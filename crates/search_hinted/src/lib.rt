@@ -1,14 +1,17 @@
 // The first valid placement of at most k moves, and the first of least moves, or that there is none, by the hints of an oracle.
-// Every pair that is left and every bound is proved by a cut, and the owners that are found are tested, so no answer rests on the
-// oracle. Where a hint fails, the total search answers.
+// Every pair that is left is proved by a cut, every bound by the sheet or a cut, and the owners that are found are tested, so no answer
+// rests on the oracle. Where a hint fails, the total search answers.
 ghost use mathlib.Core.Path.{_≡_};
 ghost use mathlib.Core.Bool.{true, false};
 ghost use Prim.Native.Nat.{_/_, _%_, _≤_, _<_, min};
 ghost use lib.ListN.{length, set};
 ghost use Rattle.search_theory.specs.Tables.{caseOf, ownersOf};
 ghost use Rattle.search_theory.specs.Order.{Begun};
+ghost use Rattle.search_theory.specs.Least.{AtLeast};
+ghost use Rattle.search_theory.specs.Floor.{SheetFor};
 ghost use Rattle.search_bounds.specs.Post.{Small, SoundBound};
 ghost use Rattle.search_total.specs.Post.{WithinAnswer, LeastAnswer, noOwners};
+ghost use Rattle.search_total.specs.Answers.{Empty};
 ghost use Rattle.search_hinted.specs.Stage.{Narrowed, Advanced};
 ghost use Rattle.search_hinted.specs.Post.{Found};
 use search_bounds::Bound;
@@ -101,6 +104,16 @@ fn unsure() -> Quick
     }
 }
 
+// Surely none.
+fn none() -> Quick
+    ensures { λ r. ⌜ (r .sure ≡ true) × Empty (r .answer) ⌝ }
+{
+    Quick {
+        sure: true,
+        answer: search_total::nothing(),
+    }
+}
+
 // The first valid placement of at most k moves, where the hints lead to it.
 fn follow(
     sets: &[u8; 32],
@@ -174,40 +187,62 @@ pub fn quick_within(sets: &[u8; 32], needs: &[u8; 16], prices: &[u8; 512], k: us
         return unsure();
     }
     if most < v.floor {
-        return Quick {
-            sure: true,
-            answer: search_total::nothing(),
-        };
+        return none();
     }
     follow(sets, needs, prices, &mut costs, &mut mem, most)
 }
 
-// The first of the valid placements of least moves, or that there is none, where the hints lead to it.
-pub fn quick_least(sets: &[u8; 32], needs: &[u8; 16], prices: &[u8; 512]) -> Quick
+// The first of the valid placements of least moves, or that there is none, where the hints lead to it. No valid placement has fewer
+// moves than the floor: a claim of so many is the least, and any other is proved by the weights.
+fn by_claim(sets: &[u8; 32], needs: &[u8; 16], prices: &[u8; 512], floor: usize) -> Quick
+    requires { ⌜ Small (now sets) ⌝ }
+    requires { ⌜ length (now prices) ≡ 512 ⌝ }
+    requires { ⌜ floor ≤ 32 ⌝ }
+    requires { ⌜ AtLeast (caseOf (now sets) (now needs) (now prices)) floor ⌝ }
     ensures { λ r. ⌜ (r .sure ≡ true → LeastAnswer (caseOf (now (sets .entry)) (now (needs .entry)) (now (prices .entry))) (r .answer)) ⌝ }
 {
-    if !fit(sets, prices) {
-        return unsure();
-    }
     let mut mem = [0u32; 512];
     let mut costs = *prices;
     let owner = [16u8; 32];
     let claim = hint_oracle::solve(&mut mem, sets, needs, prices);
+    if claim as usize == floor {
+        return follow(sets, needs, prices, &mut costs, &mut mem, floor);
+    }
     let most = capped(claim as usize);
     let v = prune(sets, needs, &mut costs, &owner, &mem, 0, most);
     if !v.good {
         return unsure();
     }
     if v.floor > 32 {
-        return Quick {
-            sure: true,
-            answer: search_total::nothing(),
-        };
+        return none();
     }
     if v.floor != most {
         return unsure();
     }
     follow(sets, needs, prices, &mut costs, &mut mem, most)
+}
+
+// The same from the sheet: it tells where there is none, and the floor.
+pub fn quick_least(
+    sets: &[u8; 32],
+    needs: &[u8; 16],
+    prices: &[u8; 512],
+    sheet: &[[u8; 16]; 16],
+) -> Quick
+    requires { ⌜ SheetFor (caseOf (now sets) (now needs) (now prices)) (now sheet) ⌝ }
+    ensures { λ r. ⌜ (r .sure ≡ true → LeastAnswer (caseOf (now (sets .entry)) (now (needs .entry)) (now (prices .entry))) (r .answer)) ⌝ }
+{
+    if !fit(sets, prices) {
+        return unsure();
+    }
+    if search_floor::short(needs, sheet) {
+        return none();
+    }
+    let floor = search_floor::floor(needs, sheet);
+    if floor > 32 {
+        return none();
+    }
+    by_claim(sets, needs, prices, floor)
 }
 
 // The first valid placement of at most k moves, or that there is none.
@@ -221,11 +256,18 @@ pub fn first_within(sets: &[u8; 32], needs: &[u8; 16], prices: &[u8; 512], k: us
     search_total::plain_within(sets, needs, prices, k)
 }
 
-// The first of the valid placements of least moves, or that there is none.
-pub fn least(sets: &[u8; 32], needs: &[u8; 16], prices: &[u8; 512]) -> Solution
+// The first of the valid placements of least moves, or that there is none. The sheet has for each shard and failure set no more than any
+// node of the set costs there.
+pub fn least(
+    sets: &[u8; 32],
+    needs: &[u8; 16],
+    prices: &[u8; 512],
+    sheet: &[[u8; 16]; 16],
+) -> Solution
+    requires { ⌜ SheetFor (caseOf (now sets) (now needs) (now prices)) (now sheet) ⌝ }
     ensures { λ r. ⌜ LeastAnswer (caseOf (now (sets .entry)) (now (needs .entry)) (now (prices .entry))) r ⌝ }
 {
-    let q = quick_least(sets, needs, prices);
+    let q = quick_least(sets, needs, prices, sheet);
     if q.sure {
         return q.answer;
     }

@@ -25,6 +25,7 @@ placement-quick-spec =
     tie.close
     (tie.spec
     (λ c κs. search needs)
+    (λ c κs. search needs)
     (λ c κs. let sure = c .before .before in few (sure .before .quick-least .ensures (sure .if1 .taken)))
     returns
     returns-2)

@@ -22,7 +22,7 @@ returns c =
     let f : ℕ = setOf (a .settings .now) (a .n) in
     let l : f < 16 = omega (arith, p .0 .set-below (a .n) (p .1 .1 .1), p .0 .sizes .sets-to) in
     ap₂ (λ (t : List (List ℕ)) (i : ℕ). getD (getD t (a .s) []) i 0) (p .1 .0) (c .before .set-of .ensures)
-    ∙ sheet-entry (a .settings .now) (a .held) (λ i. getD (a .old .now) i 0) (a .s) f (omega (arith, p .1 .1 .0, p .0 .sizes .shards-to)) l
+    ∙ sheet-entry (a .settings .now) (a .held) (λ i. getD (a .old .now) i 0) (a .s) f (p .1 .1 .0) l
 
 pub entry-spec : {M : Type 1} → statement M
 entry-spec = tie.close (tie.spec (λ c κs. search needs) (λ c. search needs) (λ c. search needs) (λ c. search needs) index-2-result returns)
