@@ -4,7 +4,7 @@ use mathlib.Core.List.{List, []}
 use mathlib.Core.Logic.{⊎-elim}
 use Prim.Native.Nat.{ℕ, _+_, _*_, _%_, _≤_, _<_, min}
 use native.Mathlib.Omega.{arith}
-use lib.ListN.{length, getD, set, replicate, length-set, length-replicate, List·getD-eq-default}
+use lib.ListN.{length, getD, set, replicate, length-set, length-replicate, getD-replicate, List·getD-eq-default}
 use lib.Seq.{getD-set-same, getD-set-other}
 use Rattle.base_laws.specs.Bools.{lt-or-le, eq-or-ne}
 use Rattle.search_theory.specs.Tables.{caseOf}
@@ -17,6 +17,13 @@ pub record RowBelow (sets prices : List ℕ) (i n : ℕ) (row : List ℕ) : Type
 
 pub row-start : (sets prices : List ℕ) (i : ℕ) → RowBelow sets prices i 0 (replicate 16 2)
 row-start sets prices i = record { long = length-replicate {A = ℕ} 16 2; least = λ m l. absurd (omega arith) }
+
+-- entries of 0 are above no price
+pub row-zeros : (sets prices : List ℕ) (i : ℕ) → RowBelow sets prices i 32 (replicate 16 0)
+row-zeros sets prices i = record { long = length-replicate {A = ℕ} 16 0; least = λ m l. omega (arith, zero (getD sets m 0)) }
+  where
+    zero : (k : ℕ) → _≡_ {A = ℕ} (getD (replicate 16 0) k 0) 0
+    zero k = ⊎-elim (λ l. getD-replicate 16 k 0 0 l) (λ l. List·getD-eq-default (replicate 16 0) 0 {n = k} (omega (arith, length-replicate {A = ℕ} 16 0))) (lt-or-le k 16)
 
 -- a lower entry leaves no entry higher
 lowered : (row : List ℕ) (f v k : ℕ) → f < length row → v ≤ getD row f 0 → getD (set row f v) k 0 ≤ getD row k 0

@@ -89,9 +89,9 @@ fn step(
 }
 
 // An answer, if it is sure.
-pub struct Quick {
-    pub sure: bool,
-    pub answer: Solution,
+struct Quick {
+    sure: bool,
+    answer: Solution,
 }
 
 // No answer.
@@ -171,7 +171,7 @@ fn capped(k: usize) -> usize
 }
 
 // The first valid placement of at most k moves, or that there is none, where the hints lead to it.
-pub fn quick_within(sets: &[u8; 32], needs: &[u8; 16], prices: &[u8; 512], k: usize) -> Quick
+fn quick_within(sets: &[u8; 32], needs: &[u8; 16], prices: &[u8; 512], k: usize) -> Quick
     ensures { λ r. ⌜ (r .sure ≡ true → WithinAnswer (caseOf (now (sets .entry)) (now (needs .entry)) (now (prices .entry))) k (r .answer)) ⌝ }
 {
     if !fit(sets, prices) {
@@ -223,7 +223,7 @@ fn by_claim(sets: &[u8; 32], needs: &[u8; 16], prices: &[u8; 512], floor: usize)
 }
 
 // The same from the sheet: it tells where there is none, and the floor.
-pub fn quick_least(
+fn quick_least(
     sets: &[u8; 32],
     needs: &[u8; 16],
     prices: &[u8; 512],

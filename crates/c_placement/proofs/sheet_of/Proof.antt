@@ -18,7 +18,7 @@ loop-holds c = (omega arith, rows-start (c .args .sets .now) (c .args .prices .n
 
 loop-again : tie.Need-loop-again Inv-loop μ-loop
 loop-again c =
-    (omega arith, rows-turn (c .row .result) (c .before .loop-test .taken) (c .before .before .loop .inv .1) (c .row .ensures))
+    (omega arith, rows-turn (c .row .result) (c .before .before .loop-test .taken) (c .before .before .before .loop .inv .1) (c .row .ensures))
 
 returns : tie.Need-returns Inv-loop μ-loop
 returns c = rows-end (c .before .before .args .needs .now) (c .loop-test .left) (c .before .loop .inv .1)
@@ -26,5 +26,5 @@ returns c = rows-end (c .before .before .args .needs .now) (c .loop-test .left) 
 pub sheet-of-spec : {M : Type 1} → statement M
 sheet-of-spec =
     tie.close
-    (tie.spec Inv-loop μ-loop loop-holds (λ c κs. search needs) (λ c. search needs) (λ c. search needs) (λ c. search needs) (λ c. search needs)
+    (tie.spec Inv-loop μ-loop loop-holds (λ c. search needs) (λ c κs. search needs) (λ c. search needs) (λ c. search needs) (λ c. search needs) (λ c. search needs)
     loop-again returns)
