@@ -14,6 +14,16 @@ ghost use Rattle.search_total.specs.Post.{WithinAnswer, LeastAnswer, noOwners};
 ghost use Rattle.search_total.specs.Answers.{Empty};
 ghost use Rattle.search_hinted.specs.Stage.{Narrowed, Advanced};
 ghost use Rattle.search_hinted.specs.Post.{Found};
+
+mod changes; // changes.rt: single changes of the oracle's placement
+mod claim; // claim.rt: a pair that is to be taken
+mod fill; // fill.rt: a unit more for the shards that lack nodes
+mod oracle; // oracle.rt: what the search asks, a placement of least moves and a pair in it
+mod reach; // reach.rt: what tight pairs reach
+mod start; // start.rt: the first placement, from nodes that stay
+mod ways; // ways.rt: owners changed along a way, levels raised
+mod weights; // weights.rt: the dual weights of the placement
+
 use search_bounds::Bound;
 use search_total::Solution;
 
@@ -34,7 +44,7 @@ fn prune(
     ensures { λ r. ⌜ (r .good ≡ true → SoundBound (caseOf (now (sets .entry)) (now (needs .entry)) (now (costs .entry))) k (r .floor) (ownersOf (now (owner .entry))) t (now (costs .exit))) ⌝ }
     ensures { λ r. ⌜ length (now (costs .exit)) ≡ 512 ⌝ }
 {
-    let q = hint_weights::weigh(mem, sets, costs);
+    let q = weights::weigh(mem, sets, costs);
     let shards = q.shards;
     let nodes = q.nodes;
     let pairs = q.pairs;
@@ -72,7 +82,7 @@ fn step(
     if costs[t] >= 2 {
         return true;
     }
-    let hint = hint_oracle::take(mem, (t / 32) as u32, (t % 32) as u32, k as u32);
+    let hint = oracle::take(mem, (t / 32) as u32, (t % 32) as u32, k as u32);
     if hint == 0 {
         return take(owner, t);
     }
@@ -181,7 +191,7 @@ fn quick_within(sets: &[u8; 32], needs: &[u8; 16], prices: &[u8; 512], k: usize)
     let mut mem = [0u32; 512];
     let mut costs = *prices;
     let owner = [16u8; 32];
-    hint_oracle::solve(&mut mem, sets, needs, prices);
+    oracle::solve(&mut mem, sets, needs, prices);
     let v = prune(sets, needs, &mut costs, &owner, &mem, 0, most);
     if !v.good {
         return unsure();
@@ -204,7 +214,7 @@ fn by_claim(sets: &[u8; 32], needs: &[u8; 16], prices: &[u8; 512], floor: usize)
     let mut mem = [0u32; 512];
     let mut costs = *prices;
     let owner = [16u8; 32];
-    let claim = hint_oracle::solve(&mut mem, sets, needs, prices);
+    let claim = oracle::solve(&mut mem, sets, needs, prices);
     if claim as usize == floor {
         return follow(sets, needs, prices, &mut costs, &mut mem, floor);
     }
