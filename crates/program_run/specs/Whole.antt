@@ -2,7 +2,7 @@
 use Prim.Native.Nat.{ℕ, _≤_}
 use mathlib.Core.Bool.{true, true≢false}
 use mathlib.Core.List.{List, [], _++_, append-nil}
-use mathlib.Core.Path.{_≡_, refl, sym, _∙_, subst, subst⁻¹}
+use mathlib.Core.Path.{_≡_, refl, sym, ap, _∙_, subst, subst⁻¹}
 use native.Mathlib.Omega.{arith}
 use lib.ListN.{length, take, replicate}
 use Rattle.program_blocks.specs.Blocks.{blocks, needed-ends}
@@ -10,7 +10,7 @@ use Rattle.program_lines.specs.Puts.{puts-first}
 use Rattle.program_run.specs.declared.Stage.{Stage}
 use Rattle.program_run.specs.declared.Stage.the-variants.{Opening, Open, Closed}
 use Rattle.program_run.specs.declared.Run.{Run}
-use Rattle.program_run.specs.Runs.{Progress, atStart, after, Prints, Printed}
+use Rattle.program_run.specs.Runs.{Progress, atStart, deskIn, after, Prints, Printed}
 use Rattle.program_run.specs.RunLaws.{after-ended}
 use Rattle.program_run.specs.Machine.{started, progressAt, progress, closedAt, ahead, ReadyRun, Feeds, Closes, Writes}
 
@@ -19,17 +19,44 @@ pub started-ready : (bytes : List ℕ) → length bytes ≡ 2056 → ReadyRun st
 started-ready bytes h =
     record { room = h; coming = omega (arith, needed-ends (take 0 bytes) .0); few = omega arith }
 
--- a run that is closed comes to the same, whatever follows
-pub closed-same : (r : Run) (e b rest : List ℕ) → closedAt (r .stage) ≡ true → ahead r e b rest ≡ ahead r e b []
+-- a run that is closed has come to its end, whatever follows
+pub closed-now : (r : Run) (e b : List ℕ) → closedAt (r .stage) ≡ true → (rest : List ℕ) → ahead r e b rest ≡ progress r e
 unfolding ahead progressAt
-closed-same r e b rest h = closed-at (r .stage) h
+closed-now r e b h rest = at (r .stage) h
   where
-    closed-at : (k : Stage) → closedAt k ≡ true
+    at : (k : Stage) → closedAt k ≡ true
         → after (progressAt k (take (r .words) (r .settings)) (r .state) e) (blocks (take (r .pending) b ++ rest))
-        ≡ after (progressAt k (take (r .words) (r .settings)) (r .state) e) (blocks (take (r .pending) b ++ []))
-    closed-at Opening h = absurd (true≢false (sym h))
-    closed-at Open h = absurd (true≢false (sym h))
-    closed-at (Closed x) h = after-ended x (blocks (take (r .pending) b ++ rest)) ∙ sym (after-ended x (blocks (take (r .pending) b ++ [])))
+        ≡ progressAt k (take (r .words) (r .settings)) (r .state) e
+    at Opening h = absurd (true≢false (sym h))
+    at Open h = absurd (true≢false (sym h))
+    at (Closed x) h = after-ended x e (blocks (take (r .pending) b ++ rest))
+
+pub closed-same : (r : Run) (e b rest : List ℕ) → closedAt (r .stage) ≡ true → ahead r e b rest ≡ ahead r e b []
+closed-same r e b rest h = closed-now r e b h rest ∙ sym (closed-now r e b h [])
+
+-- ---- the desk
+
+desk-at : (r : Run) (e : List ℕ) → deskIn (progress r e) ≡ e
+unfolding deskIn progressAt
+desk-at r e = at (r .stage)
+  where
+    at : (k : Stage) → deskIn (progressAt k (take (r .words) (r .settings)) (r .state) e) ≡ e
+    at Opening = refl
+    at Open = refl
+    at (Closed x) = refl
+
+-- after a refusal the desk is that to which the bytes have led: what it held before the block that was refused
+pub refused-desk : (run : Run) (d bytes fed : List ℕ) (r : Run) (e b : List ℕ) → Feeds run d bytes fed r e b → closedAt (r .stage) ≡ true
+    → e ≡ deskIn (ahead run d bytes fed)
+unfolding ahead
+refused-desk run d bytes fed r e b feeds h =
+    sym (desk-at r e) ∙ ap deskIn (sym (closed-now r e b h []) ∙ feeds .same [] ∙ ap (ahead run d bytes) (append-nil fed))
+
+-- at the end of the input too
+pub closed-desk : (run : Run) (d bytes : List ℕ) (r : Run) (e : List ℕ) → Closes run d bytes r e → e ≡ deskIn (ahead run d bytes [])
+closed-desk run d bytes r e closes = sym (desk-at r e) ∙ ap deskIn (closes .leads)
+
+-- ---- the whole run
 
 module _ (input bytes : List ℕ) (r : Run) (e b : List ℕ) (last : Run) (f out text : List ℕ) (n : ℕ) (fed : Feeds started (replicate 16384 0) bytes input r e b) (closes : Closes r e b last f) (writes : Writes (progress last f) out text n) (room : 8192 ≤ length out) where
   -- what is put into the bytes `out` is what is printed for the bytes that were fed and for those that follow, if they change nothing
