@@ -4,8 +4,10 @@ use libc::STDOUT_FILENO;
 use program_input::Input;
 use program_run::Run;
 ghost use mathlib.Core.Path.{_≡_};
-ghost use lib.ListN.{length};
-ghost use Rattle.restart.specs.Program.{ReadsAll, Answers};
+ghost use Prim.Native.Nat.{_≤_};
+ghost use lib.ListN.{length, take};
+ghost use Rattle.restart.specs.Program.{goesOn, Turns, ReadsAll, Answers};
+ghost use Rattle.program_run.specs.Machine.{ReadyRun, Feeds};
 
 // The run to which the input has led, and the input as far as it was read.
 struct Intake {
@@ -19,20 +21,55 @@ struct Reply {
     input: Input,
 }
 
+// Whether more is to be read.
+fn is_going_on(intake: Intake) -> bool
+    ensures { λ r. ⌜ r ≡ goesOn (intake .input .source) (intake .run .stage) ⌝ }
+{
+    let run = intake.run;
+    if run.is_closed() {
+        return false;
+    }
+    let input = intake.input;
+    input.is_open()
+}
+
+// The run, fed with the first n bytes of a buffer.
+fn fed(run: Run, desk: &mut [u32], bytes: &mut [u8], buffer: &[u8], n: usize) -> Run
+    requires { ⌜ ReadyRun run (now bytes) × (n ≤ length (now buffer)) ⌝ }
+    ensures { λ r. ⌜ Feeds run (now (desk .entry)) (now (bytes .entry)) (take n (now (buffer .entry))) r (now (desk .exit)) (now (bytes .exit)) ⌝ }
+{
+    run.feed(desk, bytes, &buffer[0..n])
+}
+
+// One read more, and what it put into the buffer is fed to the run.
+fn turn(intake: Intake, desk: &mut [u32], bytes: &mut [u8], buffer: &mut [u8; 4096]) -> Intake
+    requires { ⌜ ReadyRun (intake .run) (now bytes) ⌝ }
+    ensures { λ r. ⌜ Turns intake (now (desk .entry)) (now (bytes .entry)) (now (buffer .exit)) r (now (desk .exit)) (now (bytes .exit)) ⌝ }
+{
+    let input = intake.input;
+    let next = input.read(buffer);
+    let n = next.got();
+    let run = intake.run;
+    Intake {
+        run: fed(run, desk, bytes, buffer, n),
+        input: next,
+    }
+}
+
 // Feeds a run with the input: to its end, to a read that fails, or until the run is closed.
 fn read_all(desk: &mut [u32], bytes: &mut [u8]) -> Intake
     requires { ⌜ length (now bytes) ≡ 2056 ⌝ }
     ensures { λ r. ⌜ ReadsAll (now (desk .entry)) (now (bytes .entry)) r (now (desk .exit)) (now (bytes .exit)) ⌝ }
 {
-    let mut run = Run::start();
-    let mut input = Input::start();
+    let mut intake = Intake {
+        run: Run::start(),
+        input: Input::start(),
+    };
     let mut buffer = [0u8; 4096];
-    while input.is_open() && !run.is_closed() {
-        input = input.read(&mut buffer);
-        let n = input.got();
-        run = run.feed(desk, bytes, &buffer[0..n]);
+    while is_going_on(intake) {
+        intake = turn(intake, desk, bytes, &mut buffer);
     }
-    Intake { run, input }
+    intake
 }
 
 // The answer to the input, as text in lent bytes; none if the input was cut.
