@@ -13,32 +13,39 @@ settingsWith least need0 =
 abbrev pub caseSettings : List ℕ
 caseSettings = settingsWith 4 2
 
--- a report of view 7 with no termination; runs are its records of kind 3
-abbrev pub caseReport : ℕ → List ℕ → List ℕ
-caseReport node runs =
-    node ∷ 7 ∷ 127 ∷ 1 ∷ 256 ∷ 5 ∷ 0 ∷ 2 ∷ 257 ∷ 82 ∷ 0 ∷ 3 ∷ 258 ∷ 32 ∷ 0 ∷ runs
+-- a report with the view of the runs under some number, and no termination; runs are its records of kind 3
+abbrev pub reportUnder : ℕ → ℕ → List ℕ → List ℕ
+reportUnder view node runs =
+    node ∷ view ∷ 127 ∷ 1 ∷ 256 ∷ 5 ∷ 0 ∷ 2 ∷ 257 ∷ 82 ∷ 0 ∷ 3 ∷ 258 ∷ 32 ∷ 0 ∷ runs
 
--- no runs, and a run of shard 1
+-- a report of view 7
+abbrev pub caseReport : ℕ → List ℕ → List ℕ
+caseReport node runs = reportUnder 7 node runs
+
+-- no runs, a run of shard 1, and two of them
 abbrev pub noRuns : List ℕ
 noRuns = 0 ∷ []
 
 abbrev pub run1 : ℕ → ℕ → List ℕ
 run1 view count = 4 ∷ 769 ∷ view ∷ count ∷ 0 ∷ []
 
+abbrev pub twoRuns1 : ℕ → ℕ → ℕ → ℕ → List ℕ
+twoRuns1 view count view' count' = 4 ∷ 769 ∷ view ∷ count ∷ 5 ∷ 769 ∷ view' ∷ count' ∷ 0 ∷ []
+
 -- the slot of a message: the message, then zeros
 abbrev pub slotOf : List ℕ → List ℕ
 slotOf w = w ++ replicate (512 - length w) 0
 
--- the desk of case A: nodes 0 to 5 report; logs are empty but for shard 1 of nodes 1 and 4
-unfoldable pub desk : List ℕ
-desk =
-    slotOf (caseReport 0 noRuns)
-    ++ slotOf (caseReport 1 (run1 7 5))
-    ++ slotOf (caseReport 2 noRuns)
-    ++ slotOf (caseReport 3 noRuns)
-    ++ slotOf (caseReport 4 (run1 7 4))
-    ++ slotOf (caseReport 5 noRuns)
+-- a desk on which nodes 0 to 5 have reported; those of shards 0 and 2 have empty logs
+abbrev pub deskWithReports : List ℕ → List ℕ → List ℕ → List ℕ → List ℕ
+deskWithReports report1 report3 report4 report5 =
+    slotOf (caseReport 0 noRuns) ++ slotOf report1 ++ slotOf (caseReport 2 noRuns) ++ slotOf report3 ++ slotOf report4
+    ++ slotOf report5
     ++ replicate 13312 0
+
+-- the desk of case A: logs are empty but for shard 1 of nodes 1 and 4
+unfoldable pub desk : List ℕ
+desk = deskWithReports (caseReport 1 (run1 7 5)) (caseReport 3 noRuns) (caseReport 4 (run1 7 4)) (caseReport 5 noRuns)
 
 -- view 7 of the runs
 abbrev pub view7 : Layout
