@@ -3,4 +3,5 @@ pub mod Runs
 pub mod Placed
 pub mod Cases
 pub mod Clauses
+pub mod Told
 pub mod Supposing
