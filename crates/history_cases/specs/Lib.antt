@@ -5,3 +5,4 @@ pub mod Cases
 pub mod Clauses
 pub mod Told
 pub mod Supposing
+pub mod Needed
