@@ -15,7 +15,7 @@ use Rattle.message_format.specs.declared.Form.the-variants.{Report, Order}
 use Rattle.message_format.specs.Chain.{place, following, row5, row8}
 use Rattle.message_format.specs.Records.{precedes, shardsWhere}
 use Rattle.message_format.specs.Rows.{row6, viewOk, row7, kindOk, plain, kindAt, shardAt, surplus, sequenceAt, complete, shardApart, row10At, row10, position, viewFits, legal, row11At}
-use Rattle.message_format.specs.Messages.{bodyWord, bodyOf, contentsOf, recordsRefusal, headRefusal, messageRefusal, contentsRefusal, readRefusal, writeRefusal, headWord, recordWord, messageWord, messageOf, bufferAfter, writingOf}
+use Rattle.message_format.specs.Messages.{bodyWord, bodyOf, contentsOf, recordsRefusal, headRefusal, messageRefusal, contentsRefusal, readRefusal, blank, readingOf, writeRefusal, tidy, headWord, recordWord, messageWord, messageOf, bufferAfter, writingOf}
 use Rattle.message_examples.specs.Examples.{exampleSettings, message, maskRecords, exampleReport, order}
 
 -- settings of one node, one failure set and one shard, with words changed
@@ -180,34 +180,37 @@ report-clauses =
     }
 
 -- an order of view 8 for node 1, with the records of kinds 1, 2, 4 and 5, each up to its next index
-abbrev pub orderWith : ℕ → List ℕ → List ℕ
-orderWith view rest = 1 ∷ view ∷ 63 ∷ 1 ∷ 256 ∷ 5 ∷ 0 ∷ 2 ∷ 257 ∷ 50 ∷ 0 ∷ 3 ∷ 258 ∷ 8 ∷ 0 ∷ 4 ∷ rest
+abbrev pub orderUnder : ℕ → List ℕ → List ℕ
+orderUnder view rest = 1 ∷ view ∷ 63 ∷ 1 ∷ 256 ∷ 5 ∷ 0 ∷ 2 ∷ 257 ∷ 50 ∷ 0 ∷ 3 ∷ 258 ∷ 8 ∷ 0 ∷ 4 ∷ rest
 
 abbrev pub orderEnds : ℕ → List ℕ → List ℕ
 orderEnds view rest = 512 ∷ 0 ∷ 0 ∷ 5 ∷ 513 ∷ view ∷ 5 ∷ 6 ∷ 514 ∷ 0 ∷ 0 ∷ rest
 
 pub record OrderClauses : Type 0 where
   -- row 7: a view is 2 to 4294967295
-  pub view-last : readsOrder (orderWith 4294967295 (orderEnds 7 (7 ∷ 1025 ∷ 1 ∷ 0 ∷ 8 ∷ 1281 ∷ 7 ∷ 5 ∷ 0 ∷ []))) ≡ none
-  pub view-one : readsOrder (orderWith 1 (512 ∷ 0 ∷ 0 ∷ 5 ∷ 513 ∷ 0 ∷ 0 ∷ 6 ∷ 514 ∷ 0 ∷ 0 ∷ 7 ∷ 1025 ∷ 1 ∷ 0 ∷ 8 ∷ 1281 ∷ 0 ∷ 0 ∷ 0 ∷ [])) ≡ refused 7
-  pub view-two : readsOrder (orderWith 2 (orderEnds 1 (7 ∷ 1025 ∷ 1 ∷ 0 ∷ 8 ∷ 1281 ∷ 1 ∷ 5 ∷ 0 ∷ []))) ≡ none
-  -- row 9: no run, word 2 of kind 4 zero, kind 2 for every shard
-  pub run-in-order : readsOrder (orderWith 8 (orderEnds 7 (7 ∷ 769 ∷ 7 ∷ 5 ∷ 8 ∷ 1025 ∷ 1 ∷ 0 ∷ 9 ∷ 1281 ∷ 7 ∷ 5 ∷ 0 ∷ []))) ≡ refused 9
-  pub kind-past : readsOrder (orderWith 8 (orderEnds 7 (7 ∷ 1025 ∷ 1 ∷ 0 ∷ 8 ∷ 1281 ∷ 7 ∷ 5 ∷ 9 ∷ 1537 ∷ 7 ∷ 5 ∷ 0 ∷ []))) ≡ refused 9
-  pub word-2 : readsOrder (orderWith 8 (orderEnds 7 (7 ∷ 1025 ∷ 1 ∷ 1 ∷ 8 ∷ 1281 ∷ 7 ∷ 5 ∷ 0 ∷ []))) ≡ refused 9
+  pub view-last : readsOrder (orderUnder 4294967295 (orderEnds 7 (7 ∷ 1025 ∷ 1 ∷ 0 ∷ 8 ∷ 1281 ∷ 7 ∷ 5 ∷ 0 ∷ []))) ≡ none
+  pub view-one : readsOrder (orderUnder 1 (512 ∷ 0 ∷ 0 ∷ 5 ∷ 513 ∷ 0 ∷ 0 ∷ 6 ∷ 514 ∷ 0 ∷ 0 ∷ 7 ∷ 1025 ∷ 1 ∷ 0 ∷ 8 ∷ 1281 ∷ 0 ∷ 0 ∷ 0 ∷ [])) ≡ refused 7
+  pub view-two : readsOrder (orderUnder 2 (orderEnds 1 (7 ∷ 1025 ∷ 1 ∷ 0 ∷ 8 ∷ 1281 ∷ 1 ∷ 5 ∷ 0 ∷ []))) ≡ none
+  -- row 9: no kind 0 and no run, word 2 of kind 4 zero, kind 2 for every shard
+  pub kind-zero :
+      readsOrder (1 ∷ 8 ∷ 63 ∷ 1 ∷ 0 ∷ 0 ∷ 0 ∷ 2 ∷ 256 ∷ 5 ∷ 0 ∷ 3 ∷ 257 ∷ 50 ∷ 0 ∷ 4 ∷ 258 ∷ 8 ∷ 0 ∷ 5 ∷ 512 ∷ 0 ∷ 0 ∷ 6 ∷ 513 ∷ 7 ∷ 5 ∷ 7 ∷ 514 ∷ 0 ∷ 0 ∷ 8 ∷ 1025 ∷ 1 ∷ 0 ∷ 9 ∷ 1281 ∷ 7 ∷ 5 ∷ 0 ∷ [])
+      ≡ refused 9
+  pub run-in-order : readsOrder (orderUnder 8 (orderEnds 7 (7 ∷ 769 ∷ 7 ∷ 5 ∷ 8 ∷ 1025 ∷ 1 ∷ 0 ∷ 9 ∷ 1281 ∷ 7 ∷ 5 ∷ 0 ∷ []))) ≡ refused 9
+  pub kind-past : readsOrder (orderUnder 8 (orderEnds 7 (7 ∷ 1025 ∷ 1 ∷ 0 ∷ 8 ∷ 1281 ∷ 7 ∷ 5 ∷ 9 ∷ 1537 ∷ 7 ∷ 5 ∷ 0 ∷ []))) ≡ refused 9
+  pub word-2 : readsOrder (orderUnder 8 (orderEnds 7 (7 ∷ 1025 ∷ 1 ∷ 1 ∷ 8 ∷ 1281 ∷ 7 ∷ 5 ∷ 0 ∷ []))) ≡ refused 9
   pub mask-missing :
       readsOrder (1 ∷ 8 ∷ 63 ∷ 1 ∷ 257 ∷ 50 ∷ 0 ∷ 2 ∷ 258 ∷ 8 ∷ 0 ∷ 3 ∷ 512 ∷ 0 ∷ 0 ∷ 4 ∷ 513 ∷ 7 ∷ 5 ∷ 5 ∷ 514 ∷ 0 ∷ 0 ∷ 6 ∷ 1025 ∷ 1 ∷ 0 ∷ 7 ∷ 1281 ∷ 7 ∷ 5 ∷ 0 ∷ [])
       ≡ refused 9
-  pub no-ends : readsOrder (orderWith 8 (1025 ∷ 1 ∷ 0 ∷ 5 ∷ 1281 ∷ 7 ∷ 5 ∷ 0 ∷ [])) ≡ refused 9
+  pub no-ends : readsOrder (orderUnder 8 (1025 ∷ 1 ∷ 0 ∷ 5 ∷ 1281 ∷ 7 ∷ 5 ∷ 0 ∷ [])) ≡ refused 9
   -- kinds 4 and 5 for exactly the shards that its recipient carries
-  pub holder-missing : readsOrder (orderWith 8 (orderEnds 7 (7 ∷ 1281 ∷ 7 ∷ 5 ∷ 0 ∷ []))) ≡ refused 9
-  pub cut-missing : readsOrder (orderWith 8 (orderEnds 7 (7 ∷ 1025 ∷ 1 ∷ 0 ∷ 0 ∷ []))) ≡ refused 9
-  pub holder-surplus : readsOrder (orderWith 8 (orderEnds 7 (7 ∷ 1025 ∷ 1 ∷ 0 ∷ 8 ∷ 1026 ∷ 5 ∷ 0 ∷ 9 ∷ 1281 ∷ 7 ∷ 5 ∷ 0 ∷ []))) ≡ refused 9
-  pub cut-surplus : readsOrder (orderWith 8 (orderEnds 7 (7 ∷ 1025 ∷ 1 ∷ 0 ∷ 8 ∷ 1281 ∷ 7 ∷ 5 ∷ 9 ∷ 1282 ∷ 0 ∷ 0 ∷ 0 ∷ []))) ≡ refused 9
+  pub holder-missing : readsOrder (orderUnder 8 (orderEnds 7 (7 ∷ 1281 ∷ 7 ∷ 5 ∷ 0 ∷ []))) ≡ refused 9
+  pub cut-missing : readsOrder (orderUnder 8 (orderEnds 7 (7 ∷ 1025 ∷ 1 ∷ 0 ∷ 0 ∷ []))) ≡ refused 9
+  pub holder-surplus : readsOrder (orderUnder 8 (orderEnds 7 (7 ∷ 1025 ∷ 1 ∷ 0 ∷ 8 ∷ 1026 ∷ 5 ∷ 0 ∷ 9 ∷ 1281 ∷ 7 ∷ 5 ∷ 0 ∷ []))) ≡ refused 9
+  pub cut-surplus : readsOrder (orderUnder 8 (orderEnds 7 (7 ∷ 1025 ∷ 1 ∷ 0 ∷ 8 ∷ 1281 ∷ 7 ∷ 5 ∷ 9 ∷ 1282 ∷ 0 ∷ 0 ∷ 0 ∷ []))) ≡ refused 9
   -- row 11: a holder is a member of the new view; targets and cuts are positions below the head's view
-  pub holder-past : readsOrder (orderWith 8 (orderEnds 7 (7 ∷ 1025 ∷ 32 ∷ 0 ∷ 8 ∷ 1281 ∷ 7 ∷ 5 ∷ 0 ∷ []))) ≡ refused 11
-  pub end-above : readsOrder (orderWith 8 (orderEnds 8 (7 ∷ 1025 ∷ 1 ∷ 0 ∷ 8 ∷ 1281 ∷ 7 ∷ 5 ∷ 0 ∷ []))) ≡ refused 11
-  pub cut-position : readsOrder (orderWith 8 (orderEnds 7 (7 ∷ 1025 ∷ 1 ∷ 0 ∷ 8 ∷ 1281 ∷ 0 ∷ 5 ∷ 0 ∷ []))) ≡ refused 11
+  pub holder-past : readsOrder (orderUnder 8 (orderEnds 7 (7 ∷ 1025 ∷ 32 ∷ 0 ∷ 8 ∷ 1281 ∷ 7 ∷ 5 ∷ 0 ∷ []))) ≡ refused 11
+  pub end-above : readsOrder (orderUnder 8 (orderEnds 8 (7 ∷ 1025 ∷ 1 ∷ 0 ∷ 8 ∷ 1281 ∷ 7 ∷ 5 ∷ 0 ∷ []))) ≡ refused 11
+  pub cut-position : readsOrder (orderUnder 8 (orderEnds 7 (7 ∷ 1025 ∷ 1 ∷ 0 ∷ 8 ∷ 1281 ∷ 0 ∷ 5 ∷ 0 ∷ []))) ≡ refused 11
 
 pub order-clauses : OrderClauses
 unfolding allBelow anyBelow lowest tabulate sizesOk nodesOk shardOk shardsOk settingsOk unless firstOf place following row5 row8 precedes shardsWhere viewOk row6 row7 kindOk plain kindAt shardAt surplus sequenceAt complete shardApart row10At row10 position viewFits legal row11At bodyWord bodyOf contentsOf recordsRefusal headRefusal messageRefusal readRefusal
@@ -216,6 +219,7 @@ order-clauses =
       view-last = refl;
       view-one = refl;
       view-two = refl;
+      kind-zero = refl;
       run-in-order = refl;
       kind-past = refl;
       word-2 = refl;
@@ -245,11 +249,23 @@ pub record WriterClauses : Type 0 where
   -- what a message says, records off the chain left out
   pub says : contentsOf exampleReport ≡ exampleContents 1 4
   pub says-chain : contentsOf (message 1 7 127 (maskRecords ++ (5 ∷ 9 ∷ 9 ∷ 9 ∷ 9 ∷ 769 ∷ 7 ∷ 5 ∷ 0 ∷ []))) ≡ exampleContents 1 4
+  -- what reading gives, and beside a refusal nothing
+  pub reading-taken : readingOf Report exampleSettings exampleReport ≡ record { refusal = none; contents = exampleContents 1 4 }
+  pub reading-refused : readingOf Report exampleSettings [] ≡ record { refusal = refused 5; contents = blank }
+  -- words past the records say nothing
+  pub tidied : tidy (exampleContents 1 3) ≡ record {
+    node = record { 0 = 1 };
+    view = record { 0 = 7 };
+    members = 127;
+    len = 3;
+    body = 256 ∷ 5 ∷ 0 ∷ 257 ∷ 82 ∷ 0 ∷ 258 ∷ 32 ∷ 0 ∷ replicate 372 0;
+  }
   -- the writer's words: the records one after another, then zeros
   pub words : messageOf (exampleContents 1 4) 24 ≡ exampleReport ++ (0 ∷ 0 ∷ 0 ∷ 0 ∷ [])
   -- its length, and 0 beside a refusal, which leaves the lent words
   pub length : writingOf Report exampleSettings (exampleContents 1 4) (replicate 512 9) ≡ record { refusal = none; length = 20 }
   pub no-length : writingOf Report exampleSettings (exampleContents 7 4) (replicate 512 9) ≡ record { refusal = refused 6; length = 0 }
+  pub written : bufferAfter Report exampleSettings (exampleContents 1 4) (replicate 512 9) ≡ exampleReport ++ replicate 492 0
   pub unchanged : bufferAfter Report exampleSettings (exampleContents 7 4) (replicate 512 9) ≡ replicate 512 9
   -- rows 1, 2 and 5 in their order
   pub buffer : writeRefusal Report [] (exampleContents 7 4) (replicate 511 0) ≡ refused 1
@@ -257,14 +273,18 @@ pub record WriterClauses : Type 0 where
   pub too-long : writeRefusal Report exampleSettings (exampleContents 7 128) (replicate 512 0) ≡ refused 5
 
 pub writer-clauses : WriterClauses
-unfolding allBelow anyBelow lowest tabulate sizesOk nodesOk shardOk shardsOk settingsOk unless firstOf place following row5 row8 precedes shardsWhere viewOk row6 row7 kindOk plain kindAt shardAt surplus sequenceAt complete shardApart row10At row10 position viewFits legal row11At bodyWord bodyOf contentsOf recordsRefusal headRefusal contentsRefusal writeRefusal headWord recordWord messageWord messageOf bufferAfter writingOf
+unfolding allBelow anyBelow lowest tabulate sizesOk nodesOk shardOk shardsOk settingsOk unless firstOf place following row5 row8 precedes shardsWhere viewOk row6 row7 kindOk plain kindAt shardAt surplus sequenceAt complete shardApart row10At row10 position viewFits legal row11At bodyWord bodyOf contentsOf recordsRefusal headRefusal messageRefusal readRefusal readingOf contentsRefusal writeRefusal tidy headWord recordWord messageWord messageOf bufferAfter writingOf
 writer-clauses =
     record {
       says = refl;
       says-chain = refl;
+      reading-taken = refl;
+      reading-refused = refl;
+      tidied = refl;
       words = refl;
       length = refl;
       no-length = refl;
+      written = refl;
       unchanged = refl;
       buffer = refl;
       settings = refl;

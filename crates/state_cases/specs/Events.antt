@@ -22,6 +22,8 @@ use Rattle.place_groups.specs.Placements.{spread, shardValid, groupValidAt, gro
 use Rattle.report_views.specs.declared.Termination.{Termination}
 use Rattle.report_views.specs.declared.Phase.{Phase}
 use Rattle.report_views.specs.declared.Phase.the-variants.{Gathering, Ordered, Preparing, Committed}
+use Rattle.report_views.specs.declared.Reason.the-variants.{TooFew}
+use Rattle.report_views.specs.declared.Quorum.the-variants.{Met, Short}
 use Rattle.report_views.specs.Empty.{noView, noTermination, noPlan}
 use Rattle.report_views.specs.Logs.{endOf, reaches, holds, hasUpdate}
 use Rattle.report_views.specs.Reports.{slot, reportOf}
@@ -30,7 +32,7 @@ use Rattle.report_views.specs.Quorums.{candidate, greatest, best, target, able,
 use Rattle.report_views.specs.Soundness.{layoutTidy, layoutBlank, viewSound, positionSound, termSoundAt, termSound, nothingKept, keptSound, marksSound, planBlank, isMet, shardPlanned, allMoves, planSound, planFits}
 use Rattle.report_kept.specs.Reports.{keptRefusal, refusalBeside, layoutOf, terminationOf, renewed}
 use Rattle.report_desk.specs.Desk.{deskWith}
-use Rattle.report_examples.specs.Kept.{openReport, endedReport, endsAt, view7As}
+use Rattle.report_examples.specs.Kept.{openReport, endedReport, endedAt, view7As}
 use Rattle.report_examples.specs.Sound.{planOfCaseA}
 use Rattle.history_cases.specs.Runs.{caseSettings, desk, view7}
 use Rattle.state_rows.specs.Rows.{entryRows, nodeRefusal}
@@ -39,11 +41,13 @@ use Rattle.state_planner.specs.declared.Answer.{Answer}
 use Rattle.state_planner.specs.States.{sound, ofParts, fresh, holding, keeping, marked, restarted, planned}
 use Rattle.state_planner.specs.Refusing.{entryRefusal, eventRefusal, reportRefusal, dropRefusal, decideRefusal, orderRefusal, fetchedRefusal, preparedRefusal}
 use Rattle.state_planner.specs.Events.{afterReport, droppedIn, afterDrop, afterFetched, afterPrepared, outcome, deskAfter}
+use Rattle.state_planner.specs.declared.Decision.{Decision}
+use Rattle.state_planner.specs.Decide.{still, stateBy, decisionBy, decidedBy}
 use Rattle.state_cases.specs.Start.{gathered}
 
 -- view 7 kept with a termination
 abbrev pub withEnds : Phase → ℕ → ℕ → ℕ → State
-withEnds phase held fetched prepared = ofParts phase view7 (endsAt 7 5 6 2) held fetched prepared planOfCaseA
+withEnds phase held fetched prepared = ofParts phase view7 (endedAt 7 5 6 2) held fetched prepared planOfCaseA
 
 pub record EventClauses : Type 0 where
   -- a report's node is held, beside those that were; one that reports again is held once
@@ -52,14 +56,18 @@ pub record EventClauses : Type 0 where
   -- what is kept is renewed, and the others remain held
   pub report-renews :
       afterReport caseSettings (gathered view7 33) (contentsOf (endedReport 8 7 5))
-      ≡ ofParts Gathering (view7As 8) (endsAt 7 5 6 2) 35 0 0 noPlan
-  -- a drop in gathering: the node is no longer held, and the kept view remains
-  pub drop-gathering : afterDrop (gathered view7 63) 5 ≡ gathered view7 31
+      ≡ ofParts Gathering (view7As 8) (endedAt 7 5 6 2) 35 0 0 noPlan
+  -- a drop in gathering: the node is no longer held, and kept view and termination remain
+  pub drop-gathering :
+      afterDrop (ofParts Gathering view7 (endedAt 7 5 6 2) 63 0 0 noPlan) 5 ≡ ofParts Gathering view7 (endedAt 7 5 6 2) 31 0 0 noPlan
   -- a drop while ordered or preparing: nobody is held, marks and plan go, and kept view and termination remain
-  pub drop-ordered : afterDrop (withEnds Ordered 63 31 0) 5 ≡ ofParts Gathering view7 (endsAt 7 5 6 2) 0 0 0 noPlan
-  pub drop-preparing : afterDrop (withEnds Preparing 63 63 31) 5 ≡ ofParts Gathering view7 (endsAt 7 5 6 2) 0 0 0 noPlan
-  -- a plan leads to ordered, and all else remains
-  pub plan-ordered : planned (ofParts Gathering view7 (endsAt 7 5 6 2) 63 0 0 noPlan) planOfCaseA ≡ withEnds Ordered 63 0 0
+  pub drop-ordered : afterDrop (withEnds Ordered 63 31 0) 5 ≡ ofParts Gathering view7 (endedAt 7 5 6 2) 0 0 0 noPlan
+  pub drop-preparing : afterDrop (withEnds Preparing 63 63 31) 5 ≡ ofParts Gathering view7 (endedAt 7 5 6 2) 0 0 0 noPlan
+  pub drop-committed : afterDrop (withEnds Committed 63 63 63) 5 ≡ withEnds Committed 63 63 63
+  -- a plan leads to ordered, and all else remains; a wait changes nothing
+  pub plan-ordered : planned (ofParts Gathering view7 (endedAt 7 5 6 2) 63 0 0 noPlan) planOfCaseA ≡ withEnds Ordered 63 0 0
+  pub met-plans : decidedBy Met (gathered view7 63) planOfCaseA ≡ still (planned (gathered view7 63) planOfCaseA) Decision.Planned
+  pub short-waits : decidedBy (Short TooFew) (gathered view7 63) planOfCaseA ≡ still (gathered view7 63) (Decision.Wait TooFew)
   -- the node is marked; with the last held one the next phase follows
   pub fetched-one : afterFetched (withEnds Ordered 63 15 0) 4 ≡ withEnds Ordered 63 31 0
   pub fetched-last : afterFetched (withEnds Ordered 63 31 0) 5 ≡ withEnds Preparing 63 63 0
@@ -79,7 +87,7 @@ pub record EventClauses : Type 0 where
   pub node-none : nodeRefusal caseSettings 6 true ≡ none
 
 pub event-clauses : EventClauses
-unfolding allBelow anyBelow lowest tabulate unless place following bodyWord bodyOf contentsOf layoutOf terminationOf renewed fresh holding keeping marked restarted planned afterReport droppedIn afterFetched afterPrepared outcome nodeRefusal
+unfolding allBelow anyBelow lowest tabulate unless place following bodyWord bodyOf contentsOf layoutOf terminationOf renewed fresh holding keeping marked restarted planned afterReport droppedIn afterFetched afterPrepared outcome stateBy decisionBy nodeRefusal
 event-clauses =
     record {
       report-holds = refl;
@@ -88,7 +96,10 @@ event-clauses =
       drop-gathering = refl;
       drop-ordered = refl;
       drop-preparing = refl;
+      drop-committed = refl;
       plan-ordered = refl;
+      met-plans = refl;
+      short-waits = refl;
       fetched-one = refl;
       fetched-last = refl;
       prepared-one = refl;
@@ -117,10 +128,19 @@ abbrev pub committedA : State
 committedA = ofParts Committed view7 noTermination 63 63 63 planOfCaseA
 
 pub record RefusalClauses : Type 0 where
+  -- a desk of another length, in every event
+  pub report-desk : reportRefusal caseSettings (gathered view7 63) [] (openReport 7) ≡ refused 1
+  pub drop-desk : dropRefusal caseSettings (gathered view7 63) [] 5 ≡ refused 1
+  pub decide-desk : decideRefusal caseSettings (gathered view7 63) [] ≡ refused 1
+  pub fetched-desk : fetchedRefusal caseSettings orderedA [] 5 ≡ refused 1
+  pub prepared-desk : preparedRefusal caseSettings preparingA [] 5 ≡ refused 1
   -- a report in gathering only, with the rows of what is kept
   pub report-taken : reportRefusal caseSettings (gathered view7 63) desk (openReport 7) ≡ none
   pub report-row-5 : reportRefusal caseSettings (gathered view7 63) desk [] ≡ refused 5
   pub report-ordered : reportRefusal caseSettings orderedA desk (openReport 7) ≡ refused 4
+  -- the desk has the report in its node's slot, and beside a refusal what it had
+  pub desk-taken : deskAfter caseSettings (gathered view7 63) desk (openReport 7) ≡ deskWith desk 1 (openReport 7)
+  pub desk-refused : deskAfter caseSettings (gathered view7 63) desk [] ≡ desk
   -- a drop in every phase but committed, of a held node
   pub drop-taken : dropRefusal caseSettings (gathered view7 63) desk 5 ≡ none
   pub drop-ordered : dropRefusal caseSettings orderedA desk 5 ≡ none
@@ -179,12 +199,19 @@ unfolding marksSound planFits sound
 committed-sound = and-both (and-both (and-both kept-is-sound parts-sound) refl) plan-is-sound
 
 pub refusal-clauses : RefusalClauses
-unfolding desk allBelow anyBelow lowest tabulate sizesOk nodesOk shardOk shardsOk settingsOk unless firstOf place following row5 row8 precedes shardsWhere row6 viewOk row7 kindOk plain kindAt shardAt surplus sequenceAt complete shardApart row10At row10 position viewFits legal row11At bodyWord bodyOf contentsOf recordsRefusal headRefusal messageRefusal sameView row12 sameTermination row13 keptRefusal refusalBeside entryRefusal eventRefusal nodeRefusal reportRefusal dropRefusal decideRefusal orderRefusal fetchedRefusal preparedRefusal
+unfolding desk allBelow anyBelow lowest tabulate sizesOk nodesOk shardOk shardsOk settingsOk unless firstOf place following row5 row8 precedes shardsWhere row6 viewOk row7 kindOk plain kindAt shardAt surplus sequenceAt complete shardApart row10At row10 position viewFits legal row11At bodyWord bodyOf contentsOf recordsRefusal headRefusal messageRefusal sameView row12 sameTermination row13 keptRefusal refusalBeside entryRefusal eventRefusal nodeRefusal reportRefusal dropRefusal decideRefusal orderRefusal fetchedRefusal preparedRefusal deskAfter
 refusal-clauses =
     record {
+      report-desk = refl;
+      drop-desk = refl;
+      decide-desk = refl;
+      fetched-desk = refl;
+      prepared-desk = refl;
       report-taken = rw gathered-sound;
       report-row-5 = rw gathered-sound;
       report-ordered = rw ordered-sound;
+      desk-taken = rw gathered-sound;
+      desk-refused = rw gathered-sound;
       drop-taken = rw gathered-sound;
       drop-ordered = rw ordered-sound;
       drop-preparing = rw preparing-sound;
