@@ -21,8 +21,8 @@ use Rattle.report_views.specs.Logs.{holds}
 use Rattle.report_views.specs.Reports.{reportOf, viewOf, maskAt}
 use Rattle.history_claims.specs.History.{History, KeepsRule, Full, SameView, True, Listed, viewAt, numberAt, membersAt}
 
-abbrev pub told : List Layout → List ℕ → List ℕ → History
-told views logs d =
+abbrev pub toldBy : List Layout → List ℕ → List ℕ → History
+toldBy views logs d =
     record {
       views = views;
       logged = λ n i. has (getD logs i 0) n;
@@ -87,22 +87,22 @@ module _ (σ : List ℕ) (views : List Layout) (logs d : List ℕ) where
   trueTest n i =
       eqb (reportOf d n .node .0) n && ltb i (length views) && has (getD logs i 0) n && latestTest n i && sameTest n i
 
-  same-of : (n i : ℕ) → sameTest n i ≡ true → SameView σ (told views logs d) (reportOf d n) i
+  same-of : (n i : ℕ) → sameTest n i ≡ true → SameView σ (toldBy views logs d) (reportOf d n) i
   same-of n i h =
-      let number = eqb (viewOf d n) (numberAt (told views logs d) i) in
-      let members = eqb (reportOf d n .members) (membersAt (told views logs d) i) in
-      let masks : ℕ → Bool = λ s. eqb (membersOf (reportOf d n .body) s) (maskAt (viewAt (told views logs d) i) s) in
+      let number = eqb (viewOf d n) (numberAt (toldBy views logs d) i) in
+      let members = eqb (reportOf d n .members) (membersAt (toldBy views logs d) i) in
+      let masks : ℕ → Bool = λ s. eqb (membersOf (reportOf d n .body) s) (maskAt (viewAt (toldBy views logs d) i) s) in
       let two = and-left (number && members) (allBelow (shards σ) masks) h in
       record {
-        number = eqb-true (viewOf d n) (numberAt (told views logs d) i) (and-left number members two);
-        members = eqb-true (reportOf d n .members) (membersAt (told views logs d) i) (and-right number members two);
+        number = eqb-true (viewOf d n) (numberAt (toldBy views logs d) i) (and-left number members two);
+        members = eqb-true (reportOf d n .members) (membersAt (toldBy views logs d) i) (and-right number members two);
         masks =
         λ s l.
-        eqb-true (membersOf (reportOf d n .body) s) (maskAt (viewAt (told views logs d) i) s)
+        eqb-true (membersOf (reportOf d n .body) s) (maskAt (viewAt (toldBy views logs d) i) s)
         (all-at (shards σ) masks (and-right (number && members) (allBelow (shards σ) masks) h) s l);
       }
 
-  pub true-of : (n i : ℕ) → trueTest n i ≡ true → True σ (told views logs d) (reportOf d n)
+  pub true-of : (n i : ℕ) → trueTest n i ≡ true → True σ (toldBy views logs d) (reportOf d n)
   true-of n i h =
       let own = eqb (reportOf d n .node .0) n in
       let inside = ltb i (length views) in
@@ -126,7 +126,7 @@ module _ (σ : List ℕ) (views : List Layout) (logs d : List ℕ) where
       }
 
   -- the other way: a true report of a node's own is of the view at some place
-  pub true-somewhere : (n : ℕ) → reportOf d n .node .0 ≡ n → True σ (told views logs d) (reportOf d n)
+  pub true-somewhere : (n : ℕ) → reportOf d n .node .0 ≡ n → True σ (toldBy views logs d) (reportOf d n)
       → anyBelow (length views) (trueTest n) ≡ true
   true-somewhere n own r =
       any-at (length views) (trueTest n) (r .at) (r .listed)
@@ -141,17 +141,17 @@ module _ (σ : List ℕ) (views : List Layout) (logs d : List ℕ) where
       (λ k. or-left (not (has (getD logs j 0) n)) (le-leb j (r .at) k))
       (lt-or-le (r .at) j))))
       (and-both
-      (and-both (eq-eqb (viewOf d n) (numberAt (told views logs d) (r .at)) (r .same .number))
-      (eq-eqb (reportOf d n .members) (membersAt (told views logs d) (r .at)) (r .same .members)))
-      (all-of (shards σ) (λ s. eqb (membersOf (reportOf d n .body) s) (maskAt (viewAt (told views logs d) (r .at)) s))
-      (λ s l. eq-eqb (membersOf (reportOf d n .body) s) (maskAt (viewAt (told views logs d) (r .at)) s) (r .same .masks s l)))))
+      (and-both (eq-eqb (viewOf d n) (numberAt (toldBy views logs d) (r .at)) (r .same .number))
+      (eq-eqb (reportOf d n .members) (membersAt (toldBy views logs d) (r .at)) (r .same .members)))
+      (all-of (shards σ) (λ s. eqb (membersOf (reportOf d n .body) s) (maskAt (viewAt (toldBy views logs d) (r .at)) s))
+      (λ s l. eq-eqb (membersOf (reportOf d n .body) s) (maskAt (viewAt (toldBy views logs d) (r .at)) s) (r .same .masks s l)))))
 
   -- every held node's report is true, and of the view at the place that the list says
   abbrev pub reportsTest : ℕ → List ℕ → Bool
   reportsTest held places = implies (has held) (λ n. trueTest n (getD places n 0))
 
   pub reports-of : (held : ℕ) (places : List ℕ) → reportsTest held places ≡ true
-      → (n : ℕ) → n < 32 → has held n ≡ true → True σ (told views logs d) (reportOf d n)
+      → (n : ℕ) → n < 32 → has held n ≡ true → True σ (toldBy views logs d) (reportOf d n)
   reports-of held places h n l e =
       true-of n (getD places n 0) (implies-at (has held) (λ m. trueTest m (getD places m 0)) h n l e)
 
