@@ -51,16 +51,16 @@ pub rule-of : (H : History) → risesTest H ≡ true → overlapsTest H ≡ true
 rule-of H r o =
     record {
       rises =
-      λ i j l k.
-      ltb-true (numberAt H i) (numberAt H j)
-      (all-at j (λ m. ltb (numberAt H m) (numberAt H j)) (all-at (length (H .views)) (λ m. allBelow m (λ z. ltb (numberAt H z) (numberAt H m))) r j k) i l);
+          λ i j l k.
+          ltb-true (numberAt H i) (numberAt H j)
+          (all-at j (λ m. ltb (numberAt H m) (numberAt H j)) (all-at (length (H .views)) (λ m. allBelow m (λ z. ltb (numberAt H z) (numberAt H m))) r j k) i l);
       overlaps =
-      λ i l.
-      ⊎-elim (λ e. let z = leb-true (length (H .views)) (suc i) e in absurd (omega arith))
-      (λ e. ltb-true (count (membersAt H i)) (2 * count (bitAnd (membersAt H (suc i)) (membersAt H i))) e)
-      (or-holds (leb (length (H .views)) (suc i)) (ltb (count (membersAt H i)) (2 * count (bitAnd (membersAt H (suc i)) (membersAt H i))))
-      (all-at (length (H .views))
-      (λ m. leb (length (H .views)) (suc m) || ltb (count (membersAt H m)) (2 * count (bitAnd (membersAt H (suc m)) (membersAt H m)))) o i (omega arith)));
+          λ i l.
+          ⊎-elim (λ e. let z = leb-true (length (H .views)) (suc i) e in absurd (omega arith))
+          (λ e. ltb-true (count (membersAt H i)) (2 * count (bitAnd (membersAt H (suc i)) (membersAt H i))) e)
+          (or-holds (leb (length (H .views)) (suc i)) (ltb (count (membersAt H i)) (2 * count (bitAnd (membersAt H (suc i)) (membersAt H i))))
+          (all-at (length (H .views))
+          (λ m. leb (length (H .views)) (suc m) || ltb (count (membersAt H m)) (2 * count (bitAnd (membersAt H (suc m)) (membersAt H m)))) o i (omega arith)));
     }
 
 -- every member of the view at place i has logged it
@@ -97,9 +97,9 @@ module _ (σ : List ℕ) (views : List Layout) (logs d : List ℕ) where
         number = eqb-true (viewOf d n) (numberAt (toldBy views logs d) i) (and-left number members two);
         members = eqb-true (reportOf d n .members) (membersAt (toldBy views logs d) i) (and-right number members two);
         masks =
-        λ s l.
-        eqb-true (membersOf (reportOf d n .body) s) (maskAt (viewAt (toldBy views logs d) i) s)
-        (all-at (shards σ) masks (and-right (number && members) (allBelow (shards σ) masks) h) s l);
+            λ s l.
+            eqb-true (membersOf (reportOf d n .body) s) (maskAt (viewAt (toldBy views logs d) i) s)
+            (all-at (shards σ) masks (and-right (number && members) (allBelow (shards σ) masks) h) s l);
       }
 
   pub true-of : (n i : ℕ) → trueTest n i ≡ true → True σ (toldBy views logs d) (reportOf d n)
@@ -116,11 +116,11 @@ module _ (σ : List ℕ) (views : List Layout) (logs d : List ℕ) where
         listed = ltb-true i (length views) (and-right own inside two);
         logged = subst⁻¹ (λ (m : ℕ). has (getD logs i 0) m ≡ true) node (and-right (own && inside) here three);
         latest =
-        λ j l k.
-        subst⁻¹ (λ (m : ℕ). has (getD logs j 0) m ≡ false) node
-        (⊎-elim (λ e. let z = leb-true j i e in absurd (omega arith)) (λ e. of-not-true (has (getD logs j 0) n) e)
-        (or-holds (leb j i) (not (has (getD logs j 0) n))
-        (all-at (length views) (λ m. leb m i || not (has (getD logs m 0) n)) (and-right (own && inside && here) (latestTest n i) four) j k)));
+            λ j l k.
+            subst⁻¹ (λ (m : ℕ). has (getD logs j 0) m ≡ false) node
+            (⊎-elim (λ e. let z = leb-true j i e in absurd (omega arith)) (λ e. of-not-true (has (getD logs j 0) n) e)
+            (or-holds (leb j i) (not (has (getD logs j 0) n))
+            (all-at (length views) (λ m. leb m i || not (has (getD logs m 0) n)) (and-right (own && inside && here) (latestTest n i) four) j k)));
         same = same-of n i (and-right (own && inside && here && latestTest n i) (sameTest n i) h);
         updates = λ s k p. ap (λ (m : ℕ). holds (reportOf d m .body) (reportOf d m .len) s p) node;
       }

@@ -175,7 +175,7 @@ unfolding desk allBelow anyBelow lowest tabulate unless firstOf place following 
 parts-sound = refl
 
 kept-is-sound : keptSound caseSettings view7 noTermination 63 ≡ true
-unfolding allBelow viewOk shardApart row10At row10 layoutBlank viewSound termSoundAt termSound nothingKept keptSound
+unfolding allBelow viewOk shardApart row10At row10 layoutTidy layoutBlank viewSound termSoundAt termSound nothingKept keptSound
 kept-is-sound = refl
 
 plan-is-sound : planSound caseSettings view7 noTermination 63 desk planOfCaseA ≡ true

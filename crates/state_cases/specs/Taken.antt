@@ -50,7 +50,7 @@ held-slots held l =
     (either (has held n)))
 
 held-kept : (held : ℕ) → held < 128 → keptSound caseSettings view7 noTermination held ≡ true
-unfolding allBelow viewOk shardApart row10At row10 layoutBlank viewSound termSoundAt termSound nothingKept keptSound
+unfolding allBelow viewOk shardApart row10At row10 layoutTidy layoutBlank viewSound termSoundAt termSound nothingKept keptSound
 held-kept held l = and-both refl (lt-within 7 held (omega arith))
 
 held-sound : (held : ℕ) → held < 128 → sound caseSettings (gathered view7 held) deskOfSeven ≡ true
