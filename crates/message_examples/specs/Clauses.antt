@@ -17,7 +17,7 @@ use Rattle.message_format.specs.Chain.{place, following, row5, row8}
 use Rattle.message_format.specs.Records.{precedes, shardsWhere}
 use Rattle.message_format.specs.Rows.{row6, viewOk, row7, kindOk, plain, kindAt, shardAt, surplus, sequenceAt, complete, shardApart, row10At, row10, position, viewFits, legal, row11At}
 use Rattle.message_format.specs.Messages.{bodyWord, bodyOf, contentsOf, recordsRefusal, headRefusal, messageRefusal, contentsRefusal, readRefusal, blank, readingOf, writeRefusal, tidy, headWord, recordWord, messageWord, messageOf, bufferAfter, writingOf}
-use Rattle.message_examples.specs.Examples.{exampleSettings, message, maskRecords, exampleReport, order}
+use Rattle.message_examples.specs.Examples.{exampleSettings, message, maskRecords, exampleReport}
 
 -- settings of one node, one failure set and one shard, with words changed
 abbrev pub smallSettings : ℕ → ℕ → ℕ → ℕ → ℕ → List ℕ → List ℕ
