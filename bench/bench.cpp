@@ -24,7 +24,8 @@ template <class F> double microseconds(F f) {
 }
 
 static uint32_t least(const Instance &x, std::array<uint8_t, NODES> &owners) {
-    return placement_least(x.sets.data(), x.needs.data(), x.prices.data(), owners.data());
+    return placement_least(x.sets.data(), x.sets.size(), x.needs.data(), x.needs.size(), x.prices.data(), x.prices.size(), owners.data(),
+                           owners.size());
 }
 
 // Whether the owners are a valid placement of that many moves.

@@ -1,26 +1,72 @@
-// Counts how often the placement would enter its total search: never, over at least 100,000 seeded
+// Counts how often the placement enters its total search: never, over at least 100,000 seeded
 // instances of every kind, for the least moves and for at most k moves at a random k and at 32.
 //     fallback [instances a kind] [seed]
+// No call tells it, so a trap stands at the total search's first instruction (the Makefile gives that
+// place a name): a call that comes there is left at once and counted. That the trap works is tried
+// first, with tables that the hints do not serve.
 #include "instances.hpp"
 #include "placement.h"
 #include <array>
 #include <atomic>
+#include <csetjmp>
+#include <csignal>
 #include <cstdio>
 #include <cstdlib>
+#include <sys/mman.h>
 #include <thread>
+#include <unistd.h>
 #include <vector>
 
 using namespace bench;
 
-constexpr uint32_t UNSURE = 65;
+extern "C" void total_search();
 
-// How many of the three questions the hints leave unanswered.
-static int unanswered(const Instance &x, uint32_t k) {
+static thread_local sigjmp_buf left;
+
+static void entered(int) { siglongjmp(left, 1); }
+
+// Puts a trap at the total search.
+static bool set_trap() {
+    auto *at = reinterpret_cast<unsigned char *>(&total_search);
+    auto page = static_cast<uintptr_t>(sysconf(_SC_PAGESIZE));
+    void *from = reinterpret_cast<void *>(reinterpret_cast<uintptr_t>(at) & ~(page - 1));
+    if (mprotect(from, page, PROT_READ | PROT_WRITE | PROT_EXEC)) return false;
+    *at = 0xCC;
+    struct sigaction action = {};
+    action.sa_handler = entered;
+    action.sa_flags = SA_NODEFER;
+    return !mprotect(from, page, PROT_READ | PROT_EXEC) && !sigaction(SIGTRAP, &action, nullptr);
+}
+
+// Whether a call comes to the total search.
+template <class F> static bool enters(F call) {
+    if (sigsetjmp(left, 0)) return true;
+    call();
+    return false;
+}
+
+static bool least_enters(const Instance &x) {
     std::array<uint8_t, NODES> owners{};
-    const uint8_t *sets = x.sets.data(), *needs = x.needs.data(), *prices = x.prices.data();
-    return (placement_quick(sets, needs, prices, owners.data()) == UNSURE) +
-           (placement_quick_within(sets, needs, prices, k, owners.data()) == UNSURE) +
-           (placement_quick_within(sets, needs, prices, NODES, owners.data()) == UNSURE);
+    return enters([&] {
+        placement_least(x.sets.data(), x.sets.size(), x.needs.data(), x.needs.size(), x.prices.data(), x.prices.size(), owners.data(),
+                        owners.size());
+    });
+}
+
+static bool within_enters(const Instance &x, uint32_t k) {
+    std::array<uint8_t, NODES> owners{};
+    return enters([&] {
+        placement_within(x.sets.data(), x.sets.size(), x.needs.data(), x.needs.size(), x.prices.data(), x.prices.size(), k, owners.data(),
+                         owners.size());
+    });
+}
+
+// A failure set from 16 up is none that the hints know.
+static bool trap_works() {
+    Random r(1);
+    Instance x = make(RANDOM, r);
+    x.sets[0] = SETS;
+    return least_enters(x) && within_enters(x, NODES) && least_enters(x);
 }
 
 // What the instances of one kind come to: how often the search is entered, and at which instance first.
@@ -33,7 +79,7 @@ static Entered tried(int kind, long count, uint64_t seed) {
     Entered e;
     for (long k = 0; k < count; ++k) {
         Instance x = make(kind, r);
-        int missed = unanswered(x, static_cast<uint32_t>(r.below(NODES + 1)));
+        int missed = least_enters(x) + within_enters(x, static_cast<uint32_t>(r.below(NODES + 1))) + within_enters(x, NODES);
         if (missed && e.times == 0) e.first = k;
         e.times += missed;
     }
@@ -43,6 +89,10 @@ static Entered tried(int kind, long count, uint64_t seed) {
 int main(int argc, char **argv) {
     long count = argc > 1 ? atol(argv[1]) : 100000;
     uint64_t seed = argc > 2 ? strtoull(argv[2], nullptr, 10) : 1;
+    if (!set_trap() || !trap_works()) {
+        printf("fallback: the trap at the total search does not work\n");
+        return 1;
+    }
     printf("seed %llu\n", (unsigned long long)seed);
     std::array<Entered, KINDS> all;
     std::atomic<int> next{0};

@@ -1,13 +1,19 @@
-"""Run the program restart on the runs that document 01 names, on a run for each number that it can give, and on inputs that are
-cut. What it must print is written here by hand.
+"""Run the program restart on the runs that document 01 names, on a run for each number that it can give, on inputs that are
+cut, and where reading or writing fails. What it must print is written here by hand.
 
     python3 tests/cases.py [PROGRAM]        target/bin/restart unless told otherwise
 
 The last line is `N passed, M failed`."""
+import contextlib
+import fcntl
 import os
+import signal
+import socket
 import struct
 import subprocess
 import sys
+import termios
+import time
 
 ROOT = os.path.dirname(os.path.dirname(os.path.abspath(__file__)))
 PROGRAM = sys.argv[1] if len(sys.argv) > 1 else os.path.join(ROOT, "target", "bin", "restart")
@@ -125,6 +131,37 @@ def more_plans():
     yield "subgroup 3 without a placement", blocks(changed(narrow, 9, 3 * 256 + 2), *parts), "wait 5 3\n"
 
 
+def cures():
+    """README's cures of waits 4 and 5, and what comes near to them and cures nothing."""
+    five = [of_case_a(n) for n in range(5)]
+    yield "wait 4, the shard's machine under an older view", after(*five, report(5, view=6)), "wait 4 2\n"
+    yield "wait 4, cured under the kept view", after(*five, report(5, view=6), of_case_a(5)), PLAN
+    # A kept termination: a log without its update is no cure.
+    ended = termination([(0, 0), (7, 5), (0, 0)])
+    kept = [of_case_a(n) for n in (0, 2, 3, 5)] + [report(1, ended + runs(1, (7, 3)))]
+    yield "wait 4, the termination's update is missing", after(*kept), "wait 4 1\n"
+    yield "wait 4, another log without it", after(*kept, of_case_a(4)), "wait 4 1\n"
+    yield "wait 4, cured by a log that has it", after(*kept, report(6, runs(1, (7, 5)))), (
+        "view 8\nmoves 1\nshard 0 holder 0 target 0 0 members 0 2\nshard 1 holder 6 target 7 5 members 1 3 6\n"
+        "shard 2 holder 5 target 0 0 members 5\n"
+    )
+    # Two shards that need both failure sets: set 1 has one machine back, and the cure is its other one.
+    two = [4, 2, 1, 2, 0, 0, 1, 1, 2, 2]
+    four = [report(n, view=1, members=15, masks=[5, 10]) for n in range(4)]
+    yield "wait 5, one machine of set 1", blocks(two, *four[:3]), "wait 5 0\n"
+    yield "wait 5, cured by a set that is back already", blocks(two, *four), (
+        "view 2\nmoves 0\nshard 0 holder 0 target 0 0 members 0 2\nshard 1 holder 1 target 0 0 members 1 3\n"
+    )
+    # A set that has as many back as there are shards gives no more by another.
+    three = [5, 2, 1, 2, 0, 0, 0, 1, 1, 2, 2]
+    back = [report(n, view=1, members=31, masks=[9, 18]) for n in (0, 1, 3, 2, 4)]
+    yield "wait 5, two machines of set 0", blocks(three, *back[:3]), "wait 5 0\n"
+    yield "wait 5, a third one", blocks(three, *back[:4]), "wait 5 0\n"
+    yield "wait 5, cured by set 1", blocks(three, *back[:3], back[4]), (
+        "view 2\nmoves 0\nshard 0 holder 0 target 0 0 members 0 3\nshard 1 holder 1 target 0 0 members 1 4\n"
+    )
+
+
 def refused():
     """A run for each number that restart can give: 2 and 5 to 13."""
     good = of_case_a(0)
@@ -224,15 +261,115 @@ def long_runs():
     yield "reports of 512 words", after(*full), PLAN
 
 
-def printed(data, pieces):
-    """What the program prints, given the input whole or byte by byte."""
-    child = subprocess.Popen([PROGRAM], stdin=subprocess.PIPE, stdout=subprocess.PIPE)
-    if not pieces:
-        return child.communicate(data)[0]
-    for byte in data:
-        child.stdin.write(bytes([byte]))
-        child.stdin.flush()
-    return child.communicate()[0]
+def waiting(read_end):
+    """How many bytes lie in a pipe."""
+    return struct.unpack("i", fcntl.ioctl(read_end, termios.FIONREAD, b"\0" * 4))[0]
+
+
+def printed(data, piece):
+    """What the program prints and says on standard error, given the input whole, or so many bytes a read."""
+    if piece is None:
+        done = subprocess.run([PROGRAM], input=data, capture_output=True, check=False)
+        return done.stdout, done.stderr
+    read_end, write_end = os.pipe()
+    child = subprocess.Popen([PROGRAM], stdin=read_end, stdout=subprocess.PIPE, stderr=subprocess.PIPE)
+    for at in range(0, len(data), piece):
+        os.write(write_end, data[at : at + piece])
+        while waiting(read_end):
+            if child.poll() is not None:
+                return child.communicate()
+            time.sleep(0)
+    os.close(write_end)
+    os.close(read_end)
+    return child.communicate()
+
+
+# ---- where reading or writing fails
+
+
+def run_with(stdin, stdout=subprocess.PIPE):
+    done = subprocess.run([PROGRAM], stdin=stdin, stdout=stdout, stderr=subprocess.PIPE, check=False)
+    return done.stdout or b"", done.stderr
+
+
+def redirected(words, data=b""):
+    """The program in a shell, with its descriptors changed by these words."""
+    done = subprocess.run(["sh", "-c", 'exec "$0" ' + words, PROGRAM], input=data, capture_output=True, check=False)
+    return done.stdout, done.stderr
+
+
+def opened(path, flags, data=None):
+    """The program with a file as standard input, or as standard output if there is data to read."""
+    file = os.open(path, flags)
+    try:
+        if data is None:
+            return run_with(file)
+        done = subprocess.run([PROGRAM], input=data, stdout=file, stderr=subprocess.PIPE, check=False)
+        return b"", done.stderr
+    finally:
+        os.close(file)
+
+
+def broken(data):
+    """A stream that breaks after these bytes: its other end is closed while bytes to it were not read."""
+    ours, theirs = socket.socketpair()
+    with theirs:
+        theirs.send(b"x")
+        ours.sendall(data)
+        ours.close()
+        return run_with(theirs)
+
+
+def state_of(child):
+    with open("/proc/%d/stat" % child.pid, encoding="ascii") as file:
+        return file.read().rsplit(")", 1)[1].split()[0]
+
+
+def until(child, state):
+    while child.poll() is None and state_of(child) != state:
+        time.sleep(0.001)
+
+
+def interrupt(child):
+    """Stop the program while it waits in a read, and let it go on: the read ends with EINTR, for its stream has a time limit."""
+    until(child, "S")
+    child.send_signal(signal.SIGSTOP)
+    until(child, "T")
+    child.send_signal(signal.SIGCONT)
+    until(child, "S")
+
+
+def interrupted(data, pieces):
+    """The program with a read interrupted before each of so many pieces of the input, and before its end."""
+    ours, theirs = socket.socketpair()
+    theirs.setsockopt(socket.SOL_SOCKET, socket.SO_RCVTIMEO, struct.pack("ll", 600, 0))
+    child = subprocess.Popen([PROGRAM], stdin=theirs, stdout=subprocess.PIPE, stderr=subprocess.PIPE)
+    theirs.close()
+    size = -(-len(data) // pieces)
+    for at in range(0, len(data), size):
+        interrupt(child)
+        with contextlib.suppress(OSError):
+            ours.sendall(data[at : at + size])
+    interrupt(child)
+    ours.close()
+    return child.communicate()
+
+
+def failures():
+    """(name, what is printed and said, what must be printed, what must be said)."""
+    read = b"restart: standard input: "
+    written = b"restart: standard output: "
+    yield "a folder as input", opened("/", os.O_RDONLY), b"", read + b"Is a directory\n"
+    yield "an input for writing only", opened("/dev/null", os.O_WRONLY), b"", read + b"Bad file descriptor\n"
+    yield "a closed input", redirected("<&-"), b"", read + b"Bad file descriptor\n"
+    for name, data in (("at once", b""), ("after settings", case([])), ("after three reports", case([0, 1, 2])), ("after case A", CASE_A)):
+        yield "a stream that breaks %s" % name, broken(data), b"", read + b"Connection reset by peer\n"
+    # a refusal ends the run, so nothing after it is read
+    yield "a stream that breaks after a refusal", broken(case([0]) + blocks([0])), b"number 5\n", b""
+    for pieces in (1, 3):
+        yield "interrupted, %d pieces" % pieces, interrupted(CASE_A, pieces), PLAN.encode(), b""
+    yield "a full device as output", opened("/dev/full", os.O_WRONLY, CASE_A), b"", written + b"No space left on device\n"
+    yield "a closed output", redirected(">&-", CASE_A), b"", written + b"Bad file descriptor\n"
 
 
 def own_input():
@@ -242,20 +379,22 @@ def own_input():
 
 
 def main():
-    rows = list(named()) + list(more_plans()) + list(cut()) + list(counts()) + list(long_runs())
+    rows = list(named()) + list(more_plans()) + list(cures()) + list(cut()) + list(counts()) + list(long_runs())
     rows += [(name, data, "number %d\n" % number) for name, data, number in refused()]
-    tried = [(name, data, text, False) for name, data, text in rows]
-    tried += [(name + ", byte by byte", data, text, True) for name, data, text in named()]
+    tried = [(name, data, text, None) for name, data, text in rows]
+    tried += [(name + ", byte by byte", data, text, 1) for name, data, text in named()]
+    tried += [("%s, %d bytes a read" % (name, piece), data, text, piece) for name, data, text in long_runs() for piece in (1021, 4095, 4096)]
+    results = [(name, printed(data, piece), text.encode(), b"") for name, data, text, piece in tried]
+    results += list(failures())
     failed = 0
-    for name, data, text, pieces in tried:
-        got = printed(data, pieces)
-        if got != text.encode():
+    for name, got, text, said in results:
+        if got != (text, said):
             failed += 1
-            print("%s: printed %r and must print %r" % (name, got, text))
+            print("%s: printed %r, said %r, and must print %r and say %r" % (name, *got, text, said))
     if own_input() != CASE_A:
         failed += 1
         print("crates/restart/stdin is not case A")
-    print("%d passed, %d failed" % (len(tried) + 1 - failed, failed))
+    print("%d passed, %d failed" % (len(results) + 1 - failed, failed))
     sys.exit(1 if failed else 0)
 
 

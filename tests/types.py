@@ -17,12 +17,12 @@ LAYERS = ("settings", "message", "place", "report", "history", "plan", "state")
 # What else a plain number is, by the name of its parameter or field.
 OTHERS = {
     "words of the settings, a message, its records or the desk; functions give the types out of them": "settings words message body desk buffer",
-    "word 1 or 2 of a record: its kind says what it means": "word1 word2",
+    "a word of a record: its place and its kind say what it means": "word0 word1 word2",
     "a kind of record": "kind k",
     "a mask, of nodes or of shards, or one for each shard": "members held fetched prepared marks mask masks old",
     "a subgroup": "g group",
     "how many words, records or moves": "len hlen length total",
-    "the index of a record": "at i j",
+    "the index of a record": "at i j next",
     "a number and its limits": "low high x",
     "the placement sheet, bytes by shard and failure set": "sheet",
 }
@@ -33,7 +33,7 @@ GIVEN = {
     "a failure set or a subgroup": "settings_values::set_of settings_values::subgroup",
     "a word": "settings_values::shard_word message_fields::tag message_fields::word1 message_fields::word2",
     "a kind of record": "message_fields::kind",
-    "the index of a record": "message_chain::onward message_chain::step_from message_passes::kinds message_passes::shards message_passes::sequence message_passes::positions",
+    "the index of a record": "message_passes::kinds message_passes::shards message_passes::sequence message_passes::positions",
     "a mask, or one for each shard": "message_records::shards_of message_records::carried_more message_records::carried_by message_records::masks_of state_rows::mark",
     "bytes for the search, by node, shard or failure set": "place_sheet::sheet place_tables::sets place_tables::needs place_tables::prices",
 }

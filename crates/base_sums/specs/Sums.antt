@@ -149,3 +149,13 @@ sum-keys-once n m key u h =
 
     once : (i : ℕ) → i < m → countBelow n (λ k. eqb (key k) i) * u i ≤ u i
     once i l = omega (arith, mul-le-mul-right (u i) (at-most i l), one-mul (u i))
+
+-- terms that are 0 add nothing
+pub sum-past : (m n : ℕ) (f : ℕ → ℕ) → m ≤ n → ((k : ℕ) → m ≤ k → k < n → f k ≡ 0) → sumBelow n f ≡ sumBelow m f
+unfolding sumBelow
+sum-past m zero f l h = let d : 0 ≡ m = omega arith in ap (λ (k : ℕ). sumBelow k f) d
+sum-past m (suc n) f l h = go (ltb n m) refl (sum-past m n f)
+  where
+    go : (b : Bool) → ltb n m ≡ b → (m ≤ n → ((k : ℕ) → m ≤ k → k < n → f k ≡ 0) → sumBelow n f ≡ sumBelow m f) → sumBelow n f + f n ≡ sumBelow m f
+    go true e i = let d : suc n ≡ m = omega (arith, ltb-true n m e) in ap (λ (k : ℕ). sumBelow k f) d
+    go false e i = omega (arith, i (omega (arith, ltb-false n m e)) (λ k p q. h k p (omega arith)), h n (omega (arith, ltb-false n m e)) (omega arith))

@@ -1,13 +1,17 @@
-// The placement of one subgroup for C, as the benchmark and the tests call it.
+// The placement of one subgroup for C, as the benchmark and the tests call it: byte slices of fixed lengths.
 ghost use mathlib.Core.Path.{_≡_};
-ghost use mathlib.Core.Bool.{true};
-ghost use Prim.Native.Nat.{_<_, _≤_};
+ghost use mathlib.Core.Bool.{true, _&&_};
+ghost use Prim.Native.Nat.{_<_, _≤_, min};
+ghost use lib.Dec.{eqb};
+ghost use lib.ListN.{length};
 ghost use Rattle.search_theory.specs.Tables.{caseOf};
-ghost use Rattle.c_placement.specs.Number.{Number, Answered, AnsweredWithin};
+ghost use Rattle.search_theory.specs.Floor.{SheetFor};
+ghost use Rattle.c_placement.specs.Number.{Number, GivesLeast, GivesWithin};
+ghost use Rattle.c_placement.specs.Rows.{RowBelow};
 use search_total::Solution;
 
-// The number of a search that is not sure.
-const UNSURE: u32 = 65;
+// The number of a call with a wrong length.
+const WRONG_LENGTH: u32 = 65;
 
 // An answer's number: its moves, or 64 where there is none.
 fn number(a: Solution) -> u32
@@ -18,59 +22,155 @@ fn number(a: Solution) -> u32
     if a.exists { moves as u32 } else { 64 }
 }
 
-// The first of the placements of least moves: the owner of each node, 16 for none, and the moves; or 64: none exists.
+// The lengths of sets, needs, prices and owners.
+fn fit(sets: usize, needs: usize, prices: usize, owners: usize) -> bool
+    ensures { λ r. ⌜ r ≡ (eqb sets 32 && eqb needs 16 && eqb prices 512 && eqb owners 32) ⌝ }
+{
+    if sets != 32 {
+        return false;
+    }
+    if needs != 16 {
+        return false;
+    }
+    if prices != 512 {
+        return false;
+    }
+    owners == 32
+}
+
+fn array_16(bytes: &[u8]) -> [u8; 16]
+    requires { ⌜ length (now bytes) ≡ 16 ⌝ }
+    ensures { λ r. ⌜ r ≡ now (bytes .entry) ⌝ }
+{
+    let mut r = [0u8; 16];
+    let mut n: usize = 0;
+    while n < 16 {
+        r[n] = bytes[n];
+        n += 1;
+    }
+    r
+}
+
+fn array_32(bytes: &[u8]) -> [u8; 32]
+    requires { ⌜ length (now bytes) ≡ 32 ⌝ }
+    ensures { λ r. ⌜ r ≡ now (bytes .entry) ⌝ }
+{
+    let mut r = [0u8; 32];
+    let mut n: usize = 0;
+    while n < 32 {
+        r[n] = bytes[n];
+        n += 1;
+    }
+    r
+}
+
+fn array_512(bytes: &[u8]) -> [u8; 512]
+    requires { ⌜ length (now bytes) ≡ 512 ⌝ }
+    ensures { λ r. ⌜ r ≡ now (bytes .entry) ⌝ }
+{
+    let mut r = [0u8; 512];
+    let mut n: usize = 0;
+    while n < 512 {
+        r[n] = bytes[n];
+        n += 1;
+    }
+    r
+}
+
+// Stores the owners of an answer.
+fn put(owners: &mut [u8], from: &[u8; 32])
+    requires { ⌜ length (now owners) ≡ 32 ⌝ }
+    requires { ⌜ length (now from) ≡ 32 ⌝ }
+    ensures { λ r. ⌜ now (owners .exit) ≡ now (from .entry) ⌝ }
+{
+    let mut n: usize = 0;
+    while n < 32 {
+        owners[n] = from[n];
+        n += 1;
+    }
+}
+
+// The lesser of two prices.
+fn lesser(a: u8, b: u8) -> u8
+    ensures { λ r. ⌜ r ≡ min a b ⌝ }
+{
+    if a < b { a } else { b }
+}
+
+// The row of shard i: for each failure set the least price of its nodes. Of a shard that needs none nothing is asked.
+fn row(sets: &[u8; 32], prices: &[u8; 512], need: u8, i: usize) -> [u8; 16]
+    requires { ⌜ i < 16 ⌝ }
+    ensures { λ r. ⌜ RowBelow (now (sets .entry)) (now (prices .entry)) i 32 r ⌝ }
+{
+    if need == 0 {
+        return [0u8; 16];
+    }
+    let mut r = [2u8; 16];
+    let mut n: usize = 0;
+    while n < 32 {
+        let f = search_judge::wide(sets[n]) % 16;
+        r[f] = lesser(r[f], prices[i * 32 + n]);
+        n += 1;
+    }
+    r
+}
+
+// The sheet of the tables.
+fn sheet_of(sets: &[u8; 32], needs: &[u8; 16], prices: &[u8; 512]) -> [[u8; 16]; 16]
+    ensures { λ r. ⌜ SheetFor (caseOf (now (sets .entry)) (now (needs .entry)) (now (prices .entry))) r ⌝ }
+{
+    let mut rows = [[2u8; 16]; 16];
+    let mut i: usize = 0;
+    while i < 16 {
+        rows[i] = row(sets, prices, needs[i], i);
+        i += 1;
+    }
+    rows
+}
+
+// The first of the placements of least moves: the owner of each node, 16 for none, and the moves; or 64: none exists. Lengths other than
+// 32, 16, 512 and 32 give 65, and the owners stay as they are.
 #[no_mangle]
 pub extern "C" fn placement_least(
-    sets: &[u8; 32],
-    needs: &[u8; 16],
-    prices: &[u8; 512],
-    owners: &mut [u8; 32],
+    sets: &[u8],
+    needs: &[u8],
+    prices: &[u8],
+    owners: &mut [u8],
 ) -> u32
-    ensures { λ r. ⌜ Answered (caseOf (now (sets .entry)) (now (needs .entry)) (now (prices .entry))) r (now (owners .exit)) ⌝ }
+    ensures { λ r. ⌜ GivesLeast (now (sets .entry)) (now (needs .entry)) (now (prices .entry)) (now (owners .entry)) r (now (owners .exit)) ⌝ }
 {
-    let a = search_hinted::least(sets, needs, prices);
+    if !fit(sets.len(), needs.len(), prices.len(), owners.len()) {
+        return WRONG_LENGTH;
+    }
+    let s = array_32(sets);
+    let m = array_16(needs);
+    let p = array_512(prices);
+    let sheet = sheet_of(&s, &m, &p);
+    let a = search_hinted::least(&s, &m, &p, &sheet);
     let o = a.owners;
-    *owners = o;
+    put(owners, &o);
     number(a)
 }
 
-// The same by the hints alone, or 65 where they do not lead to it.
+// The first of the placements of at most k moves, or 64: there is none; 65 as above.
 #[no_mangle]
-pub extern "C" fn placement_quick(
-    sets: &[u8; 32],
-    needs: &[u8; 16],
-    prices: &[u8; 512],
-    owners: &mut [u8; 32],
-) -> u32
-    ensures { λ r. ⌜ (r < 65 → Answered (caseOf (now (sets .entry)) (now (needs .entry)) (now (prices .entry))) r (now (owners .exit))) ⌝ }
-{
-    let q = search_hinted::quick_least(sets, needs, prices);
-    if q.sure {
-        let a = q.answer;
-        let o = a.owners;
-        *owners = o;
-        return number(a);
-    }
-    UNSURE
-}
-
-// The first of the placements of at most k moves by the hints alone, or 64: none exists; or 65 where they do not lead to it.
-#[no_mangle]
-pub extern "C" fn placement_quick_within(
-    sets: &[u8; 32],
-    needs: &[u8; 16],
-    prices: &[u8; 512],
+pub extern "C" fn placement_within(
+    sets: &[u8],
+    needs: &[u8],
+    prices: &[u8],
     k: u32,
-    owners: &mut [u8; 32],
+    owners: &mut [u8],
 ) -> u32
-    ensures { λ r. ⌜ (r < 65 → AnsweredWithin (caseOf (now (sets .entry)) (now (needs .entry)) (now (prices .entry))) k r (now (owners .exit))) ⌝ }
+    ensures { λ r. ⌜ GivesWithin (now (sets .entry)) (now (needs .entry)) (now (prices .entry)) k (now (owners .entry)) r (now (owners .exit)) ⌝ }
 {
-    let w = search_hinted::quick_within(sets, needs, prices, k as usize);
-    if w.sure {
-        let a = w.answer;
-        let o = a.owners;
-        *owners = o;
-        return number(a);
+    if !fit(sets.len(), needs.len(), prices.len(), owners.len()) {
+        return WRONG_LENGTH;
     }
-    UNSURE
+    let s = array_32(sets);
+    let m = array_16(needs);
+    let p = array_512(prices);
+    let w = search_hinted::first_within(&s, &m, &p, k as usize);
+    let o = w.owners;
+    put(owners, &o);
+    number(w)
 }

@@ -1,24 +1,34 @@
--- What the cases of document 01 compute to: quorum, holders, targets and cuts. In A and B to F the reports are those of case A; held masks name who is back.
-use mathlib.Core.Bool.{true}
-use mathlib.Core.List.{[], _∷_}
+-- Document 01's cases A to I from the rules: the one table. Reports are those of case A, and held masks name who is back.
+-- What decide answers in them stands in state_cases, what the program prints in program_cases; both cite this table.
+use Prim.Native.Nat.{ℕ, _<_}
+use mathlib.Core.Bool.{true, not, _||_}
+use mathlib.Core.List.{List, [], _∷_}
+use mathlib.Core.Logic.{⊎-elim}
 use mathlib.Core.Path.{_≡_, refl}
 use lib.Count.{ones, onesIn}
-use Rattle.base_laws.specs.Below.{allBelow, anyBelow, lowest}
+use lib.Dec.{eqb}
+use borrow.Author.Tests.{eq-eqb}
+use Rattle.base_laws.specs.Bools.{clash, or-holds, of-not-true}
+use Rattle.base_laws.specs.Below.{allBelow, anyBelow, lowest, all-at}
+use Rattle.base_laws.specs.Masks.{count}
 use Rattle.base_laws.specs.Tables.{tabulate}
 use Rattle.base_laws.specs.Positions.{pairNotAfter}
 use Rattle.message_format.specs.Chain.{place, following}
 use Rattle.message_format.specs.Messages.{bodyWord, bodyOf, contentsOf}
+use Rattle.place_groups.specs.Placements.{groupValid, groupMoves, Impossible, LeastMoves}
 use Rattle.report_views.specs.declared.Reason.the-variants.{NoView, NoMajority, TooFew, NoHolder}
 use Rattle.report_views.specs.declared.Quorum.the-variants.{Met, Short}
 use Rattle.report_views.specs.Logs.{pos, endOf, reaches, holds, hasUpdate}
-use Rattle.report_views.specs.Reports.{slot, reportOf}
+use Rattle.report_views.specs.Reports.{slot, reportOf, maskAt}
 use Rattle.report_views.specs.Quorums.{candidate, greatest, best, target, able, holder, majority, firstUnheld, quorumOf}
 use Rattle.report_views.specs.Cuts.{earlier, upTo, eligible, lastUpTo, cutFrom, cut}
-use Rattle.history_cases.specs.Runs.{caseSettings, settingsWith, desk, view7, sixMembers, logOf}
 use Rattle.report_views.specs.Empty.{noView, noTermination}
+use Rattle.history_cases.specs.Runs.{caseSettings, settingsWith, desk, view7, sixMembers, logOf}
+use Rattle.history_cases.specs.Placed.{planA, a-valid, a-moves, a-least, i-none}
 
 pub record Cases : Type 0 where
-  -- A: nodes 0 to 5
+  -- A: nodes 0 to 5. Every quorum condition is met; holders and targets of the three shards; the plan's placement is valid with two
+  -- moves, and it is the only valid one of least moves
   pub a-met : quorumOf caseSettings view7 noTermination 63 desk ≡ Met
   pub a-holder0 : holder view7 noTermination 63 desk 0 ≡ 0
   pub a-holder1 : holder view7 noTermination 63 desk 1 ≡ 1
@@ -26,8 +36,11 @@ pub record Cases : Type 0 where
   pub a-target0 : target view7 noTermination 63 desk 0 ≡ pos 0 0
   pub a-target1 : target view7 noTermination 63 desk 1 ≡ pos 7 5
   pub a-target2 : target view7 noTermination 63 desk 2 ≡ pos 0 0
-  -- B: three of the seven
-  pub b : quorumOf caseSettings view7 noTermination 7 desk ≡ Short NoMajority
+  pub a-placed : groupValid caseSettings 63 planA 0 ≡ true
+  pub a-moved : groupMoves caseSettings (maskAt view7) planA 0 ≡ 2
+  pub a-only : (P : ℕ → ℕ) → LeastMoves caseSettings 63 (maskAt view7) P 0 → (P 0 ≡ 5) × (P 1 ≡ 50) × (P 2 ≡ 8)
+  -- B: any three of the seven, whatever the desk
+  pub b : (held : ℕ) → held < 128 → count held ≡ 3 → (d : List ℕ) → quorumOf caseSettings view7 noTermination held d ≡ Short NoMajority
   -- C: three of six members, and four
   pub c-three : quorumOf caseSettings sixMembers noTermination 7 desk ≡ Short NoMajority
   pub c-four : majority sixMembers 15 ≡ true
@@ -42,6 +55,24 @@ pub record Cases : Type 0 where
   pub h-later : cut (logOf 1 (768 ∷ 6 ∷ 9 ∷ [])) (logOf 2 (768 ∷ 5 ∷ 3 ∷ 768 ∷ 7 ∷ 2 ∷ [])) 0 (pos 7 2) ≡ pos 5 3
   pub h-within : cut (logOf 1 (768 ∷ 5 ∷ 2 ∷ [])) (logOf 2 (768 ∷ 5 ∷ 3 ∷ 768 ∷ 7 ∷ 2 ∷ [])) 0 (pos 7 2) ≡ pos 5 2
   pub h-empty : cut (logOf 0 []) (logOf 2 (768 ∷ 5 ∷ 3 ∷ 768 ∷ 7 ∷ 2 ∷ [])) 0 (pos 7 2) ≡ pos 0 0
+  -- I: A with shard 0 needing 3. Every quorum condition is met, and no placement of subgroup 0 is valid
+  pub i-met : quorumOf (settingsWith 4 3) view7 noTermination 63 desk ≡ Met
+  pub i : Impossible (settingsWith 4 3) 63 0
+
+-- B, tried with every mask of the seven nodes: one of three nodes is no majority
+b-test : allBelow 128 (λ held. not (eqb (count held) 3) || not (majority view7 held)) ≡ true
+unfolding ones onesIn allBelow majority
+b-test = refl
+
+-- a view whose members are no majority waits for them
+short : (held : ℕ) (d : List ℕ) → not (majority view7 held) ≡ true → quorumOf caseSettings view7 noTermination held d ≡ Short NoMajority
+unfolding quorumOf
+short held d h = rw h
+
+b-short : (held : ℕ) → held < 128 → count held ≡ 3 → (d : List ℕ) → quorumOf caseSettings view7 noTermination held d ≡ Short NoMajority
+b-short held l three d =
+    ⊎-elim (λ n. clash (eq-eqb (count held) 3 three) (of-not-true (eqb (count held) 3) n)) (λ m. short held d m)
+    (or-holds (not (eqb (count held) 3)) (not (majority view7 held)) (all-at 128 (λ m. not (eqb (count m) 3) || not (majority view7 m)) b-test held l))
 
 pub cases : Cases
 unfolding desk ones onesIn allBelow anyBelow lowest tabulate pairNotAfter place following bodyWord bodyOf contentsOf endOf reaches holds hasUpdate slot reportOf candidate greatest best target able holder majority firstUnheld quorumOf earlier upTo eligible lastUpTo cutFrom
@@ -54,7 +85,10 @@ cases =
       a-target0 = refl;
       a-target1 = refl;
       a-target2 = refl;
-      b = refl;
+      a-placed = a-valid;
+      a-moved = a-moves;
+      a-only = a-least;
+      b = b-short;
       c-three = refl;
       c-four = refl;
       d = refl;
@@ -64,4 +98,6 @@ cases =
       h-later = refl;
       h-within = refl;
       h-empty = refl;
+      i-met = refl;
+      i = i-none;
     }

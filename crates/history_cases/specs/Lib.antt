@@ -1,5 +1,8 @@
 -- Document 01's runs.
 pub mod Runs
-pub mod Cases
 pub mod Placed
+pub mod Cases
+pub mod Clauses
+pub mod Told
 pub mod Supposing
+pub mod Needed

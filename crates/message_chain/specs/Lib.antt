@@ -1,1 +1,2 @@
--- The chain itself is defined with the format.
+-- The chain itself is defined with the format; here is what a reader finds on it.
+pub mod Steps

@@ -14,6 +14,9 @@ use Rattle.base_laws.specs.Tables.{filled, filled-none, filled-more, tabulate-e
 use Rattle.message_format.specs.Chain.{records, next, place, ends, following, row8, following-le}
 use Rattle.message_format.specs.Messages.{bodyWord, bodyOf, contentsOf}
 use Rattle.message_format.specs.declared.Contents.{Contents}
+use Rattle.message_chain.specs.declared.Record.{Record}
+use Rattle.message_chain.specs.declared.Step.{Step}
+use Rattle.message_chain.specs.Steps.{stepFrom, record-inside}
 use Rattle.message_reader.specs.Walks.{SizedMessage, endsAt, place-next, place-inside, following-at, following-open, following-ends}
 
 -- word k of the records that follow the head on the chain, three words a record
@@ -46,6 +49,10 @@ chain-word w n p at l e =
 abbrev pub recordStored : List ℕ → List ℕ → ℕ → ℕ → List ℕ
 recordStored w b j i =
     set (set (set b (3 * j) (getD w (4 * i) 0)) (3 * j + 1) (getD w (4 * i + 1) 0)) (3 * j + 2) (getD w (4 * i + 2) 0)
+
+-- a body in which record j is r
+abbrev pub recordPut : List ℕ → ℕ → Record → List ℕ
+recordPut b j r = set (set (set b (3 * j) (r .word0)) (3 * j + 1) (r .word1)) (3 * j + 2) (r .word2)
 
 -- a turn: the three words of a record are stored
 pub gathered-more : (w : List ℕ) (n at : ℕ) → n < 127 → at ≡ place w (n + 1)
@@ -92,14 +99,18 @@ pub record Gathering (w body : List ℕ) (n at : ℕ) : Type 0 where
   pub here : at ≡ place w (n + 1)
   pub so-far : body ≡ bodyRead w n
 
--- the head of w with a body of n records
-abbrev pub contentsRead : List ℕ → ℕ → List ℕ → Contents
-contentsRead w n b =
-    record { node = record { 0 = getD w 0 0 }; view = record { 0 = getD w 1 0 }; members = getD w 2 0; len = n; body = b }
+-- the head, as a reader reaches it
+pub head-words : (w : List ℕ) (first : Step) → SizedMessage w → first ≡ stepFrom w 0
+    → first .reached ≡ record { word0 = getD w 0 0; word1 = getD w 1 0; word2 = getD w 2 0 }
+head-words w first s e = ap (λ (x : Step). x .reached) e ∙ record-inside w 0 (omega (arith, s .some))
 
-pub gathering-start : (w : List ℕ) (at : ℕ) → at ≡ next w 0 → Gathering w (replicate 381 0) 0 at
+-- a head with a body of n records
+abbrev pub contentsRead : Record → ℕ → List ℕ → Contents
+contentsRead h n b = record { node = record { 0 = h .word0 }; view = record { 0 = h .word1 }; members = h .word2; len = n; body = b }
+
+pub gathering-start : (w : List ℕ) (first : Step) → first ≡ stepFrom w 0 → Gathering w (replicate 381 0) 0 (first .next)
 unfolding place
-gathering-start w at e = record { few = zero-le; here = e; so-far = gathered-none w }
+gathering-start w first e = record { few = zero-le; here = ap (λ (s : Step). s .next) e; so-far = gathered-none w }
 
 module _ (w body : List ℕ) (n at : ℕ) (s : SizedMessage w) (h : row8 w ≡ true) (g : Gathering w body n at) where
   -- the chain ends at step n just where the next index is 0
@@ -124,18 +135,23 @@ module _ (w body : List ℕ) (n at : ℕ) (s : SizedMessage w) (h : row8 w ≡ t
       (any-none-of n (endsAt w) (λ j l. following-open w j (let few = g .few in omega arith)))
       (eq-eqb (next w (place w n)) 0 (sym next-at ∙ z)))
 
-  pub gathering-more : (at ≡ 0 → ⊥) → (b : List ℕ) (m : ℕ) → b ≡ recordStored w body n at → m ≡ next w at → Gathering w b (n + 1) m
-  gathering-more goes b m d e =
+  pub gathering-more : (at ≡ 0 → ⊥) → (b : List ℕ) (found : Step) → b ≡ recordPut body n (found .reached) → found ≡ stepFrom w at
+      → Gathering w b (n + 1) (found .next)
+  gathering-more goes b found d e =
       let room = gathering-room goes .0 in
+      let stored : b ≡ recordStored w body n at =
+      d ∙ ap (recordPut body n) (ap (λ (s : Step). s .reached) e ∙ record-inside w at (gathering-room goes .1)) in
       record {
         few = omega arith;
-        here = e ∙ ap (next w) (g .here) ∙ sym (place-next w (n + 1));
+        here = ap (λ (s : Step). s .next) e ∙ ap (next w) (g .here) ∙ sym (place-next w (n + 1));
         so-far =
-            d ∙ ap (λ (x : List ℕ). recordStored w x n at) (g .so-far) ∙ gathered-more w n at (omega (arith, following-le w)) (g .here);
+            stored ∙ ap (λ (x : List ℕ). recordStored w x n at) (g .so-far) ∙ gathered-more w n at (omega (arith, following-le w)) (g .here);
       }
 
   -- what the message says, at the end of the chain
-  pub gathering-contents : at ≡ 0 → contentsRead w n body ≡ contentsOf w
+  pub gathering-contents : at ≡ 0 → (first : Step) → first ≡ stepFrom w 0 → contentsRead (first .reached) n body ≡ contentsOf w
   unfolding contentsOf
-  gathering-contents z =
-      ap₂ (contentsRead w) (gathering-end z) (g .so-far ∙ ap (bodyRead w) (gathering-end z) ∙ gathered-all w)
+  gathering-contents z first e =
+      ap (λ (h : Record). contentsRead h n body) (head-words w first s e)
+      ∙ ap₂ (contentsRead (record { word0 = getD w 0 0; word1 = getD w 1 0; word2 = getD w 2 0 })) (gathering-end z)
+      (g .so-far ∙ ap (bodyRead w) (gathering-end z) ∙ gathered-all w)

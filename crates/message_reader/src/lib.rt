@@ -2,16 +2,17 @@
 use base_ids::Node;
 use base_ids::Refusal;
 use base_ids::View;
+use message_chain::Record;
 use message_format::Contents;
 use message_format::Form;
 use message_format::Reading;
 ghost use mathlib.Core.Bool.{true};
 ghost use mathlib.Core.Path.{_≡_};
 ghost use Prim.Native.Nat.{_<_, _≤_};
-ghost use Rattle.message_format.specs.Chain.{records, row5, row8};
+ghost use Rattle.message_format.specs.Chain.{row5, row8};
 ghost use Rattle.message_format.specs.Messages.{contentsOf, messageRefusal, readingOf, recordsRefusal};
 ghost use Rattle.message_reader.specs.Walks.{SizedMessage};
-ghost use Rattle.message_reader.specs.Bodies.{recordStored};
+ghost use Rattle.message_reader.specs.Bodies.{recordPut};
 ghost use Rattle.message_reader.specs.Readings.{answer, nothing, headOf, readingUnder};
 ghost use Rattle.settings_values.specs.Settings.{Settings};
 
@@ -35,7 +36,8 @@ pub fn chain_ok(words: &[u32]) -> bool
 {
     let mut at: usize = 0;
     loop {
-        let next = message_chain::step_from(words, at);
+        let step = message_chain::step_from(words, at);
+        let next = step.next;
         if next == 0 {
             return true;
         }
@@ -49,14 +51,14 @@ pub fn chain_ok(words: &[u32]) -> bool
     }
 }
 
-// Stores record i of the message as record j of the body: its words but the next index.
-fn store(body: &mut [u32; 381], j: usize, words: &[u32], i: usize)
-    requires { ⌜ (j < 127) × (i < records (now words)) ⌝ }
-    ensures { λ r. ⌜ now (body .exit) ≡ recordStored (now (words .entry)) (now (body .entry)) j i ⌝ }
+// Stores a record as record j of the body.
+fn store(body: &mut [u32; 381], j: usize, r: Record)
+    requires { ⌜ j < 127 ⌝ }
+    ensures { λ _. ⌜ now (body .exit) ≡ recordPut (now (body .entry)) j r ⌝ }
 {
-    body[3 * j] = words[4 * i];
-    body[3 * j + 1] = words[4 * i + 1];
-    body[3 * j + 2] = words[4 * i + 2];
+    body[3 * j] = r.word0;
+    body[3 * j + 1] = r.word1;
+    body[3 * j + 2] = r.word2;
 }
 
 // What the head and the records that follow it on the chain say.
@@ -67,16 +69,19 @@ pub fn contents_of(words: &[u32]) -> Contents
 {
     let mut body = [0u32; 381];
     let mut len: usize = 0;
-    let mut at = message_chain::step_from(words, 0);
+    let first = message_chain::step_from(words, 0);
+    let head = first.reached;
+    let mut at = first.next;
     while at != 0 {
-        store(&mut body, len, words, at);
+        let found = message_chain::step_from(words, at);
+        store(&mut body, len, found.reached);
         len += 1;
-        at = message_chain::step_from(words, at);
+        at = found.next;
     }
     Contents {
-        node: Node(words[0]),
-        view: View(words[1]),
-        members: words[2],
+        node: Node(head.word0),
+        view: View(head.word1),
+        members: head.word2,
         len,
         body,
     }
@@ -117,7 +122,15 @@ fn head_of(form: Form, settings: &[u32], words: &[u32]) -> Refusal
     requires { ⌜ SizedMessage (now words) ⌝ }
     ensures { λ r. ⌜ r ≡ headOf form (now (settings .entry)) (now (words .entry)) ⌝ }
 {
-    message_contents::head_refusal(form, settings, Node(words[0]), View(words[1]), words[2])
+    let first = message_chain::step_from(words, 0);
+    let head = first.reached;
+    message_contents::head_refusal(
+        form,
+        settings,
+        Node(head.word0),
+        View(head.word1),
+        head.word2,
+    )
 }
 
 // Rows 9 to 11 of what a message says.

@@ -13,8 +13,11 @@ use Rattle.place_groups.specs.Placements.{groupMoves, Impossible, LeastMoves}
 use Rattle.search_theory.specs.Case.{Least, moves}
 use Rattle.search_theory.specs.Tables.{caseOf, ownersOf}
 use Rattle.search_theory.specs.Least.{moves-most}
+use Rattle.search_theory.specs.Floor.{SheetFor}
 use Rattle.search_total.specs.declared.Solution.{Solution}
 use Rattle.search_total.specs.Post.{LeastAnswer}
+use Rattle.place_sheet.specs.Sheet.{sheetOf}
+use Rattle.place_owners.specs.Floor.{sheet-for}
 use Rattle.place_owners.specs.Tables.{setsTable, needsTable, pricesTable, groupCase, case-for}
 use Rattle.place_owners.specs.Owners.{moves-same, least-moves, impossible}
 use Rattle.place_owners.specs.Local.{least-local}
@@ -29,6 +32,16 @@ pub answer-for : (σ : List ℕ) (held : ℕ) (old : ℕ → ℕ) (g : ℕ) (set
 answer-for σ held old g sets needs prices {a} p q r w =
     subst (λ (t : List ℕ). LeastAnswer (caseOf (setsTable σ) (needsTable σ g) t) a) r
     (subst (λ (t : List ℕ). LeastAnswer (caseOf (setsTable σ) t prices) a) q (subst (λ (t : List ℕ). LeastAnswer (caseOf t needs prices) a) p w))
+
+-- the sheet is one of the subgroup's tables
+pub sheet-told : (σ : List ℕ) (held : ℕ) (old : ℕ → ℕ) (g : ℕ) (sets needs prices : List ℕ) (sheet : List (List ℕ)) → Settings σ → held < 2 ^ nodes σ
+    → sets ≡ setsTable σ → needs ≡ needsTable σ g → prices ≡ pricesTable σ held old g → sheet ≡ sheetOf σ held old
+    → SheetFor (caseOf sets needs prices) sheet
+sheet-told σ held old g sets needs prices sheet right inside p q r e =
+    subst (SheetFor (caseOf sets needs prices)) (sym e)
+    (subst (λ (t : List ℕ). SheetFor (caseOf sets needs t) (sheetOf σ held old)) (sym r)
+    (subst (λ (t : List ℕ). SheetFor (caseOf sets t (pricesTable σ held old g)) (sheetOf σ held old)) (sym q)
+    (subst (λ (t : List ℕ). SheetFor (caseOf t (needsTable σ g) (pricesTable σ held old g)) (sheetOf σ held old)) (sym p) (sheet-for σ held old g right inside))))
 
 -- nothing is placed
 blank-mask : (s : ℕ) → masksOf (replicate 16 0) s ≡ 0

@@ -11,6 +11,7 @@ ghost use lib.ListN.{getD};
 ghost use Rattle.base_laws.specs.Masks.{with};
 ghost use Rattle.settings_values.specs.Settings.{Settings, nodes};
 ghost use Rattle.search_theory.specs.Tables.{caseOf};
+ghost use Rattle.search_theory.specs.Floor.{SheetFor};
 ghost use Rattle.place_sheet.specs.Sheet.{sheetOf};
 ghost use Rattle.place_owners.specs.Tables.{groupCase};
 ghost use Rattle.place_owners.specs.Adding.{ownedBy, maskWith, masksWith};
@@ -26,11 +27,12 @@ pub struct Placed {
     pub total: u32,
 }
 
-// The search for one subgroup.
-fn least(sets: &[u8; 32], needs: &[u8; 16], prices: &[u8; 512]) -> Solution
+// The search for one subgroup, from its tables and the sheet.
+fn least(sets: &[u8; 32], needs: &[u8; 16], prices: &[u8; 512], sheet: &[[u8; 16]; 16]) -> Solution
+    requires { ⌜ SheetFor (caseOf (now sets) (now needs) (now prices)) (now sheet) ⌝ }
     ensures { λ r. ⌜ LeastAnswer (caseOf (now (sets .entry)) (now (needs .entry)) (now (prices .entry))) r ⌝ }
 {
-    search_hinted::least(sets, needs, prices)
+    search_hinted::least(sets, needs, prices, sheet)
 }
 
 // The owners of least moves of subgroup g.
@@ -43,7 +45,7 @@ fn solve(settings: &[u32], held: u32, old: &[u32; 16], sheet: &[[u8; 16]; 16], g
     let sets = place_tables::sets(settings);
     let needs = place_tables::needs(settings, g);
     let prices = place_tables::prices(settings, held, old, sheet, g);
-    least(&sets, &needs, &prices)
+    least(&sets, &needs, &prices, sheet)
 }
 
 // The mask with node n if shard s owns it.

@@ -5,3 +5,4 @@ pub mod Owners
 pub mod Local
 pub mod Tables
 pub mod Adding
+pub mod Floor

@@ -230,7 +230,7 @@ module _ {σ : List ℕ} {held : ℕ} {old : ℕ → ℕ} {g : ℕ} {K : Case} {
 
 module _ {σ : List ℕ} {held : ℕ} {old : ℕ → ℕ} {g : ℕ} {K : Case} (right : Settings σ) (inside : held < 2 ^ nodes σ) (stands : CaseFor σ held old g K) where
   -- every valid placement by masks has its owners
-  from-masks : (masks : ℕ → ℕ) → groupValid σ held masks g ≡ true → Valid K (owner σ g masks)
+  pub from-masks : (masks : ℕ → ℕ) → groupValid σ held masks g ≡ true → Valid K (owner σ g masks)
   from-masks masks v =
       owners-valid right inside stands (owner-masked σ held g masks right inside v)
       (λ n l p. and-left (ofGroup σ g (owner σ g masks n)) (has (masks (owner σ g masks n)) n) (owner-in σ g masks n p)) v

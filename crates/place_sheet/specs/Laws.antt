@@ -1,16 +1,17 @@
--- The sheet by masks of failure sets, and what an entry of 2 says.
-use Prim.Native.Nat.{ℕ, _+_, _<_}
+-- The sheet by masks of failure sets, and what its entries say.
+use Prim.Native.Nat.{ℕ, _+_, _≤_, _<_}
 use mathlib.Core.Path.{_≡_, refl, sym, ap, ap₂, _∙_}
 use mathlib.Core.Bool.{Bool, true, false, cond, _&&_, _||_, or-false}
 use mathlib.Core.List.{List, []}
+use mathlib.Core.Logic.{⊎-elim}
 use lib.Bits.{bitAnd}
 use lib.Dec.{eqb, ltb}
 use lib.ListN.{getD}
 use native.Mathlib.Omega.{arith}
-use borrow.Author.Tests.{lt-ltb, eq-eqb}
-use Rattle.base_laws.specs.Bools.{and-both, and-fails-left, no-true}
-use Rattle.base_laws.specs.Below.{anyBelow, any-at, any-none, any-step}
-use Rattle.base_laws.specs.Masks.{has, with, has-with, has-zero}
+use borrow.Author.Tests.{lt-ltb, le-ltb, ltb-true, eq-eqb, ne-eqb}
+use Rattle.base_laws.specs.Bools.{and-both, and-left, and-right, and-fails-left, and-fails-right, no-true, lt-or-le}
+use Rattle.base_laws.specs.Below.{anyBelow, any-at, any-none, any-none-of, any-mono, any-step}
+use Rattle.base_laws.specs.Masks.{has, with, has-with, has-and, has-zero}
 use Rattle.base_laws.specs.Tables.{tabulate, tabulate-cong, getD-tabulate}
 use Rattle.settings_values.specs.Settings.{nodes, sets, shards, setOf, Settings}
 use Rattle.place_sheet.specs.Sheet.{meetsSet, sheetAt, sheetOf}
@@ -78,17 +79,92 @@ module _ (σ : List ℕ) (held : ℕ) (old : ℕ → ℕ) where
   pub sheet-entry : (s f : ℕ) → s < 16 → f < 16 → getD (getD (sheetOf σ held old) s []) f 0 ≡ sheetAt σ held old s f
   sheet-entry s f l k = ap (λ (r : List ℕ). getD r f 0) (sheet-row s l) ∙ getD-tabulate 16 (sheetAt σ held old s) f 0 k
 
-  -- an entry of 2 for a shard and a node's set: the node is not held
-  pub entry-none : Settings σ → (s n : ℕ) → s < shards σ → n < nodes σ → sheetAt σ held old s (setOf σ n) ≡ 2 → has held n ≡ false
-  unfolding sheetAt meetsSet
-  entry-none right s n l k e = no-true (has held n) (λ p. some (meetsSet σ (bitAnd held (old s)) (setOf σ n)) (met p) inside e)
+  -- an entry is at most 2, and 2 from S up
+  pub entry-most : (s f : ℕ) → sheetAt σ held old s f ≤ 2
+  unfolding sheetAt
+  entry-most s f = most (ltb s (shards σ) && ltb f (sets σ)) (meetsSet σ (bitAnd held (old s)) f) (meetsSet σ held f)
     where
-      inside : (ltb s (shards σ) && ltb (setOf σ n) (sets σ)) ≡ true
-      inside = and-both (lt-ltb s (shards σ) l) (lt-ltb (setOf σ n) (sets σ) (right .set-below n k))
+      most : (a b c : Bool) → cond a (cond b 0 (cond c 1 2)) 2 ≤ 2
+      most true true c = omega arith
+      most true false true = omega arith
+      most true false false = omega arith
+      most false b c = omega arith
 
-      met : has held n ≡ true → meetsSet σ held (setOf σ n) ≡ true
-      met p = any-at (nodes σ) (λ m. has held m && eqb (setOf σ m) (setOf σ n)) n k (and-both p (eq-eqb (setOf σ n) (setOf σ n) refl))
+  pub entry-shard : (s f : ℕ) → sheetAt σ held old s f < 2 → s < shards σ
+  unfolding sheetAt
+  entry-shard s f h =
+      ⊎-elim (λ l. l)
+      (λ l. absurd (let e : sheetAt σ held old s f ≡ 2 = ap (λ (b : Bool). cond (b && ltb f (sets σ)) (cond (meetsSet σ (bitAnd held (old s)) f) 0 (cond (meetsSet σ held f) 1 2)) 2) (le-ltb s (shards σ) l) in omega arith))
+      (lt-or-le s (shards σ))
 
-      some : (a : Bool) {b c : Bool} → b ≡ true → c ≡ true → _≡_ {A = ℕ} (cond c (cond a 0 (cond b 1 2)) 2) 2 → ⊥
-      some true p q h = let z : _≡_ {A = ℕ} 0 2 = ap (λ (c : Bool). cond c 0 2) (sym q) ∙ h in omega arith
-      some false {b} {c} p q h = let z : _≡_ {A = ℕ} 1 2 = ap₂ (λ (c b : Bool). cond c (cond b 1 2) 2) (sym q) (sym p) ∙ h in omega arith
+  module _ (right : Settings σ) (s : ℕ) (l : s < shards σ) where
+    -- no node is of a set from F up
+    outside : (mask f : ℕ) → sets σ ≤ f → meetsSet σ mask f ≡ false
+    unfolding meetsSet
+    outside mask f k =
+        any-none-of (nodes σ) (λ n. has mask n && eqb (setOf σ n) f)
+        (λ n q. and-fails-right (has mask n) (ne-eqb (setOf σ n) f (λ e. omega (arith, right .set-below n q))))
+
+    member-held : (f : ℕ) → meetsSet σ (bitAnd held (old s)) f ≡ true → meetsSet σ held f ≡ true
+    unfolding meetsSet
+    member-held f h =
+        any-mono (nodes σ) (λ n. has (bitAnd held (old s)) n && eqb (setOf σ n) f) (λ n. has held n && eqb (setOf σ n) f)
+        (λ n q e.
+        and-both (and-left (has held n) (has (old s) n) (sym (has-and held (old s) n) ∙ and-left (has (bitAnd held (old s)) n) (eqb (setOf σ n) f) e))
+        (and-right (has (bitAnd held (old s)) n) (eqb (setOf σ n) f) e))
+        h
+
+    inside-at : (f : ℕ) → f < sets σ → sheetAt σ held old s f ≡ cond (meetsSet σ (bitAnd held (old s)) f) 0 (cond (meetsSet σ held f) 1 2)
+    unfolding sheetAt
+    inside-at f k =
+        ap (λ (b : Bool). cond b (cond (meetsSet σ (bitAnd held (old s)) f) 0 (cond (meetsSet σ held f) 1 2)) 2)
+        (and-both (lt-ltb s (shards σ) l) (lt-ltb f (sets σ) k))
+
+    outside-at : (f : ℕ) → sets σ ≤ f → sheetAt σ held old s f ≡ 2
+    unfolding sheetAt
+    outside-at f k =
+        ap (λ (b : Bool). cond b (cond (meetsSet σ (bitAnd held (old s)) f) 0 (cond (meetsSet σ held f) 1 2)) 2)
+        (and-fails-right (ltb s (shards σ)) (le-ltb f (sets σ) k))
+
+    -- an entry below 1 stands just where a held old member of the shard is in the set
+    pub entry-stays : (f : ℕ) → ltb (sheetAt σ held old s f) 1 ≡ meetsSet σ (bitAnd held (old s)) f
+    entry-stays f =
+        ⊎-elim (λ k. rw (inside-at f k) (low (meetsSet σ (bitAnd held (old s)) f) (meetsSet σ held f)))
+        (λ k. rw (outside-at f k) (sym (outside (bitAnd held (old s)) f k))) (lt-or-le f (sets σ))
+      where
+        low : (a b : Bool) → ltb (cond a 0 (cond b 1 2)) 1 ≡ a
+        low true b = refl
+        low false true = refl
+        low false false = refl
+
+    -- an entry below 2 stands just where a held node is in the set
+    pub entry-held : (f : ℕ) → ltb (sheetAt σ held old s f) 2 ≡ meetsSet σ held f
+    entry-held f =
+        ⊎-elim (λ k. rw (inside-at f k) (low (meetsSet σ (bitAnd held (old s)) f) (meetsSet σ held f) (member-held f)))
+        (λ k. rw (outside-at f k) (sym (outside held f k))) (lt-or-le f (sets σ))
+      where
+        low : (a b : Bool) → (a ≡ true → b ≡ true) → ltb (cond a 0 (cond b 1 2)) 2 ≡ b
+        low true b h = sym (h refl)
+        low false true h = refl
+        low false false h = refl
+
+    -- a node of the mask is in its set
+    met : (mask n : ℕ) → n < nodes σ → has mask n ≡ true → meetsSet σ mask (setOf σ n) ≡ true
+    unfolding meetsSet
+    met mask n k p = any-at (nodes σ) (λ m. has mask m && eqb (setOf σ m) (setOf σ n)) n k (and-both p (eq-eqb (setOf σ n) (setOf σ n) refl))
+
+    module _ (n : ℕ) (k : n < nodes σ) where
+      -- of the entry for a node's set: below 2 if the node is held, below 1 if it is an old member too
+      pub held-entry : has held n ≡ true → sheetAt σ held old s (setOf σ n) < 2
+      held-entry p = ltb-true (sheetAt σ held old s (setOf σ n)) 2 (entry-held (setOf σ n) ∙ met held n k p)
+
+      pub member-entry : has held n ≡ true → has (old s) n ≡ true → sheetAt σ held old s (setOf σ n) < 1
+      member-entry p q =
+          ltb-true (sheetAt σ held old s (setOf σ n)) 1 (entry-stays (setOf σ n) ∙ met (bitAnd held (old s)) n k (has-and held (old s) n ∙ and-both p q))
+
+      -- so an entry of 2 says that the node is not held, and one of 1 that a held node is no old member
+      pub entry-none : sheetAt σ held old s (setOf σ n) ≡ 2 → has held n ≡ false
+      entry-none e = no-true (has held n) (λ p. omega (arith, held-entry p))
+
+      pub entry-moves : sheetAt σ held old s (setOf σ n) ≡ 1 → has held n ≡ true → has (old s) n ≡ false
+      entry-moves e p = no-true (has (old s) n) (λ q. omega (arith, member-entry p q))

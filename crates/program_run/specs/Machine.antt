@@ -22,7 +22,7 @@ started = record { stage = Opening; state = fresh; settings = replicate 52 0; wo
 unfoldable pub progressAt : Stage → List ℕ → State → List ℕ → Progress
 progressAt Opening σ x d = Started d
 progressAt Open σ x d = Underway σ x d
-progressAt (Closed r) σ x d = Ended r
+progressAt (Closed r) σ x d = Ended r d
 
 -- what the run has come to, beside the desk d
 abbrev pub progress : Run → List ℕ → Progress

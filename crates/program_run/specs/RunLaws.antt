@@ -21,13 +21,13 @@ use Rattle.state_planner.specs.declared.State.{State}
 use Rattle.state_planner.specs.Refusing.{reportRefusal, entryRefusal, deskOk, isGathering}
 use Rattle.state_planner.specs.Events.{reported, deskAfter}
 use Rattle.program_blocks.specs.Blocks.{blockCount, blocks, needed, wholeWords, Long, length-whole, needed-ends, needed-short, needed-long, blocks-none, blocks-cut, blocks-whole, blocks-long}
-use Rattle.program_run.specs.Runs.{Progress, Started, Underway, Ended, opened, told, taking, after}
+use Rattle.program_run.specs.Runs.{Progress, Started, Underway, Ended, opened, told, taking, deskIn, after}
 
 -- nothing follows a refusal
-pub after-ended : (r : Refusal) (ws : List (List ℕ)) → after (Ended r) ws ≡ Ended r
+pub after-ended : (r : Refusal) (d : List ℕ) (ws : List (List ℕ)) → after (Ended r d) ws ≡ Ended r d
 unfolding after taking
-after-ended r [] = refl
-after-ended r (w ∷ ws) = after-ended r ws
+after-ended r d [] = refl
+after-ended r d (w ∷ ws) = after-ended r d ws
 
 -- ---- a block of more than 512 words is refused, whatever its words
 
@@ -43,7 +43,7 @@ long-row5 w h = and-fails-left (eqb (length w % 4) 0) (and-fails-right (leb 1 (l
 longRefusal : Progress → Refusal
 longRefusal (Started d) = refused 2
 longRefusal (Underway σ x d) = firstOf (entryRefusal (deskOk d) σ x d (isGathering (x .phase))) (refused 5)
-longRefusal (Ended r) = r
+longRefusal (Ended r d) = r
 
 long-report : (σ : List ℕ) (x : State) (d w : List ℕ) → 512 < length w → reportRefusal σ x d w ≡ longRefusal (Underway σ x d)
 unfolding longRefusal reportRefusal refusalBeside messageRefusal
@@ -57,14 +57,15 @@ refuses : (r : Refusal) → accepted (firstOf r (refused 5)) ≡ false
 unfolding firstOf
 refuses r = ⊎-elim (λ e. rw e) (λ e. rw e e) (either (accepted r))
 
-next-long : (p : Progress) (w : List ℕ) → 512 < length w → taking p w ≡ Ended (longRefusal p)
-unfolding longRefusal taking opened told
+next-long : (p : Progress) (w : List ℕ) → 512 < length w → taking p w ≡ Ended (longRefusal p) (deskIn p)
+unfolding longRefusal deskIn taking opened told
 next-long (Started d) w h = rw (long-settings w h)
 next-long (Underway σ x d) w h =
     let e : reportRefusal σ x d w ≡ longRefusal (Underway σ x d) = long-report σ x d w h in
     let f : accepted (reportRefusal σ x d w) ≡ false = ap accepted e ∙ refuses (entryRefusal (deskOk d) σ x d (isGathering (x .phase))) in
-    ap (λ (b : Bool). cond b (Underway σ (reported σ x d w .state) (deskAfter σ x d w)) (Ended (reportRefusal σ x d w))) f ∙ ap Ended e
-next-long (Ended r) w h = refl
+    ap (λ (b : Bool). cond b (Underway σ (reported σ x d w .state) (deskAfter σ x d w)) (Ended (reportRefusal σ x d w) d)) f
+    ∙ ap (λ (r : Refusal). Ended r d) e
+next-long (Ended r d) w h = refl
 
 -- ---- the blocks of an input
 
@@ -86,8 +87,8 @@ after-block p b c e = ⊎-elim short long (lt-or-le (blockCount b) 513)
         let l : Long (blocks (b ++ c)) = blocks-long b c n m in
         let w : 512 < length (wholeWords (drop 4 b)) = omega (arith, length-whole (drop 4 b), length-drop 4 b) in
         ap (after p) (l .is) ∙ ap (λ (q : Progress). after q (l .rest)) (next-long p (l .first) (l .long))
-        ∙ after-ended (longRefusal p) (l .rest)
-        ∙ sym (ap (λ (q : Progress). after q (blocks c)) (next-long p (wholeWords (drop 4 b)) w) ∙ after-ended (longRefusal p) (blocks c))
+        ∙ after-ended (longRefusal p) (deskIn p) (l .rest)
+        ∙ sym (ap (λ (q : Progress). after q (blocks c)) (next-long p (wholeWords (drop 4 b)) w) ∙ after-ended (longRefusal p) (deskIn p) (blocks c))
 
 -- the end of an input: a block cut short, or not even a count
 pub after-cut : (p : Progress) (b : List ℕ) → 4 ≤ length b → length b < needed b

@@ -24,23 +24,29 @@ pub data Progress : Type 0 where
   Started : List ℕ → Progress
   -- settings, state and desk after the blocks so far, none of which was refused
   Underway : List ℕ → State → List ℕ → Progress
-  -- a block was refused
-  Ended : Refusal → Progress
+  -- a block was refused; the desk holds what it held
+  Ended : Refusal → List ℕ → Progress
 
 -- the first block is the settings
 unfoldable pub opened : List ℕ → List ℕ → Progress
-opened d w = cond (settingsOk w) (Underway w fresh d) (Ended (refused 2))
+opened d w = cond (settingsOk w) (Underway w fresh d) (Ended (refused 2) d)
 
 -- every other block is a report
 unfoldable pub told : List ℕ → State → List ℕ → List ℕ → Progress
 told σ x d w =
-    cond (accepted (reportRefusal σ x d w)) (Underway σ (reported σ x d w .state) (deskAfter σ x d w)) (Ended (reportRefusal σ x d w))
+    cond (accepted (reportRefusal σ x d w)) (Underway σ (reported σ x d w .state) (deskAfter σ x d w)) (Ended (reportRefusal σ x d w) d)
 
 -- a block. A refusal ends the run.
 unfoldable pub taking : Progress → List ℕ → Progress
 taking (Started d) w = opened d w
 taking (Underway σ x d) w = told σ x d w
-taking (Ended r) w = Ended r
+taking (Ended r d) w = Ended r d
+
+-- the desk
+unfoldable pub deskIn : Progress → List ℕ
+deskIn (Started d) = d
+deskIn (Underway σ x d) = d
+deskIn (Ended r d) = d
 
 -- blocks, one after another
 unfoldable pub after : Progress → List (List ℕ) → Progress
@@ -57,7 +63,7 @@ pub record DecisionPrinted (σ : List ℕ) (x : State) (d text : List ℕ) : Typ
 unfoldable pub Prints : Progress → List ℕ → Type 0
 Prints (Started d) text = text ≡ numberLine (refused 2)
 Prints (Underway σ x d) text = DecisionPrinted σ x d text
-Prints (Ended r) text = text ≡ numberLine r
+Prints (Ended r d) text = text ≡ numberLine r
 
 -- before any block: an empty desk
 abbrev pub atStart : Progress

@@ -53,7 +53,7 @@ told-accepted σ x d w h =
     (either (accepted (reportRefusal σ x d w)))
 
 told-refused : (σ : List ℕ) (x : State) (d w : List ℕ) (r : Refusal) → reported σ x d w .answer ≡ Answer.Refused r
-    → told σ x d w ≡ Ended r
+    → told σ x d w ≡ Ended r d
 unfolding told reported
 told-refused σ x d w r h =
     ⊎-elim
@@ -64,7 +64,19 @@ told-refused σ x d w r h =
     (λ e.
     let a = ap (λ (o : Outcome). o .answer) (outcome-refused (reportRefusal σ x d w) x (afterReport σ x (contentsOf w)) e) in
     let s : reportRefusal σ x d w ≡ r = cc in
-    rw e (ap Ended s))
+    rw e (ap (λ (q : Refusal). Ended q d) s))
+    (either (accepted (reportRefusal σ x d w)))
+
+-- a refused report leaves the desk
+desk-refused : (σ : List ℕ) (x : State) (d w : List ℕ) (r : Refusal) → reported σ x d w .answer ≡ Answer.Refused r → deskAfter σ x d w ≡ d
+unfolding deskAfter reported
+desk-refused σ x d w r h =
+    ⊎-elim
+    (λ e.
+    let a = ap (λ (o : Outcome). o .answer) (outcome-accepted (reportRefusal σ x d w) x (afterReport σ x (contentsOf w)) e) in
+    let z : _≡_ {A = ℕ} 0 1 = cc in
+    absurd (omega arith))
+    (λ e. rw e)
     (either (accepted (reportRefusal σ x d w)))
 
 module _ (run : Run) (d : List ℕ) where
@@ -102,7 +114,10 @@ module _ (run : Run) (d : List ℕ) where
     report-refused x r a c =
         subst (λ (s : Run). Takes run d w s e) (sym c)
         (record {
-          leads = sym (told-next ∙ told-refused (take (run .words) (run .settings)) (run .state) d w x (sym (ap (λ (p : Outcome). p .answer) own) ∙ a));
+          leads =
+              ap (Ended x)
+              (desk ∙ desk-refused (take (run .words - 0) (run .settings)) (run .state) d w x (sym (ap (λ (p : Outcome). p .answer) given) ∙ a))
+              ∙ sym (told-next ∙ told-refused (take (run .words) (run .settings)) (run .state) d w x (sym (ap (λ (p : Outcome). p .answer) own) ∙ a));
           pending = refl;
           few = few;
         })
@@ -143,7 +158,7 @@ module _ (run : Run) (d w : List ℕ) where
   pub takes-none : (x : Refusal) → run .stage ≡ Closed x → run .words ≤ length (run .settings) → Takes run d w run d
   unfolding progressAt taking
   takes-none x h few =
-      let e : progress run d ≡ Ended x = progress-is run d (Closed x) h in
+      let e : progress run d ≡ Ended x d = progress-is run d (Closed x) h in
       record { leads = e ∙ sym (ap (λ (p : Progress). taking p w) e); pending = refl; few = few }
 
 -- the words of the block, as they are lent

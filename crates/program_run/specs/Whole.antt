@@ -1,27 +1,73 @@
 -- The whole run: bytes fed to a run that has just started, its close and its print give what is printed for those bytes.
 use Prim.Native.Nat.{ℕ, _≤_}
-use mathlib.Core.List.{List, [], append-nil}
-use mathlib.Core.Path.{_≡_, ap, _∙_, subst, subst⁻¹}
+use mathlib.Core.Bool.{true, true≢false}
+use mathlib.Core.List.{List, [], _++_, append-nil}
+use mathlib.Core.Path.{_≡_, refl, sym, ap, _∙_, subst, subst⁻¹}
 use native.Mathlib.Omega.{arith}
 use lib.ListN.{length, take, replicate}
 use Rattle.program_blocks.specs.Blocks.{blocks, needed-ends}
 use Rattle.program_lines.specs.Puts.{puts-first}
+use Rattle.program_run.specs.declared.Stage.{Stage}
+use Rattle.program_run.specs.declared.Stage.the-variants.{Opening, Open, Closed}
 use Rattle.program_run.specs.declared.Run.{Run}
-use Rattle.program_run.specs.Runs.{Progress, atStart, after, Prints, Printed}
-use Rattle.program_run.specs.Machine.{started, progressAt, progress, ahead, ReadyRun, Feeds, Closes, Writes}
+use Rattle.program_run.specs.Runs.{Progress, atStart, deskIn, after, Prints, Printed}
+use Rattle.program_run.specs.RunLaws.{after-ended}
+use Rattle.program_run.specs.Machine.{started, progressAt, progress, closedAt, ahead, ReadyRun, Feeds, Closes, Writes}
 
 -- a run that has just started is ready
 pub started-ready : (bytes : List ℕ) → length bytes ≡ 2056 → ReadyRun started bytes
 started-ready bytes h =
     record { room = h; coming = omega (arith, needed-ends (take 0 bytes) .0); few = omega arith }
 
--- what is put into the bytes `out` is what is printed for the bytes that were fed
-pub run-prints : (input bytes : List ℕ) (r : Run) (e b : List ℕ) (last : Run) (f out text : List ℕ) (n : ℕ)
-    → Feeds started (replicate 16384 0) bytes input r e b → Closes r e b last f → Writes (progress last f) out text n → 8192 ≤ length out
-    → Printed input (take n text)
-unfolding Printed ahead progressAt
-run-prints input bytes r e b last f out text n fed closes writes room =
-    let whole : progress last f ≡ after atStart (blocks input) =
-    closes .leads ∙ fed .same [] ∙ ap (λ (l : List ℕ). after atStart (blocks l)) (append-nil input) in
-    subst⁻¹ (λ (t : List ℕ). Prints (after atStart (blocks input)) t) (puts-first out (writes .text) text n (omega (arith, writes .fits)) (writes .puts) .1)
-    (subst (λ (p : Progress). Prints p (writes .text)) whole (writes .prints))
+-- a run that is closed has come to its end, whatever follows
+pub closed-now : (r : Run) (e b : List ℕ) → closedAt (r .stage) ≡ true → (rest : List ℕ) → ahead r e b rest ≡ progress r e
+unfolding ahead progressAt
+closed-now r e b h rest = at (r .stage) h
+  where
+    at : (k : Stage) → closedAt k ≡ true
+        → after (progressAt k (take (r .words) (r .settings)) (r .state) e) (blocks (take (r .pending) b ++ rest))
+        ≡ progressAt k (take (r .words) (r .settings)) (r .state) e
+    at Opening h = absurd (true≢false (sym h))
+    at Open h = absurd (true≢false (sym h))
+    at (Closed x) h = after-ended x e (blocks (take (r .pending) b ++ rest))
+
+pub closed-same : (r : Run) (e b rest : List ℕ) → closedAt (r .stage) ≡ true → ahead r e b rest ≡ ahead r e b []
+closed-same r e b rest h = closed-now r e b h rest ∙ sym (closed-now r e b h [])
+
+-- ---- the desk
+
+desk-at : (r : Run) (e : List ℕ) → deskIn (progress r e) ≡ e
+unfolding deskIn progressAt
+desk-at r e = at (r .stage)
+  where
+    at : (k : Stage) → deskIn (progressAt k (take (r .words) (r .settings)) (r .state) e) ≡ e
+    at Opening = refl
+    at Open = refl
+    at (Closed x) = refl
+
+-- after a refusal the desk is that to which the bytes have led: what it held before the block that was refused
+pub refused-desk : (run : Run) (d bytes fed : List ℕ) (r : Run) (e b : List ℕ) → Feeds run d bytes fed r e b → closedAt (r .stage) ≡ true
+    → e ≡ deskIn (ahead run d bytes fed)
+unfolding ahead
+refused-desk run d bytes fed r e b feeds h =
+    sym (desk-at r e) ∙ ap deskIn (sym (closed-now r e b h []) ∙ feeds .same [] ∙ ap (ahead run d bytes) (append-nil fed))
+
+-- at the end of the input too
+pub closed-desk : (run : Run) (d bytes : List ℕ) (r : Run) (e : List ℕ) → Closes run d bytes r e → e ≡ deskIn (ahead run d bytes [])
+closed-desk run d bytes r e closes = sym (desk-at r e) ∙ ap deskIn (closes .leads)
+
+-- ---- the whole run
+
+module _ (input bytes : List ℕ) (r : Run) (e b : List ℕ) (last : Run) (f out text : List ℕ) (n : ℕ) (fed : Feeds started (replicate 16384 0) bytes input r e b) (closes : Closes r e b last f) (writes : Writes (progress last f) out text n) (room : 8192 ≤ length out) where
+  -- what is put into the bytes `out` is what is printed for the bytes that were fed and for those that follow, if they change nothing
+  pub run-prints-with : (rest : List ℕ) → ahead r e b rest ≡ ahead r e b [] → Printed (input ++ rest) (take n text)
+  unfolding Printed ahead progressAt
+  run-prints-with rest same =
+      let whole : progress last f ≡ after atStart (blocks (input ++ rest)) = closes .leads ∙ sym same ∙ fed .same rest in
+      subst⁻¹ (λ (t : List ℕ). Prints (after atStart (blocks (input ++ rest))) t)
+      (puts-first out (writes .text) text n (omega (arith, writes .fits)) (writes .puts) .1)
+      (subst (λ (p : Progress). Prints p (writes .text)) whole (writes .prints))
+
+  -- nothing follows
+  pub run-prints : Printed input (take n text)
+  run-prints = subst (λ (l : List ℕ). Printed l (take n text)) (append-nil input) (run-prints-with [] refl)

@@ -54,7 +54,7 @@ pub run-leads : (σ : List ℕ) (ws : List (List ℕ)) → settingsOk σ ≡ tru
 unfolding after taking opened Reaches
 run-leads σ ws s h =
     let zeros : List ℕ = replicate 16384 0 in
-    let e : opened zeros σ ≡ Underway σ fresh zeros = ap (λ (b : Bool). cond b (Underway σ fresh zeros) (Ended (refused 2))) s in
+    let e : opened zeros σ ≡ Underway σ fresh zeros = ap (λ (b : Bool). cond b (Underway σ fresh zeros) (Ended (refused 2) zeros)) s in
     ap (λ (p : Progress). after p ws) e ∙ reports-lead σ fresh zeros ws (settled e) h
   where
     settled : opened (replicate 16384 0) σ ≡ Underway σ fresh (replicate 16384 0) → Gathers σ fresh (replicate 16384 0)

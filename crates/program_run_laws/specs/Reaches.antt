@@ -35,7 +35,7 @@ pub record Gathers (σ : List ℕ) (x : State) (d : List ℕ) : Type 0 where
 unfoldable pub Reaches : Progress → Type 0
 Reaches (Started d) = deskOk d ≡ true
 Reaches (Underway σ x d) = Gathers σ x d
-Reaches (Ended r) = (r .number ≡ 2) ⊎ ((5 ≤ r .number) × (r .number ≤ 13))
+Reaches (Ended r d) = (r .number ≡ 2) ⊎ ((5 ≤ r .number) × (r .number ≤ 13))
 
 -- while a run gathers, rows 1 to 4 refuse nothing
 entry-none : (σ : List ℕ) (x : State) (d : List ℕ) → Gathers σ x d → entryRefusal (deskOk d) σ x d (isGathering (x .phase)) ≡ none
@@ -52,8 +52,8 @@ reaches-opened : (d w : List ℕ) → deskOk d ≡ true → Reaches (opened d w)
 unfolding Reaches opened fresh
 reaches-opened d w h =
     ⊎-elim
-    (λ e. subst⁻¹ (λ (b : Bool). Reaches (cond b (Underway w fresh d) (Ended (refused 2)))) e (record { reached = starting d e h; phase = refl }))
-    (λ e. subst⁻¹ (λ (b : Bool). Reaches (cond b (Underway w fresh d) (Ended (refused 2)))) e (inl refl))
+    (λ e. subst⁻¹ (λ (b : Bool). Reaches (cond b (Underway w fresh d) (Ended (refused 2) d))) e (record { reached = starting d e h; phase = refl }))
+    (λ e. subst⁻¹ (λ (b : Bool). Reaches (cond b (Underway w fresh d) (Ended (refused 2) d))) e (inl refl))
     (either (settingsOk w))
 
 -- a report that is accepted
@@ -61,7 +61,7 @@ pub told-taken : (σ : List ℕ) (x : State) (d w : List ℕ) → accepted (repo
     → told σ x d w ≡ Underway σ (afterReport σ x (contentsOf w)) (deskWith d (getD w 0 0) w)
 unfolding told reported deskAfter
 told-taken σ x d w e =
-    ap (λ (b : Bool). cond b (Underway σ (reported σ x d w .state) (deskAfter σ x d w)) (Ended (reportRefusal σ x d w))) e
+    ap (λ (b : Bool). cond b (Underway σ (reported σ x d w .state) (deskAfter σ x d w)) (Ended (reportRefusal σ x d w) d)) e
     ∙ ap₂ (Underway σ) (ap (λ (o : Outcome). o .state) (outcome-accepted (reportRefusal σ x d w) x (afterReport σ x (contentsOf w)) e))
     (ap (λ (b : Bool). cond b (deskWith d (getD w 0 0) w) d) e)
 
@@ -72,7 +72,7 @@ module _ (σ : List ℕ) (x : State) (d w : List ℕ) (g : Gathers σ x d) where
   taken-gathers e =
       record { reached = reporting x d w (g .reached) (accepted-none (reportRefusal σ x d w) e); phase = g .phase }
 
-  ended-number : accepted (reportRefusal σ x d w) ≡ false → Reaches (Ended (reportRefusal σ x d w))
+  ended-number : accepted (reportRefusal σ x d w) ≡ false → Reaches (Ended (reportRefusal σ x d w) d)
   unfolding Reaches
   ended-number e =
       let r : reportRefusal σ x d w ≡ refusalBeside σ (x .kept) (x .termination) w = report-none σ x d w g in
@@ -85,7 +85,7 @@ module _ (σ : List ℕ) (x : State) (d w : List ℕ) (g : Gathers σ x d) where
   reaches-told =
       ⊎-elim (λ e. subst⁻¹ (λ (p : Progress). Reaches p) (told-taken σ x d w e) (taken-gathers e))
       (λ e.
-      subst⁻¹ (λ (b : Bool). Reaches (cond b (Underway σ (reported σ x d w .state) (deskAfter σ x d w)) (Ended (reportRefusal σ x d w)))) e
+      subst⁻¹ (λ (b : Bool). Reaches (cond b (Underway σ (reported σ x d w .state) (deskAfter σ x d w)) (Ended (reportRefusal σ x d w) d))) e
       (ended-number e))
       (either (accepted (reportRefusal σ x d w)))
 
@@ -93,7 +93,7 @@ reaches-next : (p : Progress) (w : List ℕ) → Reaches p → Reaches (taking p
 unfolding taking Reaches
 reaches-next (Started d) w h = reaches-opened d w h
 reaches-next (Underway σ x d) w h = reaches-told σ x d w h
-reaches-next (Ended r) w h = h
+reaches-next (Ended r d) w h = h
 
 reaches-after : (p : Progress) (ws : List (List ℕ)) → Reaches p → Reaches (after p ws)
 unfolding after
@@ -118,6 +118,6 @@ pub decide-taken : (input σ : List ℕ) (x : State) (d : List ℕ) → after at
 decide-taken input σ x d e = decide-none (blocks input) σ x d e
 
 -- the numbers that end a run
-pub ended-by : (input : List ℕ) (r : Refusal) → after atStart (blocks input) ≡ Ended r → (r .number ≡ 2) ⊎ ((5 ≤ r .number) × (r .number ≤ 13))
+pub ended-by : (input : List ℕ) (r : Refusal) (d : List ℕ) → after atStart (blocks input) ≡ Ended r d → (r .number ≡ 2) ⊎ ((5 ≤ r .number) × (r .number ≤ 13))
 unfolding Reaches
-ended-by input r e = subst (λ (p : Progress). Reaches p) e (run-reaches input)
+ended-by input r d e = subst (λ (p : Progress). Reaches p) e (run-reaches input)

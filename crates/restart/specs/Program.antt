@@ -1,43 +1,145 @@
 -- What the program promises. No contract can say which bytes a read gives: the promise is of the bytes that came, whatever they are.
-use Prim.Native.Nat.{ℕ, _≤_}
+use Prim.Native.Nat.{ℕ, _≤_, _-_}
+use mathlib.Core.Bool.{Bool, true, false, cond, true≢false}
 use mathlib.Core.List.{List, [], _++_}
-use mathlib.Core.Path.{_≡_, sym, subst}
+use mathlib.Core.Path.{_≡_, refl, sym, ap, ap₂, _∙_, subst}
 use native.Mathlib.Omega.{arith}
-use lib.ListN.{length, take, replicate}
+use lib.ListN.{length, take, replicate, length-append, length-take}
+use Rattle.program_input.specs.declared.Source.{Source}
+use Rattle.program_input.specs.declared.Source.the-variants.{Open, Over, Failed, Endless}
+use Rattle.program_input.specs.declared.Input.{Input}
+use Rattle.program_input.specs.Inputs.{unread, mayCome, isCut, MayFollow, ReadsOn, reads-add, reads-within}
+use Rattle.program_run.specs.declared.Stage.{Stage}
 use Rattle.program_run.specs.declared.Run.{Run}
 use Rattle.program_run.specs.Runs.{Printed}
-use Rattle.program_run.specs.Machine.{started, progress, Feeds, Closes, Writes}
+use Rattle.program_run.specs.Machine.{started, progress, closedAt, ahead, ReadyRun, Feeds, Closes, Writes}
 use Rattle.program_run.specs.Steps.{feeds-none, feeds-then}
-use Rattle.program_run.specs.Whole.{started-ready, run-prints}
+use Rattle.program_run.specs.Whole.{started-ready, closed-same, run-prints-with}
+use Rattle.restart.specs.declared.Intake.{Intake}
+use Rattle.restart.specs.declared.Reply.{Reply}
 
--- the run is the one to which some bytes lead from the start
-pub record Reads (d bytes : List ℕ) (r : Run) (e b : List ℕ) : Type 0 where
-  pub input : List ℕ
-  pub feeds : Feeds started d bytes input r e b
+-- more may come, and the run still takes it
+abbrev pub goesOn : Source → Stage → Bool
+goesOn s k = cond (closedAt k) false (mayCome s)
 
--- the first n bytes are what is printed for some bytes
-pub record Answers (out : List ℕ) (n : ℕ) : Type 0 where
-  pub input : List ℕ
-  pub printed : Printed input (take n out)
-  pub within : n ≤ length out
+-- before the first read
+abbrev pub nothingRead : Intake
+nothingRead = record { run = started; input = unread }
+
+-- one read more: the bytes that it left at the start of the buffer are fed
+pub record Turns (x : Intake) (d bytes buffer : List ℕ) (r : Intake) (e b : List ℕ) : Type 0 where
+  pub reads : ReadsOn (x .input) (r .input)
+  pub room : length buffer ≡ 4096
+  pub feeds : Feeds (x .run) d bytes (take (r .input .got) buffer) (r .run) e b
+
+-- reads, one after another, lead from the start
+pub data Reads (d bytes : List ℕ) : Intake → List ℕ → List ℕ → Type 0 where
+  no-read : Reads d bytes nothingRead d bytes
+  one-more : (x r : Intake) (e b buffer f c : List ℕ) → Reads d bytes x e b → Turns x e b buffer r f c → Reads d bytes r f c
+
+-- .. until the last of them gave nothing or failed, or the run is closed
+pub record ReadsAll (d bytes : List ℕ) (r : Intake) (e b : List ℕ) : Type 0 where
+  pub reads : Reads d bytes r e b
+  pub ended : goesOn (r .input .source) (r .run .stage) ≡ false
+
+-- the first bytes of `out` are what is printed for the bytes that came and whatever may follow them; nothing where the input was cut
+pub record Answers (out : List ℕ) (r : Reply) : Type 0 where
+  pub came : List ℕ
+  pub whole : length came ≡ r .input .total
+  pub printed : isCut (r .input .source) ≡ false → (rest : List ℕ) → MayFollow (r .input .source) rest → Printed (came ++ rest) (take (r .len) out)
+  pub silent : isCut (r .input .source) ≡ true → r .len ≡ 0
+  pub within : r .len ≤ length out
 
 -- ---- laws
 
--- before the first read
-pub reads-none : (d bytes : List ℕ) (r : Run) → r ≡ started → length bytes ≡ 2056 → Reads d bytes r d bytes
-reads-none d bytes r e h =
-    record { input = []; feeds = subst (λ (x : Run). Feeds started d bytes [] x d bytes) (sym e) (feeds-none (started-ready bytes h)) }
+-- the run is the one to which the bytes that all reads gave lead
+pub record Came (d bytes : List ℕ) (r : Intake) (e b : List ℕ) : Type 0 where
+  pub came : List ℕ
+  pub whole : length came ≡ r .input .total
+  pub feeds : Feeds started d bytes came (r .run) e b
 
--- the bytes of one read more
-pub reads-more : {d bytes fed : List ℕ} {r s : Run} {e f b c : List ℕ} → Reads d bytes r e b → Feeds r e b fed s f c → Reads d bytes s f c
-reads-more {fed = fed} p q = record { input = p .input ++ fed; feeds = feeds-then (p .feeds) q }
-
--- the end of the input
-pub reads-print : {bytes : List ℕ} {r : Run} {e b : List ℕ} {last : Run} {f out after : List ℕ} {n : ℕ} → Reads (replicate 16384 0) bytes r e b → Closes r e b last f
-    → Writes (progress last f) out after n → length out ≡ 8192 → Answers after n
-reads-print {bytes} {r} {e} {b} {last} {f} {out} {after} {n} p q w h =
+pub reads-came : (d bytes : List ℕ) (r : Intake) (e b : List ℕ) → length bytes ≡ 2056 → Reads d bytes r e b → Came d bytes r e b
+reads-came d bytes r e b h no-read = record { came = []; whole = refl; feeds = feeds-none (started-ready bytes h) }
+reads-came d bytes r e b h (one-more x r₀ e₀ b₀ buffer f c before turn) =
+    let p : Came d bytes x e₀ b₀ = reads-came d bytes x e₀ b₀ h before in
     record {
-      input = p .input;
-      printed = run-prints (p .input) bytes r e b last f out after n (p .feeds) q w (omega arith);
-      within = w .puts .within;
+      came = p .came ++ take (r .input .got) buffer;
+      whole =
+          omega (
+            arith,
+            length-append (p .came) (take (r .input .got) buffer),
+            p .whole,
+            reads-add (x .input) (r .input) (turn .reads),
+            reads-within (x .input) (r .input) (turn .reads),
+            turn .room,
+            length-take (r .input .got) buffer,
+          );
+      feeds = feeds-then (p .feeds) (turn .feeds);
     }
+
+-- the first n bytes of a buffer
+pub feeds-front : {run : Run} {d bytes : List ℕ} {r : Run} {e b : List ℕ} (n : ℕ) (xs : List ℕ) → Feeds run d bytes (take (n - 0) xs) r e b
+    → Feeds run d bytes (take n xs) r e b
+feeds-front {run} {d} {bytes} {r} {e} {b} n xs p =
+    let same : n - 0 ≡ n = omega arith in
+    subst (λ (k : ℕ). Feeds run d bytes (take k xs) r e b) same p
+
+pub turns-by : {d bytes buffer : List ℕ} {s : Run} {y : Input} {e b : List ℕ} {n : ℕ} (x : Intake) → ReadsOn (x .input) y → length buffer ≡ 4096
+    → n ≡ y .got → Feeds (x .run) d bytes (take n buffer) s e b → Turns x d bytes buffer (record { run = s; input = y }) e b
+turns-by {d} {bytes} {buffer} {s} {y} {e} {b} x reads room h feeds =
+    record { reads = reads; room = room; feeds = subst (λ (k : ℕ). Feeds (x .run) d bytes (take k buffer) s e b) h feeds }
+
+pub reads-first : {d bytes : List ℕ} {r : Run} {x : Input} → r ≡ started → x ≡ unread → Reads d bytes (record { run = r; input = x }) d bytes
+reads-first {d} {bytes} e u =
+    subst (λ (i : Intake). Reads d bytes i d bytes) (sym (ap₂ (λ (a : Run) (y : Input). record { run = a; input = y }) e u)) no-read
+
+-- while reading goes on more may come
+pub going-open : (b m : Bool) → cond b false m ≡ true → m ≡ true
+going-open true m h = absurd (true≢false (sym h))
+going-open false m h = h
+
+is-closed : (b : Bool) → cond {A = Bool} b false true ≡ false → b ≡ true
+is-closed true h = refl
+is-closed false h = absurd (true≢false h)
+
+-- the run can be closed
+pub reads-ready : {d bytes : List ℕ} {r : Intake} {e b : List ℕ} → ReadsAll d bytes r e b → length bytes ≡ 2056 → ReadyRun (r .run) b
+reads-ready {d} {bytes} {r} {e} {b} p l = reads-came d bytes r e b l (p .reads) .feeds .ready
+
+-- the input was cut
+pub answers-none : {d bytes : List ℕ} {r : Intake} {e b : List ℕ} (out : List ℕ) → ReadsAll d bytes r e b → length bytes ≡ 2056
+    → isCut (r .input .source) ≡ true → Answers out (record { len = 0; input = r .input })
+answers-none {d} {bytes} {r} {e} {b} out p l h =
+    let q : Came d bytes r e b = reads-came d bytes r e b l (p .reads) in
+    record {
+      came = q .came;
+      whole = q .whole;
+      printed = λ g rest m. absurd (true≢false (sym h ∙ g));
+      silent = λ g. refl;
+      within = omega arith;
+    }
+
+-- the input is at its end, or the run is closed
+module _ {bytes : List ℕ} {r : Intake} {e b : List ℕ} {last : Run} {f out after : List ℕ} {n : ℕ} (p : ReadsAll (replicate 16384 0) bytes r e b)
+    (q : Closes (r .run) e b last f) (w : Writes (progress last f) out after n) (l : length bytes ≡ 2056) (h : length out ≡ 8192) where
+  -- what may follow changes nothing
+  ends-same : (s : Source) → goesOn s (r .run .stage) ≡ false → isCut s ≡ false → (rest : List ℕ) → MayFollow s rest
+      → ahead (r .run) e b rest ≡ ahead (r .run) e b []
+  ends-same Open o c rest m = closed-same (r .run) e b rest (is-closed (closedAt (r .run .stage)) o)
+  ends-same Over o c rest m = ap (ahead (r .run) e b) m
+  ends-same Failed o c rest m = absurd (true≢false c)
+  ends-same Endless o c rest m = absurd (true≢false c)
+
+  pub answers-print : isCut (r .input .source) ≡ false → Answers after (record { len = n; input = r .input })
+  answers-print c =
+      let k : Came (replicate 16384 0) bytes r e b = reads-came (replicate 16384 0) bytes r e b l (p .reads) in
+      record {
+        came = k .came;
+        whole = k .whole;
+        printed =
+            λ g rest m.
+            run-prints-with (k .came) bytes (r .run) e b last f out after n (k .feeds) q w (omega arith) rest
+            (ends-same (r .input .source) (p .ended) g rest m);
+        silent = λ g. absurd (true≢false (sym g ∙ c));
+        within = w .puts .within;
+      }

@@ -1,16 +1,29 @@
 // The first valid placement of at most k moves, and the first of least moves, or that there is none, by the hints of an oracle.
-// Every pair that is left and every bound is proved by a cut, and the owners that are found are tested, so no answer rests on the
-// oracle. Where a hint fails, the total search answers.
+// Every pair that is left is proved by a cut, every bound by the sheet or a cut, and the owners that are found are tested, so no answer
+// rests on the oracle. Where a hint fails, the total search answers.
 ghost use mathlib.Core.Path.{_≡_};
 ghost use mathlib.Core.Bool.{true, false};
 ghost use Prim.Native.Nat.{_/_, _%_, _≤_, _<_, min};
 ghost use lib.ListN.{length, set};
 ghost use Rattle.search_theory.specs.Tables.{caseOf, ownersOf};
 ghost use Rattle.search_theory.specs.Order.{Begun};
+ghost use Rattle.search_theory.specs.Least.{AtLeast};
+ghost use Rattle.search_theory.specs.Floor.{SheetFor};
 ghost use Rattle.search_bounds.specs.Post.{Small, SoundBound};
 ghost use Rattle.search_total.specs.Post.{WithinAnswer, LeastAnswer, noOwners};
+ghost use Rattle.search_total.specs.Answers.{Empty};
 ghost use Rattle.search_hinted.specs.Stage.{Narrowed, Advanced};
 ghost use Rattle.search_hinted.specs.Post.{Found};
+
+mod changes; // changes.rt: single changes of the oracle's placement
+mod claim; // claim.rt: a pair that is to be taken
+mod fill; // fill.rt: a unit more for the shards that lack nodes
+mod oracle; // oracle.rt: what the search asks, a placement of least moves and a pair in it
+mod reach; // reach.rt: what tight pairs reach
+mod start; // start.rt: the first placement, from nodes that stay
+mod ways; // ways.rt: owners changed along a way, levels raised
+mod weights; // weights.rt: the dual weights of the placement
+
 use search_bounds::Bound;
 use search_total::Solution;
 
@@ -31,7 +44,7 @@ fn prune(
     ensures { λ r. ⌜ (r .good ≡ true → SoundBound (caseOf (now (sets .entry)) (now (needs .entry)) (now (costs .entry))) k (r .floor) (ownersOf (now (owner .entry))) t (now (costs .exit))) ⌝ }
     ensures { λ r. ⌜ length (now (costs .exit)) ≡ 512 ⌝ }
 {
-    let q = hint_weights::weigh(mem, sets, costs);
+    let q = weights::weigh(mem, sets, costs);
     let shards = q.shards;
     let nodes = q.nodes;
     let pairs = q.pairs;
@@ -69,7 +82,7 @@ fn step(
     if costs[t] >= 2 {
         return true;
     }
-    let hint = hint_oracle::take(mem, (t / 32) as u32, (t % 32) as u32, k as u32);
+    let hint = oracle::take(mem, (t / 32) as u32, (t % 32) as u32, k as u32);
     if hint == 0 {
         return take(owner, t);
     }
@@ -86,9 +99,9 @@ fn step(
 }
 
 // An answer, if it is sure.
-pub struct Quick {
-    pub sure: bool,
-    pub answer: Solution,
+struct Quick {
+    sure: bool,
+    answer: Solution,
 }
 
 // No answer.
@@ -97,6 +110,16 @@ fn unsure() -> Quick
 {
     Quick {
         sure: false,
+        answer: search_total::nothing(),
+    }
+}
+
+// Surely none.
+fn none() -> Quick
+    ensures { λ r. ⌜ (r .sure ≡ true) × Empty (r .answer) ⌝ }
+{
+    Quick {
+        sure: true,
         answer: search_total::nothing(),
     }
 }
@@ -158,7 +181,7 @@ fn capped(k: usize) -> usize
 }
 
 // The first valid placement of at most k moves, or that there is none, where the hints lead to it.
-pub fn quick_within(sets: &[u8; 32], needs: &[u8; 16], prices: &[u8; 512], k: usize) -> Quick
+fn quick_within(sets: &[u8; 32], needs: &[u8; 16], prices: &[u8; 512], k: usize) -> Quick
     ensures { λ r. ⌜ (r .sure ≡ true → WithinAnswer (caseOf (now (sets .entry)) (now (needs .entry)) (now (prices .entry))) k (r .answer)) ⌝ }
 {
     if !fit(sets, prices) {
@@ -168,46 +191,68 @@ pub fn quick_within(sets: &[u8; 32], needs: &[u8; 16], prices: &[u8; 512], k: us
     let mut mem = [0u32; 512];
     let mut costs = *prices;
     let owner = [16u8; 32];
-    hint_oracle::solve(&mut mem, sets, needs, prices);
+    oracle::solve(&mut mem, sets, needs, prices);
     let v = prune(sets, needs, &mut costs, &owner, &mem, 0, most);
     if !v.good {
         return unsure();
     }
     if most < v.floor {
-        return Quick {
-            sure: true,
-            answer: search_total::nothing(),
-        };
+        return none();
     }
     follow(sets, needs, prices, &mut costs, &mut mem, most)
 }
 
-// The first of the valid placements of least moves, or that there is none, where the hints lead to it.
-pub fn quick_least(sets: &[u8; 32], needs: &[u8; 16], prices: &[u8; 512]) -> Quick
+// The first of the valid placements of least moves, or that there is none, where the hints lead to it. No valid placement has fewer
+// moves than the floor: a claim of so many is the least, and any other is proved by the weights.
+fn by_claim(sets: &[u8; 32], needs: &[u8; 16], prices: &[u8; 512], floor: usize) -> Quick
+    requires { ⌜ Small (now sets) ⌝ }
+    requires { ⌜ length (now prices) ≡ 512 ⌝ }
+    requires { ⌜ floor ≤ 32 ⌝ }
+    requires { ⌜ AtLeast (caseOf (now sets) (now needs) (now prices)) floor ⌝ }
     ensures { λ r. ⌜ (r .sure ≡ true → LeastAnswer (caseOf (now (sets .entry)) (now (needs .entry)) (now (prices .entry))) (r .answer)) ⌝ }
 {
-    if !fit(sets, prices) {
-        return unsure();
-    }
     let mut mem = [0u32; 512];
     let mut costs = *prices;
     let owner = [16u8; 32];
-    let claim = hint_oracle::solve(&mut mem, sets, needs, prices);
+    let claim = oracle::solve(&mut mem, sets, needs, prices);
+    if claim as usize == floor {
+        return follow(sets, needs, prices, &mut costs, &mut mem, floor);
+    }
     let most = capped(claim as usize);
     let v = prune(sets, needs, &mut costs, &owner, &mem, 0, most);
     if !v.good {
         return unsure();
     }
     if v.floor > 32 {
-        return Quick {
-            sure: true,
-            answer: search_total::nothing(),
-        };
+        return none();
     }
     if v.floor != most {
         return unsure();
     }
     follow(sets, needs, prices, &mut costs, &mut mem, most)
+}
+
+// The same from the sheet: it tells where there is none, and the floor.
+fn quick_least(
+    sets: &[u8; 32],
+    needs: &[u8; 16],
+    prices: &[u8; 512],
+    sheet: &[[u8; 16]; 16],
+) -> Quick
+    requires { ⌜ SheetFor (caseOf (now sets) (now needs) (now prices)) (now sheet) ⌝ }
+    ensures { λ r. ⌜ (r .sure ≡ true → LeastAnswer (caseOf (now (sets .entry)) (now (needs .entry)) (now (prices .entry))) (r .answer)) ⌝ }
+{
+    if !fit(sets, prices) {
+        return unsure();
+    }
+    if search_floor::short(needs, sheet) {
+        return none();
+    }
+    let floor = search_floor::floor(needs, sheet);
+    if floor > 32 {
+        return none();
+    }
+    by_claim(sets, needs, prices, floor)
 }
 
 // The first valid placement of at most k moves, or that there is none.
@@ -221,11 +266,18 @@ pub fn first_within(sets: &[u8; 32], needs: &[u8; 16], prices: &[u8; 512], k: us
     search_total::plain_within(sets, needs, prices, k)
 }
 
-// The first of the valid placements of least moves, or that there is none.
-pub fn least(sets: &[u8; 32], needs: &[u8; 16], prices: &[u8; 512]) -> Solution
+// The first of the valid placements of least moves, or that there is none. The sheet has for each shard and failure set no more than any
+// node of the set costs there.
+pub fn least(
+    sets: &[u8; 32],
+    needs: &[u8; 16],
+    prices: &[u8; 512],
+    sheet: &[[u8; 16]; 16],
+) -> Solution
+    requires { ⌜ SheetFor (caseOf (now sets) (now needs) (now prices)) (now sheet) ⌝ }
     ensures { λ r. ⌜ LeastAnswer (caseOf (now (sets .entry)) (now (needs .entry)) (now (prices .entry))) r ⌝ }
 {
-    let q = quick_least(sets, needs, prices);
+    let q = quick_least(sets, needs, prices, sheet);
     if q.sure {
         return q.answer;
     }

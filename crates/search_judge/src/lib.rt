@@ -11,7 +11,7 @@ ghost use Rattle.search_theory.specs.Case.{size, moves};
 ghost use Rattle.search_theory.specs.Tables.{caseOf, ownersOf};
 ghost use Rattle.search_theory.specs.Tests.{stands, needMet, twin, lone, reach};
 ghost use Rattle.search_theory.specs.Order.{Begun};
-ghost use Rattle.search_judge.specs.Post.{Judged, Barred, Hopeless};
+ghost use Rattle.search_judge.specs.Post.{Judged, Barred, hopelessFrom};
 
 // A byte as an index.
 pub fn wide(x: u8) -> usize
@@ -249,7 +249,8 @@ fn short(needs: &[u8; 16], prices: &[u8; 512], owner: &[u8; 32], t: usize) -> bo
     false
 }
 
-// Whether no valid placement of at most k moves agrees with the owners, as far as costs and needs tell.
+// Whether the owners have more than k moves or a shard can't have its need any more: then no valid placement of at most k moves agrees
+// with them.
 pub fn hopeless(
     sets: &[u8; 32],
     needs: &[u8; 16],
@@ -258,8 +259,7 @@ pub fn hopeless(
     t: usize,
     k: usize,
 ) -> bool
-    requires { ⌜ Begun (ownersOf (now owner)) t ⌝ }
-    ensures { λ r. ⌜ Hopeless (caseOf (now (sets .entry)) (now (needs .entry)) (now (prices .entry))) k (ownersOf (now (owner .entry))) t r ⌝ }
+    ensures { λ r. ⌜ r ≡ hopelessFrom (caseOf (now (sets .entry)) (now (needs .entry)) (now (prices .entry))) k (ownersOf (now (owner .entry))) t ⌝ }
 {
     if moves(prices, owner) > k {
         return true;

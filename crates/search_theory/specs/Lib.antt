@@ -7,3 +7,4 @@ pub mod Duality
 pub mod Least
 pub mod Dictionary
 pub mod Cut
+pub mod Floor

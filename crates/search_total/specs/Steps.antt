@@ -12,7 +12,7 @@ use mathlib.Core.Logic.{⊎-elim}
 use Rattle.search_theory.specs.Case.{Case}
 use Rattle.search_theory.specs.Tables.{ownersOf}
 use Rattle.search_theory.specs.Order.{takes, None, From, TakesPair, begun-leave, begun-take, first-leave, none-leave, first-take, none-take, first-end, none-end}
-use Rattle.search_judge.specs.Post.{Judged, Barred, Hopeless}
+use Rattle.search_judge.specs.Post.{Judged, Barred, hopelessFrom, hopeless-none}
 use Rattle.search_total.specs.Post.{Owners, ReadyFrom, Sought}
 
 -- owners with pair t taken
@@ -106,5 +106,5 @@ sought-end {K} {k} {o} {t} {b} d r j =
     record { yes = λ e. first-end (j .yes e); no = λ e. none-end (j .no e); kept = λ e. refl; owners = r .owners }
 
 -- nothing to hope for
-pub sought-hopeless : {K : Case} {k : ℕ} {o : List ℕ} {t : ℕ} {b : Bool} → ReadyFrom o t → b ≡ true → Hopeless K k (ownersOf o) t b → Sought K k o t o false
-sought-hopeless r g h = record { yes = λ e. absurd (false≢true e); no = λ e. h .yes g; kept = λ e. refl; owners = r .owners }
+pub sought-hopeless : {K : Case} {k : ℕ} {o : List ℕ} {t : ℕ} {b : Bool} → ReadyFrom o t → b ≡ true → b ≡ hopelessFrom K k (ownersOf o) t → Sought K k o t o false
+sought-hopeless r g h = record { yes = λ e. absurd (false≢true e); no = λ e. hopeless-none (r .begun) (sym h ∙ g); kept = λ e. refl; owners = r .owners }

@@ -36,7 +36,7 @@ use Rattle.state_planner.specs.declared.Decision.{Decision}
 use Rattle.state_planner.specs.declared.Decided.{Decided}
 use Rattle.state_planner.specs.States.{planned}
 use Rattle.state_planner.specs.Decide.{still, WithPlan, Decides}
-use Rattle.state_planner.specs.Exactly.{plans-where-possible}
+use Rattle.state_exact.specs.Exactly.{plans-where-possible}
 use Rattle.state_cases.specs.Start.{gathered}
 use Rattle.state_cases.specs.Taken.{taken}
 

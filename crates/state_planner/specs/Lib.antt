@@ -4,7 +4,6 @@ pub mod Refusing
 pub mod Entry
 pub mod Events
 pub mod Decide
-pub mod Exactly
 pub mod EventLaws
 pub mod ReportLaws
 pub mod DecideLaws

@@ -9,7 +9,7 @@ use report_views::Termination;
 ghost use mathlib.Core.Bool.{cond, not, _&&_};
 ghost use mathlib.Core.Path.{_≡_};
 ghost use Prim.Native.Nat.{_<_};
-ghost use lib.Dec.{eqb};
+ghost use lib.Dec.{eqb, ltb};
 ghost use lib.ListN.{length};
 ghost use Rattle.base_laws.specs.Masks.{has, with};
 ghost use Rattle.settings_values.specs.Settings.{Settings, settingsOk};
@@ -188,9 +188,9 @@ pub fn lacks(held: u32, marks: u32, node: Node) -> bool
     !base_masks::has(marks, node.0 as usize)
 }
 
-// The marks with that of a node.
+// The marks with that of a node; no node from 32 up can be marked.
 pub fn mark(marks: u32, node: Node) -> u32
-    ensures { λ r. ⌜ (node .0 < 32 → r ≡ with marks (node .0)) ⌝ }
+    ensures { λ r. ⌜ r ≡ cond (ltb (node .0) 32) (with marks (node .0)) marks ⌝ }
 {
     if node.0 < 32 {
         base_masks::with(marks, node.0 as usize)

@@ -16,11 +16,22 @@ const SMALL: u64 = 20_000;
 const LARGE: u64 = 5_000;
 /// The answer of the library where no valid placement exists.
 const NONE: u32 = 64;
+/// The answer where a length is wrong.
+const WRONG_LENGTH: u32 = 65;
 /// The owner of a node that is placed nowhere.
 const NOWHERE: u8 = 16;
 
 extern "C" {
-    fn placement_least(sets: *const [u8; 32], needs: *const [u8; 16], prices: *const [u8; 512], owners: *mut [u8; 32]) -> u32;
+    fn placement_least(
+        sets: *const u8,
+        sets_len: usize,
+        needs: *const u8,
+        needs_len: usize,
+        prices: *const u8,
+        prices_len: usize,
+        owners: *mut u8,
+        owners_len: usize,
+    ) -> u32;
 }
 
 /// A subgroup by itself.
@@ -47,6 +58,10 @@ fn main() -> ExitCode {
     let small = argument(2).unwrap_or(SMALL);
     let large = argument(3).unwrap_or(LARGE);
     println!("placements: seed {seed}");
+    if !refuses_wrong_lengths() {
+        println!("placements: a wrong length is not refused");
+        return ExitCode::FAILURE;
+    }
     let mut feasible = 0;
     let mut moved = 0;
     for index in 0..small + large {
@@ -74,6 +89,17 @@ fn main() -> ExitCode {
     ExitCode::SUCCESS
 }
 
+/// Each of the four lengths one short: 65, and the owners are as they were.
+fn refuses_wrong_lengths() -> bool {
+    let (sets, needs, prices) = ([0; 32], [0; 16], [2; 512]);
+    (0..4).all(|short| {
+        let mut owners = [255; 32];
+        let cut = |length: usize, index: usize| length - usize::from(short == index);
+        let number = least(&sets[..cut(32, 0)], &needs[..cut(16, 1)], &prices[..cut(512, 2)], &mut owners[..cut(32, 3)]);
+        number == WRONG_LENGTH && owners == [255; 32]
+    })
+}
+
 fn clock() -> u64 {
     SystemTime::now().duration_since(UNIX_EPOCH).map_or(1, |t| t.as_nanos() as u64)
 }
@@ -92,6 +118,22 @@ fn by_flow(case: &Case) -> Option<(u32, Placement)> {
     subgroup.first_least().map(|p| (least, p))
 }
 
+fn least(sets: &[u8], needs: &[u8], prices: &[u8], owners: &mut [u8]) -> u32 {
+    // SAFETY: each pointer comes with the length of what it points to.
+    unsafe {
+        placement_least(
+            sets.as_ptr(),
+            sets.len(),
+            needs.as_ptr(),
+            needs.len(),
+            prices.as_ptr(),
+            prices.len(),
+            owners.as_mut_ptr(),
+            owners.len(),
+        )
+    }
+}
+
 /// What the proved library finds, as masks.
 fn library(case: &Case) -> Option<(u32, Placement)> {
     let mut sets = [0; 32];
@@ -108,8 +150,7 @@ fn library(case: &Case) -> Option<(u32, Placement)> {
             prices[(shard * 32 + node) as usize] = u8::from(!stays);
         }
     }
-    // SAFETY: the four arrays have the sizes that the library's contract names.
-    let moves = unsafe { placement_least(&sets, &needs, &prices, &mut owners) };
+    let moves = least(&sets, &needs, &prices, &mut owners);
     if moves == NONE {
         return None;
     }

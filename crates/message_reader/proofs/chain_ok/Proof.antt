@@ -1,9 +1,10 @@
 -- The walk: at the loop's head the chain so far is linked and has not ended. The index rises and stays inside the message.
 use Prim.Native.Nat.{_-_}
-use mathlib.Core.Path.{sym}
+use mathlib.Core.Path.{sym, ap}
 use mathlib.Core.Logic.{inl, inr}
 use native.Mathlib.Omega.{arith}
 use Rattle.message_format.specs.Chain.{records}
+use Rattle.message_chain.specs.declared.Step.{Step}
 use Rattle.message_reader.specs.Walks.{Walk, walk-start, walk-on, walk-end, walk-broken}
 use Rattle.message_reader.proofs.chain_ok.Statement.{statement}
 use Rattle.message_reader.proofs.chain_ok.Tie as tie
@@ -22,17 +23,17 @@ step-from-requires c κs = tt
 
 returns : tie.Need-returns Inv-loop μ-loop
 returns c =
-    let l = c .before .before .loop in let e = c .before .step-from .ensures in
+    let l = c .before .before .loop in let e = ap (λ (s : Step). s .next) (c .before .step-from .ensures) in
     sym (walk-end _ _ _ (c .before .before .before .before .pre) (l .inv) e (c .if1 .taken))
 
 returns-2 : tie.Need-returns-2 Inv-loop μ-loop
 returns-2 c =
-    let l = c .before .before .before .loop in let e = c .before .before .step-from .ensures in
+    let l = c .before .before .before .loop in let e = ap (λ (s : Step). s .next) (c .before .before .step-from .ensures) in
     sym (walk-broken _ _ _ (c .before .before .before .before .before .pre) (l .inv) e (c .before .if1 .left) (inl (c .if2 .taken)))
 
 returns-3 : tie.Need-returns-3 Inv-loop μ-loop
 returns-3 c =
-    let l = c .before .before .before .before .loop in let e = c .before .before .before .step-from .ensures in
+    let l = c .before .before .before .before .loop in let e = ap (λ (s : Step). s .next) (c .before .before .before .step-from .ensures) in
     sym (walk-broken _ _ _ (c .before .before .before .before .before .before .pre) (l .inv) e (c .before .before .if1 .left) (inr (c .if3 .taken)))
 
 loop-less : tie.Need-loop-less Inv-loop μ-loop
@@ -40,7 +41,7 @@ loop-less c = omega arith
 
 loop-again : tie.Need-loop-again Inv-loop μ-loop
 loop-again c =
-    let l = c .before .before .before .before .loop in let e = c .before .before .before .step-from .ensures in
+    let l = c .before .before .before .before .loop in let e = ap (λ (s : Step). s .next) (c .before .before .before .step-from .ensures) in
     walk-on _ _ _ (c .before .before .before .before .before .before .pre) (l .inv) e (c .before .if2 .left) (c .if3 .left)
 
 pub chain-ok-spec : {M : Type 1} → statement M

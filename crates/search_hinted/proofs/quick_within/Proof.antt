@@ -26,7 +26,7 @@ returns-3 c =
     λ e.
     let p = c .before .before .before .before .before in
     let cut = p .prune .ensures .0 (not-false (p .prune .result .good) (c .before .before .before .if2 .left)) in
-    within-capped (p .before .before .before .before .before .before .before .capped .ensures) (within-none (none-below (c .before .if3 .taken) (at-least cut)) (c .nothing .ensures))
+    within-capped (p .before .before .before .before .before .before .before .capped .ensures) (within-none (none-below (c .before .if3 .taken) (at-least cut)) (c .none .ensures .1))
 
 follow-requires : tie.Need-follow-requires
 follow-requires c κs =

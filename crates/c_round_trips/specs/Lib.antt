@@ -1,0 +1,3 @@
+-- Reader and writer are inverse on lent bytes. Lents: contents as bytes and back. RoundTrips: the theorems.
+pub mod Lents
+pub mod RoundTrips

@@ -1,0 +1,143 @@
+-- The calls that write and read messages are inverse: what a call wrote is taken by the reading call and gives the contents that were
+-- lent, byte for byte; and what a call read is taken by the writing call, and what that writes reads the same.
+use Prim.Native.Nat.{ℕ, _*_, _<_, _≤_}
+use native.Mathlib.Omega.{arith}
+use mathlib.Core.Bool.{true}
+use mathlib.Core.List.{List}
+use mathlib.Core.Path.{_≡_, sym, ap, _∙_}
+use mathlib.Core.Logic.{⊎-elim}
+use lib.Dec.{eqb}
+use lib.ListN.{length, getD, take, length-take, List·getD-eq-default}
+use lib.Seq.{getD-take}
+use borrow.Author.Tests.{eq-eqb, eqb-true}
+use Rattle.base_laws.specs.Bools.{lt-or-le}
+use Rattle.base_laws.specs.Tables.{padded, length-tabulate}
+use Rattle.word_bytes.specs.Words.{bytesOf}
+use Rattle.word_lent.specs.Lent.{wordsIn}
+use Rattle.word_lent.specs.Answers.{answerWord, withLength, bytesLeft}
+use Rattle.base_ids.specs.Refusals.{none, unless-ok, unless-rest, unless-none}
+use Rattle.settings_values.specs.Settings.{settingsOk}
+use Rattle.message_format.specs.declared.Form.{Form}
+use Rattle.message_format.specs.declared.Contents.{Contents}
+use Rattle.message_format.specs.Messages.{contentsOf, messageRefusal, readRefusal, contentsRefusal, messageOf, tidy}
+use Rattle.message_format.specs.Passed.{contents-few}
+use Rattle.message_inverse.specs.RoundTrip.{ReadsAs, buffer-reads, read-writes, read-tidy}
+use Rattle.c_messages.specs.Answers.{contentsWord, contentsWords, contentsLength, readRefused, readAnswer, readLeaves, contentsLent, writeRefused, writeLeaves}
+use Rattle.c_round_trips.specs.Lents.{Bytes, Words, words-lent, lent-words, bytes-taken, made-bytes, lent-length, lent-back, message-words, contents-words, lent-small, read-small, read-few, read-lent}
+
+-- ---- what was written is read
+
+module _ (form : Form) (settings contents buffer : List ℕ) (bytes : Bytes contents) (h : writeRefused form settings contents buffer ≡ none) where
+  abbrev lentSays : Contents
+  lentSays = contentsLent contents
+
+  abbrev written : List ℕ
+  written = writeLeaves form settings contents buffer
+
+  settings-passed : settingsOk (wordsIn settings) ≡ true
+  unfolding writeRefused
+  settings-passed = unless-ok (settingsOk (wordsIn settings)) 1 _ (unless-rest (eqb (length buffer) 2048) 0 _ h)
+
+  contents-passed : contentsRefusal form (wordsIn settings) lentSays ≡ none
+  unfolding writeRefused
+  contents-passed = unless-rest (settingsOk (wordsIn settings)) 1 _ (unless-rest (eqb (length buffer) 2048) 0 _ h)
+
+  few : lentSays .len ≤ 127
+  few = contents-few form (wordsIn settings) lentSays contents-passed
+
+  written-words : wordsIn written ≡ messageOf lentSays 512
+  unfolding writeLeaves bytesLeft
+  written-words = rw h (words-lent (messageOf lentSays 512) (message-words lentSays (lent-small contents bytes)))
+
+  reads : ReadsAs form (wordsIn settings) (messageOf lentSays 512) (tidy lentSays)
+  reads = buffer-reads form (wordsIn settings) lentSays contents-passed
+
+  module _ (room : List ℕ) (l : length room ≡ 2048) where
+    -- the reading call takes it
+    pub written-taken : readRefused form settings written room ≡ none
+    unfolding readRefused readRefusal
+    written-taken =
+        unless-none (eqb (length room) 2048) 1 _ (eq-eqb (length room) 2048 l)
+        (unless-none (settingsOk (wordsIn settings)) 2 _ settings-passed (rw written-words (reads .taken)))
+
+    -- and leaves what the contents say
+    written-leaves : readLeaves form settings written room ≡ bytesOf (contentsWords (tidy lentSays))
+    unfolding readLeaves bytesLeft
+    written-leaves = rw (written-taken, written-words, reads .found)
+
+    -- which are the bytes that were lent, and zeros after them
+    pub written-read : readLeaves form settings written room ≡ padded 2048 contents
+    written-read = written-leaves ∙ lent-back contents few bytes
+
+    -- and their length
+    pub written-answer : readAnswer form settings written room ≡ withLength (length (wordsIn contents))
+    unfolding readAnswer answerWord tidy
+    written-answer =
+        rw (written-taken, written-words, reads .found) (ap withLength (sym (lent-length contents few)))
+
+-- ---- what was read is written
+
+module _ (form : Form) (settings message room : List ℕ) (bytes : Bytes message) (h : readRefused form settings message room ≡ none) where
+  abbrev found : Contents
+  found = contentsOf (wordsIn message)
+
+  -- the contents that the reading call left: so many words of them say something
+  abbrev pub lentAgain : List ℕ
+  lentAgain = take (4 * contentsLength (contentsOf (wordsIn message))) (readLeaves form settings message room)
+
+  read-settings : settingsOk (wordsIn settings) ≡ true
+  unfolding readRefused readRefusal
+  read-settings = unless-ok (settingsOk (wordsIn settings)) 1 _ (unless-rest (eqb (length room) 2048) 0 _ h)
+
+  read-message : messageRefusal form (wordsIn settings) (wordsIn message) ≡ none
+  unfolding readRefused readRefusal
+  read-message = unless-rest (settingsOk (wordsIn settings)) 1 _ (unless-rest (eqb (length room) 2048) 0 _ h)
+
+  room-long : length room ≡ 2048
+  unfolding readRefused
+  room-long = eqb-true (length room) 2048 (unless-ok (eqb (length room) 2048) 0 _ h)
+
+  left : readLeaves form settings message room ≡ bytesOf (contentsWords found)
+  unfolding readLeaves bytesLeft
+  left = rw h
+
+  again-is : lentAgain ≡ bytesOf (take (contentsLength found) (contentsWords found))
+  unfolding contentsWords
+  again-is =
+      ap (take (4 * contentsLength found)) left
+      ∙ bytes-taken (contentsWords found) (contentsLength found) (omega (arith, read-few (wordsIn message), length-tabulate 512 (contentsWord found)))
+
+  taken-words : Words (take (contentsLength found) (contentsWords found))
+  taken-words k =
+      let all = contents-words found (read-small (wordsIn message) (lent-words message bytes)) in
+      ⊎-elim (λ i. rw (getD-take (contentsLength found) (contentsWords found) k 0 i) (all k))
+      (λ i.
+      let past : getD (take (contentsLength found) (contentsWords found)) k 0 ≡ 0 =
+      List·getD-eq-default (take (contentsLength found) (contentsWords found)) 0 {n = k} (omega (arith, length-take (contentsLength found) (contentsWords found))) in
+      rw past (omega arith))
+      (lt-or-le k (contentsLength found))
+
+  again-says : contentsLent lentAgain ≡ found
+  again-says =
+      read-lent (wordsIn message) lentAgain
+      (ap wordsIn again-is ∙ words-lent (take (contentsLength found) (contentsWords found)) taken-words)
+
+  again-bytes : Bytes lentAgain
+  again-bytes k = rw again-is (made-bytes (take (contentsLength found) (contentsWords found)) k)
+
+  module _ (buffer : List ℕ) (l : length buffer ≡ 2048) where
+    -- the writing call takes them
+    pub read-written : writeRefused form settings lentAgain buffer ≡ none
+    unfolding writeRefused
+    read-written =
+        unless-none (eqb (length buffer) 2048) 1 _ (eq-eqb (length buffer) 2048 l)
+        (unless-none (settingsOk (wordsIn settings)) 2 _ read-settings
+        (rw again-says (read-writes form (wordsIn settings) (wordsIn message) read-message)))
+
+    -- and what it writes reads the same
+    pub read-again : readLeaves form settings (writeLeaves form settings lentAgain buffer) room ≡ readLeaves form settings message room
+    read-again =
+        written-leaves form settings lentAgain buffer again-bytes read-written room room-long
+        ∙ ap (λ (c : Contents). bytesOf (contentsWords (tidy c))) again-says
+        ∙ ap (λ (c : Contents). bytesOf (contentsWords c)) (read-tidy (wordsIn message))
+        ∙ sym left

@@ -1,2 +1,0 @@
--- The definitions that the weights' contracts cite.
-pub mod Weighed

@@ -1,0 +1,14 @@
+-- `restart::fed` meets its contract. Assumes nothing.
+use borrow.Author.Needs.{needs}
+use Rattle.restart.specs.Program.{feeds-front}
+use Rattle.restart.proofs.fed.Statement.{statement}
+use Rattle.restart.proofs.fed.Tie as tie
+
+returns : tie.Need-returns
+returns c = feeds-front (c .before .before .before .before .before .before .before .before .before .before .before .args .n) (c .before .before .before .before .before .before .before .before .before .before .before .args .buffer .now) (c .before .before .before .before .feed .ensures)
+
+pub fed-spec : {M : Type 1} → statement M
+fed-spec =
+    tie.close
+    (tie.spec (λ c. search needs) (λ c. search needs) (λ c. search needs) (λ c κs. search needs) (λ c. search needs) (λ c. search needs)
+    returns)

@@ -1,0 +1,17 @@
+-- `claim::reroute` is safe and ends: `round` counts the turns up to 64. Assumes nothing.
+use Prim.Native.Nat.{_≤_, _-_}
+use borrow.Author.Needs.{needs}
+use Rattle.search_hinted.proofs.claim.reroute.Statement.{statement}
+use Rattle.search_hinted.proofs.claim.reroute.Tie as tie
+
+abbrev Inv-loop : tie.InvT-loop
+Inv-loop mem₀ i n most round₀ mem round = round ≤ 64
+
+abbrev μ-loop : tie.MeasureT-loop
+μ-loop mem₀ i n most round₀ mem round = 64 - round
+
+pub reroute-spec : {M : Type 1} → statement M
+reroute-spec =
+    tie.close
+    (tie.spec Inv-loop μ-loop (λ c. search needs) (λ c κs. search needs) (λ c. search needs) (λ c κs. search needs) (λ c κs. search needs)
+    (λ c κs. search needs) (λ c. search needs) (λ c κs. search needs) (λ c. search needs) (λ c. search needs) (λ c. search needs) (λ c. search needs))

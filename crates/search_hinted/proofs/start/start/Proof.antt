@@ -1,0 +1,18 @@
+-- `start::start` is safe and ends: `i` counts the turns up to 16. Assumes nothing.
+use Prim.Native.Nat.{_≤_, _-_}
+use borrow.Author.Needs.{needs}
+use Rattle.search_hinted.proofs.start.start.Statement.{statement}
+use Rattle.search_hinted.proofs.start.start.Tie as tie
+
+abbrev Inv-loop : tie.InvT-loop
+Inv-loop mem₀ sets needs costs i₀ mem i = i ≤ 16
+
+abbrev μ-loop : tie.MeasureT-loop
+μ-loop mem₀ sets needs costs i₀ mem i = 16 - i
+
+pub start-spec : {M : Type 1} → statement M
+start-spec =
+    tie.close
+    (tie.spec Inv-loop μ-loop (λ c κs. search needs) (λ c κs. search needs) (λ c κs. search needs) (λ c κs. search needs) (λ c κs. search needs)
+    (λ c. search needs) (λ c. search needs) (λ c. search needs) (λ c κs. search needs) (λ c κs. search needs) (λ c κs. search needs)
+    (λ c. search needs) (λ c. search needs) (λ c. search needs) (λ c. search needs))

@@ -1,0 +1,2 @@
+-- What follows from what decide promises.
+pub mod Exactly
