@@ -154,7 +154,7 @@ PACK := tar --sort=name --owner=0 --group=0 --numeric-owner --mtime=@0 -czf
 dist:
 	rm -rf target/dist
 	$(MAKE) --no-print-directory install DESTDIR=$(CURDIR)/target/dist PREFIX=/$(TREE)
-	cp README.md CHANGELOG.md target/dist/$(TREE)
+	cp CHANGELOG.md target/dist/$(TREE)
 	$(PACK) target/$(TREE).tar.gz -C target/dist $(TREE)
 	git archive --prefix=$(NAME)/ -o target/$(NAME).tar.gz HEAD
 	rm -rf target/dist

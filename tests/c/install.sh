@@ -53,8 +53,11 @@ outside() { # COMPILER STANDARD LIBRARY-FOLDER SYSROOT
         # shellcheck disable=SC2046,SC2086
         "$1" "-std=$2" -Wall -Wextra -Werror -pedantic -x $language "program.$1" -x none $(echo "$flags" | sed "s|-lrestart|$way|") -o program || return
         LD_LIBRARY_PATH=$3 ./program >printed && expected_output printed || return
-        readelf -dW program | grep -c 'NEEDED.*librestart.so.0' >needed
-        test "$(cat needed)" = $([ $way = -lrestart ] && echo 1 || echo 0) || return
+        readelf -dW program >needed
+        case $way in
+        -lrestart) grep -q 'NEEDED.*\[librestart.so.0\]' needed || return ;;
+        *) ! grep -q 'NEEDED.*librestart' needed || return ;;
+        esac
     done
 }
 

@@ -140,6 +140,13 @@ model_example() {
     python3 tests/model.py man/restart-model.7 target/bin/restart $shared_library
 }
 
+# make help names every command of the Makefile.
+help_names_all() {
+    sed -n 's/^\.PHONY: help //p' Makefile | tr ' ' '\n' | sort >$out/commands
+    make --no-print-directory help | sed -n 's/^make \([a-z-]*\) .*/\1/p' | grep -vx help | sort >$out/helped
+    test -s $out/commands && diff $out/commands $out/helped
+}
+
 # No page, header or README names a document that is not in the repository.
 no_document_01() {
     ! grep -rni 'document 01' include man README.md docs Makefile CHANGELOG.md c examples
@@ -210,6 +217,7 @@ done
 for file in man/*; do check "$file" page "$file"; done
 check "the example of restart-model(7)" model_example
 check "documents that are not there" no_document_01
+check "make help" help_names_all
 check "installation" sh tests/c/install.sh
 
 echo "$passed passed, $failed failed"

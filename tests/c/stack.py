@@ -44,7 +44,7 @@ def functions(archive):
     for name, code in found.items():
         for item in code:
             if item.name == "call" and item.callee is None:
-                item.callee = name if item.target == 0 else sys.exit("an unknown call in " + name)
+                item.callee = name if item.target == 0 else sys.exit("a call that is not known in " + name)
     return found
 
 
@@ -69,18 +69,18 @@ def depths(code):
     places = {item.at: index for index, item in enumerate(code)}
     probes = [(index, next(later for later in range(index, len(code)) if code[later].operands == "%r11,%rsp"))
               for index, item in enumerate(code) if (item.name, item.operands) == ("mov", "%rsp,%r11")]
-    seen, work, deepest, entered = {}, [(0, 0)], 0, 0
+    seen, work, deepest, tables = {}, [(0, 0)], 0, 0
     while work or len(seen) < len(code):
-        if not work:  # reached by a jump through a table, which stands past the beginning
-            work.append((next(index for index in range(len(code)) if index not in seen), entered))
+        if not work:  # reached by a jump through a table, or not at all
+            work.append((next(index for index in range(len(code)) if index not in seen), tables))
         index, depth = work.pop()
         if index >= len(code) or seen.get(index, -1) >= depth:
             continue
         item = code[index]
         probe = any(first + 1 < index <= last for first, last in probes)
         after = depth + change(item, probe)
-        if index < 40 and not item.name.startswith("j"):
-            entered = max(entered, after)
+        if item.operands.startswith("*"):
+            tables = max(tables, depth)
         seen[index], deepest = depth, max(deepest, depth, after)
         if deepest > 1 << 20:
             sys.exit("a loop that lowers %rsp")
