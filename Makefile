@@ -9,7 +9,7 @@
 # make performance       measures times, instructions and stack, and writes docs/PERFORMANCE.md
 # make install           header, library, programs and manual pages under $(DESTDIR)$(PREFIX)
 # make uninstall         removes them
-# make dist              two archives in target/: the sources as committed, and the installed tree, which can be unpacked anywhere
+# make dist              two archives in target/: the sources as last committed, and the installed tree, which can be unpacked anywhere
 # make clean             removes target/, all proofs among it
 .PHONY: help try case-a test lib example test-c fuzz performance install uninstall dist clean
 
@@ -99,6 +99,7 @@ PKGCONFIGDIR := $(LIBDIR)/pkgconfig
 CMAKEDIR := $(LIBDIR)/cmake/restart
 # The functions that the header declares: each has a manual page of its own name.
 CALLS := $(shell sh c/names.sh)
+EXAMPLES := service.c settings.bin events.txt output.txt
 REPORTS := $(notdir $(wildcard examples/reports/*.bin))
 PAGES_1 := restart.1 restart-service.1
 PAGES_7 := restart.7 restart-model.7
@@ -132,7 +133,7 @@ install: lib target/c/service $(MADE) $(PROGRAM)
 	install -m 644 man/restart.3 $(TO)$(MANDIR)/man3
 	install -m 644 $(PAGES_7:%=man/%) $(TO)$(MANDIR)/man7
 	for call in $(CALLS); do ln -sf restart.3 $(TO)$(MANDIR)/man3/$$call.3 || exit; done
-	install -m 644 examples/settings.bin examples/events.txt examples/output.txt $(TO)$(EXAMPLEDIR)
+	install -m 644 $(EXAMPLES:%=examples/%) $(TO)$(EXAMPLEDIR)
 	install -m 644 $(REPORTS:%=examples/reports/%) $(TO)$(EXAMPLEDIR)/reports
 
 uninstall:
@@ -142,7 +143,7 @@ uninstall:
 	rm -f $(PAGES_1:%=$(TO)$(MANDIR)/man1/%) $(TO)$(MANDIR)/man3/restart.3 $(PAGES_7:%=$(TO)$(MANDIR)/man7/%)
 	rm -f $(CALLS:%=$(TO)$(MANDIR)/man3/%.3)
 	rm -f $(REPORTS:%=$(TO)$(EXAMPLEDIR)/reports/%)
-	rm -f $(TO)$(EXAMPLEDIR)/settings.bin $(TO)$(EXAMPLEDIR)/events.txt $(TO)$(EXAMPLEDIR)/output.txt
+	rm -f $(EXAMPLES:%=$(TO)$(EXAMPLEDIR)/%)
 	-rmdir $(TO)$(CMAKEDIR) $(TO)$(EXAMPLEDIR)/reports $(TO)$(EXAMPLEDIR) $(dir $(TO)$(EXAMPLEDIR))
 
 # ---- Archives
@@ -156,7 +157,8 @@ dist:
 	$(MAKE) --no-print-directory install DESTDIR=$(CURDIR)/target/dist PREFIX=/$(TREE)
 	cp CHANGELOG.md target/dist/$(TREE)
 	$(PACK) target/$(TREE).tar.gz -C target/dist $(TREE)
-	git archive --prefix=$(NAME)/ -o target/$(NAME).tar.gz HEAD
+	if [ -e .git ]; then git archive --prefix=$(NAME)/ -o target/$(NAME).tar.gz HEAD; \
+	else $(PACK) target/$(NAME).tar.gz --exclude=./target --exclude=__pycache__ --transform='s|^\.|$(NAME)|' .; fi
 	rm -rf target/dist
 
 clean:

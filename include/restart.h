@@ -22,9 +22,9 @@
  *
  * Stack: a call needs up to RESTART_STACK_BYTES of it. No call allocates memory.
  *
- * Threads: calls that write nothing in common may run at the same time. Settings, messages and a
- * state with its desk may be shared by any number of calls that only read them (const); a call that
- * writes a state or desk must be the only one that has it.
+ * Threads: calls may run at the same time if no piece that one of them writes is used by another.
+ * So settings, messages and a state with its desk may be shared by any number of calls that only
+ * read them (const); a call that writes a state or desk must be the only one that has it.
  *
  * Platform: x86-64 Linux. The lent bytes are the same on every machine and can be sent and stored.
  *

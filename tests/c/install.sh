@@ -29,7 +29,7 @@ names() {
     echo share/man/man7/restart.7 share/man/man7/restart-model.7
     sh c/names.sh | sed 's|.*|share/man/man3/&.3|'
     for report in examples/reports/*.bin; do echo "share/restart/example/reports/${report##*/}"; done
-    for name in settings.bin events.txt output.txt; do echo "share/restart/example/$name"; done
+    for name in service.c settings.bin events.txt output.txt; do echo "share/restart/example/$name"; done
 }
 
 all_there() { # FOLDER
@@ -110,8 +110,12 @@ moved() { # PREFIX-FOLDER
     mv "$room/moved" "$1" && return $status
 }
 
+# The example as installed, and built from its installed source.
 installed_example() { # PREFIX-FOLDER
-    cd / && "$1/bin/restart-service" "$1/share/restart/example" >"$room/printed" && diff "$1/share/restart/example/output.txt" "$room/printed"
+    cd / && "$1/bin/restart-service" "$1/share/restart/example" >"$room/printed" && diff "$1/share/restart/example/output.txt" "$room/printed" || return
+    # shellcheck disable=SC2046
+    gcc -std=c11 -o "$room/program" "$1/share/restart/example/service.c" $(PKG_CONFIG_PATH=$1/lib/pkgconfig pkg-config --cflags --libs restart) &&
+        LD_LIBRARY_PATH=$1/lib "$room/program" "$1/share/restart/example" | diff "$1/share/restart/example/output.txt" -
 }
 
 # The example's settings and first six reports, each block preceded by its word count.

@@ -59,6 +59,11 @@ compile_service() { # NAME FLAG ..
     gcc -std=c11 -Iinclude -Wall -Wextra -Werror -pedantic -Wconversion -g "$@" -o "$out/$name" examples/service.c $library
 }
 
+# shellcheck disable=SC2086
+compile_shared() {
+    gcc -std=c11 $strict -o $out/entry_points-shared tests/c/entry_points.c $shared $shared_library
+}
+
 compile_kill_at() {
     gcc -std=c11 -Wall -Wextra -Werror -pedantic -fPIC -shared -o $out/kill_at.so tests/c/kill_at.c -ldl
 }
@@ -183,8 +188,10 @@ for name in $tests; do
 done
 check "build as C++" compile_as_cxx
 check "entry_points as C++" $out/entry_points-cxx
+check "build entry_points over the shared library" compile_shared
+check "entry_points over the shared library" env LD_LIBRARY_PATH=target $out/entry_points-shared
 
-check "build stack" compile stack
+check "build stack" compile stack -pthread
 check "stack" $out/stack
 check "a stack of 64 KB is too small" too_small
 check "a bound on the stack" python3 tests/c/stack.py $library include/restart.h

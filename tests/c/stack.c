@@ -1,13 +1,14 @@
 /*
  * Every call at full size (32 nodes, 16 shards in four subgroups, 128 records in every report) on a
  * stack of its own of RESTART_STACK_BYTES, between pages that nobody may touch; how much of it was
- * used is printed.
+ * used is printed. Then a restart on a thread of the size that restart(3) advises.
  *
  *     stack [BYTES]    with another size of the stack
  */
 #define _XOPEN_SOURCE 700
 #include "harness.h"
 
+#include <pthread.h>
 #include <signal.h>
 #include <stdio.h>
 #include <stdlib.h>
@@ -210,6 +211,37 @@ static void restart_once(void)
     made(&drop, lent, 3, RESTART_PLAIN);
 }
 
+/* ---- The same on a thread ---- */
+
+#define LENT settings, sizeof settings, state, sizeof state, desk, sizeof desk
+
+/* Gathers, decides and writes an order; what is answered last. */
+static void *on_thread(void *answer)
+{
+    uint32_t *last = (uint32_t *)answer;
+    *last = restart_fresh(state, sizeof state);
+    for (uint32_t node = 0; node < HELD && *last == RESTART_ACCEPTED; node++) {
+        put_report(node);
+        *last = restart_report(LENT, message, sizeof message);
+    }
+    if (*last == RESTART_ACCEPTED && restart_is_plan(restart_decide(LENT)))
+        *last = restart_order(LENT, 0, buffer, sizeof buffer);
+    return NULL;
+}
+
+static void thread_of_this_size(size_t size)
+{
+    pthread_attr_t attributes;
+    pthread_t thread;
+    uint32_t answer = RESTART_ACCEPTED;
+    must(pthread_attr_init(&attributes) == 0, "pthread_attr_init");
+    must(pthread_attr_setstacksize(&attributes, size) == 0, "pthread_attr_setstacksize");
+    must(pthread_create(&thread, &attributes, on_thread, &answer) == 0, "pthread_create");
+    must(pthread_join(thread, NULL) == 0, "pthread_join");
+    must(pthread_attr_destroy(&attributes) == 0, "pthread_attr_destroy");
+    check_word("an order written on a thread", restart_class_of(answer), RESTART_LENGTH);
+}
+
 int main(int count, char **arguments)
 {
     make_stack(count > 1 ? strtoul(arguments[1], NULL, 10) : RESTART_STACK_BYTES);
@@ -223,5 +255,6 @@ int main(int count, char **arguments)
         check_word("the stack was enough", rows[i].most < stack_size, 1);
         printf("%-24s %6lu\n", entries[i]->name, (unsigned long)rows[i].most);
     }
+    thread_of_this_size((size_t)sysconf(_SC_THREAD_STACK_MIN) + RESTART_STACK_BYTES);
     return summary();
 }
