@@ -52,7 +52,10 @@ extern "C" {
  * meaning; save it beside a state, and start fresh where it differs. */
 #define RESTART_FORMAT 1
 
-/* ---- What the compiler can check ---- */
+/* ---- What the compiler can check ----
+ * No pointer is null, and every answer is looked at; restart_fresh alone cannot be refused where
+ * its length is right.
+ */
 
 #if defined(__GNUC__) || defined(__clang__)
 #define RESTART_NONNULL __attribute__((nonnull))

@@ -191,6 +191,9 @@ check "entry_points as C++" $out/entry_points-cxx
 check "build entry_points over the shared library" compile_shared
 check "entry_points over the shared library" env LD_LIBRARY_PATH=target $out/entry_points-shared
 
+check "build threads" compile threads -pthread
+check "threads" $out/threads
+check "threads under helgrind" valgrind -q --tool=helgrind --error-exitcode=9 $out/threads
 check "build stack" compile stack -pthread
 check "stack" $out/stack
 check "a stack of 64 KB is too small" too_small
