@@ -43,7 +43,7 @@ def refusal_lines(number, fault, given, gathered):
         lines.append("At fault: %s." % block_name(fault, given))
     if gathered.refused and (gathered.refused.number, gathered.fault) == (number, fault):
         lines.append("What is wrong: %s." % gathered.refused.why)
-    return lines + ["To do: %s" % ADVICE[number]]
+    return lines
 
 
 def block_name(fault, given):
@@ -54,5 +54,7 @@ def block_name(fault, given):
         block = given.blocks[fault]
         name = "report %d of %d" % (fault, len(given.blocks) - 1)
         if block:
-            name += ", which names machine %d" % block[0]
-    return name + (" (line %d)" % given.lines[fault] if fault < len(given.lines) else "")
+            named = block[0] < len(given.names) and given.names[block[0]]
+            name += ", which names machine %s" % (named or block[0])
+    place = "line %d" % given.lines[fault] if fault < len(given.lines) else given.files[fault] if fault < len(given.files) else ""
+    return name + (" (%s)" % place if place else "")

@@ -38,31 +38,36 @@ class Command(unittest.TestCase):
 
     def test_troubles(self):
         bad = support.example("a").replace("node 3 set 1", "node 3 set 9")
-        for arguments, data, message in (
-            (["words", "-"], bad.encode(), "restart-text: standard input, line 9: expected a failure set from 0 to 2, found 9\n"),
-            (["words", "-"], support.bytes_a(), "restart-text: this is no text; for words use the command text\n"),
-            (["words", "no-such-file"], b"", "restart-text: cannot read no-such-file: No such file or directory\n"),
-            (["text", "-"], bad.encode(), "restart-text: this is a text already\n"),
-            (["text", "--as", "state", "-"], b"\0" * 641, "restart-text: 641 bytes are no whole words\n"),
-            (["text", "--as", "state", "-"], b"\0" * 644, "restart-text: number 3: the state has 161 words, it should have 160\n"),
-            (["explain", "-", "--program", "no-such-program"], support.bytes_a(),
-             "restart-text: no-such-program does not run: No such file or directory\n"),
-            (["explain", "-", "--program", "/bin/false"], support.bytes_a(), "restart-text: /bin/false ended with status 1\n"),
-            (["draw", "examples/case-b.txt", "--program", support.program()], b"",
-             "restart-text: there is no plan to draw; explain says why\n"),
+        for arguments, data, status, message in (
+            (["words", "-"], bad.encode(), 2, "standard input, line 9: expected a failure set from 0 to 2, found 9"),
+            (["explain", "-"], bad.encode(), 2, "standard input, line 9: expected a failure set from 0 to 2, found 9"),
+            (["words", "-"], support.bytes_a(), 2, "this is no text; for words use the command text"),
+            (["words", "no-such-file"], b"", 3, "cannot read no-such-file: No such file or directory"),
+            (["words", "examples/case-a.txt", "-o", "no-such-folder/file"], b"", 3,
+             "cannot write no-such-folder/file: No such file or directory"),
+            (["text", "-"], bad.encode(), 2, "this is a text already"),
+            (["explain", "-", "--program", "no-such-program"], support.bytes_a(), 3,
+             "no-such-program does not run: No such file or directory"),
+            (["explain", "-", "--program", "/bin/false"], support.bytes_a(), 3, "/bin/false ended with status 1"),
+            (["explain", "-", "--program", "/bin/echo"], support.bytes_a(), 3,
+             "expected a plan, 'wait REASON' or 'number NUMBER', found ''"),
+            (["explain", "-", "--gone", "3-40"], support.bytes_a(), 3,
+             "--gone: expected nodes from 0 to 31 or a range such as 0-6, found '3-40'"),
+            (["draw", "-", "--program", support.program()], support.bytes_a()[:-4], 2,
+             "the input is refused with number 5, so that there is nothing to draw; explain says why"),
         ):
             with self.subTest(" ".join(arguments)):
-                self.assertEqual(command(*arguments, data=data), (2, b"", message))
+                self.assertEqual(command(*arguments, data=data), (status, b"", "restart-text: %s\n" % message))
 
     def test_an_answer_from_a_file(self):
         with tempfile.TemporaryDirectory() as folder:
             path = os.path.join(folder, "answer")
-            for answer, status in ((support.ANSWER_A, 0), ("wait 2\n", 1)):
+            for answer, status in ((support.ANSWER_A, 0), ("wait 2\n", 3)):
                 with open(path, "w", encoding="ascii") as file:
                     file.write(answer)
                 done = command("explain", "-", "--answer", path, data=support.bytes_a())
-                self.assertEqual((done[0], done[2], b"WARNING" in done[1]), (status, "", status == 1))
-            self.assertEqual(command("draw", "examples/case-a.txt", "--answer", path)[0], 2)
+                self.assertEqual((done[0], done[2], b"WARNING" in done[1]), (status, "", status == 3))
+            self.assertEqual(command("draw", "examples/case-a.txt", "--answer", path)[0], 3)
 
 
 class Readme(unittest.TestCase):

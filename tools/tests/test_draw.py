@@ -5,13 +5,15 @@ import xml.etree.ElementTree as Tree
 
 import support
 from restart_text import answers, inputs
+from restart_text.asking import Program
 from restart_text.drawing import draw
+from restart_text.explaining import asked, explain
 from restart_text.gathering import gather
 from worlds import world
 
 
 def drawn(given, printed):
-    return draw(gather(given.blocks), answers.parse(printed))
+    return draw(explain(given, answers.parse(printed)))
 
 
 def identities(picture):
@@ -28,8 +30,8 @@ class Pictures(unittest.TestCase):
     def test_case_a_says_in_words_what_the_colours_say(self):
         picture = Tree.fromstring(drawn(support.given(support.example("a")), support.ANSWER_A).encode())
         told = {part.get("id"): [text.text for text in part.iter("{http://www.w3.org/2000/svg}text")] for part in picture.iter()}
-        self.assertEqual(told["shard-1"], ["shard 1", "holder 1", "target 7 5", "stay 1 4", "move in 5"])
-        self.assertEqual(told["machine-5"], ["5", "1"])
+        self.assertEqual(told["shard-1"], ["shard 1", "needs 3", "log from 1", "up to (7, 5)", "stay 1 4", "move in 5"])
+        self.assertEqual(told["machine-5"], ["5", "1", "2"])
         self.assertEqual(told["machine-6"], ["6", "absent"])
 
     def test_it_refers_to_nothing_outside(self):

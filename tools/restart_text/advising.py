@@ -1,0 +1,107 @@
+"""What an operator could do, found by asking the program about other inputs: which machines to switch on, what one more would save,
+what the others would give without a report that is refused or stands alone with its view."""
+from dataclasses import dataclass, field
+
+from . import decode
+from .answers import Number, Plan, Wait
+from .asking import OutOfTime
+from .model import Refused
+from .searching import Found, least_sets
+from .supposing import Supposed
+
+
+@dataclass
+class Without:
+    """What the program answers without these blocks of the input."""
+
+    blocks: list
+    answer: object
+
+
+@dataclass
+class Advice:
+    supposed: Supposed | None = None
+    found: Found | None = None  # for a wait
+    savings: dict = field(default_factory=dict)  # for a plan: the moves with one machine more, where these are fewer
+    compared: bool = False  # for a plan with moves: whether each absent machine was asked about
+    lone: Without | None = None  # for a wait: without the only report of the kept view
+    without: list = field(default_factory=list)  # for a refusal: without the reports of one story and of the other
+
+
+def advise(given, gathered, answer, fault, program, gone=frozenset()):
+    """Without a program only what this tool can count itself."""
+    advice = Advice()
+    if isinstance(answer, Number):
+        if program and fault:
+            advice.without = others(given, gathered, fault, program)
+        return advice
+    if gathered.kept is None:
+        return advice
+    advice.supposed = Supposed(given.blocks, gathered, gone)
+    if isinstance(answer, Wait):
+        advice.found = least_sets(advice.supposed, program)
+        advice.lone = lone(given, gathered, program) if program else None
+    elif program:
+        savings(advice, answer, program)
+    return advice
+
+
+def savings(advice, plan, program):
+    """Asks about each absent machine by itself."""
+    try:
+        for node in advice.supposed.pool if plan.moves else ():
+            other = program.ask_in_time(advice.supposed.blocks_with([node]))
+            if isinstance(other, Plan) and other.moves < plan.moves:
+                advice.savings[node] = other.moves
+        advice.compared = True
+    except OutOfTime:
+        pass
+
+
+def lone(given, gathered, program):
+    """Without the only report of the kept view, where others reported older ones."""
+    blocks = [number for number, block in enumerate(given.blocks) if number and block[1] == gathered.kept.number]
+    if len({given.blocks[number][0] for number in blocks}) > 1 or len(gathered.held) == 1:
+        return None
+    return Without(blocks, program.ask(left_out(given, blocks)))
+
+
+def left_out(given, numbers):
+    return [block for number, block in enumerate(given.blocks) if number not in numbers]
+
+
+def others(given, gathered, fault, program):
+    """Where two reports tell different stories of a view, the answer with either story; else without each report that is refused."""
+    if gathered.refused and gathered.refused.number in (12, 13) and gathered.fault == fault:
+        told = reports(given, gathered.settings)
+        return [Without(blocks, program.ask(left_out(given, blocks))) for blocks in stories(gathered, told, fault)]
+    refused, answer = [fault], program.ask(left_out(given, [fault]))
+    while isinstance(answer, Number):
+        left = [number for number in range(len(given.blocks)) if number not in refused]
+        refused.append(left[program.fault(left_out(given, refused))])
+        answer = program.ask(left_out(given, refused))
+    return [Without(sorted(refused), answer)]
+
+
+def reports(given, settings):
+    """The reports that can be read, by their blocks' numbers."""
+    found = {}
+    for number, block in enumerate(given.blocks[1:], 1):
+        try:
+            found[number] = decode.report_from(block, settings)
+        except Refused:
+            pass
+    return found
+
+
+def stories(gathered, told, fault):
+    """The blocks that contradict the kept story, and those that contradict the story of the block at fault."""
+    kept, other = gathered.kept, told[fault]
+
+    def against(view, termination):
+        return [number for number, report in told.items() if report.view.number == view.number
+                and (report.view != view or termination and report.termination not in (None, termination))]
+
+    if gathered.refused.number == 12:
+        return against(kept, None), against(other.view, None)
+    return against(kept, gathered.termination), against(kept, other.termination)

@@ -1,0 +1,34 @@
+"""restart-text diff: two answers compared."""
+from ..answers import parse
+from ..asking import Program
+from ..differing import difference_lines
+from ..files import placed, read, read_names, write_lines
+from ..gathering import named
+from ..inputs import is_text, load
+from ..model import Settings
+
+SAME, DIFFERENT = 0, 1
+
+
+def arguments(parser):
+    parser.add_argument("file", metavar="A", help="what restart printed, or an input, text or words, which it is then asked about")
+    parser.add_argument("other", metavar="B", help="the same for the second answer")
+    parser.add_argument("--program", metavar="PATH", help="the program restart; without it the one built in this checkout or installed")
+    parser.add_argument("--names", metavar="FILE", help="a text whose settings have the machines' names")
+
+
+def work(chosen):
+    found = [answer_in(path, chosen.program) for path in (chosen.file, chosen.other)]
+    names = read_names(chosen.names) if chosen.names else found[1][1] or found[0][1]
+    lines = difference_lines(found[0][0], found[1][0], named(Settings(1, 1, (0,) * 32, ()), names))
+    write_lines(None, lines or ["The answers are the same."])
+    return DIFFERENT if lines else SAME
+
+
+def answer_in(path, program):
+    """The answer that a file has or leads to, and the machines' names."""
+    data = read(path)
+    if is_text(data) and data.split()[0] in (b"view", b"wait", b"number"):
+        return parse(data.decode("ascii", "replace")), ()
+    given = placed(path, lambda: load(data))
+    return Program(program).ask(given.blocks), given.names
