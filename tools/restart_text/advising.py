@@ -5,6 +5,7 @@ from dataclasses import dataclass, field
 from . import decode
 from .answers import Number, Plan, Wait
 from .asking import OutOfTime
+from .gathering import gather
 from .model import Refused
 from .searching import Found, least_sets
 from .supposing import Supposed
@@ -16,6 +17,7 @@ class Without:
 
     blocks: list
     answer: object
+    found: Found | None = None  # where that is a wait, which machines would help then
 
 
 @dataclass
@@ -40,7 +42,7 @@ def advise(given, gathered, answer, fault, program, gone=frozenset()):
     advice.supposed = Supposed(given.blocks, gathered, gone)
     if isinstance(answer, Wait):
         advice.found = least_sets(advice.supposed, program)
-        advice.lone = lone(given, gathered, program) if program else None
+        advice.lone = lone(given, gathered, program, gone) if program else None
     elif program:
         savings(advice, answer, program)
     return advice
@@ -58,12 +60,17 @@ def savings(advice, plan, program):
         pass
 
 
-def lone(given, gathered, program):
+def lone(given, gathered, program, gone):
     """Without the only report of the kept view, where others reported older ones."""
     blocks = [number for number, block in enumerate(given.blocks) if number and block[1] == gathered.kept.number]
-    if len({given.blocks[number][0] for number in blocks}) > 1 or len(gathered.held) == 1:
+    nodes = frozenset(given.blocks[number][0] for number in blocks)
+    rest = left_out(given, blocks)
+    if len(nodes) > 1 or len(gathered.held) == 1:
         return None
-    return Without(blocks, program.ask(left_out(given, blocks)))
+    answer = program.ask(rest)
+    if not isinstance(answer, Wait) or answer.reason == 1:
+        return Without(blocks, answer)
+    return Without(blocks, answer, least_sets(Supposed(rest, gather(rest, given.names), gone | nodes), program))
 
 
 def left_out(given, numbers):

@@ -14,9 +14,9 @@ def difference_lines(one, other, settings):
     if one.view != other.view:
         lines.append("The new view is %d, was %d." % (other.view, one.view))
     if one.moves != other.moves:
-        lines.append("There are %s, were %d." % (counted(other.moves, "move"), one.moves))
+        lines.append("%s, was %d." % (counted(other.moves, "move"), one.moves))
     if len(one.shards) != len(other.shards):
-        return lines + ["There are %s, were %d." % (counted(len(other.shards), "shard"), len(one.shards))]
+        return lines + ["%s, was %d." % (counted(len(other.shards), "shard"), len(one.shards))]
     for shard, both in enumerate(zip(one.shards, other.shards)):
         lines += shard_lines(shard, *both, settings)
     return lines

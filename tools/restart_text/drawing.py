@@ -40,9 +40,11 @@ class Picture:
         machines = machine_row(settings, 54 if self.plan else 78, self.machine_height())
         shards = shard_row(settings, self.texts)
         inner = max(machines.full, shards.full, LEAST)
-        told = paragraph(self.first, inner, 14 if self.plan else 15)
+        back = "held %s; absent %s" % (settings.those(self.gathered.held), settings.those(self.gathered.absent))
+        told = [(text, "normal") for text in paragraph(back, inner, 14)]
+        told += [(text, "normal" if self.plan else "bold") for text in paragraph(self.first, inner, 15)]
         conditions = [] if self.plan or not self.kept else self.conditions()
-        machine_top = 96 + LINE * len(told) + 20 * len(conditions) + 2 * LINE + PAD
+        machine_top = 74 + 18 * len(told) + 20 * len(conditions) + 2 * LINE + PAD
         shard_top = machine_top + machines.height + 2 * PAD + BETWEEN + LINE
         bottom = shard_top + shards.height + 4 * GAP
         signs = self.signs(inner)
@@ -67,12 +69,10 @@ class Picture:
         return "Waiting, reason %d: %s" % (self.answer.reason, reason(self.answer))
 
     def head(self, picture, told, conditions):
-        gathered, those = self.gathered, self.settings.those
         label(picture, MARGIN, 36, self.headline(), 20, "bold", fill="#000000" if self.plan else RED)
-        label(picture, MARGIN, 60, "held %s; absent %s" % (those(gathered.held), those(gathered.absent)), 14)
-        for number, piece in enumerate(told):
-            label(picture, MARGIN, 82 + number * LINE, piece, 14, "bold" if not self.plan else "normal")
-        top = 92 + LINE * len(told)
+        for number, (text, weight) in enumerate(told):
+            label(picture, MARGIN, 60 + number * 18, text, 14, weight)
+        top = 58 + 18 * len(told)
         for number, (met, text) in enumerate(conditions):
             row = group(picture, "condition-%d" % number)
             mark(row, MARGIN, top + 20 * number, met)

@@ -76,11 +76,12 @@ def wait_value(gathered, advice):
 
 def found_value(found):
     return {"sets": [list(nodes) for nodes in found.sets], "more": len(found.others), "complete": found.complete, "least": found.least,
-            "helpless": found.helpless, "needed": sorted(found.without), "cut_short": found.cut_short}
+            "by_size": found.by_size, "helpless": found.helpless, "needed": sorted(found.without), "cut_short": found.cut_short}
 
 
 def without_value(without):
-    return {"blocks": without.blocks, "answer": answer_value(without.answer)}
+    return {"blocks": without.blocks, "answer": answer_value(without.answer),
+            "switch_on": found_value(without.found) if without.found else None}
 
 
 def refusal_value(given, told):

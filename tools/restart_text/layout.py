@@ -6,7 +6,7 @@ from .shapes import group, label, shape, width_of
 
 MARGIN, GAP, PAD, LINE = 24, 16, 10, 16
 BETWEEN = 170  # from the machines down to the shards
-LEAST = 640  # the picture's least width
+LEAST = 760  # the picture's least width
 
 
 @dataclass
@@ -83,4 +83,4 @@ def wrapped(name, nodes, settings):
 
 def paragraph(text, inner, size):
     """The text in lines that fit the picture."""
-    return textwrap.wrap(text, int(inner / (size * 0.53)), subsequent_indent="  ", break_on_hyphens=False)
+    return textwrap.wrap(text, int(inner / width_of("n", size)), subsequent_indent="  ", break_on_hyphens=False)

@@ -98,6 +98,10 @@ def lone_view(gathered, advice):
     kept, settings, answer = gathered.kept, gathered.settings, advice.lone.answer
     below = max(report.view.number for report in gathered.reports.values() if report.view.number < kept.number)
     result = printed(answer) if not isinstance(answer, Wait) else "%s, %s" % (printed(answer), reason(answer))
+    found = advice.lone.found
+    if found and found.sets:
+        told, rest = choices(settings, found)
+        result += "; switch on %s then%s" % (told, ", or instead %s" % rest if rest else "")
     lines = ["Only machine %s reports view %d, the next lower is %d; without its report: %s."
              % (settings.name(gathered.kept_from), kept.number, below, result)]
     return lines + ["Leave it out only if that view is damaged or was never served: what was stored in it is lost with it. The planner"

@@ -84,4 +84,4 @@ def over(lines, width, height):
     if len(shown) > height:
         left = len(shown) - height + 1
         shown = shown[: height - 1] + ["(%d lines more: restart-text explain)" % left]
-    return "\x1b[H" + "\r\n".join(line + "\x1b[K" for line in shown) + "\x1b[J"
+    return "\x1b[H" + "\n".join(line + "\x1b[K" for line in shown) + "\x1b[J"

@@ -7,10 +7,12 @@ import unittest
 
 import support
 from restart_text import words
+from support import command
 
 
-def command(*arguments, data=b""):
-    done = subprocess.run([support.COMMAND, *arguments], input=data, capture_output=True, check=False, cwd=support.ROOT)
+def process(*arguments, data=b"", **more):
+    """The command as a process of its own."""
+    done = subprocess.run([support.COMMAND, *arguments], input=data, capture_output=True, check=False, cwd=support.ROOT, **more)
     return done.returncode, done.stdout, done.stderr.decode()
 
 
