@@ -27,6 +27,8 @@ names() {
     sed -n 's|^uint32_t \(restart_[a-z_]*\)(.*|share/man/man3/\1.3|p' include/restart.h
     for report in examples/reports/*.bin; do echo "share/restart/example/reports/${report##*/}"; done
     for name in settings.bin events.txt output.txt; do echo "share/restart/example/$name"; done
+    echo bin/restart-text share/man/man1/restart-text.1
+    (cd tools && find restart_text -name '*.py' | sed 's|^|share/restart/|')
 }
 
 all_there() { # FOLDER
@@ -72,6 +74,14 @@ shard 2 holder 5 target 7 3 members 3
 PLAN
 }
 
+# The tool asks the program that is installed beside it; what Python leaves behind is removed as well.
+installed_tool() { # PREFIX-FOLDER
+    cd / && "$1/bin/restart-text" explain "$root/examples/case-a.txt" >"$room/printed" &&
+        grep -q '^Plan: new view 8 after view 7, 2 moves' "$room/printed" || return
+    "$1/bin/restart-text" explain "$root/examples/night.txt" >"$room/printed"
+    test $? = 1 && grep -q '^Switch on machines rack1-a, rack1-c and rack3-a' "$room/printed"
+}
+
 version_is() { # VERSION LIBRARY-FOLDER
     test "$(PKG_CONFIG_PATH=$2/pkgconfig pkg-config --modversion restart)" = "$1"
 }
@@ -88,6 +98,7 @@ try() { # DESTDIR PREFIX
     check "the version" version_is "$(sed -n 's/^VERSION := //p' Makefile)" "$1$2/lib"
     check "the example" installed_example "$1$2"
     check "the program" installed_program "$1$2"
+    check "the tool" installed_tool "$1$2"
     check "a manual page" groff -t -man -Tutf8 -ww "$1$2/share/man/man3/restart_decide.3"
     check "uninstall" make --no-print-directory uninstall DESTDIR="$1" PREFIX="$2"
     check "what is left" nothing_left "$1"

@@ -1,6 +1,7 @@
 """Asking the program `restart`: which one it is, and questions within a time."""
 import os
 import shutil
+import sys
 import time
 
 from . import words
@@ -15,12 +16,11 @@ class OutOfTime(Exception):
 
 
 def default_program():
-    """In a checkout the program that was built there; else the one installed with this tool; else the first on the path."""
-    checkout = os.path.exists(os.path.join(HERE, "..", "crates.txt"))
-    path = os.path.normpath(os.path.join(HERE, *(["..", "target"] if checkout else ["..", ".."]), "bin", "restart"))
-    if os.path.isfile(path) and os.access(path, os.X_OK):
-        return path
-    found = shutil.which("restart")
+    """In a checkout the program that was built there; else the one beside this tool's own; else the first on the path."""
+    places = [os.path.dirname(os.path.realpath(sys.argv[0]))]
+    if os.path.exists(os.path.join(HERE, "..", "crates.txt")):
+        places.insert(0, os.path.normpath(os.path.join(HERE, "..", "target", "bin")))
+    found = shutil.which("restart", path=os.pathsep.join(places)) or shutil.which("restart")
     if not found:
         raise BadAnswer("there is no program restart on the path; give --program PATH, or --answer FILE with what it printed")
     return found

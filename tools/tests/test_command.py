@@ -1,12 +1,16 @@
 """The command itself, and what its README shows."""
+import argparse
 import os
 import re
+import shutil
 import subprocess
+import sys
 import tempfile
 import unittest
 
 import support
 from restart_text import words
+from restart_text.command import COMMANDS
 from support import command
 
 
@@ -85,3 +89,94 @@ class Readme(unittest.TestCase):
                                       capture_output=True, text=True, check=False)
                 self.assertEqual((done.returncode, done.stderr), (0, ""), line)
                 self.assertEqual(done.stdout, re.sub("^    ", "", printed, flags=re.M), line)
+
+
+class Programs(unittest.TestCase):
+    """Which program is asked where none is named."""
+
+    def setUp(self):
+        folder = tempfile.TemporaryDirectory()
+        self.addCleanup(folder.cleanup)
+        self.folder = folder.name
+
+    def installed(self):
+        """The tool as it is installed."""
+        done = subprocess.run(["make", "-s", "install-tool", "DESTDIR=", "PREFIX=" + self.folder], cwd=support.ROOT, check=False,
+                              capture_output=True, text=True)
+        self.assertEqual((done.returncode, done.stderr), (0, ""))
+        return os.path.join(self.folder, "bin", "restart-text")
+
+    def put(self, *names):
+        """A program that always answers `wait 1`."""
+        path = os.path.join(self.folder, *names)
+        os.makedirs(os.path.dirname(path), exist_ok=True)
+        with open(path, "w", encoding="ascii") as file:
+            file.write("#!/bin/sh\necho wait 1\n")
+        os.chmod(path, 0o755)
+
+    def explained(self, tool, path="/no-such-folder"):
+        """The exit status and last line for settings without reports."""
+        settings = words.joined(support.CASE_A[:1])
+        done = subprocess.run([sys.executable, tool, "explain", "-"], input=settings, capture_output=True, check=False, cwd="/",
+                              env={"PATH": path})
+        return done.returncode, (done.stdout or done.stderr).decode().splitlines()[-1]
+
+    def test_installed(self):
+        tool = self.installed()
+        self.assertEqual(self.explained(tool), (3, "restart-text: there is no program restart on the path; give --program PATH, or"
+                                                " --answer FILE with what it printed"))
+        self.put("else", "restart")
+        answer = (1, "To do: bring machines back and give their reports.")
+        self.assertEqual(self.explained(tool, os.path.join(self.folder, "else")), answer)
+        self.put("bin", "restart")
+        self.assertEqual(self.explained(tool), answer)
+
+    def test_in_a_checkout(self):
+        for name in ("tools/restart-text", "tools/restart_text", "crates.txt"):
+            os.makedirs(os.path.join(self.folder, os.path.dirname(name)), exist_ok=True)
+            copy = shutil.copytree if os.path.isdir(os.path.join(support.ROOT, name)) else shutil.copy
+            copy(os.path.join(support.ROOT, name), os.path.join(self.folder, name))
+        tool = os.path.join(self.folder, "tools", "restart-text")
+        self.assertEqual(self.explained(tool)[0], 3)
+        self.put("target", "bin", "restart")
+        self.assertEqual(self.explained(tool)[0], 1)
+
+
+class Arguments(unittest.TestCase):
+    def test_wrong_ones_end_with_3(self):
+        for arguments in ([], ["no-such-command"], ["explain"], ["explain", "-", "--program", "x", "--answer", "y"],
+                          ["text", "--as", "letter", "-"], ["explain", "-", "--search", "-1"], ["watch", ".", "--seconds", "soon"]):
+            status, printed, message = command(*arguments)
+            self.assertEqual((status, printed), (3, b""), arguments)
+            self.assertIn("usage: restart-text", message)
+
+    def test_help_has_every_command_and_the_statuses(self):
+        status, printed, _ = command("--help")
+        self.assertEqual(status, 0)
+        for name, _, help_text in COMMANDS:
+            self.assertIn("    %s " % name, printed.decode())
+        self.assertIn("0 a plan", printed.decode())
+
+    def test_statuses(self):
+        for name, status in (("a", 0), ("b", 1), ("f", 1)):
+            for work in ("explain", "draw", "page"):
+                self.assertEqual(command(work, "examples/case-%s.txt" % name, "--program", support.program())[0], status)
+        cut = support.bytes_a()[:-4]
+        for work in ("explain", "draw", "page"):
+            self.assertEqual(command(work, "-", "--program", support.program(), data=cut)[0], 2)
+
+    def test_as_a_process(self):
+        self.assertEqual(process("words", "-", data=support.example("a").encode()), (0, support.bytes_a(), ""))
+        self.assertEqual(process("words", "-", data=b"hello\n")[0], 2)
+
+    def test_the_manual_page_has_every_command_and_option(self):
+        with open(os.path.join(support.ROOT, "man", "restart-text.1"), encoding="utf-8") as file:
+            page = file.read().replace("\\-", "-")
+        for name, module, _ in COMMANDS:
+            self.assertIn(".B restart-text %s\n" % name, page)
+            self.assertIn(".TP\n.B %s\n" % name, page)
+            made = argparse.ArgumentParser()
+            module.arguments(made)
+            for action in made._actions:
+                for option in [text for text in action.option_strings if text.startswith("--") and text not in ("--help", "--output")]:
+                    self.assertIn(option, page)
