@@ -6,11 +6,13 @@ TAG = 20
 RED, BLUE, AMBER, GREEN, GREY = "#b3261e", "#0b57d0", "#b25e00", "#1e7b34", "#6b6b6b"
 
 
-def sheet(width, height, title):
+def sheet(width, height, title=None):
+    """An empty picture; with a title, on white."""
     picture = Tree.Element("svg", {"xmlns": "http://www.w3.org/2000/svg", "viewBox": "0 0 %d %d" % (width, height),
                                    "width": str(round(width)), "height": str(round(height)), "font-family": "sans-serif"})
-    Tree.SubElement(picture, "title").text = title
-    shape(picture, "rect", x=0, y=0, width="100%", height="100%", fill="#ffffff")
+    if title:
+        Tree.SubElement(picture, "title").text = title
+        shape(picture, "rect", x=0, y=0, width="100%", height="100%", fill="#ffffff")
     return picture
 
 

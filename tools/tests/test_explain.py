@@ -38,7 +38,7 @@ class Cases(unittest.TestCase):
             A,
             support.ANSWER_A,
             "Held: 0 1 2 3 4 5. Absent: 6.\n",
-            "Plan: new view 8 after view 7, 2 moves.\n",
+            "Plan: new view 8 after view 7, 2 moves. With machine 6 as well: 0 moves.\n",
             "shard  subgroup  needs  holder  target  members  stay  move in  leave  absent\n"
             "0      0         2      0       (0, 0)  0 2      0 2   -        -      -\n"
             "1      0         3      1       (7, 5)  1 4 5    1 4   5        -      6\n"
