@@ -78,7 +78,7 @@ def left_out(given, numbers):
 
 
 def others(given, gathered, fault, program):
-    """Where two reports tell different stories of a view, the answer with either story; else without each report that is refused."""
+    """Where two reports tell different stories of a view, the answer with either story; else without all that are refused."""
     if gathered.refused and gathered.refused.number in (12, 13) and gathered.fault == fault:
         told = reports(given, gathered.settings)
         return [Without(blocks, program.ask(left_out(given, blocks))) for blocks in stories(gathered, told, fault)]

@@ -56,8 +56,8 @@ class Program:
             raise OutOfTime
 
     def fault(self, blocks):
-        """The number of the first block that the program refuses: it refuses the input cut off after this block, and no shorter one.
-        Refusals end the run, so longer ones are refused as well and halving finds it."""
+        """The number of the first block that the program refuses: it refuses the input cut off after this block, and no shorter
+        one. Refusals end the run, so longer ones are refused as well and halving finds it."""
         low, high = 0, max(len(blocks) - 1, 0)
         while low < high:
             middle = (low + high) // 2

@@ -136,7 +136,8 @@ def complete(records, words, settings, is_order):
         if kind == TERMINATION and not there and not is_order:
             continue
         for shard in sorted(shards ^ there):
-            fault = "is missing" if shard in shards else "is there, though node %s does not carry the shard" % settings.name(words[0])
+            surplus = "is there, though node %s does not carry the shard" % settings.name(words[0])
+            fault = "is missing" if shard in shards else surplus
             raise Refused(9, "the %s record (kind %d) of shard %d %s" % (KIND_NAMES[kind], kind, shard, fault))
 
 

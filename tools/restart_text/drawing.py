@@ -69,14 +69,14 @@ class Picture:
         return "Waiting, reason %d: %s" % (self.answer.reason, reason(self.answer))
 
     def head(self, picture, told, conditions):
-        label(picture, MARGIN, 36, self.headline(), 20, "bold", fill="#000000" if self.plan else RED)
+        label(picture, MARGIN, 36, self.headline(), 20, "bold", fill=None if self.plan else RED)
         for number, (text, weight) in enumerate(told):
             label(picture, MARGIN, 60 + number * 18, text, 14, weight)
         top = 58 + 18 * len(told)
         for number, (met, text) in enumerate(conditions):
             row = group(picture, "condition-%d" % number)
             mark(row, MARGIN, top + 20 * number, met)
-            label(row, MARGIN + 24, top + 20 * number + 12, text, 13, "normal" if met else "bold", fill="#000000" if met else RED)
+            label(row, MARGIN + 24, top + 20 * number + 12, text, 13, "normal" if met else "bold", fill=None if met else RED)
 
     def conditions(self):
         """Each condition of a restart: whether it is met, and the count."""
@@ -174,7 +174,7 @@ class Picture:
         for number, text in enumerate(self.texts[shard]):
             no_log = text == "NO LOG"
             label(part, box.left + 8, box.top + 40 + number * LINE, text, 12, "bold" if no_log else "normal",
-                  fill=RED if no_log else "#000000")
+                  fill=RED if no_log else None)
 
     # ---- Lines between them
 
@@ -213,7 +213,8 @@ class Picture:
         signs = [(28, "carries shard n" if self.plan else "carried shard n", tag(square, False)),
                  (28, "shard n's log is taken from here", tag(disc))]
         if self.plan:
-            signs = [(42, "moves in", level_arrow), (42, "stays", stroke(GREY, "1.5 3")), (28, "moves to shard n", tag(square, True))] + signs
+            signs = [(42, "moves in", level_arrow), (42, "stays", stroke(GREY, "1.5 3")),
+                     (28, "moves to shard n", tag(square, True))] + signs
         else:
             signs = [(42, "back", stroke("#000000", None)), (42, "older view", stroke(AMBER, "1.5 3")),
                      (42, "absent", stroke(GREY, "6 4")), (42, "to switch on", stroke(BLUE, "6 4"))] + signs

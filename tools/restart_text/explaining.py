@@ -39,12 +39,17 @@ def explain(given, answer, fault=None, program=None, gone=frozenset()):
         told.lines += refusal_advice(given, told.advice, block_name)
         told.lines += ["To do: %s" % ADVICE[answer.number]] if answer.number in ADVICE else []
     elif told.agrees and isinstance(answer, Wait):
-        told.lines = wait_advice(gathered, answer, told.advice, program) + [""] + summary(gathered) + [""] + waiting(gathered, answer)
+        told.lines = parts(wait_advice(gathered, answer, told.advice, program), summary(gathered), waiting(gathered, answer))
     elif told.agrees:
-        told.lines = plan_advice(gathered, answer, told.advice) + [""] + summary(gathered) + [""] + plan_lines(gathered, answer)
+        told.lines = parts(plan_advice(gathered, answer, told.advice), summary(gathered), plan_lines(gathered, answer))
     told.lines += warning(told.differing)
     told.asked = program.asked if program else 0
     return told
+
+
+def parts(first, second, third):
+    """Lines with an empty one between the parts."""
+    return first + [""] + second + [""] + third
 
 
 def asked(given, program, gone=frozenset()):

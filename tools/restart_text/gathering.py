@@ -70,8 +70,8 @@ def compare(gathered, report):
     pairs += [("members of shard %d" % shard, *both) for shard, both in enumerate(zip(view.shards, kept.shards))]
     for name, told, known in pairs:
         if told != known:
-            raise Refused(12, "%s gives view %d the %s %s; %s gave it %s"
-                          % (here, view.number, name, settings.those(told), machine(settings, gathered.kept_from), settings.those(known)))
+            raise Refused(12, "%s gives view %d the %s %s; %s gave it %s" % (here, view.number, name, settings.those(told), machine(
+                settings, gathered.kept_from), settings.those(known)))
     for shard, (told, known) in enumerate(zip(report.termination or (), gathered.termination or ())):
         if told != known:
             raise Refused(13, "%s ends shard %d at view %d update %d; %s ended it at view %d update %d"

@@ -38,7 +38,7 @@ def reports_in(path, data, settings, anyway=False):
         decode.report_from(block, settings)
     except Refused as refused:
         if not anyway:
-            raise Unfit("%s is no report for these settings: number %d, %s" % (name_of(path), refused.number, refused.why)) from None
+            raise Unfit("%s is no report for these settings: %s" % (name_of(path), refused)) from None
     return [block]
 
 

@@ -58,16 +58,20 @@ def plan_value(gathered, plan, advice):
     shards = []
     for number, placed in enumerate(plan.shards):
         logs = [log_of(gathered, node, number, placed) for node in sorted(placed.members)]
-        shards.append({"shard": number, "holder": placed.holder, "target": position(placed.target), "members": sorted(placed.members),
-                       "logs": [{"node": log.node, "end": position(log.end), "cut": position(log.cut), "discards": log.discards,
-                                 "fetches": log.fetches} for log in logs]})
+        shards.append({"shard": number, "holder": placed.holder, "target": position(placed.target),
+                       "members": sorted(placed.members), "logs": [log_value(log) for log in logs]})
     return {"view": plan.view, "after": gathered.kept.number, "members": sorted(gathered.held), "shards": shards,
             "moves": [{"node": node, "from": before, "to": shard} for node, before, shard in moves(gathered, plan)],
             "with_one_more": [{"node": node, "moves": count} for node, count in sorted(advice.savings.items())]}
 
 
+def log_value(log):
+    return {"node": log.node, "end": position(log.end), "cut": position(log.cut), "discards": log.discards, "fetches": log.fetches}
+
+
 def wait_value(gathered, advice):
-    conditions = [{"reason": reason, "value": value, "text": wait_lines(gathered, reason, value)} for reason, value in waits(gathered)]
+    conditions = [{"reason": reason, "value": value, "text": wait_lines(gathered, reason, value)}
+                  for reason, value in waits(gathered)]
     logs = [dict(zip(("holder", "target"), (found[0], position(found[1])))) if found else None
             for found in ((holding(gathered, shard) for shard in range(len(gathered.settings.shards))) if gathered.kept else ())]
     return {"conditions": conditions, "logs": logs, "switch_on": found_value(advice.found) if advice.found else None,
@@ -75,8 +79,9 @@ def wait_value(gathered, advice):
 
 
 def found_value(found):
-    return {"sets": [list(nodes) for nodes in found.sets], "more": len(found.others), "complete": found.complete, "least": found.least,
-            "by_size": found.by_size, "helpless": found.helpless, "needed": sorted(found.without), "cut_short": found.cut_short}
+    return {"sets": [list(nodes) for nodes in found.sets], "more": len(found.others), "complete": found.complete,
+            "by_size": found.by_size, "least": found.least, "helpless": found.helpless, "needed": sorted(found.without),
+            "cut_short": found.cut_short}
 
 
 def without_value(without):

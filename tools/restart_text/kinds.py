@@ -1,10 +1,12 @@
-"""What bytes are: an input, settings, a report, a desk, an order or a state. Each is read strictly; what does not fit is refused."""
+"""What bytes are: an input, settings, a report, a desk, an order or a state. Each is read strictly; what does not fit is
+refused."""
 from . import decode, encode, inputs, printing, state, words
 from .files import Unfit
 from .model import MOST_NODES, MOST_RECORDS, Refused
 
 SLOT = 4 * MOST_RECORDS
-NAMES = {"input": "an input", "settings": "settings", "report": "a report", "desk": "a desk", "order": "an order", "state": "a state"}
+NAMES = {"input": "an input", "settings": "settings", "report": "a report", "desk": "a desk", "order": "an order",
+         "state": "a state"}
 
 
 def text_of(kind, data, settings=None):

@@ -56,9 +56,10 @@ class Row:
         for number in self.groups:
             colour = (colours or {}).get(number)
             frame = group(picture, "%s-%d" % (kind, number))
-            shape(frame, "rect", x=left, y=top + min(offset, 0) - PAD, width=self.group_width(number), height=self.height + LINE + 2 * PAD,
-                  rx=6, fill="none", stroke=colour or "#777777", stroke_width=2 if colour else 1)
-            label(frame, left + PAD, top + offset + LINE - 8, names[number], 13, "bold" if colour else "normal", fill=colour or "#000000")
+            shape(frame, "rect", x=left, y=top + min(offset, 0) - PAD, width=self.group_width(number),
+                  height=self.height + LINE + 2 * PAD, rx=6, fill="none", stroke=colour or "#777777",
+                  stroke_width=2 if colour else 1)
+            label(frame, left + PAD, top + offset + LINE - 8, names[number], 13, "bold" if colour else "normal", fill=colour)
             left += self.group_width(number) + GAP
 
 
@@ -72,13 +73,14 @@ def shard_row(settings, lines):
     """A box has room for the shard with the most lines, and for the longest of them."""
     groups = {number: settings.shards_of(number) for number in range(4)}
     longest = max(width_of(line, 12) for told in lines for line in told)
-    return Row({number: items for number, items in groups.items() if items}, max(126, longest + 16), 36 + LINE * max(map(len, lines)))
+    height = 36 + LINE * max(map(len, lines))
+    return Row({number: items for number, items in groups.items() if items}, max(126, longest + 16), height)
 
 
 def wrapped(name, nodes, settings):
     """A name and machines after it, some in a line."""
-    return textwrap.wrap("%s %s" % (name, settings.those(nodes) if nodes else "-"), 22, subsequent_indent="  ", break_long_words=False,
-                         break_on_hyphens=False)
+    text = "%s %s" % (name, settings.those(nodes) if nodes else "-")
+    return textwrap.wrap(text, 22, subsequent_indent="  ", break_long_words=False, break_on_hyphens=False)
 
 
 def paragraph(text, inner, size):

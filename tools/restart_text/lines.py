@@ -1,8 +1,8 @@
 """The lines of a text. A text is sections; a section is a head line and the lines after it up to the next head.
 
 A form such as 'node NODE set SET' says what a line looks like: small words stand as they are, a capital word stands for a number,
-NAME at the end for a machine's name, and NODES at the end for a list of numbers, ranges such as 0-6, or `none`. What follows a # is a
-remark. A bad line is told with its number and with what was expected there."""
+NAME at the end for a machine's name, and NODES at the end for a list of numbers, ranges such as 0-6, or `none`. What follows a # is
+a remark. A bad line is told with its number and with what was expected there."""
 import re
 from dataclasses import dataclass
 
@@ -119,7 +119,8 @@ def matched(line, words, form):
         return None
     if any(wanted.islower() and wanted != word for wanted, word in zip(form[:size], words)):
         return None
-    values = [name(line, word) if wanted == "NAME" else whole(line, word) for wanted, word in zip(form[:size], words) if wanted.isupper()]
+    found = [(wanted, word) for wanted, word in zip(form[:size], words) if wanted.isupper()]
+    values = [name(line, word) if wanted == "NAME" else whole(line, word) for wanted, word in found]
     return values + [node_list(line, words[size:])] if listed else values
 
 

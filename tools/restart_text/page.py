@@ -12,8 +12,10 @@ body { font: 15px/1.45 sans-serif; margin: 1.5em auto; max-width: 1500px; paddin
 h1 { font-size: 1.5em; margin: 0 0 .3em; } h2 { font-size: 1.15em; margin: 1.6em 0 .4em; }
 .plan { border-left: 8px solid #1e7b34; } .wait { border-left: 8px solid #b25e00; } .refusal { border-left: 8px solid #b3261e; }
 header { padding: .4em 1em; background: #f5f5f5; } header p { margin: .2em 0; }
-.drawing { overflow-x: auto; border: 1px solid #ccc; padding: .4em; } .drawing svg { display: block; margin: auto; max-width: 100%; height: auto; }
-table { border-collapse: collapse; } th, td { border: 1px solid #bbb; padding: .25em .6em; text-align: left; } th { background: #f0f0f0; }
+.drawing { overflow-x: auto; border: 1px solid #ccc; padding: .4em; }
+.drawing svg { display: block; margin: auto; max-width: 100%; height: auto; }
+table { border-collapse: collapse; } th { background: #f0f0f0; }
+th, td { border: 1px solid #bbb; padding: .25em .6em; text-align: left; }
 pre { font: 13px/1.4 monospace; background: #f8f8f8; border: 1px solid #ddd; padding: .8em; white-space: pre-wrap; }
 @media print { .drawing { overflow: visible; border: 0; } .drawing svg { max-width: 100%; height: auto; } }
 """.strip()
@@ -43,7 +45,8 @@ def headline(answer):
 
 
 def inline(picture):
-    """The picture without the line that only a file of its own has. It shrinks with the window, but stays large enough to be read."""
+    """The picture without the line that only a file of its own has. It shrinks with the window, but not so far that nobody can
+    read it."""
     body = picture.split("\n", 1)[1].strip()
     width = int(re.search(r'<svg [^>]*width="(\d+)"', body)[1])
     return body.replace("<svg ", '<svg style="min-width: %dpx" ' % (width * 0.6), 1)

@@ -1,8 +1,8 @@
 """Which absent machines to switch on: the least sets with which the program gives a plan.
 
-A machine more that reports the kept view never harms, so that sets with a plan stay so as they grow. The count of supposing.py leads
-the search, size after size; each set that is told has been asked of the program, and so have sets without a plan that cover every
-smaller one, as far as the time allows."""
+A machine more that reports the kept view never harms, so that sets with a plan stay so as they grow. The count of supposing.py
+leads the search, size after size; each set that is told has been asked of the program, and so have sets without a plan that cover
+every smaller one, as far as the time allows."""
 import itertools
 from dataclasses import dataclass, field
 
@@ -22,7 +22,7 @@ class Found:
     complete: bool = False  # whether these are all of this size
     by_size: bool = False  # whether smaller sets were gone through before, by this tool's own count
     least: bool = False  # whether the program was asked about every smaller set or one that has it
-    without: dict = field(default_factory=dict)  # machines of these sets without which there is no plan, and the answer without each
+    without: dict = field(default_factory=dict)  # machines without which there is no plan, and the answer without each
     all_back: object = None  # the program's answer with every absent machine back, or None where it was not asked
     helpless: bool = False  # whether there is no plan even then
     cut_short: bool = False  # whether the time ended before the search
@@ -90,8 +90,8 @@ def sets_of(count, program, chosen, start, left):
 
 
 def none_smaller(found, supposed, count, program):
-    """Asks the program about the sets with one machine fewer, each grown as long as it lacks something by the count: what has no plan
-    grown has none as it was. Whether every set was covered."""
+    """Asks the program about the sets with one machine fewer, each grown as long as it lacks something by the count: what has no
+    plan grown has none as it was. Whether every set was covered."""
     size, grown = len(found.sets[0]) - 1, []
     for number, nodes in enumerate(itertools.combinations(supposed.pool, size)):
         if number == MOST_SMALLER:

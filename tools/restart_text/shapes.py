@@ -32,8 +32,8 @@ def shape(parent, name, **attributes):
     Tree.SubElement(parent, name, texts)
 
 
-def label(parent, x, y, text, size, weight="normal", anchor="start", fill="#000000"):
-    style = {"font-size": "%g" % size, "font-weight": weight, "text-anchor": anchor, "fill": fill}
+def label(parent, x, y, text, size, weight="normal", anchor="start", fill=None):
+    style = {"font-size": "%g" % size, "font-weight": weight, "text-anchor": anchor, **({"fill": fill} if fill else {})}
     Tree.SubElement(parent, "text", {"x": "%g" % x, "y": "%g" % y, **style}).text = text
 
 

@@ -5,6 +5,8 @@ from .answers import Number, Wait, printed
 from .model import START
 from .sentences import counted, listed, machine, machines, update
 
+REASONS = {1: "no report", 2: "no majority of the kept view", 3: "fewer machines than the least group size",
+           4: "no log of shard %d", 5: "no placement of subgroup %d"}
 MOST_TOLD = 60  # machines in all the sets that are told one by one
 
 
@@ -87,8 +89,8 @@ def reason(answer):
     """A wait in a few words."""
     if isinstance(answer, Number):
         return printed(answer)
-    return {1: "no report", 2: "no majority of the kept view", 3: "fewer machines than the least group size",
-            4: "no log of shard %s", 5: "no placement of subgroup %s"}[answer.reason] % (() if answer.value is None else answer.value)
+    words = REASONS[answer.reason]
+    return words if answer.value is None else words % answer.value
 
 
 def lone_view(gathered, advice):
@@ -104,8 +106,8 @@ def lone_view(gathered, advice):
         result += "; switch on %s then%s" % (told, ", or instead %s" % rest if rest else "")
     lines = ["Only machine %s reports view %d, the next lower is %d; without its report: %s."
              % (settings.name(gathered.kept_from), kept.number, below, result)]
-    return lines + ["Leave it out only if that view is damaged or was never served: what was stored in it is lost with it. The planner"
-                    " keeps a view until a fresh state (duty 10)."]
+    return lines + ["Leave it out only if that view is damaged or was never served: what was stored in it is lost with it. The"
+                    " planner keeps a view until a fresh state (duty 10)."]
 
 
 def helpless(gathered, advice):
@@ -128,8 +130,8 @@ def duties(gathered):
         lines.append("  duty 5: targets of an abandoned plan are no termination. See where %s has its own from"
                      % machine(gathered.settings, gathered.termination_from))
     return lines + ["  duty 10: a damaged high view is left only by starting anew, with a fresh state and the other reports",
-                    "  duty 1: whether view %d was on the disks of all its members before any of them served, only the service knows; if it"
-                    " was, an older view loses what was stored" % gathered.kept.number]
+                    "  duty 1: whether view %d was on the disks of all its members before any of them served, only the service"
+                    " knows; if it was, an older view loses what was stored" % gathered.kept.number]
 
 
 def refusal_advice(given, advice, name):

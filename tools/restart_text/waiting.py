@@ -43,7 +43,8 @@ def no_holder(gathered, shard):
     for node in sorted(members & gathered.held):
         number = gathered.reports[node].view.number
         if number != kept.number:
-            lines.append("Machine %s is back but reported view %d, so its log of this shard is not used." % (settings.name(node), number))
+            lines.append("Machine %s is back but reported view %d, so its log of this shard is not used."
+                         % (settings.name(node), number))
     if gathered.candidates(shard):
         lines += no_such_update(gathered, shard)
     if absent:
@@ -58,7 +59,8 @@ def no_such_update(gathered, shard):
     settings = gathered.settings
     lines = ["The termination, first reported by %s, ends this shard at %s. No log that may be used has it:"
              % (machine(settings, gathered.termination_from), update(gathered.termination[shard]))]
-    return lines + ["  %s: %s" % (machine(settings, report.node), runs(report.runs[shard])) for report in gathered.candidates(shard)]
+    return lines + ["  %s: %s" % (machine(settings, report.node), runs(report.runs[shard]))
+                    for report in gathered.candidates(shard)]
 
 
 def runs(log):
@@ -92,4 +94,5 @@ def placement_cure(settings, short):
     if short.alone:
         sets = sorted({settings.set_of[node] for node in short.alone})
         return "To do: bring back %s (failure set %s)." % (machines(settings, short.alone, "or"), listed(sets, "or"))
-    return "To do: bring back %d machines, for instance %s; fewer will not do." % (len(short.spare), machines(settings, short.spare))
+    spare = machines(settings, short.spare)
+    return "To do: bring back %d machines, for instance %s; fewer will not do." % (len(short.spare), spare)

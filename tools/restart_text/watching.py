@@ -54,7 +54,7 @@ def look(files, program, gone, names):
 
 
 class Screen:
-    """Where the lines are shown. A terminal shows one screen, written over in place; anything else gets one answer after another."""
+    """Where the lines are shown. A terminal shows one screen, written over in place; all else gets one answer after another."""
 
     def __init__(self, stream):
         self.stream, self.terminal, self.last = stream, stream.isatty(), []
@@ -69,8 +69,8 @@ class Screen:
             self.put("\x1b[?25h\x1b[?1049l" + "\n".join(self.last) + "\n")
 
     def show(self, folder, changed, lines):
-        news = "%s  %s%s" % (time.strftime("%H:%M:%S"), folder, "  changed: " + ", ".join(map(os.path.basename, changed)) if changed else "")
-        self.last = [news, ""] + lines
+        news = "  changed: " + ", ".join(map(os.path.basename, changed)) if changed else ""
+        self.last = [time.strftime("%H:%M:%S  ") + folder + news, ""] + lines
         self.put(over(self.last, *shutil.get_terminal_size()) if self.terminal else "\n".join(self.last) + "\n\n")
 
     def put(self, text):
@@ -80,7 +80,7 @@ class Screen:
 
 def over(lines, width, height):
     """What writes these lines over a screen of this size, without clearing it first."""
-    shown = [piece for line in lines for piece in textwrap.wrap(line, width, subsequent_indent="    ", replace_whitespace=False) or [""]]
+    shown = [piece for line in lines for piece in textwrap.wrap(line, width, subsequent_indent="    ") or [""]]
     if len(shown) > height:
         left = len(shown) - height + 1
         shown = shown[: height - 1] + ["(%d lines more: restart-text explain)" % left]

@@ -36,7 +36,8 @@ def text_and_picture(page, width, height):
     """The page's elements as the browser has them, and a picture of it: rows of pixels."""
     with tempfile.TemporaryDirectory() as folder:
         picture = os.path.join(folder, "page.png")
-        printed = opened(browser(), "file://" + page, "--window-size=%d,%d" % (width, height), "--dump-dom", "--screenshot=" + picture)
+        printed = opened(browser(), "file://" + page, "--window-size=%d,%d" % (width, height), "--dump-dom",
+                         "--screenshot=" + picture)
         with open(picture, "rb") as file:
             return printed.decode(), pixels(file.read())
 
@@ -55,7 +56,8 @@ def pixels(data):
     size, plain, before, rows = 3 if colour == 2 else 4, zlib.decompress(packed), None, []
     for row in range(height):
         start = row * (width * size + 1)
-        before = unfiltered(plain[start], bytearray(plain[start + 1 : start + 1 + width * size]), before or bytes(width * size), size)
+        line = bytearray(plain[start + 1 : start + 1 + width * size])
+        before = unfiltered(plain[start], line, before or bytes(width * size), size)
         rows.append([tuple(before[place : place + 3]) for place in range(0, len(before), size)])
     return rows
 

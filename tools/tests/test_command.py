@@ -177,6 +177,6 @@ class Arguments(unittest.TestCase):
             self.assertIn(".TP\n.B %s\n" % name, page)
             made = argparse.ArgumentParser()
             module.arguments(made)
-            for action in made._actions:
-                for option in [text for text in action.option_strings if text.startswith("--") and text not in ("--help", "--output")]:
-                    self.assertIn(option, page)
+            options = {option for action in made._actions for option in action.option_strings if option.startswith("--")}
+            for option in options - {"--help", "--output"}:
+                self.assertIn(option, page)

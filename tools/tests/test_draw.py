@@ -99,7 +99,8 @@ class Pictures(unittest.TestCase):
         """Everything stands once and inside the picture, for plans and waits."""
         kinds = {"view": 0, "wait": 0}
         for seed in range(120):
-            given = inputs.Input(world(random.Random(seed)), [], tuple("machine-%d" % node for node in range(12)) if seed % 3 == 0 else ())
+            given = inputs.Input(world(random.Random(seed)), [],
+                                 tuple("machine-%d" % node for node in range(12)) if seed % 3 == 0 else ())
             printed = answers.run(support.program(), given.blocks)
             if printed.split()[0] not in kinds:
                 continue
@@ -121,4 +122,5 @@ class Pictures(unittest.TestCase):
         for part in root.iter(SVG + "text"):
             self.assertLess(float(part.get("y")), height)
             if part.get("text-anchor") == "start":
-                self.assertLessEqual(float(part.get("x")) + width_of(part.text or "", float(part.get("font-size"))), width, part.text)
+                self.assertLessEqual(float(part.get("x")) + width_of(part.text or "", float(part.get("font-size"))), width,
+                                     part.text)

@@ -70,8 +70,8 @@ class JoinAndSplit(Folder):
         odd = self.put("odd.bin", b"\0" * 5)
         for files, message in (
             ([report, settings], "%s is not settings: " % report),
-            ([settings, report, settings], "%s is no report for these settings: number 5, the message has 14 words" % settings),
-            ([settings, bad], "%s is no report for these settings: number 7, the view number is 0" % bad),
+            ([settings, report, settings], "%s is no report for these settings: number 5: the message has 14 words" % settings),
+            ([settings, bad], "%s is no report for these settings: number 7: the view number is 0" % bad),
             ([settings, odd], "%s: 5 bytes are no whole words" % odd),
             ([settings, CASE], "%s, line 3: expected a report, found 'settings'" % CASE),
         ):
@@ -188,7 +188,7 @@ class Watch(Folder):
         shutil.copy(os.path.join(support.ROOT, "examples", "night.txt"), self.path("settings.txt"))
         status, answers = self.watch(0.1, "--gone", "rack1-c")
         self.assertEqual(status, 1)
-        self.assertTrue(answers[0][2].startswith("No machine to switch on helps: with every absent machine back but machine rack1-c"))
+        self.assertIn("No machine to switch on helps: with every absent machine back but machine rack1-c", answers[0][2])
 
     def test_without_settings(self):
         self.assertEqual(self.watch(0.1)[0], 3)

@@ -15,8 +15,8 @@ from worlds import damaged, world
 
 with open(os.path.join(support.ROOT, "docs", "explain.schema.json"), encoding="utf-8") as file:
     SCHEMA = json.load(file)
-KNOWN = {"$schema", "$ref", "$defs", "title", "description", "type", "const", "minimum", "maximum", "items", "required", "properties",
-         "additionalProperties", "oneOf"}
+KNOWN = {"$schema", "$ref", "$defs", "title", "description", "type", "const", "minimum", "maximum", "items", "required",
+         "properties", "additionalProperties", "oneOf"}
 TYPES = {"object": dict, "array": list, "string": str, "null": type(None), "boolean": bool, "integer": int}
 
 

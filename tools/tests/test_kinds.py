@@ -71,9 +71,11 @@ class Kinds(unittest.TestCase):
 class Command(unittest.TestCase):
     def test_refusals(self):
         for arguments, data, message in (
-            ([], REPORT, "this is not an input: the counts of the blocks do not fit the file's 80 bytes; it looks like a report: --as report"),
+            ([], REPORT,
+             "this is not an input: the counts of the blocks do not fit the file's 80 bytes; it looks like a report: --as report"),
             (["--as", "report"], REPORT + b"\0", "this is not a report: 81 bytes are no whole words"),
-            (["--as", "report"], REPORT + b"\0" * 4, "this is not a report: the message has 21 words, allowed are 4 to 512 in steps of 4"),
+            (["--as", "report"], REPORT + b"\0" * 4,
+             "this is not a report: the message has 21 words, allowed are 4 to 512 in steps of 4"),
             (["--as", "state"], b"\0" * 641, "this is not a state: 641 bytes are no whole words"),
             (["--as", "state"], b"\0" * 644, "this is not a state: the state has 161 words, it should have 160"),
             ([], b"", "this is not an input: the settings have 0 words, at least 4 are needed"),

@@ -69,7 +69,8 @@ class Pages(unittest.TestCase):
         read = self.read(data)
         self.assertIn("Restart plan: new view 8, 2 moves", read.text)
         self.assertIn("With machine 6 as well: 0 moves.", read.text)
-        self.assertEqual(read.cells[:10], ["shard", "subgroup", "needs", "holder", "target", "members", "stay", "move in", "leave", "absent"])
+        self.assertEqual(read.cells[:10],
+                         ["shard", "subgroup", "needs", "holder", "target", "members", "stay", "move in", "leave", "absent"])
         self.assertEqual(read.cells[20:30], ["1", "0", "3", "1", "(7, 5)", "1 4 5", "1 4", "5", "-", "6"])
         self.assertIn(" ".join(" ".join(told.lines).split()), read.text)
         self.assertLessEqual({"machine-5", "shard-2", "move-5-1", "legend"}, set(read.identities))
@@ -93,7 +94,7 @@ class Pages(unittest.TestCase):
     def test_it_refers_to_nothing_outside(self):
         for name in ("case-a.txt", "night.txt"):
             data = made(support.text_of(name))[1]
-            self.assertFalse([name for name, _ in self.read(data).attributes if name in ("src", "href", "xlink:href", "srcset", "action")])
+            self.assertFalse({name for name, _ in self.read(data).attributes} & {"src", "href", "xlink:href", "srcset", "action"})
             for word in ("url(", "@import", "<script", "<link", "<iframe", "<img"):
                 self.assertNotIn(word, data)
 
@@ -103,7 +104,8 @@ class InTheBrowser(unittest.TestCase):
 
     @classmethod
     def setUpClass(cls):
-        print("pages: looked at in %s" % browser() if browser() else "pages: no Chromium here, read by Python's parser only", flush=True)
+        print("pages: looked at in %s" % browser() if browser() else "pages: no Chromium here, read by Python's parser only",
+              flush=True)
         if not browser():
             raise unittest.SkipTest("no Chromium")
 

@@ -25,7 +25,8 @@ def told(text, **more):
 
 def without(text, *nodes):
     """The text without the reports of these machines."""
-    return "\n\n".join(part for part in text.split("\n\n") if not any(part.startswith("report node %d " % node) for node in nodes)) + "\n"
+    heads = tuple("report node %d " % node for node in nodes)
+    return "\n\n".join(part for part in text.split("\n\n") if not part.startswith(heads)) + "\n"
 
 
 def by_asking(supposed, program):
@@ -43,11 +44,15 @@ class Night(unittest.TestCase):
 
     def test_the_first_lines(self):
         lines = told(NIGHT).lines
-        self.assertEqual(lines[0], "Switch on machines rack1-a, rack1-c and rack3-a: then there is a plan; with fewer there is none.")
-        self.assertEqual(lines[1], "Or instead: rack1-a, rack1-c and rack4-c; rack1-c, rack3-a and rack3-b; rack1-c, rack3-a and rack4-b;"
+        self.assertEqual(lines[0],
+                         "Switch on machines rack1-a, rack1-c and rack3-a: then there is a plan; with fewer there is none.")
+        self.assertEqual(lines[1],
+                         "Or instead: rack1-a, rack1-c and rack4-c; rack1-c, rack3-a and rack3-b; rack1-c, rack3-a and rack4-b;"
                          " rack1-c, rack3-a and rack4-c; rack1-c, rack3-b and rack4-c; rack1-c, rack4-b and rack4-c.")
-        self.assertEqual(lines[2], "Assumed: a machine that comes back reports view 9 and no termination; its log may end anywhere.")
-        self.assertEqual(lines[3], "There is no plan without machine rack1-c, whoever else comes back: no log of shard 7. If it is lost,"
+        self.assertEqual(lines[2],
+                         "Assumed: a machine that comes back reports view 9 and no termination; its log may end anywhere.")
+        self.assertEqual(lines[3],
+                         "There is no plan without machine rack1-c, whoever else comes back: no log of shard 7. If it is lost,"
                          " --gone rack1-c says what is left.")
 
     def test_every_set_asked_of_the_program(self):
@@ -63,7 +68,8 @@ class Night(unittest.TestCase):
 
     def test_one_is_lost(self):
         lines = told(NIGHT, gone=frozenset([2])).lines
-        self.assertEqual(lines[0], "No machine to switch on helps: with every absent machine back but machine rack1-c there is still no"
+        self.assertEqual(lines[0],
+                         "No machine to switch on helps: with every absent machine back but machine rack1-c there is still no"
                          " plan (no log of shard 7).")
         self.assertEqual([line.split(":")[0].strip() for line in lines[2:6]], ["duty 6", "duty 7", "duty 10", "duty 1"])
 
@@ -124,24 +130,27 @@ class Sentences(unittest.TestCase):
                          "Switch on machine 5 and any 2 of machines 3, 4 and 6: then there is a plan; with fewer there is none.")
         lines = told(A.replace("least group size 4", "least group size 7")).lines
         self.assertEqual(lines[0], "Switch on machine 6: then there is a plan.")
-        self.assertIn("There is no plan without machine 6, whoever else comes back: fewer machines than the least group size. If it is"
-                      " lost, --gone 6 says what is left.", lines)
+        self.assertIn("There is no plan without machine 6, whoever else comes back: fewer machines than the least group size."
+                      " If it is lost, --gone 6 says what is left.", lines)
 
     def test_one_of_some(self):
         six = A.replace("members 0-6", "members 0-5").replace("shard 1 members 1 4 6", "shard 1 members 1 4")
         self.assertEqual(told(without(six, 0, 2)).lines[0],
                          "Switch on any 2 of machines 0, 2 and 6: then there is a plan; with fewer there is none.")
-        six = six.replace("shard 2 subgroup 0", "shard 2 subgroup 1").replace("shard 1 subgroup 0 needs 3", "shard 1 subgroup 0 needs 2")
+        six = six.replace("shard 2 subgroup 0", "shard 2 subgroup 1")
+        six = six.replace("shard 1 subgroup 0 needs 3", "shard 1 subgroup 0 needs 2")
         self.assertEqual(told(without(six, 0, 2)).lines[0], "Switch on machine 0 or 2: then there is a plan.")
 
     def test_no_report(self):
-        self.assertEqual(told(without(A, *range(6))).lines[0], "Switch on any machine: none has reported, and which are needed shows"
+        self.assertEqual(told(without(A, *range(6))).lines[0],
+                         "Switch on any machine: none has reported, and which are needed shows"
                          " once the first has. At least 4 machines are needed.")
 
     def test_a_kept_termination(self):
         lines = told(A + ENDING).lines
         self.assertEqual(lines[0], "Switch on machine 6: then there is a plan.")
-        self.assertEqual(lines[1], "Assumed: a machine that comes back reports view 7, and no other termination; the log of shard 1 on"
+        self.assertEqual(lines[1],
+                         "Assumed: a machine that comes back reports view 7, and no other termination; the log of shard 1 on"
                          " machine 6 has update 6 of view 7.")
 
     def test_no_member_of_the_view(self):
@@ -153,7 +162,8 @@ class Sentences(unittest.TestCase):
 
     def test_nobody_outside_the_first_view(self):
         """Before view 1 there is none, so that a machine outside it cannot report."""
-        text = A.replace("view 7", "view 1").replace("members 0-6", "members 0-5").replace("shard 1 members 1 4 6", "shard 1 members 1 4")
+        text = A.replace("view 7", "view 1").replace("members 0-6", "members 0-5")
+        text = text.replace("shard 1 members 1 4 6", "shard 1 members 1 4")
         found = told(text.replace("shard 0 subgroup 0 needs 2", "shard 0 subgroup 0 needs 3"))
         self.assertEqual(found.advice.supposed.pool, [])
         self.assertTrue(found.lines[0].startswith("No machine to switch on helps"), found.lines[0])
@@ -167,13 +177,15 @@ class Sentences(unittest.TestCase):
     def test_an_abandoned_plan(self):
         """Where a termination is kept that no disk has, the machine that reported it is named."""
         lines = told(A + ENDING, gone=frozenset([6])).lines
-        self.assertTrue(lines[0].startswith("No machine to switch on helps: with every absent machine back but machine 6"), lines[0])
+        self.assertTrue(lines[0].startswith("No machine to switch on helps: with every absent machine back but machine 6"),
+                        lines[0])
         self.assertIn("  duty 5: targets of an abandoned plan are no termination. See where machine 5 has its own from", lines)
 
     def test_own_count_only(self):
         given = support.given(support.example("b"))
         lines = explain(given, Wait(2, None)).lines
-        self.assertEqual(lines[0], "Switch on machine 5 and any 2 of machines 3, 4 and 6: then there is a plan; that fewer would not do is"
+        self.assertEqual(lines[0],
+                         "Switch on machine 5 and any 2 of machines 3, 4 and 6: then there is a plan; that fewer would not do is"
                          " this tool's own count.")
         self.assertIn("The program was not asked. The rest is this tool's own count.", lines)
 
@@ -219,16 +231,19 @@ class Plans(unittest.TestCase):
 class LoneViews(unittest.TestCase):
     def test_a_high_view(self):
         """Machine 3 carries nothing, so that the others have a plan without it."""
-        text = A.replace("report node 3 view 7", "report node 3 view 4294967294").replace("shard 2 subgroup 0", "shard 2 subgroup 1")
+        text = A.replace("report node 3 view 7", "report node 3 view 4294967294")
+        text = text.replace("shard 2 subgroup 0", "shard 2 subgroup 1")
         found = told(text)
-        self.assertEqual(found.lines[1], "Only machine 3 reports view 4294967294, the next lower is 7; without its report: a plan, new view"
+        self.assertEqual(found.lines[1],
+                         "Only machine 3 reports view 4294967294, the next lower is 7; without its report: a plan, new view"
                          " 8, 1 move.")
         self.assertTrue(found.lines[2].startswith("Leave it out only if that view is damaged or was never served"))
         self.assertEqual((found.advice.lone.blocks, found.advice.lone.answer.moves), ([4], 1))
 
     def test_a_high_view_and_a_wait(self):
         lines = told(A.replace("report node 4 view 7", "report node 4 view 9")).lines
-        self.assertEqual(lines[1], "Only machine 4 reports view 9, the next lower is 7; without its report: wait 5 0, no placement of"
+        self.assertEqual(lines[1],
+                         "Only machine 4 reports view 9, the next lower is 7; without its report: wait 5 0, no placement of"
                          " subgroup 0; switch on machine 6 then.")
 
     def test_reported_and_replaced(self):
@@ -237,7 +252,8 @@ class LoneViews(unittest.TestCase):
         place = next(place for place, part in enumerate(parts) if part.startswith("report node 3"))
         high = parts[place].replace("report node 3 view 7", "report node 3 view 9")
         found = told("\n\n".join(parts[:place] + [high] + parts[place:]).replace("shard 2 subgroup 0", "shard 2 subgroup 1"))
-        self.assertIn("Only machine 3 reports view 9, the next lower is 7; without its report: a plan, new view 8, 1 move.", found.lines)
+        self.assertIn("Only machine 3 reports view 9, the next lower is 7; without its report: a plan, new view 8, 1 move.",
+                      found.lines)
 
     def test_two_reporters_are_not_alone(self):
         text = A.replace("report node 4 view 7", "report node 4 view 9").replace("report node 5 view 7", "report node 5 view 9")
@@ -259,7 +275,8 @@ class Refusals(unittest.TestCase):
         given.blocks[6] = [5, 7, 0, 0]
         found = asked(given, Program(support.program()))
         self.assertEqual([one.blocks for one in found.advice.without], [[3, 6]])
-        self.assertIn("Without report 3 of 6, which names machine 2 and report 6 of 6, which names machine 5: wait 4 2, no log of shard 2.",
+        self.assertIn("Without report 3 of 6, which names machine 2 and report 6 of 6, which names machine 5: wait 4 2, no log of"
+                      " shard 2.",
                       found.lines)
 
     def test_two_stories_of_a_view(self):

@@ -6,6 +6,7 @@ from ..files import placed, read, read_names, write_lines
 from ..gathering import named
 from ..inputs import is_text, load
 from ..model import Settings
+from .shared import names_argument, program_argument
 
 SAME, DIFFERENT = 0, 1
 
@@ -13,8 +14,8 @@ SAME, DIFFERENT = 0, 1
 def arguments(parser):
     parser.add_argument("file", metavar="A", help="what restart printed, or an input, text or words, which it is then asked about")
     parser.add_argument("other", metavar="B", help="the same for the second answer")
-    parser.add_argument("--program", metavar="PATH", help="the program restart; without it the one built in this checkout or installed")
-    parser.add_argument("--names", metavar="FILE", help="a text whose settings have the machines' names")
+    program_argument(parser)
+    names_argument(parser)
 
 
 def work(chosen):

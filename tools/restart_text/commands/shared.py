@@ -16,12 +16,21 @@ def output_argument(parser):
     parser.add_argument("-o", "--output", metavar="FILE", help="the file to write; standard output without it")
 
 
+def program_argument(parser):
+    parser.add_argument("--program", metavar="PATH",
+                        help="the program restart; without it the one built in this checkout, or installed")
+
+
+def names_argument(parser):
+    parser.add_argument("--names", metavar="FILE", help="a text whose settings have the machines' names")
+
+
 def program_arguments(parser, with_answer=True):
     source = parser.add_mutually_exclusive_group()
-    source.add_argument("--program", metavar="PATH", help="the program restart; without it the one built in this checkout or installed")
+    program_argument(source)
     if with_answer:
         source.add_argument("--answer", metavar="FILE", help="a file with what restart printed; then it is not started")
-    parser.add_argument("--names", metavar="FILE", help="a text whose settings have the machines' names")
+    names_argument(parser)
     parser.add_argument("--gone", metavar="MACHINES", help="machines that will not come back, by number or name, such as 3,5-7")
     parser.add_argument("--search", metavar="SECONDS", type=seconds, default=SECONDS,
                         help="how long to ask about other inputs, %g seconds without it" % SECONDS)

@@ -8,8 +8,8 @@ from .shared import file_argument
 def arguments(parser):
     file_argument(parser, about="the words to read, - for standard input")
     parser.add_argument("--as", dest="form", choices=list(READERS), default="input", help="what the words are; an input without it")
-    parser.add_argument("--settings", metavar="FILE", help="for a report, desk or order: the settings, text or words, to check it by")
-    parser.add_argument("--damaged", action="store_true", help="for an input: print word by word what does not fit, and refuse nothing")
+    parser.add_argument("--settings", metavar="FILE", help="for a report, desk or order: settings, text or words, to check it by")
+    parser.add_argument("--damaged", action="store_true", help="for an input: print word by word what does not fit")
 
 
 def work(chosen):
