@@ -4,7 +4,7 @@ from dataclasses import dataclass, field
 
 from . import decode
 from .answers import Number, Plan, Wait
-from .asking import OutOfTime
+from .asking import Clock, OutOfTime
 from .gathering import gather
 from .model import Refused
 from .searching import Found, least_sets
@@ -18,6 +18,7 @@ class Without:
     blocks: list
     answer: object
     found: Found | None = None  # where that is a wait, which machines would help then
+    view: int = 0  # and the kept view, which they would have to report
 
 
 @dataclass
@@ -31,17 +32,17 @@ class Advice:
 
 
 def advise(given, gathered, answer, fault, program, gone=frozenset()):
-    """Without a program only what this tool can count itself."""
-    advice = Advice()
+    """Without a program only what this tool can count itself, within the usual time."""
+    advice, clock = Advice(), program or Clock()
     if isinstance(answer, Number):
         if program and fault:
-            advice.without = others(given, gathered, fault, program)
+            advice.without = others(given, gathered, fault, program, gone)
         return advice
     if gathered.kept is None:
         return advice
     advice.supposed = Supposed(given.blocks, gathered, gone)
     if isinstance(answer, Wait):
-        advice.found = least_sets(advice.supposed, program)
+        advice.found = least_sets(advice.supposed, program, clock)
         advice.lone = lone(given, gathered, program, gone) if program else None
     elif program:
         savings(advice, answer, program)
@@ -64,30 +65,35 @@ def lone(given, gathered, program, gone):
     """Without the only report of the kept view, where others reported older ones."""
     blocks = [number for number, block in enumerate(given.blocks) if number and block[1] == gathered.kept.number]
     nodes = frozenset(given.blocks[number][0] for number in blocks)
-    rest = left_out(given, blocks)
     if len(nodes) > 1 or len(gathered.held) == 1:
         return None
-    answer = program.ask(rest)
-    if not isinstance(answer, Wait) or answer.reason == 1:
-        return Without(blocks, answer)
-    return Without(blocks, answer, least_sets(Supposed(rest, gather(rest, given.names), gone | nodes), program))
+    return without(given, blocks, program, gone | nodes)
 
 
 def left_out(given, numbers):
     return [block for number, block in enumerate(given.blocks) if number not in numbers]
 
 
-def others(given, gathered, fault, program):
+def without(given, blocks, program, gone):
+    """The answer without these blocks, and where that is a wait, which machines would help then."""
+    rest = left_out(given, blocks)
+    answer = program.ask(rest)
+    if not isinstance(answer, Wait) or answer.reason == 1:
+        return Without(blocks, answer)
+    gathered = gather(rest, given.names)
+    return Without(blocks, answer, least_sets(Supposed(rest, gathered, gone), program, program), gathered.kept.number)
+
+
+def others(given, gathered, fault, program, gone):
     """Where two reports tell different stories of a view, the answer with either story; else without all that are refused."""
     if gathered.refused and gathered.refused.number in (12, 13) and gathered.fault == fault:
         told = reports(given, gathered.settings)
-        return [Without(blocks, program.ask(left_out(given, blocks))) for blocks in stories(gathered, told, fault)]
-    refused, answer = [fault], program.ask(left_out(given, [fault]))
-    while isinstance(answer, Number):
+        return [without(given, blocks, program, gone) for blocks in stories(gathered, told, fault)]
+    refused = [fault]
+    while isinstance(program.ask(left_out(given, refused)), Number):
         left = [number for number in range(len(given.blocks)) if number not in refused]
         refused.append(left[program.fault(left_out(given, refused))])
-        answer = program.ask(left_out(given, refused))
-    return [Without(sorted(refused), answer)]
+    return [without(given, sorted(refused), program, gone)]
 
 
 def reports(given, settings):

@@ -26,14 +26,28 @@ def default_program():
     return found
 
 
-class Program:
-    """The program, which is started once for each question; an answer given before is remembered. `until` is the time by which
-    questions that may be left out must have been asked."""
+class Clock:
+    """A time by which work that may be left out must be done."""
+
+    def __init__(self, seconds=SECONDS):
+        self.start(seconds)
+
+    def start(self, seconds):
+        self.until = time.monotonic() + seconds
+
+    def in_time(self):
+        if time.monotonic() > self.until:
+            raise OutOfTime
+
+
+class Program(Clock):
+    """The program, which is started once for each question; an answer given before is remembered. The time is for questions that
+    may be left out."""
 
     def __init__(self, path=None, seconds=SECONDS):
+        super().__init__(seconds)
         path = path or default_program()
         self.path = os.path.abspath(path) if os.path.exists(path) else path
-        self.until = time.monotonic() + seconds
         self.answers = {}
 
     @property
@@ -50,10 +64,6 @@ class Program:
     def ask_in_time(self, blocks):
         self.in_time()
         return self.ask(blocks)
-
-    def in_time(self):
-        if time.monotonic() > self.until:
-            raise OutOfTime
 
     def fault(self, blocks):
         """The number of the first block that the program refuses: it refuses the input cut off after this block, and no shorter

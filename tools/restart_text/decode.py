@@ -1,5 +1,5 @@
-"""From words to values: settings, reports and orders, or the number of the first row of document 01's table that applies
-(2, 5 to 11) and what is wrong. Each row is checked over the whole message before the next."""
+"""From words to values: settings, reports and orders, or the first number of restart(7) that applies (2, 5 to 11) and
+what is wrong. Each row is checked over the whole message before the next."""
 from collections import namedtuple
 
 from .encode import CUT, HOLDER, MEMBERS, RUN, TERMINATION

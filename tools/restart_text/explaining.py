@@ -36,7 +36,7 @@ def explain(given, answer, fault=None, program=None, gone=frozenset()):
         told.advice = advise(given, gathered, answer, told.fault, program, gone)
     if isinstance(answer, Number):
         told.lines = refusal_lines(answer.number, told.fault, given, gathered)
-        told.lines += refusal_advice(given, told.advice, block_name)
+        told.lines += refusal_advice(given, gathered, told.advice, block_name)
         told.lines += ["To do: %s" % ADVICE[answer.number]] if answer.number in ADVICE else []
     elif told.agrees and isinstance(answer, Wait):
         told.lines = parts(wait_advice(gathered, answer, told.advice, program), summary(gathered), waiting(gathered, answer))

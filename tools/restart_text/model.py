@@ -80,7 +80,7 @@ class Order:
 
 
 class Refused(Exception):
-    """Words that the planner refuses: the number of the row in document 01's table, and what is wrong, in words."""
+    """Words that the planner refuses: the number as in restart(7), and what is wrong, in words."""
 
     def __init__(self, number, why):
         super().__init__("number %d: %s" % (number, why))

@@ -30,7 +30,8 @@ def page(told, name):
     if told.agrees and not isinstance(told.answer, Number):
         parts += ["<h2>Drawing</h2>", '<div class="drawing">', inline(draw(told)), "</div>"]
         parts += ["<h2>Shards</h2>", table(shard_rows(told.gathered, told.answer) if kind == "plan" else wait_rows(told.gathered))]
-    parts += ["<h2>Explanation</h2>", "<pre>%s</pre>" % escape("\n".join(told.lines))]
+    if first != told.lines:
+        parts += ["<h2>Explanation</h2>", "<pre>%s</pre>" % escape("\n".join(told.lines))]
     head = '<meta charset="utf-8"><meta name="viewport" content="width=device-width"><title>%s</title><style>%s</style>'
     return "<!DOCTYPE html>\n<html lang=\"en\"><head>%s</head>\n<body>\n%s\n</body></html>\n" % (
         head % (escape(title), STYLE), "\n".join(parts))

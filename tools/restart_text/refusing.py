@@ -1,4 +1,4 @@
-"""A refusal in words: the condition of document 01's table, what is wrong in the block at fault, and what to do."""
+"""A refusal in words: when its number is given, what is wrong in the block at fault, and what to do."""
 TABLE = {
     1: "desk not 16,384 words, buffer to be written not 512",
     2: "settings",
@@ -36,7 +36,7 @@ ADVICE = {
 def refusal_lines(number, fault, given, gathered):
     """What number the planner gave, for which block (by its place in the input), and why."""
     if number not in ADVICE:
-        table = "is given when: %s" % TABLE[number] if number in TABLE else "is not in document 01's table"
+        table = "is given when: %s" % TABLE[number] if number in TABLE else "is not among those of restart(7)"
         return ["Number %d %s. The program restart never gives it." % (number, table)]
     lines = ["Refused with number %d, given when: %s." % (number, TABLE[number])]
     if fault is not None:

@@ -28,8 +28,8 @@ class Found:
     cut_short: bool = False  # whether the time ended before the search
 
 
-def least_sets(supposed, program):
-    """Looks for them. Without a program, all is this tool's own count."""
+def least_sets(supposed, program, clock):
+    """Looks for them until the clock's time is over. Without a program, all is this tool's own count."""
     found, count = Found(), Count(supposed)
     found.helpless = count.lacking(supposed.pool) > 0
     if program:
@@ -38,23 +38,25 @@ def least_sets(supposed, program):
     if found.helpless:
         return found
     try:
-        look(found, supposed, count, program)
+        look(found, supposed, count, program, clock)
         if program and found.sets:
             found.least = none_smaller(found, supposed, count, program)
     except OutOfTime:
         found.cut_short = True
     found.by_size = bool(found.sets)
     if not found.sets:
-        found.sets = [spared(count)]
+        some = spared(count)
+        enough = not program or isinstance(program.ask(supposed.blocks_with(some)), Plan)
+        found.sets = [some if enough else tuple(supposed.pool)]
     if program:
         found.without = indispensable(found, supposed, program)
     return found
 
 
-def look(found, supposed, count, program):
+def look(found, supposed, count, program, clock):
     """Size after size, up to the first with which there is a plan."""
     for size in range(count.lacking(()), len(supposed.pool) + 1):
-        for nodes in sets_of(count, program, (), 0, size):
+        for nodes in sets_of(count, clock, (), 0, size):
             if len(found.sets) == MOST_ASKED:
                 found.others.append(nodes)
             elif not program or isinstance(program.ask_in_time(supposed.blocks_with(nodes)), Plan):
@@ -73,10 +75,9 @@ def indispensable(found, supposed, program):
     return {node: answer for node, answer in answers.items() if not isinstance(answer, Plan)}
 
 
-def sets_of(count, program, chosen, start, left):
+def sets_of(count, clock, chosen, start, left):
     """The sets of so many machines more than those chosen, from the pool's place `start` on, that lack nothing by the count."""
-    if program:
-        program.in_time()
+    clock.in_time()
     if count.lacking(chosen) > left:
         return
     if left == 0:
@@ -86,7 +87,7 @@ def sets_of(count, program, chosen, start, left):
     for place in range(start, len(pool) - left + 1):
         if count.lacking(chosen + tuple(pool[place:])):
             return
-        yield from sets_of(count, program, chosen + (pool[place],), place + 1, left - 1)
+        yield from sets_of(count, clock, chosen + (pool[place],), place + 1, left - 1)
 
 
 def none_smaller(found, supposed, count, program):

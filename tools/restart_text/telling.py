@@ -100,14 +100,19 @@ def lone_view(gathered, advice):
     kept, settings, answer = gathered.kept, gathered.settings, advice.lone.answer
     below = max(report.view.number for report in gathered.reports.values() if report.view.number < kept.number)
     result = printed(answer) if not isinstance(answer, Wait) else "%s, %s" % (printed(answer), reason(answer))
-    found = advice.lone.found
-    if found and found.sets:
-        told, rest = choices(settings, found)
-        result += "; switch on %s then%s" % (told, ", or instead %s" % rest if rest else "")
+    result += then(settings, advice.lone)
     lines = ["Only machine %s reports view %d, the next lower is %d; without its report: %s."
              % (settings.name(gathered.kept_from), kept.number, below, result)]
     return lines + ["Leave it out only if that view is damaged or was never served: what was stored in it is lost with it. The"
                     " planner keeps a view until a fresh state (duty 10)."]
+
+
+def then(settings, without):
+    """Which machines would help once some reports are left out."""
+    if not without.found or not without.found.sets:
+        return ""
+    told, rest = choices(settings, without.found)
+    return "; then %s%s would have to report view %d" % (told, ", or instead %s," % rest if rest else "", without.view)
 
 
 def helpless(gathered, advice):
@@ -134,11 +139,12 @@ def duties(gathered):
                     " knows; if it was, an older view loses what was stored" % gathered.kept.number]
 
 
-def refusal_advice(given, advice, name):
+def refusal_advice(given, gathered, advice, name):
     """What the others would give; `name` tells a block."""
     lines = []
     for place, one in enumerate(advice.without):
         instead = " instead" if place else ""
         answer = printed(one.answer) + (", " + reason(one.answer) if isinstance(one.answer, Wait) else "")
-        lines.append("Without %s%s: %s." % (listed([name(number, given) for number in one.blocks]), instead, answer))
+        blocks = listed([name(number, given) for number in one.blocks])
+        lines.append("Without %s%s: %s%s." % (blocks, instead, answer, then(gathered.settings, one)))
     return lines

@@ -1,5 +1,5 @@
-"""From a text to values: settings, reports and orders. What the planner would refuse in one block (rows 2 and 5 to 11 of
-document 01's table) is refused here, with the line."""
+"""From a text to values: settings, reports and orders. What the planner would refuse in one block (numbers 2 and 5 to
+11) is refused here, with the line."""
 from .lines import ORDER, REPORT, SETTINGS, BadText, by_key, each, only, within
 from .model import GREATEST, MOST_NODES, MOST_RECORDS, MOST_SETS, MOST_SHARDS, START, SUBGROUPS
 from .model import Order, Report, Settings, Shard, View

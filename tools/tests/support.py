@@ -51,7 +51,7 @@ def given(text):
     return inputs.from_text(text)
 
 
-# Document 01's case A: settings, then the reports of machines 0 to 5.
+# Case A: settings, then the reports of machines 0 to 5.
 CASE_A = [
     [7, 3, 4, 3, 0, 0, 1, 1, 1, 2, 2, 2, 3, 1],
     [0, 7, 127, 1, 256, 5, 0, 2, 257, 82, 0, 3, 258, 32, 0, 0],
@@ -62,7 +62,7 @@ CASE_A = [
     [5, 7, 127, 1, 256, 5, 0, 2, 257, 82, 0, 3, 258, 32, 0, 0],
 ]
 
-# What document 01 prints for it.
+# What the program must print for it.
 ANSWER_A = """view 8
 moves 2
 shard 0 holder 0 target 0 0 members 0 2

@@ -91,7 +91,7 @@ class RandomWaits(unittest.TestCase):
             program = Program(support.program(), 60)
             if not supposed or len(supposed.pool) not in (1, 2, 3, 4) or not isinstance(program.ask(given.blocks), Wait):
                 continue
-            found, every = least_sets(supposed, program), by_asking(supposed, Program(support.program()))
+            found, every = least_sets(supposed, program, program), by_asking(supposed, Program(support.program()))
             self.assertEqual(found.helpless, not every, "seed %d" % seed)
             if every:
                 self.assertEqual((found.sets, found.least, found.complete), (every, True, True), "seed %d" % seed)
@@ -244,7 +244,7 @@ class LoneViews(unittest.TestCase):
         lines = told(A.replace("report node 4 view 7", "report node 4 view 9")).lines
         self.assertEqual(lines[1],
                          "Only machine 4 reports view 9, the next lower is 7; without its report: wait 5 0, no placement of"
-                         " subgroup 0; switch on machine 6 then.")
+                         " subgroup 0; then machine 6 would have to report view 7.")
 
     def test_reported_and_replaced(self):
         """The view of a report that was replaced is kept, though nobody holds it."""
@@ -265,7 +265,8 @@ class Refusals(unittest.TestCase):
     def test_a_bad_report_and_what_the_others_give(self):
         given = support.with_block(4, [3, 0, 127, 1] + support.CASE_A[4][4:])
         lines = asked(given, Program(support.program())).lines
-        self.assertIn("Without report 4 of 6, which names machine 3: wait 5 0, no placement of subgroup 0.", lines)
+        self.assertIn("Without report 4 of 6, which names machine 3: wait 5 0, no placement of subgroup 0; then machine 3"
+                      " or 6 would have to report view 7.", lines)
         given.blocks[0] = given.blocks[0][:-1] + [257]
         lines = asked(given, Program(support.program())).lines
         self.assertIn("Without report 4 of 6, which names machine 3: a plan, new view 8, 1 move.", lines)
@@ -276,14 +277,15 @@ class Refusals(unittest.TestCase):
         found = asked(given, Program(support.program()))
         self.assertEqual([one.blocks for one in found.advice.without], [[3, 6]])
         self.assertIn("Without report 3 of 6, which names machine 2 and report 6 of 6, which names machine 5: wait 4 2, no log of"
-                      " shard 2.",
+                      " shard 2; then machine 5 and machine 2 or 6 would have to report view 7.",
                       found.lines)
 
     def test_two_stories_of_a_view(self):
         start = "report node 4 view 7\nmembers 0-6\nshard 0 members 0 "
         found = asked(support.given(A.replace(start + "2", start + "3")), Program(support.program()))
         self.assertEqual([one.blocks for one in found.advice.without], [[5], [1, 2, 3, 4, 6]])
-        self.assertIn("Without report 5 of 6, which names machine 4 (line 42): wait 5 0, no placement of subgroup 0.", found.lines)
+        self.assertIn("Without report 5 of 6, which names machine 4 (line 42): wait 5 0, no placement of subgroup 0; then machine 4 or"
+                      " 6 would have to report view 7.", found.lines)
 
     def test_two_terminations(self):
         parts, ending = A.split("\n\n"), "\n".join("termination shard %d view 7 update 4" % shard for shard in range(3))
@@ -325,6 +327,12 @@ class LargeGroups(unittest.TestCase):
         self.assertFalse(found.advice.found.least)
         self.assertIn("The search was cut short after its time; --search SECONDS gives it more.", found.lines)
         self.assertIn("this tool's own count", found.lines[0])
+
+    def test_an_own_count_ends_as_well(self):
+        began = time.monotonic()
+        told_late = explain(self.given(range(2)), Wait(2, None))
+        self.assertLess(time.monotonic() - began, 15)
+        self.assertIn("The program was not asked. The rest is this tool's own count.", told_late.lines)
 
     def test_no_time_at_all(self):
         given, program = self.given(range(1)), Program(support.program(), 0)

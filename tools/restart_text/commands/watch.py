@@ -24,7 +24,7 @@ def work(chosen):
             while True:
                 files = files_in(chosen.file)
                 if files != seen:
-                    program.until = time.monotonic() + chosen.search
+                    program.start(chosen.search)
                     lines, status = look(files, program, lambda names: gone_nodes(chosen, names), chosen.names)
                     screen.show(name_of(chosen.file), changed(seen, files), lines)
                     seen = files
