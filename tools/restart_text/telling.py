@@ -41,9 +41,10 @@ def switch_on(gathered, advice, program):
     lines = ["Switch on %s: then there is a plan%s." % (told, fewer if len(found.sets[0]) > 1 else "")]
     lines += ["Or instead: %s." % rest] if rest else []
     lines.append("Assumed: %s" % assumed(gathered, sorted(set().union(*found.sets))))
-    if found.others or not program:
-        asked = "The program was asked about %d of these sets." % len(found.sets) if program else "The program was not asked."
-        lines.append("%s The rest is this tool's own count." % asked)
+    if not program:
+        lines.append("The program was not asked; all this is this tool's own count.")
+    elif found.others:
+        lines.append("The program was asked about %d of these sets; the rest is this tool's own count." % len(found.sets))
     if found.cut_short:
         lines.append("The search was cut short after its time; --search SECONDS gives it more.")
     for node, other in found.without.items():
@@ -121,7 +122,7 @@ def helpless(gathered, advice):
     told = reason(found.all_back) if found.all_back else "by this tool's own count"
     who = "every absent machine back" if not gone else "every absent machine back but %s" % machines(gathered.settings, gone)
     lines = ["No machine to switch on helps: with %s there is still no plan (%s)." % (who, told),
-             "What is left is the service's own, by its duties in docs/ASSUMPTIONS.md; the planner will go on waiting:"]
+             "What is left is the service's own, by its duties (docs/ASSUMPTIONS.md, restart(3)); the planner will go on waiting:"]
     if found.all_back and found.all_back.reason == 5:
         return lines + ["  the settings ask for more than these machines can give; to change them, or to bring machines into other"
                         " failure sets, is the service's decision"]

@@ -14,18 +14,16 @@ SETTINGS = ("settings.txt", "settings.bin")
 
 
 def files_in(folder):
-    """The settings and the reports of the folder, these in the order in which they were written, each with time and size."""
-    found = []
-    for place in (folder, os.path.join(folder, "reports")):
-        try:
-            names = os.listdir(place)
-        except OSError:
-            continue
-        found += [os.path.join(place, name) for name in names if name.endswith((".bin", ".txt")) and not name.startswith(".")]
-    settings = [path for name in SETTINGS for path in found if path == os.path.join(folder, name)]
-    reports = [stamped(path) for path in found if path not in settings]
-    reports = sorted((one for one in reports if one), key=lambda one: (one[1], one[0]))
-    return tuple([one for one in map(stamped, settings[:1]) if one] + reports)
+    """The settings and the reports of the folder, these in the order in which they were written, each with time and size. Reports
+    stand in its folder reports, or where it has none, in itself."""
+    settings = [one for one in (stamped(os.path.join(folder, name)) for name in SETTINGS) if one]
+    place = os.path.join(folder, "reports") if os.path.isdir(os.path.join(folder, "reports")) else folder
+    try:
+        names = [name for name in os.listdir(place) if name.endswith(".bin") and not name.startswith(".") and name not in SETTINGS]
+    except OSError:
+        names = []
+    reports = [one for one in (stamped(os.path.join(place, name)) for name in names) if one]
+    return tuple(settings[:1] + sorted(reports, key=lambda one: (one[1], one[0])))
 
 
 def stamped(path):

@@ -26,10 +26,13 @@ def browser():
 
 def opened(path, address, *arguments):
     """What the browser prints for this address."""
-    with tempfile.TemporaryDirectory() as profile:
-        done = subprocess.run([path, "--headless", "--no-sandbox", "--disable-gpu", "--disable-dev-shm-usage", "--hide-scrollbars",
-                               "--user-data-dir=" + profile, *arguments, address], capture_output=True, check=False, timeout=120)
-    return done.stdout
+    with tempfile.TemporaryDirectory(ignore_cleanup_errors=True) as profile:
+        command = [path, "--headless", "--no-sandbox", "--disable-gpu", "--disable-dev-shm-usage", "--hide-scrollbars",
+                   "--user-data-dir=" + profile, *arguments, address]
+        try:
+            return subprocess.run(command, capture_output=True, check=False, timeout=120).stdout
+        except subprocess.TimeoutExpired:
+            return b""
 
 
 def text_and_picture(page, width, height):

@@ -184,6 +184,16 @@ class Watch(Folder):
         os.utime(late, (2**31, 2**31))
         self.assertEqual(self.watch(0.1)[0], 1)
 
+    def test_reports_beside_the_settings(self):
+        """Where there is no folder reports; what is no .bin file is left alone."""
+        self.split()
+        for name in os.listdir(self.path("reports")):
+            os.rename(self.path("reports", name), self.path(name))
+        self.put("notes.txt", b"hello")
+        self.assertEqual(self.watch(0.1)[0], 1)
+        os.rmdir(self.path("reports"))
+        self.assertEqual(self.watch(0.1)[0], 0)
+
     def test_names_and_lost_machines(self):
         shutil.copy(os.path.join(support.ROOT, "examples", "night.txt"), self.path("settings.txt"))
         status, answers = self.watch(0.1, "--gone", "rack1-c")

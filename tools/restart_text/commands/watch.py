@@ -10,7 +10,7 @@ from .shared import gone_nodes, program_arguments, seconds
 
 
 def arguments(parser):
-    parser.add_argument("file", metavar="FOLDER", help="settings.txt or settings.bin, and reports in it or in its folder reports")
+    parser.add_argument("file", metavar="FOLDER", help="a folder with settings.txt or settings.bin, and with reports in its folder reports or beside them")
     program_arguments(parser, with_answer=False)
     parser.add_argument("--seconds", type=seconds, help="end after so many seconds; without it, when interrupted")
     parser.add_argument("--every", metavar="SECONDS", type=seconds, default=0.5, help="how often to look, 0.5 without it")
