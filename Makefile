@@ -119,8 +119,9 @@ install-tool:
 	sed 's|@TOOLDIR@|$(TOOLDIR)|' tools/restart-text > $(TO)$(BINDIR)/restart-text
 	chmod 755 $(TO)$(BINDIR)/restart-text
 	install -m 644 man/restart-text.1 $(TO)$(MANDIR)/man1
+	install -m 644 docs/explain.schema.json $(TO)$(TOOLDIR)
 
 uninstall-tool:
 	rm -f $(TO)$(BINDIR)/restart-text $(TO)$(MANDIR)/man1/restart-text.1
-	rm -rf $(TO)$(TOOLDIR)/restart_text
-	-rmdir $(TO)$(TOOLDIR) 2>/dev/null
+	rm -rf $(TO)$(TOOLDIR)/restart_text $(TO)$(TOOLDIR)/explain.schema.json
+	rmdir $(TO)$(TOOLDIR) 2>/dev/null || true

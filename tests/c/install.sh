@@ -27,7 +27,7 @@ names() {
     sed -n 's|^uint32_t \(restart_[a-z_]*\)(.*|share/man/man3/\1.3|p' include/restart.h
     for report in examples/reports/*.bin; do echo "share/restart/example/reports/${report##*/}"; done
     for name in settings.bin events.txt output.txt; do echo "share/restart/example/$name"; done
-    echo bin/restart-text share/man/man1/restart-text.1
+    echo bin/restart-text share/man/man1/restart-text.1 share/restart/explain.schema.json
     (cd tools && find restart_text -name '*.py' | sed 's|^|share/restart/|')
 }
 

@@ -6,6 +6,7 @@ from .answers import Number, Plan, Wait, printed
 from .gathering import Gathered, gather, waits
 from .planning import faults, plan_lines
 from .refusing import ADVICE, block_name, refusal_lines
+from .sentences import machines
 from .telling import plan_advice, refusal_advice, wait_advice
 from .waiting import wait_lines
 
@@ -34,6 +35,7 @@ def explain(given, answer, fault=None, program=None, gone=frozenset()):
         told.fault = gathered.fault
     if told.agrees:
         told.advice = advise(given, gathered, answer, told.fault, program, gone)
+        told.differing = supposed_differences(gathered.settings, told.advice.found)
     if isinstance(answer, Number):
         told.lines = refusal_lines(answer.number, told.fault, given, gathered)
         told.lines += refusal_advice(given, gathered, told.advice, block_name)
@@ -101,6 +103,11 @@ def differences(gathered, given, answer, fault=None):
     if failing:
         return [] if answer == Wait(*failing[0]) else [printed(Wait(*failing[0]))]
     return faults(gathered, answer) if isinstance(answer, Plan) else ["a plan"]
+
+
+def supposed_differences(settings, found):
+    """Where the program's answers about machines that are supposed to be back are not those of this tool's own counting."""
+    return ["with %s back: not what the program answers" % machines(settings, nodes) for nodes in found.differs] if found else []
 
 
 def warning(differing):

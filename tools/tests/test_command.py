@@ -101,8 +101,9 @@ class Programs(unittest.TestCase):
 
     def installed(self):
         """The tool as it is installed."""
+        plain = {name: value for name, value in os.environ.items() if not name.startswith(("MAKE", "MFLAGS"))}
         done = subprocess.run(["make", "-s", "install-tool", "DESTDIR=", "PREFIX=" + self.folder], cwd=support.ROOT, check=False,
-                              capture_output=True, text=True)
+                              capture_output=True, text=True, env=plain)
         self.assertEqual((done.returncode, done.stderr), (0, ""))
         return os.path.join(self.folder, "bin", "restart-text")
 

@@ -1,6 +1,8 @@
 """Which machines to switch on: the sets that are told against every set asked of the program, and what is said of them."""
 import itertools
+import os
 import random
+import tempfile
 import time
 import unittest
 
@@ -297,6 +299,20 @@ class Refusals(unittest.TestCase):
     def test_bad_settings(self):
         found = asked(support.with_block(0, [7]), Program(support.program()))
         self.assertEqual(found.advice.without, [])
+
+
+class OtherAnswers(unittest.TestCase):
+    """A program that comes to something else than this tool's own count."""
+
+    def test_a_program_that_always_waits(self):
+        with tempfile.TemporaryDirectory() as folder:
+            path = os.path.join(folder, "restart")
+            with open(path, "w", encoding="ascii") as file:
+                file.write("#!/bin/sh\necho wait 2\n")
+            os.chmod(path, 0o755)
+            found = asked(support.given(support.example("b")), Program(path))
+        self.assertFalse(found.agrees)
+        self.assertIn("  with machines 3, 4, 5 and 6 back: not what the program answers", found.lines)
 
 
 class LargeGroups(unittest.TestCase):
