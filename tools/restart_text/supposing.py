@@ -9,18 +9,22 @@ from .model import START, Report, View
 
 
 def supposed_report(gathered, node):
-    """What the machine is supposed to report: the kept view, with the updates that a kept termination ends with; or where it is no
-    member of that view, the view before. None where there is no such view."""
+    """What the machine is supposed to report: the kept view, with the updates that are wanted of its logs; or where it is no member
+    of that view, the view before. None where there is no such view."""
     kept = gathered.kept
-    runs = [()] * len(kept.shards)
+    runs = tuple((wanted_update(gathered, shard),) if node in members and wanted_update(gathered, shard) else ()
+                 for shard, members in enumerate(kept.shards))
     if node in kept.members:
-        for shard, position in enumerate(gathered.termination or ()):
-            if node in kept.shards[shard] and position != START:
-                runs[shard] = (position,)
-        return Report(node, kept, None, tuple(runs))
+        return Report(node, kept, None, runs)
     if kept.number == 1:
         return None
-    return Report(node, View(kept.number - 1, kept.members | {node}, kept.shards), None, tuple(runs))
+    return Report(node, View(kept.number - 1, kept.members | {node}, kept.shards), None, runs)
+
+
+def wanted_update(gathered, shard):
+    """Where a termination is kept and nobody back has its update of this shard: that update."""
+    position = gathered.termination[shard] if gathered.termination else START
+    return position if position != START and not holding(gathered, shard) else None
 
 
 @dataclass

@@ -2,8 +2,8 @@
 import math
 
 from .answers import Number, Wait, printed
-from .model import START
 from .sentences import counted, listed, machine, machines, update
+from .supposing import wanted_update
 
 REASONS = {1: "no report", 2: "no majority of the kept view", 3: "fewer machines than the least group size",
            4: "no log of shard %d", 5: "no placement of subgroup %d"}
@@ -78,11 +78,13 @@ def assumed(gathered, nodes):
         ending = ", and no other termination" if gathered.termination else " and no termination; its log may end anywhere"
         parts.append("a machine that comes back reports view %d%s" % (kept.number, ending))
     if outside:
-        parts.append("%s, no member of view %d, an older view" % (machines(settings, outside), kept.number))
-    for shard, position in enumerate(gathered.termination or ()):
-        helpers = [node for node in inside if node in kept.shards[shard]]
-        if helpers and position != START:
-            parts.append("the log of shard %d on %s has %s" % (shard, machines(settings, helpers), update(position)))
+        several = len(outside) > 1
+        parts.append("%s, no member%s of view %d, %s" % (machines(settings, outside), "s" * several, kept.number,
+                                                          "older views" if several else "an older view"))
+    for shard, members in enumerate(kept.shards):
+        helpers, wanted = [node for node in inside if node in members], wanted_update(gathered, shard)
+        if helpers and wanted:
+            parts.append("the log of shard %d on %s has %s" % (shard, machines(settings, helpers), update(wanted)))
     return "; ".join(parts) + "."
 
 

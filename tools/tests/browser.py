@@ -5,6 +5,7 @@ import shutil
 import struct
 import subprocess
 import tempfile
+import time
 import zlib
 
 import support
@@ -18,9 +19,11 @@ def browser():
     """The browser's path, or None. Where there is none, Debian's package is installed, unless that takes long or is not allowed."""
     found = next(filter(None, map(shutil.which, NAMES)), None)
     if not found and os.getuid() == 0 and shutil.which("apt-get"):
+        began = time.monotonic()
         subprocess.run(["sh", "-c", ". tests/needs.sh; needs_soon %d chromium" % FETCHING], cwd=support.ROOT, check=False,
                        stdout=subprocess.DEVNULL, stderr=subprocess.DEVNULL)
         found = shutil.which("chromium")
+        print("pages: installing Chromium %s, %d s" % ("done" if found else "failed", time.monotonic() - began), flush=True)
     return found if found and opened(found, "data:text/html,there", "--dump-dom").find(b"there") >= 0 else None
 
 
