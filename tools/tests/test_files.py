@@ -154,20 +154,26 @@ class Watch(Folder):
             data = file.read()
         os.remove(late)
 
-        process, shown = self.started(120), ""
-        while "To do: bring back machine 5 with" not in shown:
-            shown += process.stdout.readline()
+        process = self.started(60)
+        shown = self.read_until(process, "", "To do: bring back machine 5 with")
         self.put("reports/.hidden.bin", b"x")
         self.put("reports/new.tmp", data)
         os.rename(self.path("reports", "new.tmp"), late)
-        while "Plan: " not in shown:
-            shown += process.stdout.readline()
+        shown = self.read_until(process, shown, "Plan: ")
         process.send_signal(signal.SIGINT)
         rest, errors = process.communicate(timeout=120)
         answers = answers_in(shown + rest)
         self.assertEqual([lines[2].split(":")[0] for lines in answers], ["Switch on machine 5", "Plan"])
         self.assertEqual((process.returncode, errors), (0, ""))
         self.assertEqual(answers[1][0].split("  ")[-1], "changed: 1-machine-5.bin")
+
+    def read_until(self, process, text, piece):
+        """What the process prints, up to the line with this piece."""
+        while piece not in text:
+            line = process.stdout.readline()
+            self.assertTrue(line, "it ended without %r: %s" % (piece, text))
+            text += line
+        return text
 
     def test_a_bad_report_is_named_by_its_file(self):
         self.split()
@@ -211,7 +217,7 @@ class Watch(Folder):
         os.remove(self.path("reports", "1-machine-5.bin"))
         leader, follower = pty.openpty()
         self.addCleanup(os.close, leader)
-        process = self.started(120, output=follower, env=dict(os.environ, COLUMNS="60", LINES="12"))
+        process = self.started(60, output=follower, env=dict(os.environ, COLUMNS="60", LINES="12"))
         os.close(follower)
         text = self.until(leader, "", "lines more: restart-text explain)")
         self.put("reports/1-machine-5.bin", words.to_bytes(support.CASE_A[6]))

@@ -7,7 +7,7 @@ import time
 import unittest
 
 import support
-from restart_text import encode, inputs
+from restart_text import encode, inputs, words
 from restart_text.answers import Plan, Wait
 from restart_text.asking import Program
 from restart_text.explaining import asked, explain
@@ -63,6 +63,15 @@ class Night(unittest.TestCase):
         self.assertTrue(found.complete and found.least and not found.cut_short and not found.others)
         self.assertEqual(len(found.sets), 7)
         self.assertEqual(found.sets, by_asking(Supposed(given.blocks, gather(given.blocks)), Program(support.program())))
+
+    def test_no_smaller_set_was_passed_over(self):
+        """Every pair of machines is in a set about which the program was asked and gave no plan."""
+        given, program = support.given(NIGHT), Program(support.program(), 60)
+        supposed = asked(given, program).advice.supposed
+        every = [nodes for size in range(7) for nodes in itertools.combinations(supposed.pool, size)]
+        refuted = [nodes for nodes in every if isinstance(program.answers.get(words.joined(supposed.blocks_with(nodes))), Wait)]
+        for pair in itertools.combinations(supposed.pool, 2):
+            self.assertTrue(any(set(pair) <= set(nodes) for nodes in refuted), pair)
 
     def test_few_questions(self):
         """Each set that is told, and few of the 22 smaller ones."""
