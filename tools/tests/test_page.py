@@ -88,8 +88,11 @@ class Pages(unittest.TestCase):
         self.assertIn("Refused: number 7", read.text)
         self.assertIn("Input: a <b> & c", read.text)
         self.assertEqual((read.cells, read.identities), ([], []))
-        read = self.read(page(explain(support.given(support.example("a")), Wait(2, None)), "case"))
+        told = explain(support.given(support.example("a")), Wait(2, None))
+        told.lines.append("x < y & z > <b>")
+        read = self.read(page(told, "case"))
         self.assertIn("WARNING: this answer does not fit this input.", read.text)
+        self.assertIn("x < y & z > <b>", read.text)
 
     def test_it_refers_to_nothing_outside(self):
         for name in ("case-a.txt", "night.txt"):
