@@ -37,6 +37,28 @@ fuzz:
 performance:
 	@python3 bench/performance.py
 
+# ---- The operators' tool: its program, its package and its page
+
+TOOLDIR ?= $(PREFIX)/share/restart
+TOOL_FILES := $(patsubst tools/%,%,$(wildcard tools/restart_text/*.py tools/restart_text/*/*.py))
+
+.PHONY: install-tool uninstall-tool
+install: install-tool
+uninstall: uninstall-tool
+
+install-tool:
+	install -d $(TO)$(BINDIR) $(TO)$(MANDIR)/man1 $(sort $(dir $(TOOL_FILES:%=$(TO)$(TOOLDIR)/%)))
+	for file in $(TOOL_FILES); do install -m 644 tools/$$file $(TO)$(TOOLDIR)/$$file || exit; done
+	sed 's|@TOOLDIR@|$(TOOLDIR)|' tools/restart-text > $(TO)$(BINDIR)/restart-text
+	chmod 755 $(TO)$(BINDIR)/restart-text
+	install -m 644 man/restart-text.1 $(TO)$(MANDIR)/man1
+	install -m 644 docs/explain.schema.json $(TO)$(TOOLDIR)
+
+uninstall-tool:
+	rm -f $(TO)$(BINDIR)/restart-text $(TO)$(MANDIR)/man1/restart-text.1
+	rm -rf $(TO)$(TOOLDIR)/restart_text $(TO)$(TOOLDIR)/explain.schema.json
+	rmdir $(TO)$(TOOLDIR) 2>/dev/null || true
+
 # ---- The library for C and what is built over it
 
 VERSION := $(shell sed -n 's/^\#define RESTART_VERSION "\(.*\)"/\1/p' include/restart.h)

@@ -33,9 +33,15 @@ names() {
 }
 
 all_there() { # FOLDER
-    names | tr ' ' '\n' | sort >"$room/expected"
+    { names && tool_names; } | tr ' ' '\n' | sort >"$room/expected"
     (cd "$1" && find . ! -type d | sed 's|^\./||' | sort) >"$room/found"
     diff "$room/expected" "$room/found"
+}
+
+# The operators' tool.
+tool_names() {
+    echo bin/restart-text share/man/man1/restart-text.1 share/restart/explain.schema.json
+    (cd tools && find restart_text -name '*.py' | sed 's|^|share/restart/|')
 }
 
 expected_output() {
@@ -136,6 +142,14 @@ shard 2 holder 5 target 7 3 members 3
 PLAN
 }
 
+# The tool asks the program that is installed beside it; what Python leaves behind is removed as well.
+installed_tool() { # PREFIX-FOLDER
+    cd / && "$1/bin/restart-text" explain "$root/examples/case-a.txt" >"$room/printed" &&
+        grep -q '^Plan: new view 8 after view 7, 2 moves' "$room/printed" || return
+    "$1/bin/restart-text" explain "$root/examples/night.txt" >"$room/printed"
+    test $? = 1 && grep -q '^Switch on machines rack1-a, rack1-c and rack3-a' "$room/printed"
+}
+
 version_is() { # VERSION LIBRARY-FOLDER
     test "$(PKG_CONFIG_PATH=$2/pkgconfig pkg-config --modversion restart)" = "$1"
 }
@@ -152,6 +166,7 @@ try() { # DESTDIR PREFIX CHECK
     check "the version" version_is "$version" "$1$2/lib"
     check "the example" installed_example "$1$2"
     check "the program" installed_program "$1$2"
+    check "the tool" installed_tool "$1$2"
     check "a manual page" groff -t -man -Tutf8 -ww "$1$2/share/man/man3/restart_decide.3"
     "$3" "$1$2"
     check "uninstall" make --no-print-directory uninstall DESTDIR="$1" PREFIX="$2"
