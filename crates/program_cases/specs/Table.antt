@@ -1,6 +1,6 @@
 -- Document 01's runs as the program prints them, one table: whatever text the definitions allow for the input is the one that
 -- document 01 gives. A text is the list of its bytes. G and H are cuts, which the program does not print.
-use Prim.Native.Nat.{ℕ, _+_, _*_}
+use Prim.Native.Nat.{ℕ}
 use mathlib.Core.Bool.{true}
 use mathlib.Core.List.{List, [], _∷_, _++_}
 use mathlib.Core.Path.{_≡_, refl, ap, ap₂, _∙_, subst}
@@ -9,14 +9,16 @@ use lib.ListN.{getD}
 use Rattle.base_laws.specs.Below.{allBelow, anyBelow, lowest}
 use Rattle.base_laws.specs.Positions.{pairNotAfter}
 use Rattle.base_laws.specs.Tables.{tabulate, padded}
+use Rattle.base_ids.specs.declared.Node.{Node}
+use Rattle.base_ids.specs.declared.Position.{Position}
 use Rattle.message_format.specs.Chain.{place, following}
 use Rattle.message_format.specs.Messages.{bodyWord, bodyOf, contentsOf}
 use Rattle.report_views.specs.declared.Plan.{Plan}
 use Rattle.report_views.specs.declared.Reason.{Reason}
 use Rattle.report_views.specs.declared.Reason.the-variants.{NoView, NoMajority, TooFew, NoHolder, NoPlacement}
 use Rattle.report_views.specs.declared.Quorum.the-variants.{Short}
-use Rattle.report_views.specs.Logs.{endOf, reaches, holds, hasUpdate}
-use Rattle.report_views.specs.Reports.{slot, reportOf, maskAt}
+use Rattle.report_views.specs.Logs.{pos, start, endOf, reaches, holds, hasUpdate}
+use Rattle.report_views.specs.Reports.{slot, reportOf, maskAt, nodeAt, holderAt, targetAt}
 use Rattle.report_views.specs.Quorums.{candidate, greatest, best, target, able, holder, majority, firstUnheld, quorumOf, numberOf, valueOf}
 use Rattle.report_desk.specs.Desk.{deskWith}
 use Rattle.history_cases.specs.Runs.{caseSettings, settingsWith, desk, view7, sixMembers}
@@ -128,19 +130,19 @@ from blocks p given h e k text t =
 
 -- ---- case A
 
-shard-is : (p : Plan) (s h v k m : ℕ) → getD (p .holders) s 0 ≡ h → getD (p .targets) (2 * s) 0 ≡ v → getD (p .targets) (2 * s + 1) 0 ≡ k
-    → maskAt (p .layout) s ≡ m → shardLine p s ≡ shardText s h v k m
-shard-is p s h v k m a b c d = shard-text p s ∙ rw (a, b, c, d)
+shard-is : (p : Plan) (s h v k m : ℕ) → holderAt p s ≡ h → targetAt p s ≡ pos v k → maskAt (p .layout) s ≡ m
+    → shardLine p s ≡ shardText s h (pos v k) m
+shard-is p s h v k m a b c = shard-text p s ∙ rw (a, b, c)
 
-text-0 : shardText 0 0 0 0 5 ≡ shard-0
+text-0 : shardText 0 0 (pos 0 0) 5 ≡ shard-0
 unfolding shardText carriers field decimal digitsBy membersBelow member
 text-0 = refl
 
-text-1 : shardText 1 1 7 5 50 ≡ shard-1
+text-1 : shardText 1 1 (pos 7 5) 50 ≡ shard-1
 unfolding shardText carriers field decimal digitsBy membersBelow member
 text-1 = refl
 
-text-2 : shardText 2 5 0 0 8 ≡ shard-2
+text-2 : shardText 2 5 (pos 0 0) 8 ≡ shard-2
 unfolding shardText carriers field decimal digitsBy membersBelow member
 text-2 = refl
 
@@ -168,12 +170,15 @@ a-plan r w =
     let t = w .targets in
     ap (λ (x : Decided). decisionText caseSettings (x .decision) (x .state .plan)) (w .given)
     ∙ plan-is p (w .view) (w .moves)
-    (shard-is p 0 0 0 0 5 (at h 0) (at t 0) (at t 1) (w .shard0) ∙ text-0)
-    (shard-is p 1 1 7 5 50 (at h 1) (at t 2) (at t 3) (w .shard1) ∙ text-1)
-    (shard-is p 2 5 0 0 8 (at h 2) (at t 4) (at t 5) (w .shard2) ∙ text-2)
+    (shard-is p 0 0 0 0 5 (holder-at h 0) (target-at t 0) (w .shard0) ∙ text-0)
+    (shard-is p 1 1 7 5 50 (holder-at h 1) (target-at t 1) (w .shard1) ∙ text-1)
+    (shard-is p 2 5 0 0 8 (holder-at h 2) (target-at t 2) (w .shard2) ∙ text-2)
   where
-    at : {l m : List ℕ} → l ≡ m → (k : ℕ) → getD l k 0 ≡ getD m k 0
-    at e k = ap (λ (x : List ℕ). getD x k 0) e
+    holder-at : {l m : List Node} → l ≡ m → (s : ℕ) → nodeAt l s ≡ nodeAt m s
+    holder-at e s = ap (λ (x : List Node). nodeAt x s) e
+
+    target-at : {l m : List Position} → l ≡ m → (s : ℕ) → getD l s start ≡ getD m s start
+    target-at e s = ap (λ (x : List Position). getD x s start) e
 
 a-text : (text : List ℕ) → Prints (Underway caseSettings (gathered view7 63) desk) text → text ≡ plan-text
 unfolding Prints

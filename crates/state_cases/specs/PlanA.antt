@@ -16,13 +16,14 @@ use Rattle.base_laws.specs.Positions.{pairNotAfter}
 use Rattle.base_laws.specs.Tables.{tabulate}
 use Rattle.base_sums.specs.Sums.{sumBelow}
 use Rattle.settings_values.specs.Settings.{shards}
+use Rattle.base_ids.specs.declared.Node.{Node}
 use Rattle.message_format.specs.Chain.{place, following}
 use Rattle.message_format.specs.Rows.{shardApart}
 use Rattle.message_format.specs.Messages.{bodyWord, bodyOf, contentsOf}
 use Rattle.place_groups.specs.Placements.{spread, shardValid, groupValid, groupValidAt, groupMoves, groupMovesAt}
 use Rattle.report_views.specs.declared.Layout.{Layout}
 use Rattle.report_views.specs.declared.Plan.{Plan}
-use Rattle.report_views.specs.Logs.{endOf, reaches, holds, hasUpdate}
+use Rattle.report_views.specs.Logs.{pos, start, endOf, reaches, holds, hasUpdate}
 use Rattle.report_views.specs.Reports.{slot, reportOf, maskAt}
 use Rattle.report_views.specs.Quorums.{candidate, greatest, best, target, able, holder}
 use Rattle.report_views.specs.Standings.{holdersOf, targetsOf}
@@ -39,6 +40,10 @@ use Rattle.state_exact.specs.Exactly.{plans-where-possible}
 use Rattle.state_cases.specs.Start.{gathered}
 use Rattle.state_cases.specs.Taken.{taken}
 
+-- node n
+abbrev node : ℕ → Node
+node n = record { 0 = n }
+
 -- the plan that document 01 prints
 pub record PlanOfA (r : Decided) : Type 0 where
   pub plan : Plan
@@ -46,8 +51,8 @@ pub record PlanOfA (r : Decided) : Type 0 where
   pub view : plan .layout .number .0 ≡ 8
   pub members : plan .layout .members ≡ 63
   pub moves : plan .total ≡ 2
-  pub holders : plan .holders ≡ 0 ∷ 1 ∷ 5 ∷ replicate 13 0
-  pub targets : plan .targets ≡ 0 ∷ 0 ∷ 7 ∷ 5 ∷ replicate 28 0
+  pub holders : plan .holders ≡ node 0 ∷ node 1 ∷ node 5 ∷ replicate 13 (node 0)
+  pub targets : plan .targets ≡ start ∷ pos 7 5 ∷ replicate 14 start
   -- nodes 0 and 2; 1, 4 and 5; 3
   pub shard0 : maskAt (plan .layout) 0 ≡ 5
   pub shard1 : maskAt (plan .layout) 1 ≡ 50
@@ -63,11 +68,11 @@ placements (suc (suc zero)) l = refl
 placements (suc (suc (suc zero))) l = refl
 placements (suc (suc (suc (suc g)))) l = absurd (omega arith)
 
-holders-are : holdersOf caseSettings view7 noTermination 63 desk ≡ 0 ∷ 1 ∷ 5 ∷ replicate 13 0
+holders-are : holdersOf caseSettings view7 noTermination 63 desk ≡ node 0 ∷ node 1 ∷ node 5 ∷ replicate 13 (node 0)
 unfolding desk ones onesIn allBelow anyBelow lowest tabulate pairNotAfter place following bodyWord bodyOf contentsOf endOf reaches holds hasUpdate slot reportOf candidate greatest best target able holder holdersOf
 holders-are = refl
 
-targets-are : targetsOf caseSettings view7 noTermination 63 desk ≡ 0 ∷ 0 ∷ 7 ∷ 5 ∷ replicate 28 0
+targets-are : targetsOf caseSettings view7 noTermination 63 desk ≡ start ∷ pos 7 5 ∷ replicate 14 start
 unfolding desk ones onesIn allBelow anyBelow lowest tabulate pairNotAfter place following bodyWord bodyOf contentsOf endOf reaches holds hasUpdate slot reportOf candidate greatest best target able holder targetsOf
 targets-are = refl
 

@@ -1,6 +1,6 @@
 -- What decide promises leads to a sound state: a wait hands the state back, and a plan that decide promises is a sound one, with
 -- holders and targets read from their tables.
-use Prim.Native.Nat.{ℕ, _+_, _*_, _<_}
+use Prim.Native.Nat.{ℕ, _<_}
 use mathlib.Core.Bool.{Bool, true, false, cond, _&&_}
 use mathlib.Core.List.{List}
 use mathlib.Core.Logic.{_⊎_, inl, inr, ⊎-elim}
@@ -10,8 +10,8 @@ use lib.ListN.{getD}
 use borrow.Author.Tests.{eq-eqb}
 use Rattle.base_laws.specs.Bools.{and-both}
 use Rattle.base_laws.specs.Below.{allBelow, all-of}
-use Rattle.base_laws.specs.Tables.{getD-tabulate}
 use Rattle.settings_values.specs.Settings.{shards}
+use Rattle.base_ids.specs.declared.Node.{Node}
 use Rattle.base_ids.specs.declared.Position.{Position}
 use Rattle.base_ids.specs.declared.Refusal.{Refusal}
 use Rattle.base_ids.specs.Refusals.{none, accepted}
@@ -19,11 +19,12 @@ use Rattle.place_groups.specs.Placements.{groupValid}
 use Rattle.report_views.specs.declared.Plan.{Plan}
 use Rattle.report_views.specs.declared.Quorum.{Quorum}
 use Rattle.report_views.specs.declared.Quorum.the-variants.{Met, Short}
-use Rattle.report_views.specs.Logs.{pos, start}
-use Rattle.report_views.specs.Reports.{maskAt}
+use Rattle.report_views.specs.Logs.{start, isStart}
+use Rattle.report_views.specs.Reports.{maskAt, nodeAt, holderAt, targetAt}
+use Rattle.report_views.specs.Slots.{samePosition}
 use Rattle.report_views.specs.Quorums.{target, holder, quorumOf}
-use Rattle.report_views.specs.Standings.{holdersOf, targetsOf}
 use Rattle.report_views.specs.Soundness.{isMet, shardPlanned, planSound}
+use Rattle.report_views.specs.PlanLaws.{holders-at, targets-at}
 use Rattle.plan_restart.specs.Restarts.{Plans}
 use Rattle.state_planner.specs.declared.State.{State}
 use Rattle.state_planner.specs.declared.Decided.{Decided}
@@ -31,39 +32,31 @@ use Rattle.state_planner.specs.States.{sound, planned}
 use Rattle.state_planner.specs.Refusing.{isGathering, deskOk, decideRefusal}
 use Rattle.state_planner.specs.Decide.{Decides}
 use Rattle.state_invariant.specs.Parts.{entry-given}
-use Rattle.report_views.specs.PositionTables.{position-read}
 use Rattle.state_invariant.specs.AfterPlan.{plan-sound}
 
 -- a holder and a target that are there are the ones asked for, and where there are none they are zero
 shard-at : (b : Bool) (h k : ℕ) (p q : Position) → h ≡ cond b k 0 → p ≡ cond b q start
-    → cond b (eqb h k && eqb (p .view .0) (q .view .0) && eqb (p .k) (q .k)) (eqb h 0 && eqb (p .view .0) 0 && eqb (p .k) 0) ≡ true
+    → cond b (eqb h k && samePosition p q) (eqb h 0 && isStart p) ≡ true
 shard-at true h k p q e f =
-    and-both (and-both (eq-eqb h k e) (eq-eqb (p .view .0) (q .view .0) (ap (λ (r : Position). r .view .0) f)))
-    (eq-eqb (p .k) (q .k) (ap (λ (r : Position). r .k) f))
+    and-both (eq-eqb h k e)
+    (and-both (eq-eqb (p .view .0) (q .view .0) (ap (λ (r : Position). r .view .0) f)) (eq-eqb (p .k) (q .k) (ap (λ (r : Position). r .k) f)))
 shard-at false h k p q e f =
-    and-both (and-both (eq-eqb h 0 e) (eq-eqb (p .view .0) 0 (ap (λ (r : Position). r .view .0) f)))
-    (eq-eqb (p .k) 0 (ap (λ (r : Position). r .k) f))
+    and-both (eq-eqb h 0 e)
+    (and-both (eq-eqb (p .view .0) 0 (ap (λ (r : Position). r .view .0) f)) (eq-eqb (p .k) 0 (ap (λ (r : Position). r .k) f)))
 
 module _ (σ : List ℕ) (x : State) (d : List ℕ) (p : Plan) (w : Plans σ (x .kept) (x .termination) (x .held) d p) where
-  holder-read : (s : ℕ) → s < 16 → getD (p .holders) s 0 ≡ cond (ltb s (shards σ)) (holder (x .kept) (x .termination) (x .held) d s) 0
-  unfolding holdersOf
-  holder-read s l =
-      ap (λ (h : List ℕ). getD h s 0) (w .holders)
-      ∙ getD-tabulate 16 (λ i. cond (ltb i (shards σ)) (holder (x .kept) (x .termination) (x .held) d i) 0) s 0 l
+  holder-read : (s : ℕ) → s < 16 → holderAt p s ≡ cond (ltb s (shards σ)) (holder (x .kept) (x .termination) (x .held) d s) 0
+  holder-read s l = ap (λ (h : List Node). nodeAt h s) (w .holders) ∙ holders-at σ (x .kept) (x .termination) (x .held) d s l
 
-  target-read : (s : ℕ) → s < 16
-      → pos (getD (p .targets) (2 * s) 0) (getD (p .targets) (2 * s + 1) 0) ≡ cond (ltb s (shards σ)) (target (x .kept) (x .termination) (x .held) d s) start
-  unfolding targetsOf
+  target-read : (s : ℕ) → s < 16 → targetAt p s ≡ cond (ltb s (shards σ)) (target (x .kept) (x .termination) (x .held) d s) start
   target-read s l =
-      ap (λ (h : List ℕ). pos (getD h (2 * s) 0) (getD h (2 * s + 1) 0)) (w .targets)
-      ∙ position-read (λ i. ltb i (shards σ)) (target (x .kept) (x .termination) (x .held) d) s l
+      ap (λ (h : List Position). getD h s start) (w .targets) ∙ targets-at σ (x .kept) (x .termination) (x .held) d s l
 
   shards-planned : allBelow 16 (shardPlanned σ (x .kept) (x .termination) (x .held) d p) ≡ true
   unfolding shardPlanned
   shards-planned =
       all-of 16 (shardPlanned σ (x .kept) (x .termination) (x .held) d p) (λ s l.
-      shard-at (ltb s (shards σ)) (getD (p .holders) s 0) (holder (x .kept) (x .termination) (x .held) d s)
-      (pos (getD (p .targets) (2 * s) 0) (getD (p .targets) (2 * s + 1) 0))
+      shard-at (ltb s (shards σ)) (holderAt p s) (holder (x .kept) (x .termination) (x .held) d s) (targetAt p s)
       (target (x .kept) (x .termination) (x .held) d s)
       (holder-read s l)
       (target-read s l))

@@ -21,11 +21,10 @@ use Rattle.message_format.specs.Alike.{row10-same}
 use Rattle.message_format.specs.Passed.{HeadPasses, RecordsPass}
 use Rattle.message_format.specs.Laws.{position-record, position-below, some-position}
 use Rattle.report_views.specs.declared.Layout.{Layout}
-use Rattle.report_views.specs.Logs.{start}
+use Rattle.report_views.specs.Logs.{start, isStart}
 use Rattle.report_views.specs.Reports.{terminated, terminatedAt, maskAt, positionAt}
 use Rattle.report_views.specs.Soundness.{layoutTidy, viewSound, positionSound, termSoundAt, termSound}
 use Rattle.report_kept.specs.Reports.{layoutOf, terminationOf}
-use Rattle.report_views.specs.PositionTables.{position-read}
 
 -- the report's rows 6 and 7, and 9 to 11
 pub record Passes (σ : List ℕ) (c : Contents) : Type 0 where
@@ -63,14 +62,14 @@ module _ (σ : List ℕ) (c : Contents) where
 
   pub position-of : (s : ℕ) → s < 16 → positionAt (terminationOf σ c) s ≡ cond (terminated σ c && ltb s (shards σ)) (terminatedAt σ c s) start
   unfolding terminationOf
-  position-of = position-read (λ s. terminated σ c && ltb s (shards σ)) (terminatedAt σ c)
+  position-of s l = getD-tabulate 16 (λ i. cond (terminated σ c && ltb i (shards σ)) (terminatedAt σ c i) start) s start l
 
   pub position-same : shards σ ≤ 16 → terminated σ c ≡ true → (s : ℕ) → s < shards σ → positionAt (terminationOf σ c) s ≡ terminatedAt σ c s
   position-same few made s l = position-of s (omega arith) ∙ rw (made, lt-ltb s (shards σ) l)
 
   -- a position of the report's termination obeys row 11
   position-legal : shards σ ≤ 16 → Passes σ c → terminated σ c ≡ true → (s : ℕ) → s < shards σ
-      → positionSound (c .view .0) (terminatedAt σ c s .view .0) (terminatedAt σ c s .k) ≡ true
+      → positionSound (c .view .0) (terminatedAt σ c s) ≡ true
   unfolding positionSound row11At legal viewFits
   position-legal few p made s l =
       let later = ltb-true (shards σ) (c .len) (and-left (ltb (shards σ) (c .len)) (eqb (kind (c .body) (shards σ)) 2) made) in
@@ -83,10 +82,10 @@ module _ (σ : List ℕ) (c : Contents) where
       rw e at (all-at (c .len) (row11At Report (c .view .0) (c .members) (c .body)) (r .positions-pass) (shards σ + s) below)
 
   -- a position that is there is sound, and one that is not there is zero
-  sound-at : (number : ℕ) (b : Bool) (p q : Position) → p ≡ cond b q start → (b ≡ true → positionSound number (q .view .0) (q .k) ≡ true)
-      → cond b (positionSound number (p .view .0) (p .k)) (eqb (p .view .0) 0 && eqb (p .k) 0) ≡ true
-  sound-at number true p q e h = ap (λ (r : Position). positionSound number (r .view .0) (r .k)) e ∙ h refl
-  sound-at number false p q e h = ap (λ (r : Position). eqb (r .view .0) 0 && eqb (r .k) 0) e
+  sound-at : (number : ℕ) (b : Bool) (p q : Position) → p ≡ cond b q start → (b ≡ true → positionSound number q ≡ true)
+      → cond b (positionSound number p) (isStart p) ≡ true
+  sound-at number true p q e h = ap (λ (r : Position). positionSound number r) e ∙ h refl
+  sound-at number false p q e h = ap (λ (r : Position). isStart r) e
 
   pub term-of-report : shards σ ≤ 16 → Passes σ c → (v : Layout) → v .number .0 ≡ c .view .0 → termSound σ v (terminationOf σ c) ≡ true
   unfolding termSound termSoundAt terminationOf
