@@ -65,6 +65,35 @@ static void words(void)
                UINT32_C(252) * 16777216 + 3 * 65536 + 2 * 256 + 1);
 }
 
+/* A text that is not empty, and whether it is this one. */
+static void check_text(const char *what, const char *found, const char *expected)
+{
+    check_word(what, strcmp(found, expected) == 0 && found[0] != '\0', 1);
+}
+
+/* Every number, reason and phase has a text of its own, and the words after them have one. */
+static void texts(void)
+{
+    check_text("version", restart_version_text(), RESTART_VERSION);
+    check_word("version", restart_version(), RESTART_VERSION_NUMBER);
+    check_word("version's parts", RESTART_VERSION_NUMBER,
+               10000 * RESTART_VERSION_MAJOR + 100 * RESTART_VERSION_MINOR + RESTART_VERSION_PATCH);
+    check_word("format", restart_format(), RESTART_FORMAT);
+    check_text("number 0", restart_number_text(0), "accepted");
+    check_text("number 2", restart_number_text(RESTART_WRONG_SETTINGS), "the settings are wrong");
+    check_text("reason 1", restart_reason_text(RESTART_NO_VIEW), "no machine has reported");
+    check_text("phase 0", restart_phase_text(RESTART_GATHERING), "gathering");
+    check_text("phase 3", restart_phase_text(RESTART_COMMITTED), "committed");
+    check_text("number 15", restart_number_text(RESTART_NOT_HELD + 1), "unknown number");
+    check_text("reason 6", restart_reason_text(RESTART_NO_PLACEMENT + 1), "unknown reason");
+    check_text("phase 4", restart_phase_text(RESTART_COMMITTED + 1), "unknown phase");
+    check_text("the last number", restart_number_text(UINT32_MAX), "unknown number");
+    for (uint32_t one = 0; one <= RESTART_NOT_HELD; one++)
+        for (uint32_t other = one + 1; other <= RESTART_NOT_HELD + 1; other++)
+            check_word("two numbers have two texts",
+                       strcmp(restart_number_text(one), restart_number_text(other)) != 0, 1);
+}
+
 /* ---- Settings and messages ---- */
 
 /* Checks that a buffer of 512 words holds these and zeros. */
@@ -235,6 +264,7 @@ int main(void)
     sizes();
     answers();
     words();
+    texts();
     messages(&world);
     reporting(&world);
     carrying_out(&world);
