@@ -212,6 +212,7 @@ static void reporting(struct world *world)
 
     world_fresh(world);
     check_bytes("the fresh state", world->state, empty, sizeof empty);
+    check_word("it is sound", restart_check_state(LENT), RESTART_ACCEPTED);
     check_word("no report: wait 1", restart_decide(LENT), 50331648 + 256);
     memcpy(desk, world->desk, sizeof desk);
     memset(desk + 4 * RESTART_SLOT_BYTES, 0, RESTART_SLOT_BYTES);
@@ -237,6 +238,7 @@ static void carrying_out(struct world *world)
 
     world_ordered(world);
     check_state("the state with a plan", world, RESTART_ORDERED, 63, 0, 0);
+    check_word("it is sound", restart_check_state(LENT), RESTART_ACCEPTED);
     check_word("an order", restart_order(LENT, 4, buffer, sizeof buffer), 16777216 + 36);
     check_buffer("node 4's order", buffer, order_words, 36);
     check_word("fetched", restart_fetched(LENT, 3), RESTART_ACCEPTED);
@@ -254,6 +256,7 @@ static void carrying_out(struct world *world)
 
     world_committed(world);
     check_state("the state with all prepared", world, RESTART_COMMITTED, 63, 63, 63);
+    check_word("it is sound", restart_check_state(LENT), RESTART_ACCEPTED);
     check_word("prepared after commit", restart_prepared(LENT, 0), RESTART_WRONG_PHASE);
     check_word("a drop after commit", restart_drop(LENT, 0), RESTART_WRONG_PHASE);
 }

@@ -85,11 +85,11 @@ fn check_lent(x: State, settings: &[u8], desk: &[u8]) -> Refusal
 pub fn check_state(settings: &[u8], state: &[u8], desk: &[u8]) -> u32
     ensures { λ r. ⌜ r ≡ Events.checkStateAnswer (now (settings .entry)) (now (state .entry)) (now (desk .entry)) ⌝ }
 {
-    let entry = c_state::enter(desk.len() == 65536, settings, state);
-    let refusal = entry.refusal;
+    let lent = c_state::enter(desk.len() == 65536, settings, state);
+    let refusal = lent.refusal;
     if refusal.number != 0 {
         return refusal.number;
     }
-    let found = check_lent(entry.state, settings, desk);
-    found.number
+    let check = check_lent(lent.state, settings, desk);
+    check.number
 }
