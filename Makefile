@@ -1,14 +1,22 @@
-# make try               runs the program restart on document 01's case A, in seconds; nothing is proved by it
-# make case-a            proves and builds the program restart, says how far it is, and runs it on case A
+# make help              these lines
+# make try               runs the program restart on the example of restart-model(7), in seconds; nothing is proved by it
+# make case-a            proves and builds the program restart, says how far it is, and runs it on that example
 # make test              proves every crate, tries every wrong program and runs every test
-# make lib               target/librestart.a, the proved library for C
+# make lib               target/librestart.a and target/librestart.so.0, the proved library for C
 # make example           target/c/service, the example service over it
 # make test-c            the tests in C: plainly, under valgrind, with sanitizers and as an installed library
 # make fuzz SECONDS=60   compares library and program with the reference on fresh seeds for that time
 # make performance       measures times, instructions and stack, and writes docs/PERFORMANCE.md
 # make install           header, library, programs and manual pages under $(DESTDIR)$(PREFIX)
 # make uninstall         removes them
-.PHONY: try case-a test lib example test-c fuzz performance install uninstall
+# make dist              two archives in target/: the sources as last committed, and the installed tree, which can be unpacked anywhere
+# make clean             removes target/, all proofs among it
+.PHONY: help try case-a test lib example test-c fuzz performance install uninstall dist clean
+
+.DEFAULT_GOAL := try
+
+help:
+	@sed -n 's/^# \(make [a-z]\)/\1/p' Makefile
 
 try:
 	@mkdir -p target
@@ -29,16 +37,41 @@ fuzz:
 performance:
 	@python3 bench/performance.py
 
+# ---- The operators' tool: its program, its package and its page
+
+TOOLDIR ?= $(PREFIX)/share/restart
+TOOL_FILES := $(patsubst tools/%,%,$(wildcard tools/restart_text/*.py tools/restart_text/*/*.py))
+
+.PHONY: install-tool uninstall-tool
+install: install-tool
+uninstall: uninstall-tool
+
+install-tool:
+	install -d $(TO)$(BINDIR) $(TO)$(MANDIR)/man1 $(sort $(dir $(TOOL_FILES:%=$(TO)$(TOOLDIR)/%)))
+	for file in $(TOOL_FILES); do install -m 644 tools/$$file $(TO)$(TOOLDIR)/$$file || exit; done
+	sed 's|@TOOLDIR@|$(TOOLDIR)|' tools/restart-text > $(TO)$(BINDIR)/restart-text
+	chmod 755 $(TO)$(BINDIR)/restart-text
+	install -m 644 man/restart-text.1 $(TO)$(MANDIR)/man1
+	install -m 644 docs/explain.schema.json $(TO)$(TOOLDIR)
+
+uninstall-tool:
+	rm -f $(TO)$(BINDIR)/restart-text $(TO)$(MANDIR)/man1/restart-text.1
+	rm -rf $(TO)$(TOOLDIR)/restart_text $(TO)$(TOOLDIR)/explain.schema.json
+	rmdir $(TO)$(TOOLDIR) 2>/dev/null || true
+
 # ---- The library for C and what is built over it
 
-VERSION := 0.1.0
+VERSION := $(shell sed -n 's/^\#define RESTART_VERSION "\(.*\)"/\1/p' include/restart.h)
+# The number in the shared library's name, raised when what was linked before would no longer run.
+SONUMBER := 0
+SHARED := librestart.so.$(VERSION)
 ARCHIVE ?= target/staticlib/libc_planner.a
 PROGRAM ?= target/bin/restart
 SOURCES := crates.txt $(shell find crates -name '*.rt' -o -name '*.antt')
 CFLAGS ?= -O2
 CHECKED := -std=c11 -Wall -Wextra -Werror -pedantic
 
-lib: target/librestart.a
+lib: target/librestart.a target/librestart.so.$(SONUMBER)
 example: target/c/service
 
 target/staticlib/libc_planner.a: $(SOURCES)
@@ -50,15 +83,30 @@ target/bin/restart: $(SOURCES)
 	@python3 tests/prove.py restart
 	touch $@
 
-target/librestart.a: $(ARCHIVE)
+# Versions, texts and exported small functions, in plain C.
+target/c/restart_extra.o: c/restart_extra.c include/restart.h
+	mkdir -p $(@D)
+	$(CC) $(CHECKED) $(CFLAGS) -fPIC -Iinclude -c -o $@ c/restart_extra.c
+
+target/librestart.a: $(ARCHIVE) target/c/restart_extra.o
 	mkdir -p $(@D)
 	cp $(ARCHIVE) $@
+	$(AR) rsD $@ target/c/restart_extra.o
+
+# Without start files, which would bring memory that is written.
+target/$(SHARED): target/librestart.a c/restart.map
+	$(CC) $(LDFLAGS) -shared -nostartfiles -o $@ -Wl,-soname,librestart.so.$(SONUMBER) -Wl,--version-script=c/restart.map \
+	    -Wl,-Bsymbolic-functions -Wl,-z,now -Wl,-z,noexecstack -Wl,--no-undefined -Wl,--whole-archive target/librestart.a -Wl,--no-whole-archive
+
+target/librestart.so.$(SONUMBER): target/$(SHARED)
+	ln -sf $(SHARED) $@
+	ln -sf $(SHARED) target/librestart.so
 
 target/c/service: examples/service.c include/restart.h target/librestart.a
 	mkdir -p $(@D)
 	$(CC) $(CHECKED) $(CFLAGS) -Iinclude $(LDFLAGS) -o $@ examples/service.c target/librestart.a
 
-test-c: target/librestart.a $(PROGRAM)
+test-c: lib $(PROGRAM)
 	@sh tests/c/run.sh
 
 # ---- Installation
@@ -69,37 +117,72 @@ INCLUDEDIR ?= $(PREFIX)/include
 LIBDIR ?= $(PREFIX)/lib
 MANDIR ?= $(PREFIX)/share/man
 EXAMPLEDIR ?= $(PREFIX)/share/restart/example
-# The calls that the header declares: each has a manual page of its own name.
-CALLS := $(shell sed -n 's/^uint32_t \(restart_[a-z_]*\).*/\1/p' include/restart.h)
+PKGCONFIGDIR := $(LIBDIR)/pkgconfig
+CMAKEDIR := $(LIBDIR)/cmake/restart
+# The functions that the header declares: each has a manual page of its own name.
+CALLS := $(shell sh c/names.sh)
+EXAMPLES := service.c settings.bin events.txt output.txt
 REPORTS := $(notdir $(wildcard examples/reports/*.bin))
 PAGES_1 := restart.1 restart-service.1
+PAGES_7 := restart.7 restart-model.7
+CONFIGS := restart-config.cmake restart-config-version.cmake
 TO := $(DESTDIR)
 
-target/restart.pc: restart.pc.in Makefile
+# Paths in the files for pkg-config and CMake are relative to where these files are installed.
+from = $(shell realpath -m --relative-to=$(1) $(2))
+MADE := target/restart.pc $(CONFIGS:%=target/%)
+target/restart.pc: HERE = $(PKGCONFIGDIR)
+$(CONFIGS:%=target/%): HERE = $(CMAKEDIR)
+$(MADE): target/%: c/%.in
 	mkdir -p $(@D)
-	sed -e 's|@PREFIX@|$(PREFIX)|; s|@INCLUDEDIR@|$(INCLUDEDIR)|; s|@LIBDIR@|$(LIBDIR)|; s|@VERSION@|$(VERSION)|' restart.pc.in > $@
+	sed -e 's|@PREFIX@|$(call from,$(HERE),$(PREFIX))|; s|@INCLUDEDIR@|$(call from,$(HERE),$(INCLUDEDIR))|' \
+	    -e 's|@VERSION@|$(VERSION)|; s|@SONUMBER@|$(SONUMBER)|' $< > $@
 
-.PHONY: target/restart.pc
-install: target/librestart.a target/c/service target/restart.pc $(PROGRAM)
-	install -d $(TO)$(BINDIR) $(TO)$(INCLUDEDIR) $(TO)$(LIBDIR)/pkgconfig $(TO)$(EXAMPLEDIR)/reports
+.PHONY: $(MADE)
+install: lib target/c/service $(MADE) $(PROGRAM)
+	install -d $(TO)$(BINDIR) $(TO)$(INCLUDEDIR) $(TO)$(PKGCONFIGDIR) $(TO)$(CMAKEDIR) $(TO)$(EXAMPLEDIR)/reports
 	install -d $(TO)$(MANDIR)/man1 $(TO)$(MANDIR)/man3 $(TO)$(MANDIR)/man7
 	install -m 755 $(PROGRAM) $(TO)$(BINDIR)/restart
 	install -m 755 target/c/service $(TO)$(BINDIR)/restart-service
 	install -m 644 include/restart.h $(TO)$(INCLUDEDIR)
 	install -m 644 target/librestart.a $(TO)$(LIBDIR)
-	install -m 644 target/restart.pc $(TO)$(LIBDIR)/pkgconfig
+	install -m 755 target/$(SHARED) $(TO)$(LIBDIR)
+	ln -sf $(SHARED) $(TO)$(LIBDIR)/librestart.so.$(SONUMBER)
+	ln -sf $(SHARED) $(TO)$(LIBDIR)/librestart.so
+	install -m 644 target/restart.pc $(TO)$(PKGCONFIGDIR)
+	install -m 644 $(CONFIGS:%=target/%) $(TO)$(CMAKEDIR)
 	install -m 644 $(PAGES_1:%=man/%) $(TO)$(MANDIR)/man1
 	install -m 644 man/restart.3 $(TO)$(MANDIR)/man3
-	install -m 644 man/restart.7 $(TO)$(MANDIR)/man7
+	install -m 644 $(PAGES_7:%=man/%) $(TO)$(MANDIR)/man7
 	for call in $(CALLS); do ln -sf restart.3 $(TO)$(MANDIR)/man3/$$call.3 || exit; done
-	install -m 644 examples/settings.bin examples/events.txt examples/output.txt $(TO)$(EXAMPLEDIR)
+	install -m 644 $(EXAMPLES:%=examples/%) $(TO)$(EXAMPLEDIR)
 	install -m 644 $(REPORTS:%=examples/reports/%) $(TO)$(EXAMPLEDIR)/reports
 
 uninstall:
 	rm -f $(TO)$(BINDIR)/restart $(TO)$(BINDIR)/restart-service $(TO)$(INCLUDEDIR)/restart.h
-	rm -f $(TO)$(LIBDIR)/librestart.a $(TO)$(LIBDIR)/pkgconfig/restart.pc
-	rm -f $(PAGES_1:%=$(TO)$(MANDIR)/man1/%) $(TO)$(MANDIR)/man3/restart.3 $(TO)$(MANDIR)/man7/restart.7
+	rm -f $(TO)$(LIBDIR)/librestart.a $(TO)$(LIBDIR)/$(SHARED) $(TO)$(LIBDIR)/librestart.so.$(SONUMBER) $(TO)$(LIBDIR)/librestart.so
+	rm -f $(TO)$(PKGCONFIGDIR)/restart.pc $(CONFIGS:%=$(TO)$(CMAKEDIR)/%)
+	rm -f $(PAGES_1:%=$(TO)$(MANDIR)/man1/%) $(TO)$(MANDIR)/man3/restart.3 $(PAGES_7:%=$(TO)$(MANDIR)/man7/%)
 	rm -f $(CALLS:%=$(TO)$(MANDIR)/man3/%.3)
 	rm -f $(REPORTS:%=$(TO)$(EXAMPLEDIR)/reports/%)
-	rm -f $(TO)$(EXAMPLEDIR)/settings.bin $(TO)$(EXAMPLEDIR)/events.txt $(TO)$(EXAMPLEDIR)/output.txt
-	-rmdir $(TO)$(EXAMPLEDIR)/reports $(TO)$(EXAMPLEDIR) $(dir $(TO)$(EXAMPLEDIR))
+	rm -f $(EXAMPLES:%=$(TO)$(EXAMPLEDIR)/%)
+	-rmdir $(TO)$(CMAKEDIR) $(TO)$(EXAMPLEDIR)/reports $(TO)$(EXAMPLEDIR) $(dir $(TO)$(EXAMPLEDIR))
+
+# ---- Archives
+
+NAME := restart-$(VERSION)
+TREE := $(NAME)-x86_64-linux
+PACK := tar --sort=name --owner=0 --group=0 --numeric-owner --mtime=@0 -czf
+
+dist:
+	rm -rf target/dist
+	$(MAKE) --no-print-directory install DESTDIR=$(CURDIR)/target/dist PREFIX=/$(TREE)
+	cp CHANGELOG.md target/dist/$(TREE)
+	$(PACK) target/$(TREE).tar.gz -C target/dist $(TREE)
+	if [ -e .git ]; then git archive --prefix=$(NAME)/ -o target/$(NAME).tar.gz HEAD; \
+	else $(PACK) target/$(NAME).tar.gz --exclude=./target --exclude=__pycache__ --transform='s|^\.|$(NAME)|' .; fi
+	rm -rf target/dist
+
+clean:
+	rm -rf target
+	find . -name __pycache__ -type d -exec rm -rf {} +

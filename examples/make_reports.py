@@ -1,58 +1,41 @@
-"""Make the example's settings and reports, words as little-endian bytes, from the text beside this script.
+"""Make the example's settings and reports, words as little-endian bytes, from the text beside this script: tools/restart-text turns it
+into words, each block preceded by its word count, and each block becomes a file.
 
     make_reports.py [FOLDER]    writes the files under FOLDER; without one, beside this script"""
 import os
 import struct
+import subprocess
 import sys
 
 HERE = os.path.dirname(os.path.abspath(__file__))
+TOOL = os.path.join(HERE, "..", "tools", "restart-text")
 
 
-def mask(nodes):
-    return sum(1 << int(node) for node in nodes)
+def blocks(data):
+    """The blocks of an input, without their counts."""
+    while data:
+        size = 4 * struct.unpack_from("<I", data)[0]
+        yield data[4 : 4 + size]
+        data = data[4 + size :]
 
 
-def record(line):
-    """The first three words of a report's record."""
-    kind, *rest = line.split()
-    if kind == "head":
-        return [int(rest[1]), int(rest[3]), mask(rest[5:])]
-    if kind == "shard":
-        return [256 + int(rest[0]), mask(rest[2:]), 0]
-    if kind == "run":
-        return [3 * 256 + int(rest[0]), int(rest[1]), int(rest[2])]
-    sys.exit("reports.txt: cannot read `%s`" % line)
-
-
-def words(lines):
-    """The words of a file: as they stand, or records one after another, the last one's next index 0."""
-    if all(line.startswith("words ") for line in lines):
-        return [int(word) for line in lines for word in line.split()[1:]]
-    nexts = [index + 1 for index in range(len(lines) - 1)] + [0]
-    return [word for line, following in zip(lines, nexts) for word in record(line) + [following]]
-
-
-def files(text):
-    """Each file's name and its lines."""
-    found = {}
-    for line in (line.strip() for line in text.splitlines()):
-        if line.startswith("file "):
-            lines = found.setdefault(line[5:], [])
-        elif line and not line.startswith("#"):
-            lines.append(line)
-    return found
+def names(messages):
+    """A file's name for each report: how many its machine has made up to it, and the machine."""
+    made = {}
+    for message in messages:
+        node = struct.unpack_from("<I", message)[0]
+        made[node] = made.get(node, 0) + 1
+        yield "reports/%d-machine-%d.bin" % (made[node], node)
 
 
 def main():
     folder = sys.argv[1] if len(sys.argv) > 1 else HERE
-    with open(os.path.join(HERE, "reports.txt")) as text:
-        found = files(text.read())
-    for name, lines in found.items():
-        path = os.path.join(folder, name)
-        os.makedirs(os.path.dirname(path), exist_ok=True)
-        content = words(lines)
-        with open(path, "wb") as out:
-            out.write(struct.pack("<%dI" % len(content), *content))
+    words = subprocess.run([sys.executable, TOOL, "words", os.path.join(HERE, "reports.txt")], stdout=subprocess.PIPE, check=True).stdout
+    settings, *messages = blocks(words)
+    os.makedirs(os.path.join(folder, "reports"), exist_ok=True)
+    for name, content in zip(["settings.bin", *names(messages)], [settings, *messages]):
+        with open(os.path.join(folder, name), "wb") as out:
+            out.write(content)
 
 
 main()

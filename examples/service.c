@@ -2,48 +2,44 @@
  * An example of the service's leader: it takes events from a file in place of the network, drives a
  * restart through the library and prints what happens in words.
  *
- *     service FOLDER
+ *     service FOLDER [SAVED]
  *
  * reads FOLDER/settings.bin, FOLDER/events.txt and the reports FOLDER/reports/NAME.bin. A line of
- * the events is `report NAME`, `lost N`, `fetched N` or `prepared N`. Ends with 0 if the restart
- * was committed, with 1 if not, with 2 if a file cannot be used.
+ * the events is `report NAME A`, `lost N`, `fetched N A` or `prepared N A`, where A is the attempt
+ * that the machine's message belongs to. With SAVED, a folder, the leader saves after each event
+ * and goes on from there when it is started again. Ends with 0 if the restart was committed, with 1
+ * if not, with 2 if a file cannot be used.
+ *
+ * Every message of a restart carries the attempt's number, which rises whenever a plan is given up,
+ * so that a late message is known and put aside. The number must never come again. It stands in the
+ * saved file; a leader that can lose that file would start it at the clock's time.
  */
+#define _POSIX_C_SOURCE 200809L
 #include <restart.h>
 
+#include <errno.h>
+#include <fcntl.h>
 #include <inttypes.h>
 #include <stdio.h>
 #include <stdlib.h>
 #include <string.h>
+#include <unistd.h>
 
 struct leader {
     const char *folder;
+    const char *saved;                            /* where to save, or null */
     uint8_t settings[RESTART_SETTINGS_BYTES + 1]; /* with room to see that a file is too long */
     size_t settings_len;
+    uint32_t taken;   /* events so far */
+    uint32_t attempt; /* the present one */
     uint8_t state[RESTART_STATE_BYTES];
     uint8_t desk[RESTART_DESK_BYTES];
 };
 
-static const char *const numbers[] = {
-    "accepted",
-    "a buffer has the wrong length",
-    "the settings are wrong",
-    "the state is unsound",
-    "not in this phase",
-    "the message has the wrong length",
-    "no such machine",
-    "the view or its members are wrong",
-    "a next index is wrong",
-    "a record is wrong",
-    "a shard's members are wrong",
-    "a position, run or holder is wrong",
-    "another view has the kept number",
-    "another termination of the kept view",
-    "the machine is not held, or marked already",
-};
-
-static const char *const phases[] = {"gathering", "ordered", "preparing", "committed"};
-
-/* ---- Words of the state ---- */
+/* What an event is lent. */
+#define LENT(leader)                                                                               \
+    (leader)->settings, (leader)->settings_len, (leader)->state, sizeof(leader)->state,            \
+        (leader)->desk, sizeof(leader)->desk
 
 static uint32_t state_word(const struct leader *leader, size_t index)
 {
@@ -53,6 +49,13 @@ static uint32_t state_word(const struct leader *leader, size_t index)
 static uint32_t shard_count(const struct leader *leader)
 {
     return restart_get_word(leader->settings, 3);
+}
+
+static void stop(const char *what, const char *name)
+{
+    fflush(stdout);
+    fprintf(stderr, "service: %s %s\n", what, name);
+    exit(2);
 }
 
 /* ---- What is printed ---- */
@@ -67,8 +70,7 @@ static void print_nodes(uint32_t mask)
 static void print_refusal(uint32_t answer)
 {
     uint32_t number = restart_number_of(answer);
-    const char *words = number < sizeof numbers / sizeof numbers[0] ? numbers[number] : "unknown";
-    printf("  refused: number %" PRIu32 ", %s\n", number, words);
+    printf("  refused: number %" PRIu32 ", %s\n", number, restart_number_text(number));
 }
 
 static void print_wait(const struct leader *leader, uint32_t answer)
@@ -76,9 +78,6 @@ static void print_wait(const struct leader *leader, uint32_t answer)
     uint32_t value = restart_value_of(answer);
     printf("  wait %" PRIu32 ": ", restart_reason_of(answer));
     switch (restart_reason_of(answer)) {
-    case RESTART_NO_VIEW:
-        printf("no machine has reported\n");
-        break;
     case RESTART_NO_MAJORITY:
         printf("not more than half of view %" PRIu32 "'s members are back\n",
                state_word(leader, RESTART_KEPT_VIEW));
@@ -89,8 +88,11 @@ static void print_wait(const struct leader *leader, uint32_t answer)
     case RESTART_NO_HOLDER:
         printf("no machine that is back has the log of shard %" PRIu32 "\n", value);
         break;
-    default:
+    case RESTART_NO_PLACEMENT:
         printf("the machines that are back cannot carry subgroup %" PRIu32 "\n", value);
+        break;
+    default:
+        printf("%s\n", restart_reason_text(restart_reason_of(answer)));
     }
 }
 
@@ -137,40 +139,156 @@ static void print_shard_order(const uint8_t *contents, uint32_t length, uint32_t
     printf("\n");
 }
 
-/* ---- What the leader does ---- */
+/* ---- Files ---- */
+
+/* The path of a file in a folder. */
+static void path_of(char *path, size_t size, const char *folder, const char *name)
+{
+    int length = snprintf(path, size, "%s/%s", folder, name);
+    if (length < 0 || (size_t)length >= size)
+        stop("the path is too long:", name);
+}
 
 /* Reads a file of up to `most` bytes; of a longer one the first `most`. */
-static size_t read_file(const struct leader *leader, const char *name, uint8_t *bytes, size_t most)
+static size_t read_file(const char *folder, const char *name, uint8_t *bytes, size_t most)
 {
     char path[512];
-    int length = snprintf(path, sizeof path, "%s/%s", leader->folder, name);
-    FILE *file = length > 0 && (size_t)length < sizeof path ? fopen(path, "rb") : NULL;
-    if (file == NULL) {
-        fprintf(stderr, "service: cannot open %s/%s\n", leader->folder, name);
-        exit(2);
-    }
+    path_of(path, sizeof path, folder, name);
+    FILE *file = fopen(path, "rb");
+    if (file == NULL)
+        stop("cannot open", path);
     size_t count = fread(bytes, 1, most, file);
-    if (ferror(file)) {
-        fprintf(stderr, "service: cannot read %s\n", path);
-        exit(2);
-    }
+    if (ferror(file))
+        stop("cannot read", path);
     fclose(file);
     return count;
 }
+
+/* Writes all bytes to a new file and has the disk take them. */
+static void write_file(const char *path, const uint8_t *bytes, size_t length)
+{
+    int file = open(path, O_WRONLY | O_CREAT | O_TRUNC, 0600);
+    if (file < 0)
+        stop("cannot write", path);
+    while (length > 0) {
+        ssize_t count = write(file, bytes, length);
+        if (count < 0 && errno != EINTR)
+            stop("cannot write", path);
+        if (count > 0) {
+            bytes += count;
+            length -= (size_t)count;
+        }
+    }
+    if (fsync(file) != 0 || close(file) != 0)
+        stop("cannot write", path);
+}
+
+/* Has the disk take the folder's names. */
+static void sync_folder(const char *path)
+{
+    int folder = open(path, O_RDONLY);
+    if (folder < 0 || fsync(folder) != 0 || close(folder) != 0)
+        stop("cannot write", path);
+}
+
+/*
+ * Puts these bytes in the place of a file: whenever the leader is killed or the machine loses
+ * power, the file has either its old bytes or the new ones, and the new ones once this returns.
+ */
+static void replace_file(const char *folder, const char *name, const uint8_t *bytes, size_t length)
+{
+    char path[512], fresh[512 + 4];
+    path_of(path, sizeof path, folder, name);
+    snprintf(fresh, sizeof fresh, "%s.new", path);
+    write_file(fresh, bytes, length);
+    if (rename(fresh, path) != 0)
+        stop("cannot write", path);
+    sync_folder(folder);
+}
+
+/* ---- What is saved: everything that the leader must not forget, in one file ---- */
+
+enum {
+    MAGIC = 0x74727372, /* "rsrt" */
+    HEAD_WORDS = 5,     /* magic, format, settings' length, events taken, attempt */
+    SETTINGS_AT = 4 * HEAD_WORDS,
+    STATE_AT = SETTINGS_AT + RESTART_SETTINGS_BYTES,
+    DESK_AT = STATE_AT + RESTART_STATE_BYTES,
+    SUM_AT = DESK_AT + RESTART_DESK_BYTES,
+    SAVED_BYTES = SUM_AT + 4
+};
+
+/* FNV-1a of the bytes: finds what a disk has changed. */
+static uint32_t sum_of(const uint8_t *bytes, size_t length)
+{
+    uint32_t sum = UINT32_C(2166136261);
+    for (size_t at = 0; at < length; at++)
+        sum = (sum ^ bytes[at]) * UINT32_C(16777619);
+    return sum;
+}
+
+static void save(const struct leader *leader)
+{
+    static uint8_t bytes[SAVED_BYTES];
+    if (leader->saved == NULL)
+        return;
+    memset(bytes, 0, sizeof bytes);
+    restart_put_word(bytes, 0, MAGIC);
+    restart_put_word(bytes, 1, RESTART_FORMAT);
+    restart_put_word(bytes, 2, (uint32_t)leader->settings_len);
+    restart_put_word(bytes, 3, leader->taken);
+    restart_put_word(bytes, 4, leader->attempt);
+    memcpy(bytes + SETTINGS_AT, leader->settings, leader->settings_len);
+    memcpy(bytes + STATE_AT, leader->state, sizeof leader->state);
+    memcpy(bytes + DESK_AT, leader->desk, sizeof leader->desk);
+    restart_put_word(bytes + SUM_AT, 0, sum_of(bytes, SUM_AT));
+    replace_file(leader->saved, "leader.bin", bytes, sizeof bytes);
+}
+
+/* Takes up what was saved; 0 if nothing was. What was saved in another format, under other
+ * settings, has been damaged or does not belong together is not used: somebody has to look, and may
+ * remove it to start fresh. */
+static int load(struct leader *leader)
+{
+    static uint8_t bytes[SAVED_BYTES + 1];
+    char path[512];
+    if (leader->saved == NULL)
+        return 0;
+    path_of(path, sizeof path, leader->saved, "leader.bin");
+    if (access(path, F_OK) != 0)
+        return 0;
+    size_t length = read_file(leader->saved, "leader.bin", bytes, sizeof bytes);
+    if (length != SAVED_BYTES || restart_get_word(bytes, 0) != MAGIC ||
+        restart_get_word(bytes + SUM_AT, 0) != sum_of(bytes, SUM_AT))
+        stop("damaged:", path);
+    if (restart_get_word(bytes, 1) != RESTART_FORMAT)
+        stop("of another format:", path);
+    if (restart_get_word(bytes, 2) != leader->settings_len ||
+        memcmp(bytes + SETTINGS_AT, leader->settings, leader->settings_len) != 0)
+        stop("saved under other settings:", path);
+    leader->taken = restart_get_word(bytes, 3);
+    leader->attempt = restart_get_word(bytes, 4);
+    memcpy(leader->state, bytes + STATE_AT, sizeof leader->state);
+    memcpy(leader->desk, bytes + DESK_AT, sizeof leader->desk);
+    if (restart_check_state(LENT(leader)) != RESTART_ACCEPTED)
+        stop("no sound state in", path);
+    return 1;
+}
+
+/* ---- Orders ---- */
 
 /* Has a machine's order written and, in place of sending it, reads it as that machine would. */
 static void send_order(const struct leader *leader, uint32_t node)
 {
     uint8_t order[RESTART_BUFFER_BYTES];
     uint8_t contents[RESTART_CONTENTS_BYTES];
-    uint32_t written =
-        restart_order(leader->settings, leader->settings_len, leader->state, sizeof leader->state,
-                      leader->desk, sizeof leader->desk, node, order, sizeof order);
+    uint32_t written = restart_order(LENT(leader), node, order, sizeof order);
     if (restart_is_refusal(written)) {
         print_refusal(written);
         return;
     }
-    printf("  order to machine %" PRIu32 ", %" PRIu32 " words\n", node, restart_length_of(written));
+    printf("  order to machine %" PRIu32 ", attempt %" PRIu32 ", %" PRIu32 " words\n", node,
+           leader->attempt, restart_length_of(written));
     uint32_t read =
         restart_read_order(leader->settings, leader->settings_len, order,
                            4 * (size_t)restart_length_of(written), contents, sizeof contents);
@@ -183,21 +301,27 @@ static void send_order(const struct leader *leader, uint32_t node)
             print_shard_order(contents, restart_length_of(read), shard);
 }
 
-/* Decides; where there is a plan, sends the orders. */
+/* Sends the orders of all that have not fetched yet. While ordered this can be done again and
+ * again: the orders stay the same. */
+static void send_orders(const struct leader *leader)
+{
+    uint32_t waiting = state_word(leader, RESTART_HELD) & ~state_word(leader, RESTART_FETCHED);
+    for (uint32_t node = 0; node < RESTART_NODES; node++)
+        if (waiting >> node & 1)
+            send_order(leader, node);
+}
+
+/* ---- Events: each changes state and desk in memory and prints what happened ---- */
+
 static void decide(struct leader *leader)
 {
-    uint32_t answer = restart_decide(leader->settings, leader->settings_len, leader->state,
-                                     sizeof leader->state, leader->desk, sizeof leader->desk);
-    if (restart_is_refusal(answer)) {
+    uint32_t answer = restart_decide(LENT(leader));
+    if (restart_is_refusal(answer))
         print_refusal(answer);
-    } else if (restart_is_wait(answer)) {
+    else if (restart_is_wait(answer))
         print_wait(leader, answer);
-    } else {
+    else
         print_plan(leader);
-        for (uint32_t node = 0; node < RESTART_NODES; node++)
-            if (state_word(leader, RESTART_PLAN_MEMBERS) >> node & 1)
-                send_order(leader, node);
-    }
 }
 
 /* A machine's report, from a file. */
@@ -206,10 +330,8 @@ static void on_report(struct leader *leader, const char *report)
     uint8_t message[RESTART_MESSAGE_BYTES + 1]; /* with room to see that a file is too long */
     char name[128];
     snprintf(name, sizeof name, "reports/%s.bin", report);
-    size_t length = read_file(leader, name, message, sizeof message);
-    uint32_t answer =
-        restart_report(leader->settings, leader->settings_len, leader->state, sizeof leader->state,
-                       leader->desk, sizeof leader->desk, message, length);
+    size_t length = read_file(leader->folder, name, message, sizeof message);
+    uint32_t answer = restart_report(LENT(leader), message, length);
     if (restart_is_refusal(answer)) {
         print_refusal(answer);
         return;
@@ -223,85 +345,129 @@ static void on_report(struct leader *leader, const char *report)
 typedef uint32_t event(const uint8_t *, size_t, uint8_t *, size_t, const uint8_t *, size_t,
                        uint32_t);
 
-/* An event that names a machine. */
+/* An event that names a machine. Where it gives a plan up, a new attempt begins. */
 static void on_machine(struct leader *leader, event *call, uint32_t node)
 {
     uint32_t before = state_word(leader, RESTART_PHASE);
-    uint32_t answer = call(leader->settings, leader->settings_len, leader->state,
-                           sizeof leader->state, leader->desk, sizeof leader->desk, node);
+    uint32_t answer = call(LENT(leader), node);
     uint32_t after = state_word(leader, RESTART_PHASE);
-    if (restart_is_refusal(answer))
+    if (restart_is_refusal(answer)) {
         print_refusal(answer);
-    else if (after == before)
+    } else if (after == before) {
         printf("  accepted\n");
-    else if (after == RESTART_GATHERING)
-        printf("  accepted: the plan is given up, and every machine has to report again\n");
-    else
-        printf("  accepted: all have, and the restart is %s\n", phases[after & 3]);
+    } else if (after == RESTART_GATHERING) {
+        leader->attempt++;
+        printf("  accepted: the plan is given up, and every machine has to report again, "
+               "attempt %" PRIu32 "\n",
+               leader->attempt);
+    } else {
+        printf("  accepted: all have, and the restart is %s\n", restart_phase_text(after));
+    }
 }
 
 /* ---- Events from the file ---- */
 
-static void unreadable(const char *what, const char *argument)
-{
-    fprintf(stderr, "service: cannot read the event: %s %s\n", what, argument);
-    exit(2);
-}
-
-static void take(struct leader *leader, const char *what, const char *argument)
+/* The number that a text is; nothing else may stand in it. */
+static uint32_t number_in(const char *text)
 {
     char *end;
-    unsigned long node = strtoul(argument, &end, 10);
-    printf("%s %s\n", what, argument);
-    if (strcmp(what, "report") == 0)
-        on_report(leader, argument);
-    else if (*end != '\0' || node > UINT32_MAX)
-        unreadable(what, argument);
-    else if (strcmp(what, "lost") == 0)
-        on_machine(leader, restart_drop, (uint32_t)node);
-    else if (strcmp(what, "fetched") == 0)
-        on_machine(leader, restart_fetched, (uint32_t)node);
-    else if (strcmp(what, "prepared") == 0)
-        on_machine(leader, restart_prepared, (uint32_t)node);
-    else
-        unreadable(what, argument);
+    errno = 0;
+    unsigned long number = strtoul(text, &end, 10);
+    if (end == text || *end != '\0' || errno != 0 || number > UINT32_MAX)
+        stop("cannot read the event, for this is no number:", text);
+    return (uint32_t)number;
 }
 
+/* A machine's message, unless it belongs to an attempt that is over. */
+static void take_message(struct leader *leader, const char *what, const char *argument,
+                         const char *tag)
+{
+    printf("%s %s of attempt %s\n", what, argument, tag);
+    if (number_in(tag) != leader->attempt)
+        printf("  put aside: the present attempt is %" PRIu32 "\n", leader->attempt);
+    else if (strcmp(what, "report") == 0)
+        on_report(leader, argument);
+    else if (strcmp(what, "fetched") == 0)
+        on_machine(leader, restart_fetched, number_in(argument));
+    else if (strcmp(what, "prepared") == 0)
+        on_machine(leader, restart_prepared, number_in(argument));
+    else
+        stop("cannot read the event:", what);
+}
+
+/* Takes an event. What it changed is on disk before anything that follows from it leaves. */
+static void take(struct leader *leader, const char *line)
+{
+    char what[16], argument[64], tag[16];
+    uint32_t before = state_word(leader, RESTART_PHASE);
+    int words = sscanf(line, "%15s %63s %15s", what, argument, tag);
+    if (words == 3) {
+        take_message(leader, what, argument, tag);
+    } else if (words == 2 && strcmp(what, "lost") == 0) {
+        printf("lost %s\n", argument);
+        on_machine(leader, restart_drop, number_in(argument));
+    } else {
+        stop("cannot read the event:", line);
+    }
+    leader->taken++;
+    save(leader);
+    if (before == RESTART_GATHERING && state_word(leader, RESTART_PHASE) == RESTART_ORDERED)
+        send_orders(leader);
+    fflush(stdout);
+}
+
+/* Takes the events that have not been taken yet. */
 static void take_all(struct leader *leader)
 {
     static char text[65536];
-    size_t length = read_file(leader, "events.txt", (uint8_t *)text, sizeof text - 1);
+    uint32_t count = 0;
+    size_t length = read_file(leader->folder, "events.txt", (uint8_t *)text, sizeof text - 1);
     text[length] = '\0';
     for (char *line = strtok(text, "\n"); line != NULL; line = strtok(NULL, "\n")) {
-        char what[16], argument[64];
         if (line[0] == '#')
             continue;
-        if (sscanf(line, "%15s %63s", what, argument) != 2)
-            unreadable(line, "");
-        take(leader, what, argument);
+        if (count++ >= leader->taken)
+            take(leader, line);
     }
+}
+
+/* Begins afresh, or goes on from what was saved: sends what may not have left or arrived. */
+static void begin(struct leader *leader)
+{
+    if (load(leader)) {
+        printf("resume: %s, attempt %" PRIu32 ", events taken: %" PRIu32 "\n",
+               restart_phase_text(state_word(leader, RESTART_PHASE)), leader->attempt,
+               leader->taken);
+        if (state_word(leader, RESTART_PHASE) == RESTART_ORDERED)
+            send_orders(leader);
+    } else {
+        restart_fresh(leader->state, sizeof leader->state);
+        leader->attempt = 1;
+        printf("start\n");
+        decide(leader);
+    }
+    fflush(stdout);
 }
 
 int main(int count, char **arguments)
 {
     static struct leader leader;
-    if (count != 2) {
-        fprintf(stderr, "usage: %s FOLDER\n", arguments[0]);
+    if (count != 2 && count != 3) {
+        fprintf(stderr, "usage: %s FOLDER [SAVED]\n", arguments[0]);
         return 2;
     }
     leader.folder = arguments[1];
+    leader.saved = count == 3 ? arguments[2] : NULL;
     leader.settings_len =
-        read_file(&leader, "settings.bin", leader.settings, sizeof leader.settings);
+        read_file(leader.folder, "settings.bin", leader.settings, sizeof leader.settings);
     uint32_t answer = restart_check_settings(leader.settings, leader.settings_len);
     if (answer != RESTART_ACCEPTED) {
         print_refusal(answer);
         return 2;
     }
-    restart_fresh(leader.state, sizeof leader.state);
-    printf("start\n");
-    decide(&leader);
+    begin(&leader);
     take_all(&leader);
     uint32_t phase = state_word(&leader, RESTART_PHASE);
-    printf("end: %s\n", phases[phase & 3]);
+    printf("end: %s\n", restart_phase_text(phase));
     return phase == RESTART_COMMITTED ? 0 : 1;
 }

@@ -5,7 +5,7 @@
  * decides whether enough of them are back, and says where each shard's log ends and which machines
  * carry which shard. The library does this and nothing else: no network, no files, no clock, no
  * memory of its own. Everything that it reads or writes is lent by the caller for the length of a
- * call, so calls on different memory may run at the same time.
+ * call. restart-model(7) explains the terms, restart(7) the formats.
  *
  * Every lent piece is a pointer, not null, and a length in bytes. It holds words: numbers of 32
  * bits, lowest byte first (restart_get_word, restart_put_word). A piece needs no alignment. A piece
@@ -14,6 +14,21 @@
  *
  * Every call answers with a word: see "Answers". A refused call changes no lent byte, and its
  * number says why: the first that applies, in ascending order of those that are named at the call.
+ *
+ * What is proved: the calls under "Settings and messages" and "Events" are proved functions. For
+ * any bytes whatever they end, touch nothing but what was lent, and answer and leave what their
+ * definitions say. The functions under "Answers", "Words in lent bytes" and "Versions and texts"
+ * are plain C beside them (c/restart_extra.c): tested, not proved, and never called by a proved one.
+ *
+ * Stack: a call needs up to RESTART_STACK_BYTES of it. No call allocates memory.
+ *
+ * Threads: calls may run at the same time if no piece that one of them writes is used by another.
+ * So settings, messages and a state with its desk may be shared by any number of calls that only
+ * read them (const); a call that writes a state or desk must be the only one that has it.
+ *
+ * Platform: x86-64 Linux. The lent bytes are the same on every machine and can be sent and stored.
+ *
+ * What stays: restart(3), COMPATIBILITY.
  */
 #ifndef RESTART_H
 #define RESTART_H
@@ -23,6 +38,37 @@
 
 #ifdef __cplusplus
 extern "C" {
+#endif
+
+/* ---- Version ---- */
+
+#define RESTART_VERSION_MAJOR 0
+#define RESTART_VERSION_MINOR 2
+#define RESTART_VERSION_PATCH 0
+#define RESTART_VERSION "0.2.0"
+#define RESTART_VERSION_NUMBER 200 /* major * 10000 + minor * 100 + patch */
+
+/* Of the settings, the messages and the state. It is raised when any of their words changes its
+ * meaning; save it beside a state, and start fresh where it differs. */
+#define RESTART_FORMAT 1
+
+/* ---- What the compiler can check ----
+ * No pointer is null, and every answer is looked at; restart_fresh alone cannot be refused where
+ * its length is right.
+ */
+
+#if defined(__GNUC__) || defined(__clang__)
+#define RESTART_NONNULL __attribute__((nonnull))
+#define RESTART_CHECKED __attribute__((warn_unused_result))
+#else
+#define RESTART_NONNULL
+#define RESTART_CHECKED
+#endif
+
+/* The small functions are inline here, and the library has each of them under its name for callers
+ * from other languages. */
+#ifndef RESTART_INLINE
+#define RESTART_INLINE static inline
 #endif
 
 /* ---- Sizes ---- */
@@ -47,6 +93,8 @@ extern "C" {
 #define RESTART_BUFFER_BYTES 2048
 #define RESTART_CONTENTS_BYTES 2048
 #define RESTART_MESSAGE_BYTES 2048 /* longest message */
+
+#define RESTART_STACK_BYTES 131072 /* stack that is enough for any call */
 
 /* ---- Numbers of refusals, in the order in which they are checked ---- */
 
@@ -170,55 +218,55 @@ enum restart_class { RESTART_PLAIN = 0, RESTART_LENGTH = 1, RESTART_PLAN = 2, RE
 #define RESTART_ACCEPTED UINT32_C(0)
 #define RESTART_CLASS_UNIT UINT32_C(16777216)
 
-static inline uint32_t restart_class_of(uint32_t answer)
+RESTART_INLINE uint32_t restart_class_of(uint32_t answer)
 {
     return answer / RESTART_CLASS_UNIT;
 }
 
 /* Whether the call was refused, with nothing changed. */
-static inline int restart_is_refusal(uint32_t answer)
+RESTART_INLINE int restart_is_refusal(uint32_t answer)
 {
     return answer != RESTART_ACCEPTED && restart_class_of(answer) == RESTART_PLAIN;
 }
 
 /* Whether decide has put a plan into the state. */
-static inline int restart_is_plan(uint32_t answer)
+RESTART_INLINE int restart_is_plan(uint32_t answer)
 {
     return restart_class_of(answer) == RESTART_PLAN;
 }
 
 /* Whether decide waits. */
-static inline int restart_is_wait(uint32_t answer)
+RESTART_INLINE int restart_is_wait(uint32_t answer)
 {
     return restart_class_of(answer) == RESTART_WAIT;
 }
 
 /* A refusal's number, enum restart_number; 0 of another answer. */
-static inline uint32_t restart_number_of(uint32_t answer)
+RESTART_INLINE uint32_t restart_number_of(uint32_t answer)
 {
     return restart_is_refusal(answer) ? answer % 256 : 0;
 }
 
 /* A refusal's index; 0 of another answer. */
-static inline uint32_t restart_index_of(uint32_t answer)
+RESTART_INLINE uint32_t restart_index_of(uint32_t answer)
 {
     return restart_is_refusal(answer) ? answer / 256 : 0;
 }
 
 /* A wait's reason, enum restart_reason; 0 of another answer. */
-static inline uint32_t restart_reason_of(uint32_t answer)
+RESTART_INLINE uint32_t restart_reason_of(uint32_t answer)
 {
     return restart_is_wait(answer) ? answer % RESTART_CLASS_UNIT / 256 : 0;
 }
 
 /* A wait's shard (reason 4) or subgroup (reason 5); 0 of another answer. */
-static inline uint32_t restart_value_of(uint32_t answer)
+RESTART_INLINE uint32_t restart_value_of(uint32_t answer)
 {
     return restart_is_wait(answer) ? answer % 256 : 0;
 }
 
 /* The length in words of what was read or written; 0 of another answer. */
-static inline uint32_t restart_length_of(uint32_t answer)
+RESTART_INLINE uint32_t restart_length_of(uint32_t answer)
 {
     return restart_class_of(answer) == RESTART_LENGTH ? answer % RESTART_CLASS_UNIT : 0;
 }
@@ -226,14 +274,14 @@ static inline uint32_t restart_length_of(uint32_t answer)
 /* ---- Words in lent bytes ---- */
 
 /* Word `index` of the bytes. */
-static inline uint32_t restart_get_word(const uint8_t *bytes, size_t index)
+RESTART_NONNULL RESTART_INLINE uint32_t restart_get_word(const uint8_t *bytes, size_t index)
 {
     const uint8_t *at = bytes + 4 * index;
     return (uint32_t)at[0] | (uint32_t)at[1] << 8 | (uint32_t)at[2] << 16 | (uint32_t)at[3] << 24;
 }
 
 /* Stores word `index`. */
-static inline void restart_put_word(uint8_t *bytes, size_t index, uint32_t word)
+RESTART_NONNULL RESTART_INLINE void restart_put_word(uint8_t *bytes, size_t index, uint32_t word)
 {
     uint8_t *at = bytes + 4 * index;
     at[0] = (uint8_t)(word & 255);
@@ -242,6 +290,19 @@ static inline void restart_put_word(uint8_t *bytes, size_t index, uint32_t word)
     at[3] = (uint8_t)(word >> 24);
 }
 
+/* ---- Versions and texts ---- */
+
+/* RESTART_VERSION_NUMBER, RESTART_VERSION and RESTART_FORMAT of the library that is linked. */
+extern uint32_t restart_version(void);
+extern const char *restart_version_text(void);
+extern uint32_t restart_format(void);
+
+/* A short text, in English and without a full stop, for a refusal's number, a wait's reason, a
+ * phase; of any other word one that says so. The texts are constant and never null. */
+extern const char *restart_number_text(uint32_t number);
+extern const char *restart_reason_text(uint32_t reason);
+extern const char *restart_phase_text(uint32_t phase);
+
 /* ---- Settings and messages ---- */
 
 /*
@@ -249,7 +310,8 @@ static inline void restart_put_word(uint8_t *bytes, size_t index, uint32_t word)
  * Answers 0, or number 2.
  * Changes nothing.
  */
-uint32_t restart_check_settings(const uint8_t *settings, size_t settings_len);
+uint32_t restart_check_settings(const uint8_t *settings,
+                                size_t settings_len) RESTART_NONNULL RESTART_CHECKED;
 
 /*
  * Read a report or an order; a message does not say which of the two it is. Contents are words:
@@ -260,9 +322,11 @@ uint32_t restart_check_settings(const uint8_t *settings, size_t settings_len);
  * Changes the contents.
  */
 uint32_t restart_read_report(const uint8_t *settings, size_t settings_len, const uint8_t *message,
-                             size_t message_len, uint8_t *contents, size_t contents_len);
+                             size_t message_len, uint8_t *contents,
+                             size_t contents_len) RESTART_NONNULL RESTART_CHECKED;
 uint32_t restart_read_order(const uint8_t *settings, size_t settings_len, const uint8_t *message,
-                            size_t message_len, uint8_t *contents, size_t contents_len);
+                            size_t message_len, uint8_t *contents,
+                            size_t contents_len) RESTART_NONNULL RESTART_CHECKED;
 
 /*
  * Write a report or an order from contents. Their length says how many records they have: it is
@@ -274,14 +338,32 @@ uint32_t restart_read_order(const uint8_t *settings, size_t settings_len, const 
  * Changes the buffer.
  */
 uint32_t restart_write_report(const uint8_t *settings, size_t settings_len, const uint8_t *contents,
-                              size_t contents_len, uint8_t *buffer, size_t buffer_len);
+                              size_t contents_len, uint8_t *buffer,
+                              size_t buffer_len) RESTART_NONNULL RESTART_CHECKED;
 uint32_t restart_write_order(const uint8_t *settings, size_t settings_len, const uint8_t *contents,
-                             size_t contents_len, uint8_t *buffer, size_t buffer_len);
+                             size_t contents_len, uint8_t *buffer,
+                             size_t buffer_len) RESTART_NONNULL RESTART_CHECKED;
 
 /* ---- Events ----
  * A restart is a state of 640 bytes and a desk of 65536. The caller keeps both between the calls,
  * uses the same settings throughout and changes neither state nor desk itself. The desk has a slot
  * of 2048 bytes for each node; before the first report its bytes may be any.
+ *
+ * What the caller must do, in short; restart(3) has the reasons and what happens otherwise:
+ *    1  one restart at a time; a committed view is on the disk of all its members before one serves
+ *    2  take acknowledgements of the present attempt only: tag each attempt
+ *    3  take a machine's reports in the order in which it made them
+ *    4  a machine says "prepared" once the new view and all that it fetched are on its disk
+ *    5  targets of a plan that was given up are no termination, and are not reported as one
+ *    6  reports are true: the latest view that the machine logged, and exactly the updates it has
+ *    7  a machine with more runs than 128 records can name cannot report
+ *    8  a holder serves its log until every member of the shard has fetched
+ *    9  the library has no clock: drop a machine that is too slow
+ *   10  a corrupt high view is kept until a fresh state: start anew without its report
+ *   11  an update's view and k name the same update on every disk
+ *   12  state and desk come back as they were left
+ *   13  moves are counted, not bytes
+ * And before an order leaves: settings, state, desk and the attempt's tag are on disk together.
  */
 
 /*
@@ -289,7 +371,18 @@ uint32_t restart_write_order(const uint8_t *settings, size_t settings_len, const
  * Answers 0, or number 3 (state not 640 bytes).
  * Changes the state.
  */
-uint32_t restart_fresh(uint8_t *state, size_t state_len);
+uint32_t restart_fresh(uint8_t *state, size_t state_len) RESTART_NONNULL;
+
+/*
+ * Whether the bytes are a state that is sound with these settings and this desk, in whatever phase
+ * it is. Every event asks the same of its state first; a leader that takes up what it has saved can
+ * ask before anything else.
+ * Answers 0, or one of the numbers 1 to 3.
+ * Changes nothing.
+ */
+uint32_t restart_check_state(const uint8_t *settings, size_t settings_len, const uint8_t *state,
+                             size_t state_len, const uint8_t *desk,
+                             size_t desk_len) RESTART_NONNULL RESTART_CHECKED;
 
 /*
  * Takes a node's report, while gathering. The message is copied to the node's slot and the node is
@@ -300,7 +393,7 @@ uint32_t restart_fresh(uint8_t *state, size_t state_len);
  */
 uint32_t restart_report(const uint8_t *settings, size_t settings_len, uint8_t *state,
                         size_t state_len, uint8_t *desk, size_t desk_len, const uint8_t *message,
-                        size_t message_len);
+                        size_t message_len) RESTART_NONNULL RESTART_CHECKED;
 
 /*
  * Gives up a held node. While gathering the node is no longer held. While ordered or preparing
@@ -310,7 +403,8 @@ uint32_t restart_report(const uint8_t *settings, size_t settings_len, uint8_t *s
  * Changes the state.
  */
 uint32_t restart_drop(const uint8_t *settings, size_t settings_len, uint8_t *state,
-                      size_t state_len, const uint8_t *desk, size_t desk_len, uint32_t node);
+                      size_t state_len, const uint8_t *desk, size_t desk_len,
+                      uint32_t node) RESTART_NONNULL RESTART_CHECKED;
 
 /*
  * Decides, while gathering: a plan, or a wait with its reason. A plan leads to ordered and stands
@@ -319,7 +413,8 @@ uint32_t restart_drop(const uint8_t *settings, size_t settings_len, uint8_t *sta
  * Changes the state where there is a plan.
  */
 uint32_t restart_decide(const uint8_t *settings, size_t settings_len, uint8_t *state,
-                        size_t state_len, const uint8_t *desk, size_t desk_len);
+                        size_t state_len, const uint8_t *desk,
+                        size_t desk_len) RESTART_NONNULL RESTART_CHECKED;
 
 /*
  * Writes a held node's order, while ordered: the new view with its members, each shard's members
@@ -331,7 +426,7 @@ uint32_t restart_decide(const uint8_t *settings, size_t settings_len, uint8_t *s
  */
 uint32_t restart_order(const uint8_t *settings, size_t settings_len, const uint8_t *state,
                        size_t state_len, const uint8_t *desk, size_t desk_len, uint32_t node,
-                       uint8_t *buffer, size_t buffer_len);
+                       uint8_t *buffer, size_t buffer_len) RESTART_NONNULL RESTART_CHECKED;
 
 /*
  * Marks a held node as having fetched what its order names, while ordered. When all held nodes are
@@ -340,7 +435,8 @@ uint32_t restart_order(const uint8_t *settings, size_t settings_len, const uint8
  * Changes the state.
  */
 uint32_t restart_fetched(const uint8_t *settings, size_t settings_len, uint8_t *state,
-                         size_t state_len, const uint8_t *desk, size_t desk_len, uint32_t node);
+                         size_t state_len, const uint8_t *desk, size_t desk_len,
+                         uint32_t node) RESTART_NONNULL RESTART_CHECKED;
 
 /*
  * Marks a held node as prepared (the new view and all that was fetched are on its disk), while
@@ -350,7 +446,8 @@ uint32_t restart_fetched(const uint8_t *settings, size_t settings_len, uint8_t *
  * Changes the state.
  */
 uint32_t restart_prepared(const uint8_t *settings, size_t settings_len, uint8_t *state,
-                          size_t state_len, const uint8_t *desk, size_t desk_len, uint32_t node);
+                          size_t state_len, const uint8_t *desk, size_t desk_len,
+                          uint32_t node) RESTART_NONNULL RESTART_CHECKED;
 
 #ifdef __cplusplus
 }

@@ -1,12 +1,34 @@
-# needs COMMAND ..    installs, with Debian's apt-get, the packages of those commands that are not there.
+# needs COMMAND ..                 installs, with Debian's apt-get, the packages of those commands that are not there.
+# needs_soon SECONDS COMMAND ..    the same without recommended packages, unless fetching takes longer; fails where it cannot be done.
+
+lacking() {
+    for wanted in "$@"; do
+        command -v "$wanted" >/dev/null || printf ' %s' "$wanted"
+    done
+}
+
+# Parts of the gate that run at the same time install one after another.
+in_turn() {
+    if command -v flock >/dev/null; then flock "${TMPDIR:-/tmp}/restart-needs.lock" "$@"; else "$@"; fi
+}
 
 needs() {
-    lacking=
-    for wanted in "$@"; do
-        command -v "$wanted" >/dev/null || lacking="$lacking $wanted"
-    done
-    [ -z "$lacking" ] && return 0
-    echo "installing$lacking"
+    missing=$(lacking "$@")
+    [ -z "$missing" ] && return 0
+    echo "installing$missing"
     # shellcheck disable=SC2086
-    apt-get update -qq && DEBIAN_FRONTEND=noninteractive apt-get install -y -qq $lacking >/dev/null
+    in_turn sh -c 'apt-get update -qq && DEBIAN_FRONTEND=noninteractive apt-get install -y -qq "$@" >/dev/null' sh $missing
+}
+
+# Only fetching is ever broken off, so that no package is left half installed.
+needs_soon() {
+    seconds=$1
+    shift
+    missing=$(lacking "$@")
+    [ -z "$missing" ] && return 0
+    echo "installing$missing"
+    # shellcheck disable=SC2086
+    in_turn sh -c 'seconds=$1; shift; get="apt-get install -y -qq --no-install-recommends"; export DEBIAN_FRONTEND=noninteractive
+        timeout "$seconds" sh -c "apt-get update -qq && $get --download-only $*" >/dev/null && $get --no-download "$@" >/dev/null' \
+        sh "$seconds" $missing
 }

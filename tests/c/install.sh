@@ -1,6 +1,6 @@
 #!/bin/sh
-# Installs into temporary folders and uses what was installed from outside the repository, by pkg-config; then uninstalls.
-# The last line is `N passed, M failed`.
+# Installs into temporary folders and uses what was installed from outside the repository: by pkg-config, CMake, Python and Rust, in its
+# place and moved; then uninstalls. The last line is `N passed, M failed`.
 set -u
 cd "$(dirname "$0")/../.." || exit 1
 root=$PWD
@@ -23,35 +23,105 @@ check() { # WHAT COMMAND ..
 # What must stand under the prefix.
 names() {
     echo bin/restart bin/restart-service include/restart.h lib/librestart.a lib/pkgconfig/restart.pc
-    echo share/man/man1/restart.1 share/man/man1/restart-service.1 share/man/man3/restart.3 share/man/man7/restart.7
-    sed -n 's|^uint32_t \(restart_[a-z_]*\)(.*|share/man/man3/\1.3|p' include/restart.h
+    echo "lib/librestart.so lib/librestart.so.0 lib/librestart.so.$version"
+    echo lib/cmake/restart/restart-config.cmake lib/cmake/restart/restart-config-version.cmake
+    echo share/man/man1/restart.1 share/man/man1/restart-service.1 share/man/man3/restart.3
+    echo share/man/man7/restart.7 share/man/man7/restart-model.7
+    sh c/names.sh | sed 's|.*|share/man/man3/&.3|'
     for report in examples/reports/*.bin; do echo "share/restart/example/reports/${report##*/}"; done
-    for name in settings.bin events.txt output.txt; do echo "share/restart/example/$name"; done
+    for name in service.c settings.bin events.txt output.txt; do echo "share/restart/example/$name"; done
 }
 
 all_there() { # FOLDER
-    names | tr ' ' '\n' | sort >"$room/expected"
+    { names && tool_names; } | tr ' ' '\n' | sort >"$room/expected"
     (cd "$1" && find . ! -type d | sed 's|^\./||' | sort) >"$room/found"
     diff "$room/expected" "$room/found"
+}
+
+# The operators' tool.
+tool_names() {
+    echo bin/restart-text share/man/man1/restart-text.1 share/restart/explain.schema.json
+    (cd tools && find restart_text -name '*.py' | sed 's|^|share/restart/|')
 }
 
 expected_output() {
     printf 'report 0, wait 2\nreport 0, plan 4\n' | diff - "$1"
 }
 
-# Builds and runs the program in a folder of its own, with the flags of pkg-config under this sysroot.
+# Builds the program in a folder of its own, with the flags of pkg-config under this sysroot, and runs it over the shared library; then
+# over the archive.
 outside() { # COMPILER STANDARD LIBRARY-FOLDER SYSROOT
     mkdir -p "$room/outside" && cp "$root/tests/c/outside.c" "$room/outside/program.$1" && cd "$room/outside" || return
     flags=$(PKG_CONFIG_PATH=$3/pkgconfig PKG_CONFIG_SYSROOT_DIR=$4 pkg-config --cflags --libs restart) || return
     language=c
     [ "$1" = g++ ] && language=c++
-    # shellcheck disable=SC2086
-    "$1" "-std=$2" -Wall -Wextra -Werror -pedantic -x $language "program.$1" -x none $flags -o program || return
-    ./program >printed && expected_output printed
+    for way in -lrestart -l:librestart.a; do
+        # shellcheck disable=SC2046,SC2086
+        "$1" "-std=$2" -Wall -Wextra -Werror -pedantic -x $language "program.$1" -x none $(echo "$flags" | sed "s|-lrestart|$way|") -o program || return
+        LD_LIBRARY_PATH=$3 ./program >printed && expected_output printed || return
+        readelf -dW program >needed
+        case $way in
+        -lrestart) grep -q 'NEEDED.*\[librestart.so.0\]' needed || return ;;
+        *) ! grep -q 'NEEDED.*librestart' needed || return ;;
+        esac
+    done
 }
 
+# The header's checks: an answer that is not looked at and a null pointer are told by the compiler.
+told() { # LIBRARY-FOLDER
+    cd "$room" && printf '#include <restart.h>\nint main(void) { %s; return 0; }\n' \
+        'uint8_t s[640]; restart_check_settings(s, 28)' >unused.c && sed 's/restart_check.*; return/return (int)restart_check_settings(0, 28);/' unused.c >null.c
+    flags=$(PKG_CONFIG_PATH=$1/pkgconfig pkg-config --cflags restart) || return
+    for name in unused null; do
+        # shellcheck disable=SC2086
+        gcc -std=c11 -Wall $flags -c -o /dev/null $name.c || return
+        # shellcheck disable=SC2086
+        gcc -std=c11 -Wall -Werror $flags -c -o /dev/null $name.c && return 1
+    done
+    return 0
+}
+
+from_python() { # LIBRARY-FOLDER
+    python3 "$root/tests/c/from_python.py" "$1/librestart.so.0" >"$room/printed" && expected_output "$room/printed"
+}
+
+from_rust() { # LIBRARY-FOLDER
+    for way in dylib static; do
+        RESTART_VERSION=$version rustc --edition 2021 -L "$1" -l "$way=restart" -o "$room/program" "$root/tests/c/from_rust.rs" || return
+        LD_LIBRARY_PATH=$1 "$room/program" >"$room/printed" && expected_output "$room/printed" || return
+    done
+}
+
+from_cmake() { # PREFIX-FOLDER
+    rm -rf "$room/cmake" && mkdir "$room/cmake" && cp "$root/tests/c/cmake/CMakeLists.txt" "$root/tests/c/outside.c" "$room/cmake" &&
+        cmake -S "$room/cmake" -B "$room/cmake/build" -DCMAKE_PREFIX_PATH="$1" && cmake --build "$room/cmake/build" || return
+    for kind in restart static; do
+        "$room/cmake/build/with-$kind" >"$room/printed" && expected_output "$room/printed" || return
+    done
+}
+
+# The archives of make dist: the sources, and the installed tree, which is used where it is unpacked.
+archives() {
+    make --no-print-directory dist && mkdir "$room/unpacked" && tar -xzf "target/restart-$version-x86_64-linux.tar.gz" -C "$room/unpacked" &&
+        tar -xzf "target/restart-$version.tar.gz" -C "$room/unpacked" || return
+    test -f "$room/unpacked/restart-$version/README.md" && test ! -e "$room/unpacked/restart-$version/target" &&
+        test -f "$room/unpacked/restart-$version-x86_64-linux/CHANGELOG.md" &&
+        outside gcc c11 "$room/unpacked/restart-$version-x86_64-linux/lib" ""
+}
+
+# What was installed is used from another place.
+moved() { # PREFIX-FOLDER
+    mv "$1" "$room/moved" && outside gcc c11 "$room/moved/lib" "" && from_cmake "$room/moved"
+    status=$?
+    mv "$room/moved" "$1" && return $status
+}
+
+# The example as installed, and built from its installed source.
 installed_example() { # PREFIX-FOLDER
-    cd / && "$1/bin/restart-service" "$1/share/restart/example" >"$room/printed" && diff "$1/share/restart/example/output.txt" "$room/printed"
+    cd / && "$1/bin/restart-service" "$1/share/restart/example" >"$room/printed" && diff "$1/share/restart/example/output.txt" "$room/printed" || return
+    # shellcheck disable=SC2046
+    gcc -std=c11 -o "$room/program" "$1/share/restart/example/service.c" $(PKG_CONFIG_PATH=$1/lib/pkgconfig pkg-config --cflags --libs restart) &&
+        LD_LIBRARY_PATH=$1/lib "$room/program" "$1/share/restart/example" | diff "$1/share/restart/example/output.txt" -
 }
 
 # The example's settings and first six reports, each block preceded by its word count.
@@ -72,6 +142,14 @@ shard 2 holder 5 target 7 3 members 3
 PLAN
 }
 
+# The tool asks the program that is installed beside it; what Python leaves behind is removed as well.
+installed_tool() { # PREFIX-FOLDER
+    cd / && "$1/bin/restart-text" explain "$root/examples/case-a.txt" >"$room/printed" &&
+        grep -q '^Plan: new view 8 after view 7, 2 moves' "$room/printed" || return
+    "$1/bin/restart-text" explain "$root/examples/night.txt" >"$room/printed"
+    test $? = 1 && grep -q '^Switch on machines rack1-a, rack1-c and rack3-a' "$room/printed"
+}
+
 version_is() { # VERSION LIBRARY-FOLDER
     test "$(PKG_CONFIG_PATH=$2/pkgconfig pkg-config --modversion restart)" = "$1"
 }
@@ -80,20 +158,34 @@ nothing_left() { # FOLDER
     test -z "$(find "$1" ! -type d)" && test ! -e "$1/share/restart"
 }
 
-try() { # DESTDIR PREFIX
+try() { # DESTDIR PREFIX CHECK
     check "install under $2" make --no-print-directory install DESTDIR="$1" PREFIX="$2"
     check "what is installed" all_there "$1$2"
     check "a C program" outside gcc c11 "$1$2/lib" "$1"
-    check "a C++ program" outside g++ c++17 "$1$2/lib" "$1"
-    check "the version" version_is "$(sed -n 's/^VERSION := //p' Makefile)" "$1$2/lib"
+    check "a C++ program" outside g++ c++17 "$1$2/lib" ""
+    check "the version" version_is "$version" "$1$2/lib"
     check "the example" installed_example "$1$2"
     check "the program" installed_program "$1$2"
+    check "the tool" installed_tool "$1$2"
     check "a manual page" groff -t -man -Tutf8 -ww "$1$2/share/man/man3/restart_decide.3"
+    "$3" "$1$2"
     check "uninstall" make --no-print-directory uninstall DESTDIR="$1" PREFIX="$2"
-    check "what is left" nothing_left "$1"
+    check "what is left" nothing_left "$1$2"
 }
 
-try "$room/staged" /opt/planner
-try "" "$room/direct"
+other_languages() { # PREFIX-FOLDER
+    check "what the compiler tells" told "$1/lib"
+    check "Python" from_python "$1/lib"
+    check "Rust" from_rust "$1/lib"
+}
+
+other_places() { # PREFIX-FOLDER
+    check "moved" moved "$1"
+}
+
+version=$(sed -n 's/^#define RESTART_VERSION "\(.*\)"/\1/p' include/restart.h)
+try "$room/staged" /opt/planner other_languages
+try "" "$room/direct" other_places
+check "archives" archives
 echo "$passed passed, $failed failed"
 [ "$failed" = 0 ]

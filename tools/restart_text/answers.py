@@ -82,14 +82,10 @@ def run(program, blocks):
     return done.stdout.decode("ascii", "replace")
 
 
-def block_at_fault(program, blocks):
-    """The number of the first block that the program refuses: it refuses the input cut off after this block, and no shorter one.
-    Refusals end the run, so longer ones are refused as well and halving finds it."""
-    low, high = 0, max(len(blocks) - 1, 0)
-    while low < high:
-        middle = (low + high) // 2
-        if isinstance(parse(run(program, blocks[: middle + 1])), Number):
-            high = middle
-        else:
-            low = middle + 1
-    return low
+def printed(answer):
+    """The answer in a few words."""
+    if isinstance(answer, Plan):
+        return "a plan, new view %d, %d move%s" % (answer.view, answer.moves, "s" * (answer.moves != 1))
+    if isinstance(answer, Wait):
+        return "wait %d" % answer.reason + (" %d" % answer.value if answer.value is not None else "")
+    return "number %d" % answer.number

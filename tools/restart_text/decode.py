@@ -1,5 +1,5 @@
-"""From words to values: settings, reports and orders, or the number of the first row of document 01's table that applies
-(2, 5 to 11) and what is wrong. Each row is checked over the whole message before the next."""
+"""From words to values: settings, reports and orders, or the first number of restart(7) that applies (2, 5 to 11) and
+what is wrong. Each row is checked over the whole message before the next."""
 from collections import namedtuple
 
 from .encode import CUT, HOLDER, MEMBERS, RUN, TERMINATION
@@ -42,14 +42,17 @@ def report_from(words, settings):
 
 def order_from(words, settings=None):
     """An order. Without settings, what only they can tell is not checked."""
-    if settings is None:
-        length(words)
-        settings = widest_settings(chain(words))
-    return message_from(words, settings, True)
+    return message_from(words, settings or widest_for(words), True)
+
+
+def widest_for(words):
+    """Settings under which this message is read if it can be one."""
+    length(words)
+    return widest_settings(chain(words))
 
 
 def widest_settings(records):
-    """Settings under which every order is read that could be one: 32 nodes, as many shards as there are members records, each
+    """Settings under which every message is read that could be one: 32 nodes, as many shards as there are members records, each
     shard a subgroup of its own."""
     shards = sum(record.kind == MEMBERS for record in records)
     places = tuple(Shard(number, 1) for number in range(min(max(shards, 1), MOST_SHARDS)))
@@ -84,7 +87,7 @@ def head(words, settings, is_order):
         raise Refused(7, "node %d is among the members, the settings have nodes 0 to %d"
                       % (max(members), len(settings.nodes) - 1))
     if node not in members:
-        raise Refused(7, "node %d is not among the members that its own message names" % node)
+        raise Refused(7, "node %s is not among the members that its own message names" % settings.name(node))
 
 
 def chain(words):
@@ -133,7 +136,8 @@ def complete(records, words, settings, is_order):
         if kind == TERMINATION and not there and not is_order:
             continue
         for shard in sorted(shards ^ there):
-            fault = "is missing" if shard in shards else "is there, though node %d does not carry the shard" % words[0]
+            surplus = "is there, though node %s does not carry the shard" % settings.name(words[0])
+            fault = "is missing" if shard in shards else surplus
             raise Refused(9, "the %s record (kind %d) of shard %d %s" % (KIND_NAMES[kind], kind, shard, fault))
 
 
@@ -147,12 +151,13 @@ def shards_members(records, words, settings):
         if not nodes:
             raise Refused(10, "shard %d has no members" % record.shard)
         if nodes - members:
-            raise Refused(10, "node %d of shard %d is not among the view's members" % (min(nodes - members), record.shard))
+            raise Refused(10, "node %s of shard %d is not among the view's members"
+                          % (settings.name(min(nodes - members)), record.shard))
         subgroup = settings.shards[record.shard].subgroup
         for node in sorted(nodes):
             other = taken.setdefault((subgroup, node), record.shard)
             if other != record.shard:
-                raise Refused(10, "node %d is in shards %d and %d of one subgroup" % (node, other, record.shard))
+                raise Refused(10, "node %s is in shards %d and %d of one subgroup" % (settings.name(node), other, record.shard))
 
 
 def positions(records, words, is_order):

@@ -1,223 +1,259 @@
-"""A plan as a picture (SVG): above the machines, grouped by failure set, below the shards, grouped by subgroup.
+"""An answer as a picture (SVG): above the machines, grouped by failure set, below the shards, grouped by subgroup.
 
-A thick arrow is a move, a thin dotted line a machine that stays. Each shard has a colour, and its number stands wherever the
-colour does, so that the picture can be read in black and white."""
-import colorsys
-import xml.etree.ElementTree as Tree
-from dataclasses import dataclass
-
-from .printing import numbers
-from .sentences import counted
-
-MARGIN, GAP, PAD = 24, 16, 10
-MACHINE, MACHINE_HEIGHT, TAG = 52, 84, 20
-SHARD, LINE = 132, 16
-SETS_TOP, BETWEEN = 92, 170
-FRAME = {"fill": "none", "stroke": "#777777", "stroke-width": "1"}
+In a plan a thick arrow is a move, a thin dotted line a machine that stays. In a wait a line leads from each machine to the shards
+that it carried in the kept view, and a list says which conditions are met. Each shard has a colour, and its number stands wherever
+the colour does, so that the picture can be read in black and white."""
+from .answers import Plan
+from .explaining import stale
+from .gathering import holding, shortage
+from .layout import BETWEEN, GAP, LEAST, LINE, MARGIN, PAD, machine_row, paragraph, shard_row, wrapped
+from .sentences import counted, pair
+from .shapes import AMBER, BLUE, GREEN, GREY, RED, TAG
+from .shapes import arrow, dark, disc, finished, group, label, light, line, shape, sheet, square, width_of
+from .telling import reason
 
 
-@dataclass
-class Box:
-    left: float
-    top: float
-    width: float
-    height: float
-
-    @property
-    def bottom(self):
-        return self.top + self.height
-
-
-def draw(gathered, plan):
+def draw(told):
     """The picture as text."""
-    sets, groups = set_sizes(gathered.settings), group_sizes(gathered.settings)
-    inner = max(row_width(sets), row_width(groups), 560)
-    machines = places(sets, inner, SETS_TOP + LINE + PAD, MACHINE, MACHINE_HEIGHT)
-    shard_top = SETS_TOP + MACHINE_HEIGHT + 2 * PAD + LINE + BETWEEN + LINE + PAD
-    height = shard_height(gathered, plan)
-    shards = places(groups, inner, shard_top, SHARD, height)
-    bottom = shard_top + height + 4 * GAP
-    picture = sheet(inner + 2 * MARGIN, bottom + GAP)
-    headline = "View %d after view %d: %s" % (plan.view, gathered.kept.number, counted(plan.moves, "move"))
-    Tree.SubElement(picture, "title").text = headline
-    shape(picture, "rect", x=0, y=0, width="100%", height="100%", fill="#ffffff")
-    label(picture, MARGIN, 36, headline, 20, "bold")
-    label(picture, MARGIN, 60, "held %s; absent %s" % (numbers(gathered.held), numbers(gathered.absent)), 14)
-    frames(picture, sets, machines, "set", "failure set %d", -LINE)
-    frames(picture, groups, shards, "subgroup", "subgroup %d", height + PAD - 2)
-    links(picture, gathered, plan, machines, shards)
-    for node, box in machines.items():
-        draw_machine(picture, gathered, plan, node, box)
-    for shard, box in shards.items():
-        draw_shard(picture, gathered, plan, shard, box)
-    legend(picture, bottom)
-    Tree.indent(picture)
-    return '<?xml version="1.0" encoding="UTF-8"?>\n' + Tree.tostring(picture, encoding="unicode") + "\n"
+    return Picture(told).drawn()
 
 
-def sheet(width, height):
-    return Tree.Element("svg", {"xmlns": "http://www.w3.org/2000/svg", "viewBox": "0 0 %d %d" % (width, height),
-                                "width": str(width), "height": str(height), "font-family": "sans-serif"})
+class Picture:
+    def __init__(self, told):
+        self.gathered, self.answer, self.settings = told.gathered, told.answer, told.gathered.settings
+        self.plan = told.answer if isinstance(told.answer, Plan) else None
+        self.kept = told.gathered.kept
+        self.first = told.lines[0].partition(". ")[2] if self.plan else told.lines[0]
+        found = told.advice.found
+        self.wanted = frozenset(found.sets[0]) if found and found.sets else frozenset()
+        self.instead = frozenset().union(*found.sets) - self.wanted if found else frozenset()
+        self.stale = dict(stale(self.gathered)) if self.kept else {}
+        shards = range(len(self.settings.shards))
+        self.logs = [holding(self.gathered, shard) if self.kept else None for shard in shards]
+        self.short = [group_number for group_number in range(4) if not self.plan and shortage(self.gathered, group_number)]
+        self.texts = [self.shard_lines(shard) for shard in shards]
+
+    # ---- The whole
+
+    def drawn(self):
+        settings = self.settings
+        machines = machine_row(settings, 54 if self.plan else 78, self.machine_height())
+        shards = shard_row(settings, self.texts)
+        inner = max(machines.full, shards.full, LEAST)
+        back = "held %s; absent %s" % (settings.those(self.gathered.held), settings.those(self.gathered.absent))
+        told = [(text, "normal") for text in paragraph(back, inner, 14)]
+        told += [(text, "normal" if self.plan else "bold") for text in paragraph(self.first, inner, 15)]
+        conditions = [] if self.plan or not self.kept else self.conditions()
+        machine_top = 74 + 18 * len(told) + 20 * len(conditions) + 2 * LINE + PAD
+        shard_top = machine_top + machines.height + 2 * PAD + BETWEEN + LINE
+        bottom = shard_top + shards.height + 4 * GAP
+        signs = self.signs(inner)
+        picture = sheet(inner + 2 * MARGIN, bottom + (1 + signs[-1][1]) * 2 * GAP, self.headline())
+        self.head(picture, told, conditions)
+        sets = {number: "failure set %d" % number for number in machines.groups}
+        machines.frames(picture, inner, machine_top, "set", sets)
+        names = {number: "subgroup %d%s" % (number, ": no placement" * (number in self.short)) for number in shards.groups}
+        shards.frames(picture, inner, shard_top, "subgroup", names, True, dict.fromkeys(self.short, RED))
+        above, below = machines.boxes(inner, machine_top), shards.boxes(inner, shard_top)
+        self.links(picture, above, below)
+        for node, box in above.items():
+            self.machine(picture, node, box)
+        for shard, box in below.items():
+            self.shard(picture, shard, box)
+        legend(picture, signs, bottom)
+        return finished(picture)
+
+    def headline(self):
+        if self.plan:
+            return "View %d after view %d: %s" % (self.plan.view, self.kept.number, counted(self.plan.moves, "move"))
+        return "Waiting, reason %d: %s" % (self.answer.reason, reason(self.answer))
+
+    def head(self, picture, told, conditions):
+        label(picture, MARGIN, 36, self.headline(), 20, "bold", fill=None if self.plan else RED)
+        for number, (text, weight) in enumerate(told):
+            label(picture, MARGIN, 60 + number * 18, text, 14, weight)
+        top = 58 + 18 * len(told)
+        for number, (met, text) in enumerate(conditions):
+            row = group(picture, "condition-%d" % number)
+            mark(row, MARGIN, top + 20 * number, met)
+            label(row, MARGIN + 24, top + 20 * number + 12, text, 13, "normal" if met else "bold", fill=None if met else RED)
+
+    def conditions(self):
+        """Each condition of a restart: whether it is met, and the count."""
+        gathered, kept, least = self.gathered, self.kept, self.settings.least
+        back, needed = len(kept.members & gathered.held), len(kept.members) // 2 + 1
+        found = [(back >= needed, "%d of the %s of view %d are back, at least %d needed"
+                  % (back, counted(len(kept.members), "member"), kept.number, needed)),
+                 (len(gathered.held) >= least, "%s back, at least %d needed" % (counted(len(gathered.held), "machine"), least))]
+        without = [shard for shard, log in enumerate(self.logs) if not log]
+        found.append((not without, "no log of shard%s %s" % ("s" * (len(without) > 1), " ".join(map(str, without)))
+                      if without else "every shard has a log"))
+        for number in self.short:
+            short = shortage(gathered, number)
+            found.append((False, "no placement of subgroup %d: %s, the failure sets give %d"
+                          % (number, needs(short), sum(short.given.values()))))
+        return found if self.short else found + [(True, "every subgroup has a placement")]
+
+    # ---- Machines
+
+    def carried(self, node):
+        """The shards that the machine carries: by the plan, or else in the kept view."""
+        shards = [placed.members for placed in self.plan.shards] if self.plan else self.kept.shards if self.kept else ()
+        return [shard for shard, members in enumerate(shards) if node in members]
+
+    def given(self, node):
+        """The shards whose log is taken from the machine."""
+        return [shard for shard, log in enumerate(self.logs) if log and log[0] == node]
+
+    def machine_height(self):
+        rows = [(len(self.carried(node)) + 1) // 2 + (len(self.given(node)) + 1) // 2 for node in self.settings.nodes]
+        return 46 + LINE * bool(self.settings.names) + max(1, max(rows)) * (TAG + 4)
+
+    def state(self, node):
+        """The line under the machine's number: its text, colour, and the frame's colour, width and dashes."""
+        if node in self.wanted:
+            return "switch on", BLUE, BLUE, 3, "6 3"
+        if node in self.instead:
+            return "or this", BLUE, BLUE, 1, "6 3"
+        if node not in self.gathered.held:
+            return "absent", GREY, GREY, 1, "4 3"
+        if node in self.stale:
+            return "view %d" % self.stale[node], AMBER, AMBER, 2, None
+        return "", "#000000", "#000000", 1.5, None
+
+    def machine(self, picture, node, box):
+        text, colour, stroke, width, dashes = self.state(node)
+        part = group(picture, "machine-%d" % node)
+        shape(part, "rect", x=box.left, y=box.top, width=box.width, height=box.height, rx=5, fill="#ffffff", stroke=stroke,
+              stroke_width=width, **({"stroke_dasharray": dashes} if dashes else {}))
+        label(part, box.middle, box.top + 20, str(node), 18, "bold" if node in self.gathered.held else "normal", "middle")
+        top = box.top + 20
+        if self.settings.names:
+            top += LINE
+            label(part, box.middle, top, self.settings.name(node) if self.settings.names[node] else "", 12, "bold", "middle")
+        if text:
+            size = min(12, 12 * (box.width - 6) / width_of(text, 12))
+            label(part, box.middle, top + LINE, text, size, "bold" if node in self.wanted else "normal", "middle", colour)
+        self.tags(part, node, box, top + LINE + 8)
+
+    def tags(self, part, node, box, top):
+        """Squares for what the machine carries, discs for the logs that are taken from it."""
+        carried, given, back = self.carried(node), self.given(node), node in self.gathered.held
+        for shard, left, down in pairs_of(carried, box.middle):
+            moves = bool(self.plan) and node not in self.kept.shards[shard]
+            square(part, left, top + down, str(shard), light(shard) if back else "#f2f2f2", moves)
+        top += (len(carried) + 1) // 2 * (TAG + 4)
+        for shard, left, down in pairs_of(given, box.middle):
+            disc(part, left, top + down, str(shard), light(shard))
+
+    # ---- Shards
+
+    def shard_lines(self, shard):
+        """What stands in a shard's box."""
+        settings, old = self.settings, self.kept.shards[shard] if self.kept else frozenset()
+        lines = ["needs %d" % settings.shards[shard].needs]
+        if self.plan:
+            placed = self.plan.shards[shard]
+            lines += wrapped("log from", [placed.holder], settings) + ["up to %s" % pair(placed.target)]
+            return lines + wrapped("stay", placed.members & old, settings) + wrapped("move in", placed.members - old, settings)
+        if not self.kept:
+            return lines
+        log = self.logs[shard]
+        lines += wrapped("log from", [log[0]], settings) + ["up to %s" % pair(log[1])] if log else ["NO LOG"]
+        for name, nodes in (("back", old & self.gathered.held - set(self.stale)), ("older view", old & set(self.stale)),
+                            ("absent", old - self.gathered.held)):
+            lines += wrapped(name, nodes, settings) if nodes else []
+        return lines
+
+    def shard(self, picture, shard, box):
+        part, bad = group(picture, "shard-%d" % shard), not self.plan and bool(self.kept) and not self.logs[shard]
+        edge = {"stroke": RED, "stroke_width": 3} if bad else {"stroke": dark(shard)}
+        shape(part, "rect", x=box.left, y=box.top, width=box.width, height=box.height, fill="#ffffff", rx=4, **edge)
+        shape(part, "rect", x=box.left, y=box.top, width=box.width, height=24, fill=light(shard), rx=4, **edge)
+        label(part, box.middle, box.top + 17, "shard %d" % shard, 14, "bold", "middle")
+        for number, text in enumerate(self.texts[shard]):
+            no_log = text == "NO LOG"
+            label(part, box.left + 8, box.top + 40 + number * LINE, text, 12, "bold" if no_log else "normal",
+                  fill=RED if no_log else None)
+
+    # ---- Lines between them
+
+    def links(self, picture, above, below):
+        """A line from each member to its shard; the ends at a shard stand in the order of the machines above."""
+        if not self.plan and not self.kept:
+            return
+        for shard, box in below.items():
+            members = self.plan.shards[shard].members if self.plan else self.kept.shards[shard]
+            nodes = sorted(members, key=lambda node: above[node].left)
+            for place, node in enumerate(nodes, 1):
+                start, end = (above[node].middle, above[node].bottom), (box.left + box.width * place / (len(nodes) + 1), box.top)
+                self.link(picture, node, shard, start, end)
+
+    def link(self, picture, node, shard, start, end):
+        bend = BETWEEN * 0.6
+        if self.plan and node not in self.kept.shards[shard]:
+            arrow(group(picture, "move-%d-%d" % (node, shard)), start, (end[0], end[1] - 8), bend, dark(shard))
+        elif self.plan:
+            line(picture, start, end, bend, GREY, "1.5 3")
+        elif node not in self.gathered.held:
+            line(picture, start, end, bend, BLUE if node in self.wanted | self.instead else GREY, "6 4")
+        else:
+            line(picture, start, end, bend, AMBER if node in self.stale else dark(shard), "1.5 3" if node in self.stale else None)
+
+    # ---- Legend
+
+    def signs(self, inner):
+        """Each sign: where it stands in the row, in which row, its width, what it means, and how it is drawn."""
+        def stroke(colour, dashes):
+            return lambda part, left, top: line(part, (left, top), (left + 34, top), 0, colour, dashes)
+
+        def tag(draw_one, *more):
+            return lambda part, left, top: draw_one(part, left, top - 10, "n", "#eeeeee", *more)
+
+        signs = [(28, "carries shard n" if self.plan else "carried shard n", tag(square, False)),
+                 (28, "shard n's log is taken from here", tag(disc))]
+        if self.plan:
+            signs = [(42, "moves in", level_arrow), (42, "stays", stroke(GREY, "1.5 3")),
+                     (28, "moves to shard n", tag(square, True))] + signs
+        else:
+            signs = [(42, "back", stroke("#000000", None)), (42, "older view", stroke(AMBER, "1.5 3")),
+                     (42, "absent", stroke(GREY, "6 4")), (42, "to switch on", stroke(BLUE, "6 4"))] + signs
+        placed, left, row = [], 0, 0
+        for width, text, draw_one in signs:
+            full = width + width_of(text, 13) + 22
+            if left and left + full > inner:
+                left, row = 0, row + 1
+            placed.append((left, row, width, text, draw_one))
+            left += full
+        return placed
 
 
-def set_sizes(settings):
-    """The machines of each failure set, and the width that each takes."""
-    return {number: (sorted(settings.nodes_of(number)), MACHINE) for number in range(settings.failure_sets)}
+def legend(picture, signs, top):
+    part = group(picture, "legend")
+    for left, row, width, text, draw_one in signs:
+        draw_one(part, MARGIN + left, top + 2 * GAP * row)
+        label(part, MARGIN + left + width, top + 2 * GAP * row + 4, text, 13)
 
 
-def group_sizes(settings):
-    """The shards of each subgroup that has any."""
-    groups = {number: (settings.shards_of(number), SHARD) for number in range(4)}
-    return {number: group for number, group in groups.items() if group[0]}
+def pairs_of(shards, middle):
+    """Where small signs stand, two in a row: each shard, its left edge, and how far down."""
+    for place, shard in enumerate(shards):
+        alone = place % 2 == 0 and place + 1 == len(shards)
+        left = middle - TAG / 2 if alone else middle - TAG - 2 + place % 2 * (TAG + 4)
+        yield shard, left, place // 2 * (TAG + 4)
 
 
-def group_width(group):
-    items, width = group
-    return max(len(items) * (width + PAD) + PAD, 100)
+def needs(short):
+    shards = " ".join(map(str, short.shards))
+    return ("shard %s needs %s" if len(short.shards) == 1 else "shards %s need %s") % (shards, counted(short.needed, "machine"))
 
 
-def row_width(groups):
-    return sum(group_width(group) + GAP for group in groups.values()) - GAP
+def level_arrow(part, left, top):
+    shape(part, "path", d="M %g %g H %g" % (left, top, left + 24), stroke="#000000", stroke_width=3.5)
+    shape(part, "polygon", points="%g,%g %g,%g %g,%g" % (left + 24, top - 7, left + 24, top + 7, left + 37, top), fill="#000000")
 
 
-def places(groups, inner, top, width, height):
-    """Where each item of a row of groups stands; the row is in the middle."""
-    found, left = {}, MARGIN + (inner - row_width(groups)) / 2
-    for group in groups.values():
-        start = left + (group_width(group) - len(group[0]) * (width + PAD) + PAD) / 2
-        for number, item in enumerate(group[0]):
-            found[item] = Box(start + number * (width + PAD), top, width, height)
-        left += group_width(group) + GAP
-    return found
-
-
-def frames(picture, groups, boxes, kind, name, offset):
-    """A frame around each group, with its name above or below the items: `offset` from their top."""
-    box = next(iter(boxes.values()))
-    left = (float(picture.get("width")) - row_width(groups)) / 2
-    for number, group in groups.items():
-        frame = Tree.SubElement(picture, "g", {"id": "%s-%d" % (kind, number)})
-        shape(frame, "rect", x=left, y=box.top + min(offset, 0) - PAD, width=group_width(group),
-              height=box.height + LINE + 2 * PAD, rx=6, **FRAME)
-        label(frame, left + PAD, box.top + offset + LINE - 8, name % number, 13)
-        left += group_width(group) + GAP
-
-
-def draw_machine(picture, gathered, plan, node, box):
-    """A machine with the shards that it carries; an absent one has a broken frame."""
-    held = node in gathered.held
-    group = Tree.SubElement(picture, "g", {"id": "machine-%d" % node})
-    style = {"fill": "#ffffff", "stroke": "#000000", "stroke-width": "1.5"} if held else {
-        "fill": "#ffffff", "stroke": "#777777", "stroke-width": "1", "stroke-dasharray": "4 3"}
-    shape(group, "rect", x=box.left, y=box.top, width=box.width, height=box.height, rx=5, **style)
-    label(group, box.left + box.width / 2, box.top + 22, str(node), 18, "bold" if held else "normal", "middle")
-    if not held:
-        label(group, box.left + box.width / 2, box.top + 50, "absent", 12, "normal", "middle")
-        return
-    carried = [shard for shard, placed in enumerate(plan.shards) if node in placed.members]
-    for place, shard in enumerate(carried):
-        tag(group, box.left + 4 + place % 2 * (TAG + 4), box.top + 32 + place // 2 * (TAG + 4), str(shard),
-            light(shard), node not in gathered.kept.shards[shard])
-
-
-def tag(group, left, top, text, fill, moves):
-    """A small square for a shard that a machine carries; one that it moves to has a thick frame."""
-    shape(group, "rect", x=left, y=top, width=TAG, height=TAG, fill=fill, stroke="#000000",
-          **{"stroke-width": "2.5" if moves else "0.7"})
-    label(group, left + TAG / 2, top + 15, text, 12, "normal", "middle")
-
-
-def shard_texts(gathered, plan, shard):
-    """What stands in a shard's box."""
-    placed, old = plan.shards[shard], gathered.kept.shards[shard]
-    lines = ["holder %d" % placed.holder, "target %d %d" % placed.target]
-    for name, nodes in (("stay", placed.members & old), ("move in", placed.members - old)):
-        lines += wrapped(name, sorted(nodes))
-    return lines
-
-
-def wrapped(name, nodes):
-    """A name and numbers after it, four numbers in a line."""
-    pieces = [" ".join(map(str, nodes[place : place + 4])) for place in range(0, len(nodes), 4)] or ["-"]
-    return ["%s %s" % (name, pieces[0])] + pieces[1:]
-
-
-def shard_height(gathered, plan):
-    """A box has room for the shard with the most lines."""
-    return 36 + LINE * max(len(shard_texts(gathered, plan, shard)) for shard in range(len(plan.shards)))
-
-
-def draw_shard(picture, gathered, plan, shard, box):
-    group = Tree.SubElement(picture, "g", {"id": "shard-%d" % shard})
-    shape(group, "rect", x=box.left, y=box.top, width=box.width, height=box.height, fill="#ffffff", stroke=dark(shard), rx=4)
-    shape(group, "rect", x=box.left, y=box.top, width=box.width, height=24, fill=light(shard), stroke=dark(shard), rx=4)
-    label(group, box.left + box.width / 2, box.top + 17, "shard %d" % shard, 14, "bold", "middle")
-    for number, line in enumerate(shard_texts(gathered, plan, shard)):
-        label(group, box.left + 8, box.top + 40 + number * LINE, line, 12)
-
-
-def links(picture, gathered, plan, machines, shards):
-    """A line from each member to its shard; the ends at a shard stand in the order of the machines above."""
-    for shard, placed in enumerate(plan.shards):
-        nodes = sorted(placed.members, key=lambda node: machines[node].left)
-        for place, node in enumerate(nodes, 1):
-            box = shards[shard]
-            moves = node not in gathered.kept.shards[shard]
-            start = (machines[node].left + MACHINE / 2, machines[node].bottom)
-            end = (box.left + box.width * place / (len(nodes) + 1), box.top - (8 if moves else 0))
-            link(picture, node, shard, start, end, moves)
-
-
-def link(picture, node, shard, start, end, moves):
-    bend = BETWEEN * 0.6
-    path = "M %.1f %.1f C %.1f %.1f %.1f %.1f %.1f %.1f" % (*start, start[0], start[1] + bend, end[0], end[1] - bend, *end)
-    if not moves:
-        shape(picture, "path", d=path, fill="none", stroke="#777777", **{"stroke-width": "1.2", "stroke-dasharray": "1.5 3"})
-        return
-    group = Tree.SubElement(picture, "g", {"id": "move-%d-%d" % (node, shard)})
-    shape(group, "path", d=path, fill="none", stroke=dark(shard), **{"stroke-width": "3.5"})
-    shape(group, "polygon", points=arrow_head(end), fill=dark(shard))
-
-
-def arrow_head(end):
-    x, y = end
-    return "%.1f,%.1f %.1f,%.1f %.1f,%.1f" % (x - 7, y - 6, x + 7, y - 6, x, y + 8)
-
-
-def legend(picture, top):
-    group = Tree.SubElement(picture, "g", {"id": "legend"})
-    shape(group, "path", d="M %d %d H %d" % (MARGIN, top, MARGIN + 34), stroke="#000000", **{"stroke-width": "3.5"})
-    points = (MARGIN + 34, top - 7, MARGIN + 34, top + 7, MARGIN + 48, top)
-    shape(group, "polygon", points="%d,%d %d,%d %d,%d" % points, fill="#000000")
-    label(group, MARGIN + 56, top + 4, "moves in", 13)
-    shape(group, "path", d="M %d %d H %d" % (MARGIN + 140, top, MARGIN + 180), stroke="#777777",
-          **{"stroke-width": "1.2", "stroke-dasharray": "1.5 3"})
-    label(group, MARGIN + 188, top + 4, "stays", 13)
-    tag(group, MARGIN + 240, top - 10, "n", "#eeeeee", False)
-    label(group, MARGIN + 268, top + 4, "carries shard n", 13)
-    tag(group, MARGIN + 380, top - 10, "n", "#eeeeee", True)
-    label(group, MARGIN + 408, top + 4, "moves to shard n", 13)
-
-
-def light(shard):
-    return colour(shard, 0.84)
-
-
-def dark(shard):
-    return colour(shard, 0.36)
-
-
-def colour(shard, lightness):
-    """Neighbouring numbers lie far apart on the colour circle."""
-    parts = colorsys.hls_to_rgb(shard * 0.382 % 1, lightness, 0.75)
-    return "#" + "".join("%02x" % round(255 * part) for part in parts)
-
-
-def shape(parent, name, **attributes):
-    texts = {key: "%g" % value if isinstance(value, float) else str(value) for key, value in attributes.items()}
-    Tree.SubElement(parent, name, texts)
-
-
-def label(parent, x, y, text, size, weight="normal", anchor="start"):
-    style = {"font-size": str(size), "font-weight": weight, "text-anchor": anchor}
-    Tree.SubElement(parent, "text", {"x": "%g" % x, "y": "%g" % y, **style}).text = text
+def mark(part, left, top, met):
+    """A tick for a condition that is met, a cross for one that is not."""
+    path = "M %g %g l 4 5 l 8 -11" % (left + 2, top + 8) if met else "M %g %g l 11 11 m 0 -11 l -11 11" % (left + 2, top + 2)
+    shape(part, "path", d=path, fill="none", stroke=GREEN if met else RED, stroke_width=3)

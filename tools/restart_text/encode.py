@@ -1,4 +1,4 @@
-"""From values to words: settings, reports and orders as document 01 lays them out."""
+"""From values to words: settings, reports and orders as restart(7) lays them out."""
 from .words import mask_of
 
 MEMBERS, TERMINATION, RUN, HOLDER, CUT = 1, 2, 3, 4, 5

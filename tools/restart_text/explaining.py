@@ -1,28 +1,63 @@
 """An answer of `restart` explained from its input."""
-from .answers import Number, Plan, Wait
-from .gathering import gather, waits
+from dataclasses import dataclass, field
+
+from .advising import Advice, advise
+from .answers import Number, Plan, Wait, printed
+from .gathering import Gathered, gather, waits
 from .planning import faults, plan_lines
-from .printing import numbers
-from .refusing import block_name, refusal_lines
+from .refusing import ADVICE, block_name, refusal_lines
+from .sentences import machines
+from .telling import plan_advice, refusal_advice, wait_advice
 from .waiting import wait_lines
 
 
-def explain(given, answer, fault=None):
-    """The explanation's lines, and whether this tool's own counting agrees with the answer. `fault` is the block that the program
-    refuses, where the program was asked; else it is found by reading."""
-    gathered = gather(given.blocks)
-    differing = differences(gathered, given, answer, fault)
+@dataclass
+class Explanation:
+    answer: object
+    gathered: Gathered
+    fault: int | None = None  # the block that is refused
+    differing: list = field(default_factory=list)  # where this tool's own counting comes to something else than the answer
+    advice: Advice = field(default_factory=Advice)
+    lines: list = field(default_factory=list)
+    asked: int = 0  # how often the program was started
+
+    @property
+    def agrees(self):
+        return not self.differing
+
+
+def explain(given, answer, fault=None, program=None, gone=frozenset()):
+    """`fault` is the block that the program refuses, where the program was asked; else it is found by reading. Where there is a
+    program, it is asked about other inputs as well, for advice."""
+    gathered = gather(given.blocks, given.names)
+    told = Explanation(answer, gathered, fault, differences(gathered, given, answer, fault))
+    if isinstance(answer, Number) and fault is None and gathered.refused:
+        told.fault = gathered.fault
+    if told.agrees:
+        told.advice = advise(given, gathered, answer, told.fault, program, gone)
+        told.differing = supposed_differences(gathered.settings, told.advice.found)
     if isinstance(answer, Number):
-        if fault is None and gathered.refused:
-            fault = gathered.fault
-        lines = refusal_lines(answer.number, fault, given, gathered)
-    elif differing:
-        lines = []
-    elif isinstance(answer, Wait):
-        lines = summary(gathered) + [""] + waiting(gathered, answer)
-    else:
-        lines = summary(gathered) + [""] + plan_lines(gathered, answer)
-    return lines + warning(differing), not differing
+        told.lines = refusal_lines(answer.number, told.fault, given, gathered)
+        told.lines += refusal_advice(given, gathered, told.advice, block_name)
+        told.lines += ["To do: %s" % ADVICE[answer.number]] if answer.number in ADVICE else []
+    elif told.agrees and isinstance(answer, Wait):
+        told.lines = parts(wait_advice(gathered, answer, told.advice, program), summary(gathered), waiting(gathered, answer))
+    elif told.agrees:
+        told.lines = parts(plan_advice(gathered, answer, told.advice), summary(gathered), plan_lines(gathered, answer))
+    told.lines += warning(told.differing)
+    told.asked = program.asked if program else 0
+    return told
+
+
+def parts(first, second, third):
+    """Lines with an empty one between the parts."""
+    return first + [""] + second + [""] + third
+
+
+def asked(given, program, gone=frozenset()):
+    """What the program answers to this input, explained."""
+    answer = program.ask(given.blocks)
+    return explain(given, answer, program.fault(given.blocks) if isinstance(answer, Number) else None, program, gone)
 
 
 def summary(gathered):
@@ -30,15 +65,20 @@ def summary(gathered):
     settings, kept = gathered.settings, gathered.kept
     lines = ["Settings: %d machines in %d failure sets, %d shards, least group size %d."
              % (len(settings.nodes), settings.failure_sets, len(settings.shards), settings.least)]
-    lines.append("Held: %s. Absent: %s." % (numbers(gathered.held), numbers(gathered.absent)))
+    if settings.names:
+        lines.append("Names: %s." % ", ".join("%d %s" % (node, name) for node, name in enumerate(settings.names) if name))
+    lines.append("Held: %s. Absent: %s." % (settings.those(gathered.held), settings.those(gathered.absent)))
     if kept:
         ending = "a termination is kept" if gathered.termination else "no termination"
-        lines.append("Kept view: %d, members %s, %s." % (kept.number, numbers(kept.members), ending))
-    reports = [report for _, report in sorted(gathered.reports.items())]
-    stale = ["machine %d reported view %d" % (one.node, one.view.number) for one in reports if one.view.number < kept.number]
-    if stale:
-        lines.append("Older views: %s." % ", ".join(stale))
-    return lines
+        lines.append("Kept view: %d, members %s, %s." % (kept.number, settings.those(kept.members), ending))
+    older = ["machine %s reported view %d" % (settings.name(node), number) for node, number in stale(gathered)]
+    return lines + (["Older views: %s." % ", ".join(older)] if older else [])
+
+
+def stale(gathered):
+    """The machines that reported an older view than the kept one, and that view."""
+    return [(node, report.view.number) for node, report in sorted(gathered.reports.items())
+            if report.view.number < gathered.kept.number]
 
 
 def waiting(gathered, answer):
@@ -61,9 +101,13 @@ def differences(gathered, given, answer, fault=None):
         return [] if same else ["number %d for %s: %s" % (refused.number, block_name(gathered.fault, given), refused.why)]
     failing = waits(gathered)
     if failing:
-        expected = "wait %d" % failing[0][0] + (" %d" % failing[0][1] if failing[0][1] is not None else "")
-        return [] if answer == Wait(*failing[0]) else [expected]
+        return [] if answer == Wait(*failing[0]) else [printed(Wait(*failing[0]))]
     return faults(gathered, answer) if isinstance(answer, Plan) else ["a plan"]
+
+
+def supposed_differences(settings, found):
+    """Where the program's answers about machines that are supposed to be back are not those of this tool's own counting."""
+    return ["with %s back: not what the program answers" % machines(settings, nodes) for nodes in found.differs] if found else []
 
 
 def warning(differing):

@@ -1,10 +1,10 @@
 """What the reports of an input add up to: kept view, kept termination, held machines; and from these every condition of a restart,
 counted here once more. The planner decides; this only finds the words for its answer."""
-from dataclasses import dataclass, field
+from dataclasses import dataclass, field, replace
 
 from . import decode
 from .model import START, Refused, Settings
-from .printing import numbers
+from .sentences import machine
 
 
 @dataclass
@@ -32,16 +32,22 @@ class Gathered:
         return [one for one in reports if one.view.number == self.kept.number and one.node in self.kept.shards[shard]]
 
 
-def gather(blocks):
+def gather(blocks, names=()):
     """Reads the blocks one after another, up to the first that is refused."""
     gathered = Gathered()
     try:
-        gathered.settings = decode.settings_from(blocks[0] if blocks else [])
+        gathered.settings = named(decode.settings_from(blocks[0] if blocks else []), names)
         for gathered.fault in range(1, len(blocks)):
             add(gathered, decode.report_from(blocks[gathered.fault], gathered.settings))
     except Refused as refused:
         gathered.refused = refused
     return gathered
+
+
+def named(settings, names):
+    """The settings with these names, which may be too few or too many."""
+    count = len(settings.set_of)
+    return replace(settings, names=(tuple(names) + (None,) * count)[:count] if names else ())
 
 
 def add(gathered, report):
@@ -58,17 +64,18 @@ def add(gathered, report):
 
 def compare(gathered, report):
     """Rows 12 and 13: a report of the kept view agrees with it."""
-    kept, view = gathered.kept, report.view
+    kept, view, settings = gathered.kept, report.view, gathered.settings
+    here = machine(settings, report.node)
     pairs = [("members", view.members, kept.members)]
     pairs += [("members of shard %d" % shard, *both) for shard, both in enumerate(zip(view.shards, kept.shards))]
     for name, told, known in pairs:
         if told != known:
-            raise Refused(12, "machine %d gives view %d the %s %s; machine %d gave it %s"
-                          % (report.node, view.number, name, numbers(told), gathered.kept_from, numbers(known)))
+            raise Refused(12, "%s gives view %d the %s %s; %s gave it %s" % (here, view.number, name, settings.those(told), machine(
+                settings, gathered.kept_from), settings.those(known)))
     for shard, (told, known) in enumerate(zip(report.termination or (), gathered.termination or ())):
         if told != known:
-            raise Refused(13, "machine %d ends shard %d at view %d update %d; machine %d ended it at view %d update %d"
-                          % (report.node, shard, *told, gathered.termination_from, *known))
+            raise Refused(13, "%s ends shard %d at view %d update %d; %s ended it at view %d update %d"
+                          % (here, shard, *told, machine(settings, gathered.termination_from), *known))
 
 
 def holding(gathered, shard):

@@ -1,5 +1,5 @@
 """An input of `restart`: its blocks, from a text or from words, and back to either."""
-from dataclasses import dataclass
+from dataclasses import dataclass, field
 
 from . import decode, encode, printing, words
 from .lines import BadText, sections
@@ -11,6 +11,8 @@ from .texts import report_of, settings_of
 class Input:
     blocks: list  # of lists of words: the settings, then the messages
     lines: list  # where the input was a text, the line at which each block begins
+    names: tuple = ()  # each machine's name or None, where a text gave names
+    files: list = field(default_factory=list)  # where each block has a file of its own, its path
 
     @property
     def data(self):
@@ -48,7 +50,7 @@ def from_text(text):
             blocks.append(encode.report_words(report_of(section, settings or readable(section, blocks[0]))))
         else:
             raise BadText(section.line, "expected a report, found '%s'" % form)
-    return Input(blocks, [section.line for section in found])
+    return Input(blocks, [section.line for section in found], settings.names if settings else ())
 
 
 def readable(section, block):

@@ -1,8 +1,8 @@
 """The lines of a text. A text is sections; a section is a head line and the lines after it up to the next head.
 
 A form such as 'node NODE set SET' says what a line looks like: small words stand as they are, a capital word stands for a number,
-and NODES at the end for a list of numbers, ranges such as 0-6, or `none`. What follows a # is a remark. A bad line is told with its
-number and with what was expected there."""
+NAME at the end for a machine's name, and NODES at the end for a list of numbers, ranges such as 0-6, or `none`. What follows a # is
+a remark. A bad line is told with its number and with what was expected there."""
 import re
 from dataclasses import dataclass
 
@@ -24,6 +24,7 @@ SETTINGS = [
     "failure sets COUNT",
     "least group size COUNT",
     "node NODE set SET",
+    "node NODE set SET name NAME",
     "shard SHARD subgroup SUBGROUP needs COUNT",
 ]
 REPORT = [
@@ -105,7 +106,7 @@ def entry(line, words, forms):
     for form in forms:
         values = matched(line, words, form.split())
         if values is not None:
-            return Entry(line, form, values)
+            return Entry(line, form.removesuffix(" name NAME"), values)
     alike = [form for form in forms if form.split()[0] == words[0]]
     raise BadText(line, "expected %s, found '%s'" % (either(alike or forms), " ".join(words)))
 
@@ -118,7 +119,8 @@ def matched(line, words, form):
         return None
     if any(wanted.islower() and wanted != word for wanted, word in zip(form[:size], words)):
         return None
-    values = [whole(line, word) for wanted, word in zip(form[:size], words) if wanted.isupper()]
+    found = [(wanted, word) for wanted, word in zip(form[:size], words) if wanted.isupper()]
+    values = [name(line, word) if wanted == "NAME" else whole(line, word) for wanted, word in found]
     return values + [node_list(line, words[size:])] if listed else values
 
 
@@ -127,6 +129,13 @@ def whole(line, word):
     if not re.fullmatch("[0-9]{1,10}", word) or int(word) > GREATEST:
         raise BadText(line, "expected a number from 0 to %d, found '%s'" % (GREATEST, word))
     return int(word)
+
+
+def name(line, word):
+    """A machine's name, which cannot be taken for a number."""
+    if not re.fullmatch("[A-Za-z0-9][A-Za-z0-9._-]{0,23}", word) or not re.search("[A-Za-z]", word):
+        raise BadText(line, "expected a name of at most 24 letters, digits and . _ -, with a letter in it, found '%s'" % word)
+    return word
 
 
 def node_list(line, words):

@@ -2,7 +2,7 @@
 
 A node is a machine. Nodes stand in frozensets of their numbers. A position in a log is a pair (view, update); START is before all
 updates and the end of an empty log. A run is a pair (view, count): the log holds updates 1 to count of that view."""
-from dataclasses import dataclass
+from dataclasses import dataclass, field
 
 MOST_NODES, MOST_SETS, MOST_SHARDS, SUBGROUPS = 32, 16, 16, 4
 MOST_RECORDS = 128
@@ -24,6 +24,7 @@ class Settings:
     least: int
     set_of: tuple  # each node's failure set
     shards: tuple  # of Shard
+    names: tuple = field(default=(), compare=False)  # each node's name or None, where a text gave names
 
     @property
     def nodes(self):
@@ -34,6 +35,14 @@ class Settings:
 
     def nodes_of(self, failure_set):
         return frozenset(node for node in self.nodes if self.set_of[node] == failure_set)
+
+    def name(self, node):
+        """What people call the node: its name, or else its number."""
+        return node < len(self.names) and self.names[node] or str(node)
+
+    def those(self, nodes):
+        """The nodes in a row, as people call them."""
+        return " ".join(self.name(node) for node in sorted(nodes)) or "none"
 
 
 @dataclass(frozen=True)
@@ -71,7 +80,7 @@ class Order:
 
 
 class Refused(Exception):
-    """Words that the planner refuses: the number of the row in document 01's table, and what is wrong, in words."""
+    """Words that the planner refuses: the number as in restart(7), and what is wrong, in words."""
 
     def __init__(self, number, why):
         super().__init__("number %d: %s" % (number, why))

@@ -1,16 +1,18 @@
 """A plan in words: its shards as a table, who stays, who moves, and from where each member's log is completed."""
+from dataclasses import dataclass
+
 from .gathering import cut, holding
 from .model import START
 from .printing import numbers
-from .sentences import counted, machines, pair, table
+from .sentences import counted, machine, machines, pair, table
 
 
 def plan_lines(gathered, plan):
-    kept, idle = gathered.kept, gathered.held - frozenset().union(*(shard.members for shard in plan.shards))
-    lines = ["Plan: new view %d after view %d, %s." % (plan.view, kept.number, counted(plan.moves, "move")),
-             "Members: %s." % machines(gathered.held)]
+    settings = gathered.settings
+    idle = gathered.held - frozenset().union(*(shard.members for shard in plan.shards))
+    lines = ["Members: %s." % machines(settings, gathered.held)]
     if idle:
-        lines.append("Without a shard: %s." % machines(idle))
+        lines.append("Without a shard: %s." % machines(settings, idle))
     return lines + [""] + table(shard_rows(gathered, plan)) + [""] + move_lines(gathered, plan) + [""] + cut_lines(gathered, plan)
 
 
@@ -20,8 +22,8 @@ def shard_rows(gathered, plan):
         old = gathered.kept.shards[number]
         new, back = placed.members, old & gathered.held
         lists = [new, new & old, new - old, back - new, old - back]
-        rows.append([str(number), str(shard.subgroup), str(shard.needs), str(placed.holder), pair(placed.target)]
-                    + [numbers(nodes).replace("none", "-") for nodes in lists])
+        rows.append([str(number), str(shard.subgroup), str(shard.needs), gathered.settings.name(placed.holder), pair(placed.target)]
+                    + [gathered.settings.those(nodes) if nodes else "-" for nodes in lists])
     return rows
 
 
@@ -42,7 +44,8 @@ def move_lines(gathered, plan):
     lines = ["Moves:"]
     for node, before, shard in found:
         come = "comes from shard %d" % before if before is not None else "had no shard of this subgroup"
-        lines.append("  machine %d (failure set %d) goes to shard %d, %s" % (node, gathered.settings.set_of[node], shard, come))
+        lines.append("  %s (failure set %d) goes to shard %d, %s"
+                     % (machine(gathered.settings, node), gathered.settings.set_of[node], shard, come))
     return lines
 
 
@@ -53,7 +56,7 @@ def cut_lines(gathered, plan):
         if placed.target == START and not any(gathered.reports[node].runs[shard] for node in placed.members):
             empty.append(shard)
             continue
-        lines.append("  shard %d up to %s, from machine %d" % (shard, pair(placed.target), placed.holder))
+        lines.append("  shard %d up to %s, from %s" % (shard, pair(placed.target), machine(gathered.settings, placed.holder)))
         rows = [log_row(gathered, node, shard, placed) for node in sorted(placed.members)]
         lines += ["    " + row for row in table(rows)]
     if empty:
@@ -61,15 +64,33 @@ def cut_lines(gathered, plan):
     return lines
 
 
+@dataclass(frozen=True)
+class Log:
+    """What becomes of a member's log of a shard: where it ends, up to where it is kept, and how many updates are thrown away after
+    that and fetched from the holder."""
+
+    node: int
+    end: tuple
+    cut: tuple
+    discards: int
+    fetches: int
+
+
+def log_of(gathered, node, shard, placed):
+    report, kept = gathered.reports[node], cut(gathered, node, shard, placed.holder, placed.target)
+    fetches = updates_after(gathered.reports[placed.holder].runs[shard], kept, placed.target)
+    return Log(node, report.end(shard), kept, updates_after(report.runs[shard], kept, report.end(shard)), fetches)
+
+
 def log_row(gathered, node, shard, placed):
-    kept = cut(gathered, node, shard, placed.holder, placed.target)
-    end = gathered.reports[node].end(shard)
-    fetched = updates_after(gathered.reports[placed.holder].runs[shard], kept, placed.target)
-    keeps = "keeps all" if kept == end else "keeps up to the cut"
-    if kept == START:
-        keeps = "has nothing" if end == START else "keeps nothing"
-    return ["machine %d" % node, "log ends at %s" % pair(end), "cut %s" % pair(kept), keeps,
-            "fetches %s" % (counted(fetched, "update") if fetched else "nothing")]
+    log = log_of(gathered, node, shard, placed)
+    keeps = "keeps all" if log.cut == log.end else "keeps up to the cut"
+    if log.cut == START:
+        keeps = "has nothing" if log.end == START else "keeps nothing"
+    if log.discards:
+        keeps += ", discards %s" % counted(log.discards, "update")
+    return [machine(gathered.settings, node), "log ends at %s" % pair(log.end), "cut %s" % pair(log.cut), keeps,
+            "fetches %s" % (counted(log.fetches, "update") if log.fetches else "nothing")]
 
 
 def updates_after(runs, start, target):

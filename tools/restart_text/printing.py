@@ -3,7 +3,9 @@
 
 def settings_text(settings):
     lines = ["settings", "failure sets %d" % settings.failure_sets, "least group size %d" % settings.least]
-    lines += ["node %d set %d" % pair for pair in enumerate(settings.set_of)]
+    for node, failure_set in enumerate(settings.set_of):
+        named = node < len(settings.names) and settings.names[node]
+        lines.append("node %d set %d" % (node, failure_set) + (" name %s" % named if named else ""))
     for number, shard in enumerate(settings.shards):
         lines.append("shard %d subgroup %d needs %d" % (number, shard.subgroup, shard.needs))
     return lines

@@ -1,4 +1,4 @@
-"""A refusal in words: the condition of document 01's table, what is wrong in the block at fault, and what to do."""
+"""A refusal in words: when its number is given, what is wrong in the block at fault, and what to do."""
 TABLE = {
     1: "desk not 16,384 words, buffer to be written not 512",
     2: "settings",
@@ -36,14 +36,14 @@ ADVICE = {
 def refusal_lines(number, fault, given, gathered):
     """What number the planner gave, for which block (by its place in the input), and why."""
     if number not in ADVICE:
-        table = "is given when: %s" % TABLE[number] if number in TABLE else "is not in document 01's table"
+        table = "is given when: %s" % TABLE[number] if number in TABLE else "is not among those of restart(7)"
         return ["Number %d %s. The program restart never gives it." % (number, table)]
     lines = ["Refused with number %d, given when: %s." % (number, TABLE[number])]
     if fault is not None:
         lines.append("At fault: %s." % block_name(fault, given))
     if gathered.refused and (gathered.refused.number, gathered.fault) == (number, fault):
         lines.append("What is wrong: %s." % gathered.refused.why)
-    return lines + ["To do: %s" % ADVICE[number]]
+    return lines
 
 
 def block_name(fault, given):
@@ -54,5 +54,7 @@ def block_name(fault, given):
         block = given.blocks[fault]
         name = "report %d of %d" % (fault, len(given.blocks) - 1)
         if block:
-            name += ", which names machine %d" % block[0]
-    return name + (" (line %d)" % given.lines[fault] if fault < len(given.lines) else "")
+            named = block[0] < len(given.names) and given.names[block[0]]
+            name += ", which names machine %s" % (named or block[0])
+    place = "line %d" % given.lines[fault] if fault < len(given.lines) else given.files[fault] if fault < len(given.files) else ""
+    return name + (" (%s)" % place if place else "")

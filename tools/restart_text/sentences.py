@@ -5,9 +5,13 @@ def listed(items, word="and"):
     return items[0] if len(items) == 1 else "%s %s %s" % (", ".join(items[:-1]), word, items[-1])
 
 
-def machines(nodes, word="and"):
-    nodes = sorted(nodes)
-    return "no machine" if not nodes else "machine%s %s" % ("s" * (len(nodes) > 1 and word == "and"), listed(nodes, word))
+def machines(settings, nodes, word="and"):
+    names = [settings.name(node) for node in sorted(nodes)]
+    return "no machine" if not names else "machine%s %s" % ("s" * (len(names) > 1 and word == "and"), listed(names, word))
+
+
+def machine(settings, node):
+    return machines(settings, [node])
 
 
 def counted(count, name):

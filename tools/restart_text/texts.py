@@ -1,18 +1,29 @@
-"""From a text to values: settings, reports and orders. What the planner would refuse in one block (rows 2 and 5 to 11 of
-document 01's table) is refused here, with the line."""
+"""From a text to values: settings, reports and orders. What the planner would refuse in one block (numbers 2 and 5 to
+11) is refused here, with the line."""
 from .lines import ORDER, REPORT, SETTINGS, BadText, by_key, each, only, within
 from .model import GREATEST, MOST_NODES, MOST_RECORDS, MOST_SETS, MOST_SHARDS, START, SUBGROUPS
 from .model import Order, Report, Settings, Shard, View
 
 
 def settings_of(section):
-    count_sets, least, node_form, shard_form = SETTINGS
+    count_sets, least, node_form, _, shard_form = SETTINGS
     sets = within(only(section, count_sets), "failure sets", only(section, count_sets).values[0], 1, MOST_SETS)
     nodes = each(section, node_form, numbered(section, node_form, MOST_NODES))
     shards = each(section, shard_form, numbered(section, shard_form, MOST_SHARDS))
     size = within(only(section, least), "a least group size", only(section, least).values[0], 1, len(nodes))
     set_of = tuple(within(item, "a failure set", item.values[1], 0, sets - 1) for item in nodes)
-    return Settings(sets, size, set_of, tuple(shard_of(item, sets) for item in shards))
+    return Settings(sets, size, set_of, tuple(shard_of(item, sets) for item in shards), names_of(nodes))
+
+
+def names_of(nodes):
+    """Each node's name or None; nothing where no node has one."""
+    lines = {}
+    for item in nodes:
+        for name in item.values[2:]:
+            if name in lines:
+                raise BadText(item.line, "expected each name once, found '%s' in line %d already" % (name, lines[name]))
+            lines[name] = item.line
+    return tuple(item.values[2] if len(item.values) > 2 else None for item in nodes) if lines else ()
 
 
 def numbered(section, form, most):

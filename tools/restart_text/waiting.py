@@ -1,8 +1,7 @@
 """A wait in words: which condition fails, by counting, and what would cure it."""
 from .gathering import shortage
 from .model import START
-from .printing import numbers
-from .sentences import counted, listed, machines, update
+from .sentences import counted, listed, machine, machines, update
 
 
 def wait_lines(gathered, reason, value):
@@ -20,42 +19,48 @@ def no_majority(gathered, _):
     held, missing = kept.members & gathered.held, kept.members - gathered.held
     more = len(kept.members) // 2 + 1 - len(held)
     return ["%d of the %s of view %d are held (%s); more than half are needed, so at least %d."
-            % (len(held), counted(len(kept.members), "member"), kept.number, machines(held), len(held) + more),
-            "To do: bring back %s." % some(more, missing)]
+            % (len(held), counted(len(kept.members), "member"), kept.number, machines(gathered.settings, held), len(held) + more),
+            "To do: bring back %s." % some(gathered.settings, more, missing)]
 
 
 def too_few(gathered, _):
     least, held = gathered.settings.least, len(gathered.held)
     return ["%s held; the least group size is %d." % (counted(held, "machine") + (" is" if held == 1 else " are"), least),
-            "To do: bring back %s. Members of view %d or not, all count." % (some(least - held, gathered.absent), gathered.kept.number)]
+            "To do: bring back %s. Members of view %d or not, all count." 
+            % (some(gathered.settings, least - held, gathered.absent), gathered.kept.number)]
 
 
-def some(count, nodes):
+def some(settings, count, nodes):
     """So many of these machines, of which there are enough."""
-    return machines(nodes) if count == len(nodes) else "at least %d more of %s" % (count, machines(nodes))
+    return machines(settings, nodes) if count == len(nodes) else "at least %d more of %s" % (count, machines(settings, nodes))
 
 
 def no_holder(gathered, shard):
-    kept, members = gathered.kept, gathered.kept.shards[shard]
+    kept, members, settings = gathered.kept, gathered.kept.shards[shard], gathered.settings
     absent, wanted = members - gathered.held, "a report of view %d%s" % (kept.number, wanted_update(gathered, shard))
-    lines = ["Shard %d has no machine to take its log from. Its members in view %d: %s." % (shard, kept.number, machines(members))]
+    lines = ["Shard %d has no machine to take its log from. Its members in view %d: %s."
+             % (shard, kept.number, machines(settings, members))]
     for node in sorted(members & gathered.held):
         number = gathered.reports[node].view.number
         if number != kept.number:
-            lines.append("Machine %d is back but reported view %d, so its log of this shard is not used." % (node, number))
+            lines.append("Machine %s is back but reported view %d, so its log of this shard is not used."
+                         % (settings.name(node), number))
     if gathered.candidates(shard):
         lines += no_such_update(gathered, shard)
     if absent:
-        return lines + ["Absent: %s." % machines(absent), "To do: bring back %s with %s." % (machines(absent, "or"), wanted)]
+        return lines + ["Absent: %s." % machines(settings, absent),
+                        "To do: bring back %s with %s." % (machines(settings, absent, "or"), wanted)]
     return lines + ["All members of the shard are back, so waiting will not help.",
-                    "To do: look at the disks of %s for %s." % (machines(members), wanted)]
+                    "To do: look at the disks of %s for %s." % (machines(settings, members), wanted)]
 
 
 def no_such_update(gathered, shard):
     """With a kept termination: who reported the kept view, and where their logs end."""
-    lines = ["The termination, first reported by machine %d, ends this shard at %s. No log that may be used has it:"
-             % (gathered.termination_from, update(gathered.termination[shard]))]
-    return lines + ["  machine %d: %s" % (report.node, runs(report.runs[shard])) for report in gathered.candidates(shard)]
+    settings = gathered.settings
+    lines = ["The termination, first reported by %s, ends this shard at %s. No log that may be used has it:"
+             % (machine(settings, gathered.termination_from), update(gathered.termination[shard]))]
+    return lines + ["  %s: %s" % (machine(settings, report.node), runs(report.runs[shard]))
+                    for report in gathered.candidates(shard)]
 
 
 def runs(log):
@@ -78,7 +83,7 @@ def no_placement(gathered, subgroup):
         nodes = settings.nodes_of(failure_set)
         lack = ", lacks %d" % (count - given) if given < count else ""
         lines.append("  failure set %d can give %d%s: held %s, absent %s"
-                     % (failure_set, given, lack, numbers(nodes & gathered.held), numbers(nodes - gathered.held)))
+                     % (failure_set, given, lack, settings.those(nodes & gathered.held), settings.those(nodes - gathered.held)))
     lines.append("That makes %d of %d." % (sum(short.given.values()), short.needed))
     return lines + [placement_cure(settings, short)]
 
@@ -88,5 +93,6 @@ def placement_cure(settings, short):
         return "To do: change the settings. They ask for more than the machines can give, even with all of them back."
     if short.alone:
         sets = sorted({settings.set_of[node] for node in short.alone})
-        return "To do: bring back %s (failure set %s)." % (machines(short.alone, "or"), listed(sets, "or"))
-    return "To do: bring back %d machines, for instance %s; fewer will not do." % (len(short.spare), machines(short.spare))
+        return "To do: bring back %s (failure set %s)." % (machines(settings, short.alone, "or"), listed(sets, "or"))
+    spare = machines(settings, short.spare)
+    return "To do: bring back %d machines, for instance %s; fewer will not do." % (len(short.spare), spare)

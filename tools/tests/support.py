@@ -1,12 +1,16 @@
 """What the tests share: the program under test, the files of the repository, and case A word by word."""
+import contextlib
+import io
 import os
 import sys
+from unittest import mock
 
 ROOT = os.path.dirname(os.path.dirname(os.path.dirname(os.path.abspath(__file__))))
 sys.path.insert(0, os.path.join(ROOT, "tools"))
 COMMAND = os.path.join(ROOT, "tools", "restart-text")
 
 from restart_text import inputs
+from restart_text.command import main
 
 BUILT = ["target/bin/restart", "target/cargo/release/restart-reference", "reference/target/release/restart-reference"]
 
@@ -20,9 +24,26 @@ def program():
     return os.path.abspath(found[0])
 
 
-def example(name):
-    with open(os.path.join(ROOT, "examples", "case-%s.txt" % name), encoding="utf-8") as file:
+def command(*arguments, data=b""):
+    """The exit status, output and errors of the command with these arguments, from the repository's root."""
+    streams = [io.TextIOWrapper(io.BytesIO(start), encoding="utf-8") for start in (data, b"", b"")]
+    with mock.patch.multiple(sys, stdin=streams[0], stdout=streams[1], stderr=streams[2]), contextlib.chdir(ROOT):
+        try:
+            status = main([str(argument) for argument in arguments])
+        except SystemExit as end:
+            status = end.code
+        for stream in streams[1:]:
+            stream.flush()
+    return status, streams[1].buffer.getvalue(), streams[2].buffer.getvalue().decode()
+
+
+def text_of(name):
+    with open(os.path.join(ROOT, "examples", name), encoding="utf-8") as file:
         return file.read()
+
+
+def example(name):
+    return text_of("case-%s.txt" % name)
 
 
 def given(text):
@@ -30,7 +51,7 @@ def given(text):
     return inputs.from_text(text)
 
 
-# Document 01's case A: settings, then the reports of machines 0 to 5.
+# Case A: settings, then the reports of machines 0 to 5.
 CASE_A = [
     [7, 3, 4, 3, 0, 0, 1, 1, 1, 2, 2, 2, 3, 1],
     [0, 7, 127, 1, 256, 5, 0, 2, 257, 82, 0, 3, 258, 32, 0, 0],
@@ -41,7 +62,7 @@ CASE_A = [
     [5, 7, 127, 1, 256, 5, 0, 2, 257, 82, 0, 3, 258, 32, 0, 0],
 ]
 
-# What document 01 prints for it.
+# What the program must print for it.
 ANSWER_A = """view 8
 moves 2
 shard 0 holder 0 target 0 0 members 0 2

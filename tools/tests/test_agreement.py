@@ -5,6 +5,7 @@ from collections import Counter
 
 import support
 from restart_text import answers, inputs
+from restart_text.asking import Program
 from restart_text.explaining import explain
 from worlds import damaged, world
 
@@ -14,16 +15,16 @@ EXPECTED = {"plan", "number 2"} | {"wait %d" % reason for reason in range(1, 6)}
 
 class Agreement(unittest.TestCase):
     def test_random_inputs(self):
-        program, seen = support.program(), Counter()
+        program, seen = Program(support.program()), Counter()
         for seed in range(INPUTS):
             source = random.Random(seed)
             blocks = world(source)
             given = inputs.Input(damaged(source, blocks) if seed % 2 else blocks, [])
-            answer = answers.parse(answers.run(program, given.blocks))
-            fault = answers.block_at_fault(program, given.blocks) if isinstance(answer, answers.Number) else None
-            lines, agrees = explain(given, answer, fault)
-            self.assertTrue(agrees, "seed %d: %s\n%s" % (seed, answer, "\n".join(lines)))
-            self.assertTrue(isinstance(answer, answers.Plan) or any(line.startswith("To do: ") for line in lines), lines)
+            answer = program.ask(given.blocks)
+            fault = program.fault(given.blocks) if isinstance(answer, answers.Number) else None
+            told = explain(given, answer, fault)
+            self.assertTrue(told.agrees, "seed %d: %s\n%s" % (seed, answer, "\n".join(told.lines)))
+            self.assertTrue(isinstance(answer, answers.Plan) or any(line.startswith("To do: ") for line in told.lines), told.lines)
             seen[name(answer)] += 1
         self.assertEqual(set(seen), EXPECTED, seen)
 

@@ -1,16 +1,22 @@
 """The command itself, and what its README shows."""
+import argparse
 import os
 import re
+import shutil
 import subprocess
+import sys
 import tempfile
 import unittest
 
 import support
 from restart_text import words
+from restart_text.command import COMMANDS
+from support import command
 
 
-def command(*arguments, data=b""):
-    done = subprocess.run([support.COMMAND, *arguments], input=data, capture_output=True, check=False, cwd=support.ROOT)
+def process(*arguments, data=b"", **more):
+    """The command as a process of its own."""
+    done = subprocess.run([support.COMMAND, *arguments], input=data, capture_output=True, check=False, cwd=support.ROOT, **more)
     return done.returncode, done.stdout, done.stderr.decode()
 
 
@@ -38,31 +44,36 @@ class Command(unittest.TestCase):
 
     def test_troubles(self):
         bad = support.example("a").replace("node 3 set 1", "node 3 set 9")
-        for arguments, data, message in (
-            (["words", "-"], bad.encode(), "restart-text: standard input, line 9: expected a failure set from 0 to 2, found 9\n"),
-            (["words", "-"], support.bytes_a(), "restart-text: this is no text; for words use the command text\n"),
-            (["words", "no-such-file"], b"", "restart-text: cannot read no-such-file: No such file or directory\n"),
-            (["text", "-"], bad.encode(), "restart-text: this is a text already\n"),
-            (["text", "--as", "state", "-"], b"\0" * 641, "restart-text: 641 bytes are no whole words\n"),
-            (["text", "--as", "state", "-"], b"\0" * 644, "restart-text: number 3: the state has 161 words, it should have 160\n"),
-            (["explain", "-", "--program", "no-such-program"], support.bytes_a(),
-             "restart-text: no-such-program does not run: No such file or directory\n"),
-            (["explain", "-", "--program", "/bin/false"], support.bytes_a(), "restart-text: /bin/false ended with status 1\n"),
-            (["draw", "examples/case-b.txt", "--program", support.program()], b"",
-             "restart-text: there is no plan to draw; explain says why\n"),
+        for arguments, data, status, message in (
+            (["words", "-"], bad.encode(), 2, "standard input, line 9: expected a failure set from 0 to 2, found 9"),
+            (["explain", "-"], bad.encode(), 2, "standard input, line 9: expected a failure set from 0 to 2, found 9"),
+            (["words", "-"], support.bytes_a(), 2, "this is no text; for words use the command text"),
+            (["words", "no-such-file"], b"", 3, "cannot read no-such-file: No such file or directory"),
+            (["words", "examples/case-a.txt", "-o", "no-such-folder/file"], b"", 3,
+             "cannot write no-such-folder/file: No such file or directory"),
+            (["text", "-"], bad.encode(), 2, "this is a text already"),
+            (["explain", "-", "--program", "no-such-program"], support.bytes_a(), 3,
+             "no-such-program does not run: No such file or directory"),
+            (["explain", "-", "--program", "/bin/false"], support.bytes_a(), 3, "/bin/false ended with status 1"),
+            (["explain", "-", "--program", "/bin/echo"], support.bytes_a(), 3,
+             "expected a plan, 'wait REASON' or 'number NUMBER', found ''"),
+            (["explain", "-", "--gone", "3-40", "--program", support.program()], support.bytes_a(), 3,
+             "--gone: expected nodes from 0 to 31 or a range such as 0-6, found '3-40'"),
+            (["draw", "-", "--program", support.program()], support.bytes_a()[:-4], 2,
+             "the input is refused with number 5, so that there is nothing to draw; explain says why"),
         ):
             with self.subTest(" ".join(arguments)):
-                self.assertEqual(command(*arguments, data=data), (2, b"", message))
+                self.assertEqual(command(*arguments, data=data), (status, b"", "restart-text: %s\n" % message))
 
     def test_an_answer_from_a_file(self):
         with tempfile.TemporaryDirectory() as folder:
             path = os.path.join(folder, "answer")
-            for answer, status in ((support.ANSWER_A, 0), ("wait 2\n", 1)):
+            for answer, status in ((support.ANSWER_A, 0), ("wait 2\n", 3)):
                 with open(path, "w", encoding="ascii") as file:
                     file.write(answer)
                 done = command("explain", "-", "--answer", path, data=support.bytes_a())
-                self.assertEqual((done[0], done[2], b"WARNING" in done[1]), (status, "", status == 1))
-            self.assertEqual(command("draw", "examples/case-a.txt", "--answer", path)[0], 2)
+                self.assertEqual((done[0], done[2], b"WARNING" in done[1]), (status, "", status == 3))
+            self.assertEqual(command("draw", "examples/case-a.txt", "--answer", path)[0], 3)
 
 
 class Readme(unittest.TestCase):
@@ -78,3 +89,95 @@ class Readme(unittest.TestCase):
                                       capture_output=True, text=True, check=False)
                 self.assertEqual((done.returncode, done.stderr), (0, ""), line)
                 self.assertEqual(done.stdout, re.sub("^    ", "", printed, flags=re.M), line)
+
+
+class Programs(unittest.TestCase):
+    """Which program is asked where none is named."""
+
+    def setUp(self):
+        folder = tempfile.TemporaryDirectory()
+        self.addCleanup(folder.cleanup)
+        self.folder = folder.name
+
+    def installed(self):
+        """The tool as it is installed."""
+        plain = {name: value for name, value in os.environ.items() if not name.startswith(("MAKE", "MFLAGS"))}
+        done = subprocess.run(["make", "-s", "install-tool", "DESTDIR=", "PREFIX=" + self.folder], cwd=support.ROOT, check=False,
+                              capture_output=True, text=True, env=plain)
+        self.assertEqual((done.returncode, done.stderr), (0, ""))
+        return os.path.join(self.folder, "bin", "restart-text")
+
+    def put(self, *names):
+        """A program that always answers `wait 1`."""
+        path = os.path.join(self.folder, *names)
+        os.makedirs(os.path.dirname(path), exist_ok=True)
+        with open(path, "w", encoding="ascii") as file:
+            file.write("#!/bin/sh\necho wait 1\n")
+        os.chmod(path, 0o755)
+
+    def explained(self, tool, path="/no-such-folder"):
+        """The exit status and last line for settings without reports."""
+        settings = words.joined(support.CASE_A[:1])
+        done = subprocess.run([sys.executable, tool, "explain", "-"], input=settings, capture_output=True, check=False, cwd="/",
+                              env={"PATH": path})
+        return done.returncode, (done.stdout or done.stderr).decode().splitlines()[-1]
+
+    def test_installed(self):
+        tool = self.installed()
+        self.assertEqual(self.explained(tool), (3, "restart-text: there is no program restart on the path; give --program PATH, or"
+                                                " --answer FILE with what it printed"))
+        self.put("else", "restart")
+        answer = (1, "To do: bring machines back and give their reports.")
+        self.assertEqual(self.explained(tool, os.path.join(self.folder, "else")), answer)
+        self.put("bin", "restart")
+        self.assertEqual(self.explained(tool), answer)
+
+    def test_in_a_checkout(self):
+        for name in ("tools/restart-text", "tools/restart_text", "crates.txt"):
+            os.makedirs(os.path.join(self.folder, os.path.dirname(name)), exist_ok=True)
+            copy = shutil.copytree if os.path.isdir(os.path.join(support.ROOT, name)) else shutil.copy
+            copy(os.path.join(support.ROOT, name), os.path.join(self.folder, name))
+        tool = os.path.join(self.folder, "tools", "restart-text")
+        self.assertEqual(self.explained(tool)[0], 3)
+        self.put("target", "bin", "restart")
+        self.assertEqual(self.explained(tool)[0], 1)
+
+
+class Arguments(unittest.TestCase):
+    def test_wrong_ones_end_with_3(self):
+        for arguments in ([], ["no-such-command"], ["explain"], ["explain", "-", "--program", "x", "--answer", "y"],
+                          ["text", "--as", "letter", "-"], ["explain", "-", "--search", "-1"], ["watch", ".", "--seconds", "soon"]):
+            status, printed, message = command(*arguments)
+            self.assertEqual((status, printed), (3, b""), arguments)
+            self.assertIn("usage: restart-text", message)
+
+    def test_help_has_every_command_and_the_statuses(self):
+        status, printed, _ = command("--help")
+        self.assertEqual(status, 0)
+        for name, _, help_text in COMMANDS:
+            self.assertIn("    %s " % name, printed.decode())
+        self.assertIn("0 a plan", printed.decode())
+
+    def test_statuses(self):
+        for name, status in (("a", 0), ("b", 1), ("f", 1)):
+            for work in ("explain", "draw", "page"):
+                self.assertEqual(command(work, "examples/case-%s.txt" % name, "--program", support.program())[0], status)
+        cut = support.bytes_a()[:-4]
+        for work in ("explain", "draw", "page"):
+            self.assertEqual(command(work, "-", "--program", support.program(), data=cut)[0], 2)
+
+    def test_as_a_process(self):
+        self.assertEqual(process("words", "-", data=support.example("a").encode()), (0, support.bytes_a(), ""))
+        self.assertEqual(process("words", "-", data=b"hello\n")[0], 2)
+
+    def test_the_manual_page_has_every_command_and_option(self):
+        with open(os.path.join(support.ROOT, "man", "restart-text.1"), encoding="utf-8") as file:
+            page = file.read().replace("\\-", "-")
+        for name, module, _ in COMMANDS:
+            self.assertIn(".B restart-text %s\n" % name, page)
+            self.assertIn(".TP\n.B %s\n" % name, page)
+            made = argparse.ArgumentParser()
+            module.arguments(made)
+            options = {option for action in made._actions for option in action.option_strings if option.startswith("--")}
+            for option in options - {"--help", "--output"}:
+                self.assertIn(option, page)

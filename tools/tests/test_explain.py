@@ -1,9 +1,10 @@
-"""Explanations of document 01's cases, of every refusal, and of answers that do not fit."""
+"""Explanations of the cases A to I, of every refusal, and of answers that do not fit."""
 import unittest
 
 import support
 from restart_text import answers, inputs
-from restart_text.explaining import explain
+from restart_text.asking import Program
+from restart_text.explaining import asked, explain
 
 A = support.example("a")
 
@@ -19,12 +20,10 @@ def explained(given, answer):
     printed = answers.run(support.program(), given.blocks)
     if printed != answer:
         raise AssertionError("expected %r, the program printed %r" % (answer, printed))
-    parsed = answers.parse(printed)
-    fault = answers.block_at_fault(support.program(), given.blocks) if isinstance(parsed, answers.Number) else None
-    lines, agrees = explain(given, parsed, fault)
-    if not agrees:
-        raise AssertionError("\n".join(lines))
-    return "\n".join(lines)
+    told = asked(given, Program(support.program()))
+    if not told.agrees:
+        raise AssertionError("\n".join(told.lines))
+    return "\n".join(told.lines)
 
 
 class Cases(unittest.TestCase):
@@ -39,7 +38,7 @@ class Cases(unittest.TestCase):
             A,
             support.ANSWER_A,
             "Held: 0 1 2 3 4 5. Absent: 6.\n",
-            "Plan: new view 8 after view 7, 2 moves.\n",
+            "Plan: new view 8 after view 7, 2 moves. With machine 6 as well: 0 moves.\n",
             "shard  subgroup  needs  holder  target  members  stay  move in  leave  absent\n"
             "0      0         2      0       (0, 0)  0 2      0 2   -        -      -\n"
             "1      0         3      1       (7, 5)  1 4 5    1 4   5        -      6\n"
@@ -139,9 +138,9 @@ class Cases(unittest.TestCase):
         self.says(
             text,
             support.ANSWER_A.replace("target 7 5", "target 7 2"),
-            "    machine 1  log ends at (7, 2)  cut (7, 2)  keeps all            fetches nothing\n"
-            "    machine 4  log ends at (6, 9)  cut (5, 3)  keeps up to the cut  fetches 2 updates\n"
-            "    machine 5  log ends at (5, 2)  cut (5, 2)  keeps all            fetches 3 updates\n",
+            "    machine 1  log ends at (7, 2)  cut (7, 2)  keeps all                                fetches nothing\n"
+            "    machine 4  log ends at (6, 9)  cut (5, 3)  keeps up to the cut, discards 9 updates  fetches 2 updates\n"
+            "    machine 5  log ends at (5, 2)  cut (5, 2)  keeps all                                fetches 3 updates\n",
         )
 
 
@@ -150,9 +149,9 @@ class Cases(unittest.TestCase):
         self.says(
             A + ending,
             support.ANSWER_A.replace("target 7 5", "target 7 3"),
-            "    machine 1  log ends at (7, 5)  cut (7, 3)  keeps up to the cut  fetches nothing\n"
-            "    machine 4  log ends at (7, 4)  cut (7, 3)  keeps up to the cut  fetches nothing\n"
-            "    machine 5  log ends at (0, 0)  cut (0, 0)  has nothing          fetches 3 updates\n",
+            "    machine 1  log ends at (7, 5)  cut (7, 3)  keeps up to the cut, discards 2 updates  fetches nothing\n"
+            "    machine 4  log ends at (7, 4)  cut (7, 3)  keeps up to the cut, discards 1 update   fetches nothing\n"
+            "    machine 5  log ends at (0, 0)  cut (0, 0)  has nothing                              fetches 3 updates\n",
         )
 
     def test_a_machine_with_shards_of_two_subgroups(self):
@@ -221,18 +220,18 @@ class Refusals(unittest.TestCase):
                   "machine 3 ends shard 2 at view 7 update 5; machine 1 ended it at view 7 update 4")
 
     def test_a_number_that_restart_does_not_give(self):
-        for number, piece in ((14, "node not held"), (99, "is not in document 01's table")):
-            lines, agrees = explain(support.given(A), answers.Number(number))
-            self.assertIn(piece, lines[0])
-            self.assertFalse(agrees)
+        for number, piece in ((14, "node not held"), (99, "is not among those of restart(7)")):
+            told = explain(support.given(A), answers.Number(number))
+            self.assertIn(piece, told.lines[0])
+            self.assertFalse(told.agrees)
 
 
 class AnswersThatDoNotFit(unittest.TestCase):
     def warned(self, text, answer, piece):
-        lines, agrees = explain(support.given(text), answers.parse(answer))
-        self.assertFalse(agrees)
-        self.assertIn("WARNING: this answer does not fit this input.", "\n".join(lines))
-        self.assertIn("  " + piece, lines)
+        told = explain(support.given(text), answers.parse(answer))
+        self.assertFalse(told.agrees)
+        self.assertIn("WARNING: this answer does not fit this input.", "\n".join(told.lines))
+        self.assertIn("  " + piece, told.lines)
 
     def test_waits_and_numbers(self):
         self.warned(A, "wait 2\n", "a plan")
@@ -242,9 +241,9 @@ class AnswersThatDoNotFit(unittest.TestCase):
 
     def test_another_block_at_fault(self):
         given = support.with_block(3, [2, 0, 127, 0])
-        self.assertTrue(explain(given, answers.Number(7), 3)[1])
-        self.assertFalse(explain(given, answers.Number(7), 2)[1])
-        self.assertFalse(explain(given, answers.Number(8), 3)[1])
+        self.assertTrue(explain(given, answers.Number(7), 3).agrees)
+        self.assertFalse(explain(given, answers.Number(7), 2).agrees)
+        self.assertFalse(explain(given, answers.Number(8), 3).agrees)
 
     def test_plans(self):
         for old, new, piece in (

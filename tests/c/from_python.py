@@ -1,0 +1,85 @@
+"""The shared library from Python, by ctypes: from_python.py LIBRARY
+
+Every function that the header declares is there; a restart of two machines, as in outside.c, whose lines this prints too."""
+import ctypes
+import os
+import re
+import subprocess
+import sys
+
+HERE = os.path.dirname(os.path.abspath(__file__))
+STATE, DESK, WORD = 640, 65536, ctypes.c_uint32
+library = ctypes.CDLL(os.path.abspath(sys.argv[1]))
+for name in ("version_text", "number_text", "reason_text", "phase_text"):
+    getattr(library, "restart_" + name).restype = ctypes.c_char_p
+
+
+def words(*numbers):
+    """Lent memory that holds these words."""
+    data = b"".join(number.to_bytes(4, "little") for number in numbers)
+    return ctypes.create_string_buffer(data, len(data))
+
+
+def call(name, *pieces):
+    """Calls with these pieces, each followed by its length, and hands the answer back."""
+    arguments = [argument for piece in pieces for argument in (piece, ctypes.c_size_t(len(piece)))]
+    return WORD(getattr(library, "restart_" + name)(*arguments)).value
+
+
+def helper(name, *numbers):
+    """A small function of a word."""
+    return getattr(library, "restart_" + name)(*map(WORD, numbers))
+
+
+def is_there():
+    declared = subprocess.run(["sh", os.path.join(HERE, "..", "..", "c", "names.sh")], stdout=subprocess.PIPE, text=True, check=True)
+    names = declared.stdout.split()
+    assert len(names) >= 29
+    for name in names:
+        getattr(library, name)
+
+
+def versions():
+    with open(os.path.join(HERE, "..", "..", "include", "restart.h")) as header:
+        macros = dict(re.findall(r'^#define (RESTART_[A-Z_]+) "?([0-9.]+)"?', header.read(), re.M))
+    parts = [int(macros["RESTART_VERSION_" + part]) for part in ("MAJOR", "MINOR", "PATCH")]
+    assert library.restart_version_text().decode() == macros["RESTART_VERSION"] == ".".join(map(str, parts))
+    assert library.restart_version() == int(macros["RESTART_VERSION_NUMBER"]) == 10000 * parts[0] + 100 * parts[1] + parts[2]
+    assert library.restart_format() == int(macros["RESTART_FORMAT"]) == 1
+
+
+def small_functions():
+    assert helper("number_text", 0) == b"accepted"
+    assert helper("number_text", 3) == b"the state is unsound"
+    assert helper("number_text", 14) == b"the machine is not held, or marked already"
+    assert helper("reason_text", 5) == b"a subgroup cannot be laid out"
+    assert [helper("phase_text", phase) for phase in range(4)] == [b"gathering", b"ordered", b"preparing", b"committed"]
+    for name, first in (("number", 15), ("reason", 6), ("phase", 4)):
+        assert {helper(name + "_text", word) for word in (first, 255, 4294967295)} == {b"unknown " + name.encode()}
+    wait = 3 * 16777216 + 256 * 4 + 15
+    found = [helper(name, wait) for name in ("class_of", "is_wait", "is_plan", "is_refusal", "reason_of", "value_of", "number_of")]
+    assert found == [3, 1, 0, 0, 4, 15, 0]
+    assert [helper(name, 256 * 7 + 9) for name in ("is_refusal", "number_of", "index_of", "length_of")] == [1, 9, 7, 0]
+    assert helper("length_of", 16777216 + 512) == 512
+    lent = words(1, 2, 3)
+    library.restart_put_word(lent, ctypes.c_size_t(1), WORD(4026531841))
+    assert WORD(library.restart_get_word(lent, ctypes.c_size_t(1))).value == 4026531841 and lent.raw[4:8] == b"\1\0\0\xf0"
+
+
+def restart():
+    settings, state, desk = words(2, 2, 1, 1, 0, 1, 1), ctypes.create_string_buffer(STATE), ctypes.create_string_buffer(DESK)
+    assert call("check_settings", settings) == 0
+    assert call("fresh", state) == 0
+    for node in range(2):
+        print("report %d, " % call("report", settings, state, desk, words(node, 3, 3, 1, 256, 3, 0, 0)), end="")
+        answer = call("decide", settings, state, desk)
+        if helper("is_wait", answer):
+            print("wait %d" % helper("reason_of", answer))
+        else:
+            print("plan %d" % WORD(library.restart_get_word(state, ctypes.c_size_t(55))).value)
+
+
+is_there()
+versions()
+small_functions()
+restart()

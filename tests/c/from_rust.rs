@@ -1,0 +1,71 @@
+//! The installed library from Rust: a restart of two machines, as in outside.c, whose lines this prints too.
+
+use std::ffi::{c_char, CStr};
+
+extern "C" {
+    fn restart_version_text() -> *const c_char;
+    fn restart_reason_text(reason: u32) -> *const c_char;
+    fn restart_is_wait(answer: u32) -> i32;
+    fn restart_reason_of(answer: u32) -> u32;
+    fn restart_get_word(bytes: *const u8, index: usize) -> u32;
+    fn restart_fresh(state: *mut u8, state_len: usize) -> u32;
+    fn restart_report(
+        settings: *const u8,
+        settings_len: usize,
+        state: *mut u8,
+        state_len: usize,
+        desk: *mut u8,
+        desk_len: usize,
+        message: *const u8,
+        message_len: usize,
+    ) -> u32;
+    fn restart_decide(
+        settings: *const u8,
+        settings_len: usize,
+        state: *mut u8,
+        state_len: usize,
+        desk: *const u8,
+        desk_len: usize,
+    ) -> u32;
+}
+
+/// The text that the library gives.
+fn text(found: *const c_char) -> String {
+    // The library's texts are constant, end with a zero and are never null.
+    unsafe { CStr::from_ptr(found) }.to_str().expect("a text of ASCII").to_string()
+}
+
+fn bytes(words: &[u32]) -> Vec<u8> {
+    words.iter().flat_map(|word| word.to_le_bytes()).collect()
+}
+
+fn main() {
+    let settings = bytes(&[2, 2, 1, 1, 0, 1, 1]);
+    let mut state = [0u8; 640];
+    let mut desk = vec![0u8; 65536];
+    // Every piece is lent with its own length, and none overlaps another.
+    unsafe {
+        assert_eq!(text(restart_version_text()), env!("RESTART_VERSION"));
+        assert_eq!(text(restart_reason_text(1)), "no machine has reported");
+        assert_eq!(restart_fresh(state.as_mut_ptr(), state.len()), 0);
+        for node in 0..2 {
+            let message = bytes(&[node, 3, 3, 1, 256, 3, 0, 0]);
+            let taken = restart_report(
+                settings.as_ptr(),
+                settings.len(),
+                state.as_mut_ptr(),
+                state.len(),
+                desk.as_mut_ptr(),
+                desk.len(),
+                message.as_ptr(),
+                message.len(),
+            );
+            let answer =
+                restart_decide(settings.as_ptr(), settings.len(), state.as_mut_ptr(), state.len(), desk.as_ptr(), desk.len());
+            match restart_is_wait(answer) {
+                0 => println!("report {taken}, plan {}", restart_get_word(state.as_ptr(), 55)),
+                _ => println!("report {taken}, wait {}", restart_reason_of(answer)),
+            }
+        }
+    }
+}

@@ -1,0 +1,88 @@
+/*
+ * What threads may share: settings and messages, by restarts on states and desks of their own; and a
+ * state with its desk, by calls that only read them. Every answer and every byte must be what one
+ * thread alone gets. Run under helgrind, which sees every access of the library.
+ */
+#include "world.h"
+
+#include <pthread.h>
+#include <stdio.h>
+#include <stdlib.h>
+#include <string.h>
+
+enum { THREADS = 4, ORDERS = 6 };
+
+static const struct world *alone; /* case A ordered, by one thread */
+static uint8_t messages[ORDERS][RESTART_MESSAGE_BYTES];
+static size_t lengths[ORDERS];
+
+struct work {
+    struct world world;                           /* this thread's own */
+    uint8_t orders[ORDERS][RESTART_BUFFER_BYTES]; /* of the shared state */
+    int good;
+};
+
+/* The state, desk and settings that all threads read. */
+#define SHARED                                                                                     \
+    alone->settings, sizeof alone->settings, alone->state, sizeof alone->state, alone->desk,       \
+        sizeof alone->desk
+/* Shared settings with a state and desk of the thread's own. */
+#define OWN(work)                                                                                  \
+    alone->settings, sizeof alone->settings, (work)->world.state, sizeof(work)->world.state,       \
+        (work)->world.desk, sizeof(work)->world.desk
+
+/* Case A once more, up to the plan. */
+static int plans(struct work *work)
+{
+    memset(work->world.desk, 0xEE, sizeof work->world.desk);
+    if (restart_fresh(work->world.state, sizeof work->world.state) != RESTART_ACCEPTED)
+        return 0;
+    for (uint32_t node = 0; node < ORDERS; node++)
+        if (restart_report(OWN(work), messages[node], lengths[node]) != RESTART_ACCEPTED)
+            return 0;
+    return restart_is_plan(restart_decide(OWN(work)));
+}
+
+static int writes_orders(struct work *work)
+{
+    if (restart_check_state(SHARED) != RESTART_ACCEPTED)
+        return 0;
+    for (uint32_t node = 0; node < ORDERS; node++)
+        if (restart_is_refusal(
+                restart_order(SHARED, node, work->orders[node], RESTART_BUFFER_BYTES)))
+            return 0;
+    return 1;
+}
+
+static void *run(void *given)
+{
+    struct work *work = (struct work *)given;
+    work->good = plans(work) && writes_orders(work);
+    return NULL;
+}
+
+int main(void)
+{
+    static struct world world;
+    static struct work works[THREADS], one;
+    pthread_t threads[THREADS];
+
+    world_ordered(&world);
+    alone = &world;
+    for (uint32_t node = 0; node < ORDERS; node++)
+        lengths[node] = put_report(messages[node], node);
+    run(&one);
+    check_word("one thread", (uint32_t)one.good, 1);
+    for (int i = 0; i < THREADS; i++)
+        if (pthread_create(&threads[i], NULL, run, &works[i]) != 0)
+            return 1;
+    for (int i = 0; i < THREADS; i++) {
+        if (pthread_join(threads[i], NULL) != 0)
+            return 1;
+        check_word("a thread's answers", (uint32_t)works[i].good, 1);
+        check_bytes("its state", works[i].world.state, world.state, sizeof world.state);
+        check_bytes("its desk", works[i].world.desk, world.desk, sizeof world.desk);
+        check_bytes("its orders", works[i].orders[0], one.orders[0], sizeof one.orders);
+    }
+    return summary();
+}

@@ -1,0 +1,90 @@
+"""The worked example of restart-model(7) is what the planner does: model.py PAGE PROGRAM LIBRARY
+
+The example's text, turned into words, gives PROGRAM's answer as it stands in the page, and waits 2 before the last report; the report's
+words are those of the text; the order's words are those that LIBRARY writes; with a termination the target is its position. The last
+line is `N passed, M failed`."""
+import ctypes
+import os
+import re
+import struct
+import subprocess
+import sys
+
+TOOL = os.path.join(os.path.dirname(os.path.abspath(__file__)), "..", "tools", "restart-text")
+COUNTS = {True: 0, False: 0}
+
+
+def check(what, found, expected):
+    COUNTS[found == expected] += 1
+    if found != expected:
+        print("FAILED: %s: found %r, expected %r" % (what, found, expected))
+
+
+def example(page, name):
+    """The lines of the page that stand after this mark."""
+    return re.search(r'^\.\\" example: %s\n\.nf\n(.*?)^\.fi$' % name, page, re.M | re.S).group(1)
+
+
+def record_words(lines):
+    """The four words that each line starts with."""
+    return [int(word) for line in lines.splitlines() for word in line.split()[:4]]
+
+
+def blocks(text):
+    """The blocks of words that a text tells of."""
+    data = subprocess.run([sys.executable, TOOL, "words", "-"], input=text.encode(), stdout=subprocess.PIPE, check=True).stdout
+    while data:
+        size = 4 * struct.unpack_from("<I", data)[0]
+        yield data[4 : 4 + size]
+        data = data[4 + size :]
+
+
+def answer(program, given):
+    data = b"".join(struct.pack("<I", len(block) // 4) + block for block in given)
+    return subprocess.run([program], input=data, stdout=subprocess.PIPE, check=True).stdout.decode()
+
+
+def order(path, settings, messages, node):
+    """The words of the order that the library writes for a node."""
+    library = ctypes.CDLL(os.path.abspath(path))
+    state, desk, buffer = (ctypes.create_string_buffer(size) for size in (640, 65536, 2048))
+
+    def call(name, *arguments):
+        pairs = [part for piece in arguments for part in ((piece, ctypes.c_size_t(len(piece))) if not isinstance(piece, int) else (piece,))]
+        return getattr(library, "restart_" + name)(*pairs)
+
+    call("fresh", state)
+    for message in messages:
+        check("a report is taken", call("report", settings, state, desk, message), 0)
+    check("a plan", library.restart_is_plan(call("decide", settings, state, desk)), 1)
+    length = library.restart_length_of(call("order", settings, state, desk, node, buffer))
+    return list(struct.unpack_from("<%dI" % length, buffer.raw))
+
+
+def terminated(text):
+    """The example with the termination that the page speaks of, in the report of machine 3."""
+    lines = "termination shard 0 view 4 update 1\ntermination shard 1 view 4 update 1\n"
+    return text.replace("\nreport node 4 ", lines + "\nreport node 4 ")
+
+
+def main():
+    path, program, library = sys.argv[1:]
+    with open(path) as file:
+        page = file.read()
+    text = example(page, "input")
+    settings, *messages = blocks(text)
+    check("the answer", answer(program, [settings, *messages]), example(page, "answer"))
+    for count in (1, 2, 3):
+        check("after %d reports" % count, answer(program, [settings, *messages[:count]]), "wait 2\n")
+    last = list(struct.unpack("<%dI" % (len(messages[-1]) // 4), messages[-1]))
+    check("the report", record_words(example(page, "report")), last)
+    check("the order", record_words(example(page, "order")), order(library, settings, messages, 1))
+    with_termination = list(blocks(terminated(text)))
+    check("the target with a termination", "shard 0 holder 2 target 4 1 members 1 2" in answer(program, with_termination).splitlines(), True)
+    thrown_out = order(library, with_termination[0], with_termination[1:], 2)
+    check("what machine 2 throws out", thrown_out[-4:-1], [1280, 4, 1])
+    print("%d passed, %d failed" % (COUNTS[True], COUNTS[False]))
+    sys.exit(1 if COUNTS[False] else 0)
+
+
+main()

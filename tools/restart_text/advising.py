@@ -1,0 +1,120 @@
+"""What an operator could do, found by asking the program about other inputs: which machines to switch on, what one more would save,
+what the others would give without a report that is refused or stands alone with its view."""
+from dataclasses import dataclass, field
+
+from . import decode
+from .answers import Number, Plan, Wait
+from .asking import Clock, OutOfTime
+from .gathering import gather
+from .model import Refused
+from .searching import Found, least_sets
+from .supposing import Supposed
+
+
+@dataclass
+class Without:
+    """What the program answers without these blocks of the input."""
+
+    blocks: list
+    answer: object
+    found: Found | None = None  # where that is a wait, which machines would help then
+    view: int = 0  # and the kept view, which they would have to report
+
+
+@dataclass
+class Advice:
+    supposed: Supposed | None = None
+    found: Found | None = None  # for a wait
+    savings: dict = field(default_factory=dict)  # for a plan: the moves with one machine more, where these are fewer
+    compared: bool = False  # for a plan with moves: whether each absent machine was asked about
+    lone: Without | None = None  # for a wait: without the only report of the kept view
+    without: list = field(default_factory=list)  # for a refusal: without the reports of one story and of the other
+
+
+def advise(given, gathered, answer, fault, program, gone=frozenset()):
+    """Without a program only what this tool can count itself, within the usual time."""
+    advice, clock = Advice(), program or Clock()
+    if isinstance(answer, Number):
+        if program and fault:
+            advice.without = others(given, gathered, fault, program, gone)
+        return advice
+    if gathered.kept is None:
+        return advice
+    advice.supposed = Supposed(given.blocks, gathered, gone)
+    if isinstance(answer, Wait):
+        advice.found = least_sets(advice.supposed, program, clock)
+        advice.lone = lone(given, gathered, program, gone) if program else None
+    elif program:
+        savings(advice, answer, program)
+    return advice
+
+
+def savings(advice, plan, program):
+    """Asks about each absent machine by itself."""
+    try:
+        for node in advice.supposed.pool if plan.moves else ():
+            other = program.ask_in_time(advice.supposed.blocks_with([node]))
+            if isinstance(other, Plan) and other.moves < plan.moves:
+                advice.savings[node] = other.moves
+        advice.compared = True
+    except OutOfTime:
+        pass
+
+
+def lone(given, gathered, program, gone):
+    """Without the only report of the kept view, where others reported older ones."""
+    blocks = [number for number, block in enumerate(given.blocks) if number and block[1] == gathered.kept.number]
+    nodes = frozenset(given.blocks[number][0] for number in blocks)
+    if len(nodes) > 1 or len(gathered.held) == 1:
+        return None
+    return without(given, blocks, program, gone | nodes)
+
+
+def left_out(given, numbers):
+    return [block for number, block in enumerate(given.blocks) if number not in numbers]
+
+
+def without(given, blocks, program, gone):
+    """The answer without these blocks, and where that is a wait, which machines would help then."""
+    rest = left_out(given, blocks)
+    answer = program.ask(rest)
+    if not isinstance(answer, Wait) or answer.reason == 1:
+        return Without(blocks, answer)
+    gathered = gather(rest, given.names)
+    return Without(blocks, answer, least_sets(Supposed(rest, gathered, gone), program, program), gathered.kept.number)
+
+
+def others(given, gathered, fault, program, gone):
+    """Where two reports tell different stories of a view, the answer with either story; else without all that are refused."""
+    if gathered.refused and gathered.refused.number in (12, 13) and gathered.fault == fault:
+        told = reports(given, gathered.settings)
+        return [without(given, blocks, program, gone) for blocks in stories(gathered, told, fault)]
+    refused = [fault]
+    while isinstance(program.ask(left_out(given, refused)), Number):
+        left = [number for number in range(len(given.blocks)) if number not in refused]
+        refused.append(left[program.fault(left_out(given, refused))])
+    return [without(given, sorted(refused), program, gone)]
+
+
+def reports(given, settings):
+    """The reports that can be read, by their blocks' numbers."""
+    found = {}
+    for number, block in enumerate(given.blocks[1:], 1):
+        try:
+            found[number] = decode.report_from(block, settings)
+        except Refused:
+            pass
+    return found
+
+
+def stories(gathered, told, fault):
+    """The blocks that contradict the kept story, and those that contradict the story of the block at fault."""
+    kept, other = gathered.kept, told[fault]
+
+    def against(view, termination):
+        return [number for number, report in told.items() if report.view.number == view.number
+                and (report.view != view or termination and report.termination not in (None, termination))]
+
+    if gathered.refused.number == 12:
+        return against(kept, None), against(other.view, None)
+    return against(kept, gathered.termination), against(kept, other.termination)

@@ -1,0 +1,78 @@
+"""Asking the program `restart`: which one it is, and questions within a time."""
+import os
+import shutil
+import sys
+import time
+
+from . import words
+from .answers import BadAnswer, Number, parse, run
+
+HERE = os.path.dirname(os.path.dirname(os.path.realpath(__file__)))
+SECONDS = 3.0  # for questions beside the one that is explained
+
+
+class OutOfTime(Exception):
+    """The time for further questions is over."""
+
+
+def default_program():
+    """In a checkout the program that was built there; else the one beside this tool's own; else the first on the path."""
+    places = [os.path.dirname(os.path.realpath(sys.argv[0]))]
+    if os.path.exists(os.path.join(HERE, "..", "crates.txt")):
+        places.insert(0, os.path.normpath(os.path.join(HERE, "..", "target", "bin")))
+    found = shutil.which("restart", path=os.pathsep.join(places)) or shutil.which("restart")
+    if not found:
+        raise BadAnswer("there is no program restart on the path; give --program PATH, or --answer FILE with what it printed")
+    return found
+
+
+class Clock:
+    """A time by which work that may be left out must be done."""
+
+    def __init__(self, seconds=SECONDS):
+        self.start(seconds)
+
+    def start(self, seconds):
+        self.until = time.monotonic() + seconds
+
+    def in_time(self):
+        if time.monotonic() > self.until:
+            raise OutOfTime
+
+
+class Program(Clock):
+    """The program, which is started once for each question; an answer given before is remembered. The time is for questions that
+    may be left out."""
+
+    def __init__(self, path=None, seconds=SECONDS):
+        super().__init__(seconds)
+        path = path or default_program()
+        self.path = os.path.abspath(path) if os.path.exists(path) else path
+        self.answers = {}
+
+    @property
+    def asked(self):
+        """How often it was started."""
+        return len(self.answers)
+
+    def ask(self, blocks):
+        key = words.joined(blocks)
+        if key not in self.answers:
+            self.answers[key] = parse(run(self.path, blocks))
+        return self.answers[key]
+
+    def ask_in_time(self, blocks):
+        self.in_time()
+        return self.ask(blocks)
+
+    def fault(self, blocks):
+        """The number of the first block that the program refuses: it refuses the input cut off after this block, and no shorter
+        one. Refusals end the run, so longer ones are refused as well and halving finds it."""
+        low, high = 0, max(len(blocks) - 1, 0)
+        while low < high:
+            middle = (low + high) // 2
+            if isinstance(self.ask(blocks[: middle + 1]), Number):
+                high = middle
+            else:
+                low = middle + 1
+        return low

@@ -1,0 +1,96 @@
+"""An explanation as a value for JSON; docs/explain.schema.json says what it has."""
+from .answers import Plan, Wait
+from .explaining import stale
+from .gathering import holding, waits
+from .planning import log_of, moves
+from .waiting import wait_lines
+
+SCHEMA = 1
+
+
+def json_of(given, told):
+    gathered, answer = told.gathered, told.answer
+    value = {"schema": SCHEMA, "answer": answer_value(answer), "agrees": told.agrees, "differences": told.differing,
+             "asked": told.asked, "settings": settings_value(gathered.settings)}
+    if not gathered.refused:
+        value["reports"] = reports_value(gathered)
+    if told.agrees and isinstance(answer, Plan):
+        value["plan"] = plan_value(gathered, answer, told.advice)
+    elif told.agrees and isinstance(answer, Wait):
+        value["wait"] = wait_value(gathered, told.advice)
+    elif told.agrees:
+        value["refusal"] = refusal_value(given, told)
+    return {**value, "text": told.lines}
+
+
+def answer_value(answer):
+    if isinstance(answer, Plan):
+        return {"kind": "plan", "view": answer.view, "moves": answer.moves}
+    if isinstance(answer, Wait):
+        return {"kind": "wait", "reason": answer.reason, "value": answer.value}
+    return {"kind": "refusal", "number": answer.number}
+
+
+def settings_value(settings):
+    """None where the settings cannot be read."""
+    if settings is None:
+        return None
+    return {"failure_sets": settings.failure_sets, "least_group_size": settings.least,
+            "machines": [{"node": node, "set": failure_set, "name": settings.names[node] if settings.names else None}
+                         for node, failure_set in enumerate(settings.set_of)],
+            "shards": [{"shard": number, "subgroup": shard.subgroup, "needs": shard.needs}
+                       for number, shard in enumerate(settings.shards)]}
+
+
+def reports_value(gathered):
+    kept = gathered.kept
+    view = {"view": kept.number, "members": sorted(kept.members), "shards": [sorted(nodes) for nodes in kept.shards],
+            "termination": [position(at) for at in gathered.termination] if gathered.termination else None} if kept else None
+    return {"held": sorted(gathered.held), "absent": sorted(gathered.absent), "kept": view,
+            "stale": [{"node": node, "view": number} for node, number in (stale(gathered) if kept else ())]}
+
+
+def position(at):
+    return {"view": at[0], "update": at[1]}
+
+
+def plan_value(gathered, plan, advice):
+    shards = []
+    for number, placed in enumerate(plan.shards):
+        logs = [log_of(gathered, node, number, placed) for node in sorted(placed.members)]
+        shards.append({"shard": number, "holder": placed.holder, "target": position(placed.target),
+                       "members": sorted(placed.members), "logs": [log_value(log) for log in logs]})
+    return {"view": plan.view, "after": gathered.kept.number, "members": sorted(gathered.held), "shards": shards,
+            "moves": [{"node": node, "from": before, "to": shard} for node, before, shard in moves(gathered, plan)],
+            "with_one_more": [{"node": node, "moves": count} for node, count in sorted(advice.savings.items())]}
+
+
+def log_value(log):
+    return {"node": log.node, "end": position(log.end), "cut": position(log.cut), "discards": log.discards, "fetches": log.fetches}
+
+
+def wait_value(gathered, advice):
+    conditions = [{"reason": reason, "value": value, "text": wait_lines(gathered, reason, value)}
+                  for reason, value in waits(gathered)]
+    logs = [dict(zip(("holder", "target"), (found[0], position(found[1])))) if found else None
+            for found in ((holding(gathered, shard) for shard in range(len(gathered.settings.shards))) if gathered.kept else ())]
+    return {"conditions": conditions, "logs": logs, "switch_on": found_value(advice.found) if advice.found else None,
+            "lone_view": without_value(advice.lone) if advice.lone else None}
+
+
+def found_value(found):
+    return {"sets": [list(nodes) for nodes in found.sets], "more": len(found.others), "complete": found.complete,
+            "by_size": found.by_size, "least": found.least, "helpless": found.helpless, "needed": sorted(found.without),
+            "cut_short": found.cut_short}
+
+
+def without_value(without):
+    return {"blocks": without.blocks, "answer": answer_value(without.answer),
+            "switch_on": found_value(without.found) if without.found else None}
+
+
+def refusal_value(given, told):
+    refused, fault = told.gathered.refused, told.fault
+    return {"block": fault, "file": given.files[fault] if fault is not None and fault < len(given.files) else None,
+            "line": given.lines[fault] if fault is not None and fault < len(given.lines) else None, "why": refused.why,
+            "without": [without_value(one) for one in told.advice.without]}

@@ -1,0 +1,153 @@
+"""Advice in words: the first lines of an explanation."""
+import math
+
+from .answers import Number, Wait, printed
+from .sentences import counted, listed, machine, machines, update
+from .supposing import wanted_update
+
+REASONS = {1: "no report", 2: "no majority of the kept view", 3: "fewer machines than the least group size",
+           4: "no log of shard %d", 5: "no placement of subgroup %d"}
+MOST_TOLD = 60  # machines in all the sets that are told one by one
+
+
+def plan_advice(gathered, plan, advice):
+    """The plan in a line, and what one machine more would save."""
+    first = "Plan: new view %d after view %d, %s." % (plan.view, gathered.kept.number, counted(plan.moves, "move"))
+    for moves in sorted(set(advice.savings.values())):
+        nodes = [node for node, count in advice.savings.items() if count == moves]
+        first += " With %s as well: %s." % (machines(gathered.settings, nodes, "or"), counted(moves, "move"))
+    if advice.savings:
+        return [first, "Assumed: %s" % assumed(gathered, sorted(advice.savings))]
+    if advice.compared and plan.moves and advice.supposed.pool:
+        first += " No single machine more would save a move."
+    return [first]
+
+
+def wait_advice(gathered, answer, advice, program):
+    """Which machines to switch on."""
+    if answer.reason == 1:
+        return ["Switch on any machine: none has reported, and which are needed shows once the first has. At least %s needed."
+                % (counted(gathered.settings.least, "machine") + (" is" if gathered.settings.least == 1 else " are"))]
+    lines = helpless(gathered, advice) if advice.found.helpless else switch_on(gathered, advice, program)
+    return lines[:1] + lone_view(gathered, advice) + lines[1:]
+
+
+def switch_on(gathered, advice, program):
+    found, settings = advice.found, gathered.settings
+    fewer = "; with fewer there is none" if found.least else "; that fewer would not do is this tool's own count"
+    if not found.by_size:
+        fewer = "; fewer may do"
+    told, rest = choices(settings, found)
+    lines = ["Switch on %s: then there is a plan%s." % (told, fewer if len(found.sets[0]) > 1 else "")]
+    lines += ["Or instead: %s." % rest] if rest else []
+    lines.append("Assumed: %s" % assumed(gathered, sorted(set().union(*found.sets))))
+    if not program:
+        lines.append("The program was not asked; all this is this tool's own count.")
+    elif found.others:
+        lines.append("The program was asked about %d of these sets; the rest is this tool's own count." % len(found.sets))
+    if found.cut_short:
+        lines.append("The search was cut short after its time; --search SECONDS gives it more.")
+    for node, other in found.without.items():
+        lines.append("There is no plan without %s, whoever else comes back: %s. If it is lost, --gone %s says what is left."
+                     % (machine(settings, node), reason(other), settings.name(node)))
+    return lines
+
+
+def choices(settings, found):
+    """The sets in words: the first and the others, or all in one where they are so many of a few machines."""
+    sets = [frozenset(nodes) for nodes in found.sets + found.others]
+    common = frozenset.intersection(*sets)
+    spread, free = frozenset.union(*sets) - common, len(sets[0]) - len(common)
+    if found.complete and len(sets) > 1 and len(sets) == math.comb(len(spread), free):
+        some = "any %d of %s" % (free, machines(settings, spread)) if free > 1 else machines(settings, spread, "or")
+        return ("%s and %s" % (machines(settings, common), some) if common else some), ""
+    most = max(MOST_TOLD // len(sets[0]), 3)
+    told = [listed([settings.name(node) for node in nodes]) for nodes in found.sets[1:most]]
+    left = len(sets) - 1 - len(told)
+    if left or not found.complete and len(sets) > 1:
+        told.append("%s%d more" % ("" if found.complete else "at least ", left))
+    return machines(settings, found.sets[0]), "; ".join(told)
+
+
+def assumed(gathered, nodes):
+    """What is supposed of the machines' reports."""
+    kept, settings = gathered.kept, gathered.settings
+    inside, outside = [node for node in nodes if node in kept.members], [node for node in nodes if node not in kept.members]
+    parts = []
+    if inside:
+        ending = ", and no other termination" if gathered.termination else " and no termination; its log may end anywhere"
+        parts.append("a machine that comes back reports view %d%s" % (kept.number, ending))
+    if outside:
+        several = len(outside) > 1
+        parts.append("%s, no member%s of view %d, %s" % (machines(settings, outside), "s" * several, kept.number,
+                                                          "older views" if several else "an older view"))
+    for shard, members in enumerate(kept.shards):
+        helpers, wanted = [node for node in inside if node in members], wanted_update(gathered, shard)
+        if helpers and wanted:
+            parts.append("the log of shard %d on %s has %s" % (shard, machines(settings, helpers), update(wanted)))
+    return "; ".join(parts) + "."
+
+
+def reason(answer):
+    """A wait in a few words."""
+    if isinstance(answer, Number):
+        return printed(answer)
+    words = REASONS[answer.reason]
+    return words if answer.value is None else words % answer.value
+
+
+def lone_view(gathered, advice):
+    """The kept view stands on one report, and what the others would give without it."""
+    if not advice.lone:
+        return []
+    kept, settings, answer = gathered.kept, gathered.settings, advice.lone.answer
+    below = max(report.view.number for report in gathered.reports.values() if report.view.number < kept.number)
+    result = printed(answer) if not isinstance(answer, Wait) else "%s, %s" % (printed(answer), reason(answer))
+    result += then(settings, advice.lone)
+    lines = ["Only machine %s reports view %d, the next lower is %d; without its report: %s."
+             % (settings.name(gathered.kept_from), kept.number, below, result)]
+    return lines + ["Leave it out only if that view is damaged or was never served: what was stored in it is lost with it. The"
+                    " planner keeps a view until a fresh state (duty 10)."]
+
+
+def then(settings, without):
+    """Which machines would help once some reports are left out."""
+    if not without.found or not without.found.sets:
+        return ""
+    told, rest = choices(settings, without.found)
+    return "; then %s%s would have to report view %d" % (told, ", or instead %s," % rest if rest else "", without.view)
+
+
+def helpless(gathered, advice):
+    """Nothing helps, and what is left to the service."""
+    found, gone = advice.found, advice.supposed.gone
+    told = reason(found.all_back) if found.all_back else "by this tool's own count"
+    who = "every absent machine back" if not gone else "every absent machine back but %s" % machines(gathered.settings, gone)
+    lines = ["No machine to switch on helps: with %s there is still no plan (%s)." % (who, told),
+             "What is left is the service's own, by its duties (docs/ASSUMPTIONS.md, restart(3)); the planner will go on waiting:"]
+    if found.all_back and found.all_back.reason == 5:
+        return lines + ["  the settings ask for more than these machines can give; to change them, or to bring machines into other"
+                        " failure sets, is the service's decision"]
+    return lines + duties(gathered)
+
+
+def duties(gathered):
+    lines = ["  duty 6: a machine reports exactly what it has. Look for the log on its disk, on disks taken out, and in copies",
+             "  duty 7: a machine whose logs have more runs than a message has room for cannot report, and counts as absent"]
+    if gathered.termination:
+        lines.append("  duty 5: targets of an abandoned plan are no termination. See where %s has its own from"
+                     % machine(gathered.settings, gathered.termination_from))
+    return lines + ["  duty 10: a damaged high view is left only by starting anew, with a fresh state and the other reports",
+                    "  duty 1: whether view %d was on the disks of all its members before any of them served, only the service"
+                    " knows; if it was, an older view loses what was stored" % gathered.kept.number]
+
+
+def refusal_advice(given, gathered, advice, name):
+    """What the others would give; `name` tells a block."""
+    lines = []
+    for place, one in enumerate(advice.without):
+        instead = " instead" if place else ""
+        answer = printed(one.answer) + (", " + reason(one.answer) if isinstance(one.answer, Wait) else "")
+        blocks = listed([name(number, given) for number in one.blocks])
+        lines.append("Without %s%s: %s%s." % (blocks, instead, answer, then(gathered.settings, one)))
+    return lines
