@@ -5,7 +5,7 @@ use mathlib.Core.Path.{_≡_, ap, _∙_, subst, subst⁻¹}
 use native.Mathlib.Omega.{arith}
 use lib.ListN.{length, take, replicate}
 use Rattle.program_blocks.specs.Blocks.{blocks, needed-ends}
-use Rattle.program_lines.specs.Puts.{puts-first}
+use Rattle.program_text.specs.Puts.{puts-first}
 use Rattle.program_run.specs.declared.Run.{Run}
 use Rattle.program_run.specs.Runs.{Progress, atStart, after, Prints, Printed}
 use Rattle.program_run.specs.Machine.{started, progressAt, progress, ahead, ReadyRun, Feeds, Closes, Writes}

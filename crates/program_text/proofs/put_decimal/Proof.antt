@@ -1,12 +1,12 @@
--- `program_lines::put_decimal` meets its contract. The loop's invariant: the digits of `left`, then those stored. Assumes nothing.
+-- `program_text::put_decimal` meets its contract. The loop's invariant: the digits of `left`, then those stored. Assumes nothing.
 use Prim.Native.Nat.{ℕ}
 use native.Mathlib.Omega.{arith}
 use lib.ListN.{replicate, length-replicate}
 use borrow.Author.Needs.{needs}
-use Rattle.program_lines.specs.Text.{Digits, digits-last, digits-more, digits-room, digits-all}
-use Rattle.program_lines.specs.Puts.{puts-as}
-use Rattle.program_lines.proofs.put_decimal.Statement.{statement}
-use Rattle.program_lines.proofs.put_decimal.Tie as tie
+use Rattle.program_text.specs.Text.{Digits, digits-last, digits-more, digits-room, digits-all}
+use Rattle.program_text.specs.Puts.{puts-as}
+use Rattle.program_text.proofs.put_decimal.Statement.{statement}
+use Rattle.program_text.proofs.put_decimal.Tie as tie
 
 abbrev Inv-loop : tie.InvT-loop
 Inv-loop out at n digits₀ first₀ left₀ digits first left = Digits n digits first left

@@ -1,10 +1,10 @@
--- `program_lines::put_text` meets its contract. The loop's invariant: the first i bytes of the text are put. Assumes nothing.
+-- `program_text::put_text` meets its contract. The loop's invariant: the first i bytes of the text are put. Assumes nothing.
 use Prim.Native.Nat.{_≤_, _-_}
 use lib.ListN.{length, take}
 use borrow.Author.Needs.{needs}
-use Rattle.program_lines.specs.Puts.{Puts, puts-none, puts-more, puts-all}
-use Rattle.program_lines.proofs.put_text.Statement.{statement}
-use Rattle.program_lines.proofs.put_text.Tie as tie
+use Rattle.program_text.specs.Puts.{Puts, puts-none, puts-more, puts-all}
+use Rattle.program_text.proofs.put_text.Statement.{statement}
+use Rattle.program_text.proofs.put_text.Tie as tie
 
 abbrev Inv-loop : tie.InvT-loop
 Inv-loop out₀ at text next₀ i₀ out next i = (i ≤ length text) × Puts out₀ at (take i text) out next

@@ -1,8 +1,8 @@
--- `program_lines::put_byte` meets its contract: a byte is put where there is room, and nothing past the end. Assumes nothing.
+-- `program_text::put_byte` meets its contract: a byte is put where there is room, and nothing past the end. Assumes nothing.
 use borrow.Author.Needs.{needs}
-use Rattle.program_lines.specs.Puts.{puts-byte, puts-past}
-use Rattle.program_lines.proofs.put_byte.Statement.{statement}
-use Rattle.program_lines.proofs.put_byte.Tie as tie
+use Rattle.program_text.specs.Puts.{puts-byte, puts-past}
+use Rattle.program_text.proofs.put_byte.Statement.{statement}
+use Rattle.program_text.proofs.put_byte.Tie as tie
 
 returns : tie.Need-returns
 returns c = puts-byte (c .before .args .out .now) (c .before .args .at) (c .before .pre) (c .before .args .byte) (c .if1 .taken)

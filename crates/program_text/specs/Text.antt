@@ -1,5 +1,5 @@
--- Numbers as text: decimal digits, and the members of a mask. A text is the list of its bytes. Laws: a number's digits from
--- the last one on, and how long a text can be.
+-- Numbers as text: decimal digits, a label with a number, and the line of a refusal. A text is the list of its bytes. Laws: a
+-- number's digits from the last one on, and how long a text can be.
 use Prim.Native.Nat.{ℕ, zero, suc, _+_, _*_, _-_, _/_, _%_, _^_, _≤_, _<_}
 use mathlib.Core.Bool.{Bool, true, false, cond}
 use mathlib.Core.List.{List, [], _∷_, _++_}
@@ -13,7 +13,7 @@ use lib.Seq.{take-all, append-snoc}
 use borrow.Author.Tests.{lt-ltb, le-ltb, eq-eqb, ne-eqb}
 use Rattle.base_laws.specs.Tables.{drop-set}
 use Rattle.base_laws.specs.Bools.{lt-or-le}
-use Rattle.base_laws.specs.Masks.{has}
+use Rattle.base_ids.specs.declared.Refusal.{Refusal}
 
 -- the decimal digits of n, which has at most k + 1 of them
 unfoldable pub digitsBy : ℕ → ℕ → List ℕ
@@ -32,14 +32,13 @@ field label n = label ++ decimal n
 unfoldable pub line : List ℕ → ℕ → List ℕ
 line label n = field label n ++ (10 ∷ [])
 
--- node n after a space, if it is in the mask m
-unfoldable pub member : ℕ → ℕ → List ℕ
-member m n = cond (has m n) (field (32 ∷ []) n) []
+-- "number "
+abbrev pub numberLabel : List ℕ
+numberLabel = 110 ∷ 117 ∷ 109 ∷ 98 ∷ 101 ∷ 114 ∷ 32 ∷ []
 
--- the nodes below n that are in the mask m, ascending
-unfoldable pub membersBelow : ℕ → ℕ → List ℕ
-membersBelow zero m = []
-membersBelow (suc n) m = membersBelow n m ++ member m n
+-- number n
+unfoldable pub numberLine : Refusal → List ℕ
+numberLine r = line numberLabel (r .number)
 
 -- ---- laws
 
@@ -169,23 +168,3 @@ field-length label n = omega (arith, length-append label (decimal n), decimal-le
 pub line-length : (label : List ℕ) (n : ℕ) → length (line label n) ≤ length label + 11
 unfolding line
 line-length label n = omega (arith, length-append (field label n) (10 ∷ []), field-length label n)
-
-pub members-length : (m n : ℕ) → length (membersBelow n m) ≤ 11 * n
-unfolding membersBelow member
-members-length m zero = omega arith
-members-length m (suc n) =
-    omega (arith, members-length m n, length-append (membersBelow n m) (cond (has m n) (field (32 ∷ []) n) []), short (has m n) (field (32 ∷ []) n) [] 11 (field-length (32 ∷ []) n) (omega arith))
-
--- ---- one more node
-
-pub members-step : (m n : ℕ) → membersBelow (n + 1) m ≡ membersBelow n m ++ member m n
-unfolding membersBelow
-members-step m n = ap (λ (k : ℕ). membersBelow k m) (add-one n)
-
-pub member-in : (m n : ℕ) → has m n ≡ true → member m n ≡ field (32 ∷ []) n
-unfolding member
-member-in m n h = rw h
-
-pub member-out : (m n : ℕ) → has m n ≡ false → member m n ≡ []
-unfolding member
-member-out m n h = rw h

@@ -1,0 +1,1 @@
+-- Lines of the moves file, and windows.
