@@ -25,7 +25,7 @@ pub members-length : (m n : ℕ) → length (membersBelow n m) ≤ 11 * n
 unfolding membersBelow member
 members-length m zero = omega arith
 members-length m (suc n) =
-    omega (arith, members-length m n, length-append (membersBelow n m) (cond (has m n) (field (32 ∷ []) n) []), cond-of (λ (t : List ℕ). length t ≤ 11) (has m n) (λ _. field-length (32 ∷ []) n) (λ _. omega arith))
+    omega (arith, members-length m n, length-append (membersBelow n m) (cond (has m n) (field (32 ∷ []) n) []), cond-of (λ (t : List ℕ). length t ≤ 11) (has m n) {y = field (32 ∷ []) n} {z = []} (λ _. field-length (32 ∷ []) n) (λ _. omega arith))
 
 -- one more node
 pub members-step : (m n : ℕ) → membersBelow (n + 1) m ≡ membersBelow n m ++ member m n

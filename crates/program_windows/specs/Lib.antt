@@ -1,1 +1,3 @@
--- Lines of the moves file, and windows.
+-- Windows of 64 consecutive moves, and what is printed of them.
+pub mod Windows
+pub mod Sliding
