@@ -3,7 +3,7 @@
 use libc::EINTR;
 use libc::STDIN_FILENO;
 use libc::STDOUT_FILENO;
-use program_windows::Tally;
+use program_moves::Tally;
 
 // What came of a block: its bytes, and whether a read failed.
 struct Block {
