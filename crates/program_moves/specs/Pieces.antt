@@ -8,7 +8,7 @@ use mathlib.Core.Path.{_≡_, refl, sym, ap, ap₂, _∙_}
 use mathlib.Core.Logic.{⊎-elim}
 use native.Mathlib.Omega.{arith}
 use lib.Dec.{eqb}
-use lib.ListN.{length, take, drop, getD, length-append, length-drop, length-map, List·getD-append}
+use lib.ListN.{length, take, drop, getD, length-append, length-take, length-drop, length-map, List·getD-append}
 use lib.Seq.{getD-append-add}
 use borrow.Author.Tests.{eqb-true, eq-eqb}
 use Rattle.base_laws.specs.Bools.{either, clash, and-left, and-right, cond-of}
@@ -22,7 +22,7 @@ use Rattle.program_windows.specs.Sliding.{lastMoves, windows-more, last-more, w
 use Rattle.program_moves.specs.declared.Tally.{Tally}
 use Rattle.program_moves.specs.MovesFile.{Line, Walk, lineAt, linesOf, lineRefusal, walk, walkAfter, cutRefusal, refusalLine, fileRefusal, mondaysText}
 use Rattle.program_moves.specs.Tallies.{fresh, tallyOf, carried, blockWalk, blockRefusal, blockText, tallyAfter}
-use Rattle.program_moves.specs.Walking.{length-lines, refusal-none}
+use Rattle.program_moves.specs.Walking.{length-lines, walk-length, refusal-none}
 
 -- the bytes are whole lines
 abbrev pub wholeLines : List ℕ → Bool
@@ -269,7 +269,7 @@ none-printed : mondaysText [] ≡ []
 unfolding mondaysText walk linesOf tabulate fileRefusal cutRefusal unless firstOf refusalLine allWindows windowLines
 none-printed = refl
 
-whole-more : (a p : List ℕ) → wholeLines a ≡ true → wholeLines p ≡ true → wholeLines (a ++ p) ≡ true
+pub whole-more : (a p : List ℕ) → wholeLines a ≡ true → wholeLines p ≡ true → wholeLines (a ++ p) ≡ true
 whole-more a p v w =
     let d : length a % 8 ≡ 0 = eqb-true (length a % 8) 0 v in
     let e : length p % 8 ≡ 0 = eqb-true (length p % 8) 0 w in
@@ -322,3 +322,17 @@ window-law bytes h =
     (ap refusalLine h ∙ refusal-none none refl)
     ∙ append-nil (windowLines (map (λ (l : Line). l .moves) (linesOf bytes)) (length bytes / 8 - 63))
     ∙ lines-index (map (λ (l : Line). l .moves) (linesOf bytes)) (length bytes / 8 - 63)
+
+-- ---- room for the text of a block
+
+pub text-length : (t : Tally) (bytes : List ℕ) → length (t .kept) ≡ 63 → length bytes ≤ 32768 → length (blockText t bytes) ≤ 98304
+unfolding blockText blockWalk carried refusalLine numberLine
+text-length t bytes k h =
+    let ms : List ℕ = take (t .count) (t .kept) ++ walk (t .least) (linesOf bytes) .moves in
+    let r : Refusal = blockRefusal t bytes in
+    let many : length ms ≤ 4159 =
+    omega (arith, length-append (take (t .count) (t .kept)) (walk (t .least) (linesOf bytes) .moves), length-take (t .count) (t .kept), walk-length (t .least) (linesOf bytes), length-lines bytes) in
+    let end : length (refusalLine r) ≤ 18 =
+    cond-of (λ (l : List ℕ). length l ≤ 18) (accepted r) {y = []} {z = line numberLabel (r .number)} (λ _. omega arith) (λ _. line-length numberLabel (r .number)) in
+    cond-of (λ (l : List ℕ). length l ≤ 98304) (accepted (t .refusal)) {y = allWindows ms ++ refusalLine r} {z = []}
+    (λ _. omega (arith, length-append (allWindows ms) (refusalLine r), windows-length ms)) (λ _. omega arith)

@@ -220,7 +220,7 @@ tally-told ms least r count table e h =
 
 -- ---- a block is taken
 
-walk-length : (least : ℕ) (ls : List Line) → length (walk least ls .moves) ≤ length ls
+pub walk-length : (least : ℕ) (ls : List Line) → length (walk least ls .moves) ≤ length ls
 unfolding walk
 walk-length least [] = omega arith
 walk-length least (l ∷ ls) =

@@ -48,10 +48,10 @@ loop-again c =
     let s = c .before .before .before .before .before .before .before .before .before .before .before .before in
     let bytes = c .before .before .before .before .before .before .before .before .before .before .before .before .before .before .before .args .bytes .now in (
       walks-next bytes _ (s .loop .i) (s .loop .next) (c .long .result) (c .before .before .before .before .before .before .before .before .line-refusal .result) (c .before .before .before .before .before .before .before .before .before .before .before .loop-test .taken) (s .loop .inv .0)
-      (line-told _ _ (s .loop .i) _ _ _ (c .before .before .before .before .before .before .before .before .before .before .word-at .ensures) (c .before .before .before .before .before .before .before .before .before .word-at2 .ensures) (c .before .before .before .before .before .before .before .before .line-refusal .ensures))
-      (c .before .before .before .before .before .before .if1 .left) (c .long .ensures ∙ c .before .before .before .before .before .before .before .before .before .before .word-at .ensures),
+          (line-told _ _ (s .loop .i) _ _ _ (c .before .before .before .before .before .before .before .before .before .before .word-at .ensures) (c .before .before .before .before .before .before .before .before .before .word-at2 .ensures) (c .before .before .before .before .before .before .before .before .line-refusal .ensures))
+          (c .before .before .before .before .before .before .if1 .left) (c .long .ensures ∙ c .before .before .before .before .before .before .before .before .before .before .word-at .ensures),
       puts-as (moves-step bytes (s .loop .i))
-      (then-puts (c .before .before .before .before .before .before .before .before .before .before .before .before .before .before .before .pre) (s .loop .inv .1) (puts-as (ap (λ (x : ℕ). x ∷ []) (sym (c .before .before .before .before .narrow .ensures ∙ c .before .before .before .before .before .before .before .before .before .word-at2 .ensures))) (c .before .before .before .put-byte .ensures))),
+          (then-puts (c .before .before .before .before .before .before .before .before .before .before .before .before .before .before .before .pre) (s .loop .inv .1) (puts-as (ap (λ (x : ℕ). x ∷ []) (sym (c .before .before .before .before .narrow .ensures ∙ c .before .before .before .before .before .before .before .before .before .word-at2 .ensures))) (c .before .before .before .put-byte .ensures))),
     )
 
 same-length-2 : tie.Need-same-length-2 Inv-loop μ-loop

@@ -43,7 +43,7 @@ loop-again c =
       omega arith,
       c .slide .ensures ∙ ap windowOf (part-next moves (s .loop .i)),
       puts-as (lines-step moves (s .loop .i))
-      (then-puts zero-le (s .loop .inv .2) (puts-as (ap windowLine (sym (s .loop .inv .1))) (c .before .before .before .before .put-window .ensures))),
+          (then-puts zero-le (s .loop .inv .2) (puts-as (ap windowLine (sym (s .loop .inv .1))) (c .before .before .before .before .put-window .ensures))),
     )
 
 put-window-requires-2 : tie.Need-put-window-requires-2 Inv-loop μ-loop
