@@ -12,8 +12,8 @@ use Rattle.program_text.specs.Puts.{puts-first}
 use Rattle.program_moves.specs.declared.Tally.{Tally}
 use Rattle.program_moves.specs.declared.Taken.{Taken}
 use Rattle.program_moves.specs.MovesFile.{mondaysText}
-use Rattle.program_moves.specs.Tallies.{fresh, blockText, tallyAfter, Takes}
-use Rattle.program_moves.specs.Pieces.{wholeLines, standing, whole-more, standing-none, text-more, tally-more, text-length}
+use Rattle.program_moves.specs.Tallies.{freshTally, blockText, tallyAfter, TakesBlock}
+use Rattle.program_pieces.specs.Pieces.{wholeLines, standing, whole-more, standing-none, text-more, tally-more, text-length}
 
 -- the tally is the one that some bytes lead to
 pub record Stands (t : Tally) : Type 0 where
@@ -28,7 +28,7 @@ pub record StandsWhole (t : Tally) : Type 0 where
 
 -- After bytes a of whole lines, the first n bytes of `out` are what these bytes add to the text printed for a, and the tally after them is
 -- that of both.
-pub record Printed (t : Tally) (bytes : List ℕ) (after : Tally) (out : List ℕ) (n : ℕ) : Type 0 where
+pub record PrintedBlock (t : Tally) (bytes : List ℕ) (after : Tally) (out : List ℕ) (n : ℕ) : Type 0 where
   pub text : (a : List ℕ) → wholeLines a ≡ true → t ≡ standing a → mondaysText (a ++ bytes) ≡ mondaysText a ++ take n out
   pub tally : (a : List ℕ) → wholeLines a ≡ true → t ≡ standing a → after ≡ standing (a ++ bytes)
   pub within : n ≤ length out
@@ -36,7 +36,7 @@ pub record Printed (t : Tally) (bytes : List ℕ) (after : Tally) (out : List �
 -- ---- laws
 
 pub printed : (t : Tally) (bytes out : List ℕ) (r : Taken) (after : List ℕ) → length (t .kept) ≡ 63 → length bytes ≤ 32768 → length out ≡ 98304
-    → Takes t bytes out r after → Printed t bytes (r .tally) after (r .len)
+    → TakesBlock t bytes out r after → PrintedBlock t bytes (r .tally) after (r .len)
 printed t bytes out r after k h e p =
     let room : length (blockText t bytes) ≤ length out = omega (arith, text-length t bytes k h) in
     let front : take (r .len) after ≡ blockText t bytes = puts-first out (blockText t bytes) after (r .len) room (p .puts) .1 in
@@ -53,17 +53,17 @@ length-lent block last len h e =
     let size : length last ≡ length block - len = e ∙ simp (length-take, length-drop) (omega arith) in
     (ap length (put-replaced len (length block - len) block last size) ∙ length-replaced len last block (omega arith), size)
 
-pub stands-none : (t : Tally) → t ≡ fresh → StandsWhole t
+pub stands-none : (t : Tally) → t ≡ freshTally → StandsWhole t
 stands-none t e = record { input = []; whole = refl; tally = e ∙ sym standing-none }
 
 pub stands : {t : Tally} → StandsWhole t → Stands t
 stands s = record { input = s .input; tally = s .tally }
 
-pub stands-more : {t after : Tally} {bytes out : List ℕ} {n : ℕ} → StandsWhole t → Printed t bytes after out n → Stands after
+pub stands-more : {t after : Tally} {bytes out : List ℕ} {n : ℕ} → StandsWhole t → PrintedBlock t bytes after out n → Stands after
 stands-more {bytes = bytes} s p = record { input = s .input ++ bytes; tally = p .tally (s .input) (s .whole) (s .tally) }
 
 -- a full block is of whole lines
-pub stands-full : {t after : Tally} {out : List ℕ} {n : ℕ} (block : List ℕ) (len : ℕ) → StandsWhole t → length block ≡ 32768 → 32768 ≤ len → Printed t (take len block) after out n
+pub stands-full : {t after : Tally} {out : List ℕ} {n : ℕ} (block : List ℕ) (len : ℕ) → StandsWhole t → length block ≡ 32768 → 32768 ≤ len → PrintedBlock t (take len block) after out n
     → StandsWhole after
 stands-full block len s e h p =
     record {

@@ -8,7 +8,7 @@ use program_moves::Tally;
 ghost use mathlib.Core.Path.{_≡_};
 ghost use Prim.Native.Nat.{_≤_};
 ghost use lib.ListN.{length, take};
-ghost use Rattle.mondays.specs.Program.{Printed, Stands};
+ghost use Rattle.mondays.specs.Program.{PrintedBlock, Stands};
 
 // What came of a read: how many bytes, whether more may come, and whether it failed.
 struct Came {
@@ -78,7 +78,7 @@ fn read_block(block: &mut [u8]) -> Filled
 // Takes the first len bytes of a block and prints what they add.
 fn print_block(tally: Tally, block: &[u8; 32768], len: usize, out: &mut [u8; 98304]) -> Shown
     requires { ⌜ length (now block) ≡ 32768 ⌝ }
-    ensures { λ r. ⌜ Printed tally (take len (now (block .entry))) (r .tally) (now (out .exit)) (r .len) ⌝ }
+    ensures { λ r. ⌜ PrintedBlock tally (take len (now (block .entry))) (r .tally) (now (out .exit)) (r .len) ⌝ }
 {
     let taken = tally.take(block, len, out);
     let n = taken.len;

@@ -2,4 +2,3 @@
 pub mod MovesFile
 pub mod Tallies
 pub mod Walking
-pub mod Pieces

@@ -1,6 +1,6 @@
 -- The moves file and what is printed for it. A line is a restart number and its moves, two little-endian words.
 use Prim.Native.Nat.{ℕ, _+_, _*_, _/_, _%_}
-use mathlib.Core.Bool.{Bool, cond}
+use mathlib.Core.Bool.{cond}
 use mathlib.Core.List.{List, [], _∷_, _++_}
 use lib.Dec.{eqb, leb}
 use lib.ListN.{length}
@@ -28,17 +28,17 @@ unfoldable pub lineRefusal : ℕ → Line → Refusal
 lineRefusal least l = unless (leb least (l .number)) 24 (unless (leb (l .moves) 128) 25 none)
 
 -- what lines give: the moves of those before the first bad one, the least number that may stand after these, and the refusal of the bad one
-pub record Walk : Type 0 where
+pub record LineWalk : Type 0 where
   pub moves : List ℕ
   pub least : ℕ
   pub refusal : Refusal
 
 -- the same after other moves
-abbrev pub walkAfter : List ℕ → Walk → Walk
+abbrev pub walkAfter : List ℕ → LineWalk → LineWalk
 walkAfter ms w = record { moves = ms ++ w .moves; least = w .least; refusal = w .refusal }
 
 -- the lines from the first on; each number is greater than the one before it
-unfoldable pub walk : ℕ → List Line → Walk
+unfoldable pub walk : ℕ → List Line → LineWalk
 walk least [] = record { moves = []; least = least; refusal = none }
 walk least (l ∷ ls) =
     cond (accepted (lineRefusal least l)) (walkAfter (l .moves ∷ []) (walk (l .number + 1) ls))

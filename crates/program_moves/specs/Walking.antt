@@ -1,6 +1,6 @@
 -- Laws for the code: the lines of a block one by one, the moves that are kept, and how much room moves and text take.
-use Prim.Native.Nat.{ℕ, zero, suc, _+_, _*_, _-_, _/_, _%_, _≤_, _<_, min}
-use mathlib.Core.Bool.{Bool, true, false, cond}
+use Prim.Native.Nat.{ℕ, suc, _+_, _*_, _-_, _/_, _%_, _≤_, _<_, min}
+use mathlib.Core.Bool.{true, false, cond}
 use mathlib.Core.List.{List, [], _∷_, _++_, append-assoc, append-nil}
 use mathlib.Core.Path.{_≡_, refl, sym, ap, ap₂, _∙_, subst}
 use mathlib.Core.Logic.{⊎-elim}
@@ -10,19 +10,18 @@ use lib.Dec.{eqb, leb}
 use lib.ListN.{length, take, drop, getD, replicate, length-append, length-take, length-drop, length-replicate}
 use lib.Seq.{take-all, drop-cons, drop-length}
 use borrow.Author.Tests.{leb-true, le-leb, lt-leb, ne-eqb, eq-eqb}
-use Rattle.base_laws.specs.Bools.{either, cond-of, lt-or-le}
+use Rattle.base_laws.specs.Bools.{cond-of, lt-or-le}
 use Rattle.base_laws.specs.Tables.{tabulate, padded, length-tabulate, getD-tabulate, tabulate-step}
 use Rattle.base_ids.specs.declared.Refusal.{Refusal}
-use Rattle.base_ids.specs.Refusals.{refused, none, accepted, unless, firstOf, accepted-none, unless-ok, unless-rest, unless-true, unless-false, first-none, first-refused}
+use Rattle.base_ids.specs.Refusals.{refused, none, accepted, unless, firstOf, unless-ok, unless-rest, unless-true, unless-false, first-none, first-refused}
 use Rattle.word_bytes.specs.Words.{wordAt}
 use Rattle.program_text.specs.Puts.{Puts, puts-as, puts-none, puts-first, then-puts}
-use Rattle.program_text.specs.Text.{numberLine, line, numberLabel, line-length}
-use Rattle.program_windows.specs.Windows.{allWindows}
-use Rattle.program_windows.specs.Sliding.{lastMoves, windows-length}
+use Rattle.program_text.specs.Text.{numberLine, line, numberLabel}
+use Rattle.program_windows.specs.Windows.{allWindows, lastMoves}
 use Rattle.program_moves.specs.declared.Tally.{Tally}
 use Rattle.program_moves.specs.declared.Taken.{Taken}
-use Rattle.program_moves.specs.MovesFile.{Line, Walk, lineAt, linesOf, lineRefusal, walk, walkAfter, cutRefusal, refusalLine}
-use Rattle.program_moves.specs.Tallies.{tallyOf, carried, blockWalk, blockRefusal, blockText, tallyAfter, Takes}
+use Rattle.program_moves.specs.MovesFile.{Line, LineWalk, lineAt, linesOf, lineRefusal, walk, walkAfter, cutRefusal, refusalLine}
+use Rattle.program_moves.specs.Tallies.{tallyOf, keptMoves, blockWalk, blockRefusal, blockText, tallyAfter, TakesBlock}
 
 -- ---- lines
 
@@ -90,7 +89,7 @@ pub walks-more : (bytes : List ℕ) (least₀ i least : ℕ) → i < length byte
 unfolding movesBelow
 walks-more bytes least₀ i least h w g =
     let m : ℕ = wordAt bytes (2 * i + 1) in
-    let rest : Walk = walk (wordAt bytes (2 * i) + 1) (drop (suc i) (linesOf bytes)) in
+    let rest : LineWalk = walk (wordAt bytes (2 * i) + 1) (drop (suc i) (linesOf bytes)) in
     let next : walk least (drop i (linesOf bytes)) ≡ walkAfter (m ∷ []) rest =
     ap (walk least) (next-line bytes i h) ∙ walk-good least (lineAt bytes i) (drop (suc i) (linesOf bytes)) g in
     record {
@@ -132,19 +131,19 @@ unfolding movesBelow
 moves-step bytes i = tabulate-step i (λ k. wordAt bytes (2 * k + 1))
 
 -- what a loop over the lines leaves: their moves in the bytes `out` from place `at` on, and what the walk gives beside them
-pub record Gathers (bytes : List ℕ) (least : ℕ) (out : List ℕ) (at : ℕ) (after : List ℕ) (place least′ : ℕ) (refusal : Refusal) : Type 0 where
+pub record GathersMoves (bytes : List ℕ) (least : ℕ) (out : List ℕ) (at : ℕ) (after : List ℕ) (place least′ : ℕ) (refusal : Refusal) : Type 0 where
   pub puts : Puts out at (walk least (linesOf bytes) .moves) after place
   pub next : least′ ≡ walk least (linesOf bytes) .least
   pub ended : refusal ≡ walk least (linesOf bytes) .refusal
 
 pub gathers : (bytes : List ℕ) (least : ℕ) (out : List ℕ) (at : ℕ) (after : List ℕ) (place least′ : ℕ) (refusal : Refusal) (ms : List ℕ)
     → walk least (linesOf bytes) ≡ record { moves = ms; least = least′; refusal = refusal } → Puts out at ms after place
-    → Gathers bytes least out at after place least′ refusal
+    → GathersMoves bytes least out at after place least′ refusal
 gathers bytes least out at after place least′ refusal ms e p =
     record {
-      puts = puts-as (ap (λ (w : Walk). w .moves) e) p;
-      next = sym (ap (λ (w : Walk). w .least) e);
-      ended = sym (ap (λ (w : Walk). w .refusal) e);
+      puts = puts-as (ap (λ (w : LineWalk). w .moves) e) p;
+      next = sym (ap (λ (w : LineWalk). w .least) e);
+      ended = sym (ap (λ (w : LineWalk). w .refusal) e);
     }
 
 -- the line at hand, by its two words
@@ -162,13 +161,13 @@ walks-next bytes least₀ i least n r h w e z d =
 
 module _ (bytes : List ℕ) (least₀ i least : ℕ) (out : List ℕ) (at : ℕ) (after : List ℕ) (place : ℕ) (w : Walks bytes least₀ i least) (p : Puts out at (movesBelow bytes i) after place) where
   pub gathers-bad : (r : Refusal) → i < length bytes / 8 → r ≡ lineRefusal least (lineAt bytes i) → (r .number ≡ 0 → ⊥)
-      → Gathers bytes least₀ out at after place least r
+      → GathersMoves bytes least₀ out at after place least r
   gathers-bad r h e bad =
       let z : accepted (lineRefusal least (lineAt bytes i)) ≡ false = ap accepted (sym e) ∙ ne-eqb (r .number) 0 bad in
       gathers bytes least₀ out at after place least r (movesBelow bytes i)
       (walks-bad bytes least₀ i least h w z ∙ ap (λ (x : Refusal). record { moves = movesBelow bytes i; least = least; refusal = x }) (sym e)) p
 
-  pub gathers-all : length bytes / 8 ≤ i → Gathers bytes least₀ out at after place least none
+  pub gathers-all : length bytes / 8 ≤ i → GathersMoves bytes least₀ out at after place least none
   gathers-all h = gathers bytes least₀ out at after place least none (movesBelow bytes i) (walks-all bytes least₀ i least h w) p
 
 -- ---- the end of a block
@@ -224,24 +223,24 @@ pub walk-length : (least : ℕ) (ls : List Line) → length (walk least ls .move
 unfolding walk
 walk-length least [] = omega arith
 walk-length least (l ∷ ls) =
-    cond-of (λ (w : Walk). length (w .moves) ≤ suc (length ls)) (accepted (lineRefusal least l))
+    cond-of (λ (w : LineWalk). length (w .moves) ≤ suc (length ls)) (accepted (lineRefusal least l))
     {y = walkAfter (l .moves ∷ []) (walk (l .number + 1) ls)} {z = record { moves = []; least = least; refusal = lineRefusal least l }}
     (λ _. omega (arith, walk-length (l .number + 1) ls)) (λ _. omega arith)
 
 pub taken-open : (t : Tally) (bytes out : List ℕ) (first second : List ℕ) (at place least : ℕ) (ended refusal : Refusal) (one two : List ℕ) (w len : ℕ) (after : Tally)
     → length (t .kept) ≡ 63 → t .refusal .number ≡ 0 → length bytes ≤ 32768
-    → Puts (replicate 4159 0) 0 (take (t .count) (t .kept)) first at → Gathers bytes (t .least) first at second place least ended
+    → Puts (replicate 4159 0) 0 (take (t .count) (t .kept)) first at → GathersMoves bytes (t .least) first at second place least ended
     → refusal ≡ firstOf ended (cutRefusal (length bytes))
     → Puts out 0 (allWindows (take (place - 0) (drop 0 second))) one w → Puts one w (refusalLine refusal) two len
-    → after ≡ tallyOf (take (place - 0) (drop 0 second)) least refusal → Takes t bytes out (record { tally = after; len = len }) two
-unfolding carried blockWalk blockRefusal blockText tallyAfter
+    → after ≡ tallyOf (take (place - 0) (drop 0 second)) least refusal → TakesBlock t bytes out (record { tally = after; len = len }) two
+unfolding keptMoves blockWalk blockRefusal blockText tallyAfter
 taken-open t bytes out first second at place least ended refusal one two w len after k z h p g e q s a =
     record {
       tally = a ∙ tally-is ∙ rw going;
       puts = puts-as (rw going (ap₂ (λ (ms : List ℕ) (r : Refusal). allWindows ms ++ refusalLine r) (sym moves-are) (sym refusal-is))) (then-puts (omega arith) q s);
     }
   where
-    lines : Walk
+    lines : LineWalk
     lines = walk (t .least) (linesOf bytes)
 
     ms : List ℕ
@@ -269,12 +268,12 @@ taken-open t bytes out first second at place least ended refusal one two w len a
         ∙ ap (tallyOf ms (lines .least)) refusal-is
 
 -- nothing is taken after a refusal
-pub taken-closed : (t : Tally) (bytes out : List ℕ) → (t .refusal .number ≡ 0 → ⊥) → Takes t bytes out (record { tally = t; len = 0 }) out
+pub taken-closed : (t : Tally) (bytes out : List ℕ) → (t .refusal .number ≡ 0 → ⊥) → TakesBlock t bytes out (record { tally = t; len = 0 }) out
 unfolding blockText tallyAfter
 taken-closed t bytes out h =
     let z : accepted (t .refusal) ≡ false = ne-eqb (t .refusal .number) 0 h in
     record { tally = rw z; puts = puts-as (rw z) (puts-none out 0 (omega arith)) }
 
 -- the same bytes
-pub takes-as : {t : Tally} {a b out : List ℕ} {r : Taken} {after : List ℕ} → a ≡ b → Takes t a out r after → Takes t b out r after
-takes-as {t} {out = out} {r = r} {after = after} e p = subst (λ (l : List ℕ). Takes t l out r after) e p
+pub takes-as : {t : Tally} {a b out : List ℕ} {r : Taken} {after : List ℕ} → a ≡ b → TakesBlock t a out r after → TakesBlock t b out r after
+takes-as {t} {out = out} {r = r} {after = after} e p = subst (λ (l : List ℕ). TakesBlock t l out r after) e p

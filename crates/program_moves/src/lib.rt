@@ -7,9 +7,8 @@ ghost use Rattle.base_ids.specs.Refusals.{firstOf};
 ghost use Rattle.base_laws.specs.Tables.{padded};
 ghost use Rattle.program_text.specs.Puts.{Puts};
 ghost use Rattle.program_moves.specs.MovesFile.{lineRefusal, cutRefusal, refusalLine};
-ghost use Rattle.program_moves.specs.Tallies.{tallyOf, Takes};
-ghost use Rattle.program_moves.specs.Tallies.{fresh as Tallies·fresh};
-ghost use Rattle.program_moves.specs.Walking.{Gathers};
+ghost use Rattle.program_moves.specs.Tallies.{freshTally, tallyOf, TakesBlock};
+ghost use Rattle.program_moves.specs.Walking.{GathersMoves};
 
 // What is known of the lines taken so far: the refusal that ended them if there is one, the least number that the next line may have, and
 // the moves of the last 63 lines, or of all where they are fewer, with zeros after them.
@@ -68,7 +67,7 @@ fn line_refusal(least: u64, number: u32, moves: u32) -> Refusal
 // Puts the moves of the lines before the first bad one.
 fn gather(bytes: &[u8], least: u64, moves: &mut [u8], at: usize) -> Gathered
     requires { ⌜ at ≤ length (now moves) ⌝ }
-    ensures { λ r. ⌜ Gathers (now (bytes .entry)) least (now (moves .entry)) at (now (moves .exit)) (r .place) (r .least) (r .refusal) ⌝ }
+    ensures { λ r. ⌜ GathersMoves (now (bytes .entry)) least (now (moves .entry)) at (now (moves .exit)) (r .place) (r .least) (r .refusal) ⌝ }
 {
     let count = bytes.len() / 8;
     let mut next = least;
@@ -160,7 +159,7 @@ fn tally_of(moves: &[u8], least: u64, refusal: Refusal) -> Tally
 // Takes bytes where nothing was refused before.
 fn take_bytes(tally: Tally, bytes: &[u8], out: &mut [u8]) -> Taken
     requires { ⌜ (tally .refusal .number ≡ 0) × (length (now bytes) ≤ 32768) ⌝ }
-    ensures { λ r. ⌜ Takes tally (now (bytes .entry)) (now (out .entry)) r (now (out .exit)) ⌝ }
+    ensures { λ r. ⌜ TakesBlock tally (now (bytes .entry)) (now (out .entry)) r (now (out .exit)) ⌝ }
 {
     let mut moves = [0u8; 4159];
     let kept = tally.kept;
@@ -177,7 +176,7 @@ fn take_bytes(tally: Tally, bytes: &[u8], out: &mut [u8]) -> Taken
 impl Tally {
     // Before the first line.
     pub fn start() -> Tally
-        ensures { λ r. ⌜ r ≡ Tallies·fresh ⌝ }
+        ensures { λ r. ⌜ r ≡ freshTally ⌝ }
     {
         Tally {
             refusal: Refusal { number: 0 },
@@ -189,7 +188,7 @@ impl Tally {
 
     // Takes the first len bytes of a block, or all where len is greater, and puts what they print. After a refusal it puts nothing.
     pub fn take(self, block: &[u8; 32768], len: usize, out: &mut [u8; 98304]) -> Taken
-        ensures { λ r. ⌜ Takes self (take len (now (block .entry))) (now (out .entry)) r (now (out .exit)) ⌝ }
+        ensures { λ r. ⌜ TakesBlock self (take len (now (block .entry))) (now (out .entry)) r (now (out .exit)) ⌝ }
     {
         let refusal = self.refusal;
         if refusal.number != 0 {

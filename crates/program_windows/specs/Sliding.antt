@@ -5,12 +5,12 @@ use mathlib.Core.Path.{_≡_, refl, sym, ap, ap₂, _∙_}
 use mathlib.Core.Logic.{⊎-elim}
 use native.Mathlib.Numerals.{add-one}
 use native.Mathlib.Omega.{arith}
-use lib.ListN.{length, take, drop, getD, length-append, length-take, length-drop}
+use lib.ListN.{length, take, drop, getD, length-append, length-drop}
 use lib.Seq.{take-suc, take-all, take-take, take-append-le, drop-append-le, drop-drop}
 use Rattle.base_laws.specs.Bools.{lt-or-le}
 use Rattle.program_text.specs.Text.{decimal, line, decimal-length, line-length}
 use Rattle.program_windows.specs.declared.Window.{Window}
-use Rattle.program_windows.specs.Windows.{sumOf, greatestOf, windowOf, windowLine, windowLines, allWindows}
+use Rattle.program_windows.specs.Windows.{sumOf, greatestOf, windowOf, windowLine, windowLines, allWindows, lastMoves}
 
 -- ---- sum and greatest
 
@@ -142,10 +142,6 @@ part-next ms i =
     rest-of (m ∷ l) = refl
 
 -- ---- moves that came in two parts
-
--- the last 63 moves, or all where they are fewer
-abbrev pub lastMoves : List ℕ → List ℕ
-lastMoves ms = drop (length ms - 63) ms
 
 -- the windows from n on
 lines-add : (ms : List ℕ) (n m : ℕ) → windowLines ms (n + m) ≡ windowLines ms n ++ windowLines (drop n ms) m

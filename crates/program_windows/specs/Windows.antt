@@ -30,3 +30,7 @@ windowLines ms (suc i) = windowLines ms i ++ windowLine (windowOf (take 64 (drop
 -- the lines of all windows: 64 moves have one, each move more has one more, fewer have none
 unfoldable pub allWindows : List ℕ → List ℕ
 allWindows ms = windowLines ms (length ms - 63)
+
+-- the last 63 moves, or all where they are fewer: no window of later lines has others before them
+abbrev pub lastMoves : List ℕ → List ℕ
+lastMoves ms = drop (length ms - 63) ms

@@ -1,13 +1,12 @@
 -- `program_moves::gather` meets its contract. The loop's invariant: the lines below i are good and their moves put, and the whole walk is these
 -- moves and the walk from line i on. Assumes nothing.
 use Prim.Native.Nat.{ℕ, _-_, _/_}
-use mathlib.Core.List.{List, [], _∷_}
+use mathlib.Core.List.{[], _∷_}
 use mathlib.Core.Path.{sym, ap, _∙_}
 use native.Mathlib.Omega.{arith}
 use lib.ListN.{length}
 use borrow.Author.Needs.{needs}
 use Rattle.program_text.specs.Puts.{Puts, puts-as, puts-none, then-puts}
-use Rattle.program_moves.specs.MovesFile.{Line}
 use Rattle.program_moves.specs.Walking.{Walks, movesBelow, walks-none, moves-none, moves-step, line-told, few-told, walks-next, gathers-bad, gathers-all}
 use Rattle.program_moves.proofs.gather.Statement.{statement}
 use Rattle.program_moves.proofs.gather.Tie as tie

@@ -1,7 +1,6 @@
 -- `program_moves::line_refusal` meets its contract, row by row. Assumes nothing.
 use native.Mathlib.Omega.{arith}
 use borrow.Author.Needs.{needs}
-use Rattle.program_moves.specs.MovesFile.{Line}
 use Rattle.program_moves.specs.Walking.{refused-sequence, refused-moves, refused-none}
 use Rattle.program_moves.proofs.line_refusal.Statement.{statement}
 use Rattle.program_moves.proofs.line_refusal.Tie as tie

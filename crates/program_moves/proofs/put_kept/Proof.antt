@@ -1,5 +1,4 @@
 -- `program_moves::put_kept` meets its contract. Assumes nothing.
-use Prim.Native.Nat.{ℕ, _-_}
 use mathlib.Core.Path.{refl, sym}
 use borrow.Author.Needs.{needs}
 use Rattle.program_text.specs.Puts.{puts-as}

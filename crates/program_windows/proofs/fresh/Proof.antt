@@ -2,7 +2,6 @@
 use Prim.Native.Nat.{ℕ}
 use mathlib.Core.Path.{ap₂}
 use borrow.Author.Needs.{needs}
-use Rattle.program_windows.specs.declared.Window.{Window}
 use Rattle.program_windows.proofs.fresh.Statement.{statement}
 use Rattle.program_windows.proofs.fresh.Tie as tie
 

@@ -1,6 +1,6 @@
 -- `program_windows::put_windows` meets its contract. The loop's invariant: the lines of the windows before i are put, and the window at hand
 -- is that of the 64 moves from i on. Assumes nothing.
-use Prim.Native.Nat.{ℕ, _+_, _-_, _≤_, zero-le}
+use Prim.Native.Nat.{_+_, _-_, _≤_, zero-le}
 use mathlib.Core.Path.{_≡_, sym, ap, _∙_}
 use native.Mathlib.Omega.{arith}
 use lib.ListN.{length, take, drop, length-take, length-drop}

@@ -1,7 +1,7 @@
 -- Theorems of the moves file. `window-law`: a file of good lines prints the lines of its windows, the one after the other, window i that of
 -- lines i to i + 63. `pieces`: blocks of whole lines taken one after another print what the whole file would; only the last may end in a
 -- part of a line.
-use Prim.Native.Nat.{ℕ, zero, suc, _+_, _*_, _-_, _/_, _%_, _≤_, _<_}
+use Prim.Native.Nat.{ℕ, zero, suc, _+_, _*_, _-_, _/_, _%_, _≤_}
 use mathlib.Core.Bool.{Bool, true, false, cond, _&&_}
 use mathlib.Core.List.{List, [], _∷_, _++_, map, flatten, append-assoc, append-nil}
 use mathlib.Core.Path.{_≡_, refl, sym, ap, ap₂, _∙_}
@@ -12,17 +12,17 @@ use lib.ListN.{length, take, drop, getD, length-append, length-take, length-drop
 use lib.Seq.{getD-append-add}
 use borrow.Author.Tests.{eqb-true, eq-eqb}
 use Rattle.base_laws.specs.Bools.{either, clash, and-left, and-right, cond-of}
-use Rattle.base_laws.specs.Tables.{tabulate, padded, length-tabulate, tabulate-add, tabulate-cong, front-padded}
+use Rattle.base_laws.specs.Tables.{tabulate, padded, tabulate-add, tabulate-cong, front-padded}
 use Rattle.base_ids.specs.declared.Refusal.{Refusal}
 use Rattle.base_ids.specs.Refusals.{none, accepted, unless, firstOf, accepted-none, unless-true, first-none, first-refused, first-left}
-use Rattle.word_bytes.specs.Words.{wordAt, wordFrom}
+use Rattle.word_bytes.specs.Words.{wordAt}
 use Rattle.program_text.specs.Text.{numberLine, line, numberLabel, line-length}
-use Rattle.program_windows.specs.Windows.{windowOf, windowLine, windowLines, allWindows}
-use Rattle.program_windows.specs.Sliding.{lastMoves, windows-more, last-more, windows-length}
+use Rattle.program_windows.specs.Windows.{windowOf, windowLine, windowLines, allWindows, lastMoves}
+use Rattle.program_windows.specs.Sliding.{windows-more, last-more, windows-length}
 use Rattle.program_moves.specs.declared.Tally.{Tally}
-use Rattle.program_moves.specs.MovesFile.{Line, Walk, lineAt, linesOf, lineRefusal, walk, walkAfter, cutRefusal, refusalLine, fileRefusal, mondaysText}
-use Rattle.program_moves.specs.Tallies.{fresh, tallyOf, carried, blockWalk, blockRefusal, blockText, tallyAfter}
+use Rattle.program_moves.specs.MovesFile.{Line, LineWalk, lineAt, linesOf, lineRefusal, walk, walkAfter, cutRefusal, refusalLine, fileRefusal, mondaysText}
+use Rattle.program_moves.specs.Tallies.{freshTally, tallyOf, keptMoves, blockWalk, blockRefusal, blockText, tallyAfter}
 use Rattle.program_moves.specs.Walking.{length-lines, walk-length, refusal-none}
 
 -- the bytes are whole lines
 abbrev pub wholeLines : List ℕ → Bool
@@ -91,10 +91,10 @@ unfolding walk
 walk-more least [] ms h = refl
 walk-more least (l ∷ ls) ms h = go (walk-more (l .number + 1) ls ms) (accepted (lineRefusal least l)) refl h
   where
-    bad : Walk
+    bad : LineWalk
     bad = record { moves = []; least = least; refusal = lineRefusal least l }
 
-    good : Walk
+    good : LineWalk
     good = walkAfter (l .moves ∷ []) (walk (l .number + 1) ls)
 
     go : (accepted (walk (l .number + 1) ls .refusal) ≡ true
@@ -111,10 +111,10 @@ unfolding walk
 walk-ended least [] ms h = clash refl h
 walk-ended least (l ∷ ls) ms h = go (walk-ended (l .number + 1) ls ms) (accepted (lineRefusal least l)) h
   where
-    bad : Walk
+    bad : LineWalk
     bad = record { moves = []; least = least; refusal = lineRefusal least l }
 
-    good : Walk
+    good : LineWalk
     good = walkAfter (l .moves ∷ []) (walk (l .number + 1) ls)
 
     go : (accepted (walk (l .number + 1) ls .refusal) ≡ false → walk (l .number + 1) (ls ++ ms) ≡ walk (l .number + 1) ls)
@@ -129,10 +129,10 @@ unfolding walk
 walk-all least [] h = refl
 walk-all least (l ∷ ls) h = go (walk-all (l .number + 1) ls) (accepted (lineRefusal least l)) refl h
   where
-    bad : Walk
+    bad : LineWalk
     bad = record { moves = []; least = least; refusal = lineRefusal least l }
 
-    good : Walk
+    good : LineWalk
     good = walkAfter (l .moves ∷ []) (walk (l .number + 1) ls)
 
     go : (accepted (walk (l .number + 1) ls .refusal) ≡ true → walk (l .number + 1) ls .moves ≡ map (λ (x : Line). x .moves) ls)
@@ -162,9 +162,9 @@ file-whole a w = ap (firstOf (walk 0 (linesOf a) .refusal)) (cut-none a w) ∙ f
     first-last : (r : Refusal) → firstOf r none ≡ r
     first-last r = ⊎-elim (λ h. let e : r ≡ none = accepted-none r h in first-none r none e ∙ sym e) (λ h. first-refused r none h) (either (accepted r))
 
-carried-moves : (ms : List ℕ) (least : ℕ) (r : Refusal) → carried (tallyOf ms least r) ≡ lastMoves ms
-unfolding carried tallyOf
-carried-moves ms least r = front-padded 63 (length (lastMoves ms)) (lastMoves ms) (omega (arith, length-drop (length ms - 63) ms)) refl
+kept-moves : (ms : List ℕ) (least : ℕ) (r : Refusal) → keptMoves (tallyOf ms least r) ≡ lastMoves ms
+unfolding keptMoves tallyOf
+kept-moves ms least r = front-padded 63 (length (lastMoves ms)) (lastMoves ms) (omega (arith, length-drop (length ms - 63) ms)) refl
 
 -- a tally is that of the last moves
 tally-last : (x y : List ℕ) (least : ℕ) (r : Refusal) → lastMoves x ≡ lastMoves y → tallyOf x least r ≡ tallyOf y least r
@@ -172,10 +172,10 @@ unfolding tallyOf
 tally-last x y least r e = ap (λ (ms : List ℕ). record { refusal = r; least = least; count = length ms; kept = padded 63 ms }) e
 
 module _ (a p : List ℕ) (w : wholeLines a ≡ true) where
-  was : Walk
+  was : LineWalk
   was = walk 0 (linesOf a)
 
-  new : Walk
+  new : LineWalk
   new = walk (was .least) (linesOf p)
 
   -- the lines of a were good
@@ -190,12 +190,12 @@ module _ (a p : List ℕ) (w : wholeLines a ≡ true) where
 
     block : blockWalk (standing a) p ≡ walkAfter (lastMoves (was .moves)) new
     unfolding was new standing blockWalk tallyOf
-    block = ap (λ (l : List ℕ). walkAfter l new) (carried-moves (was .moves) (was .least) (fileRefusal a))
+    block = ap (λ (l : List ℕ). walkAfter l new) (kept-moves (was .moves) (was .least) (fileRefusal a))
 
     refusals : fileRefusal (a ++ p) ≡ blockRefusal (standing a) p
     unfolding fileRefusal blockRefusal
     refusals =
-        ap₂ firstOf (ap (λ (x : Walk). x .refusal) (both ∙ sym (ap (λ (x : Walk). record { moves = was .moves ++ new .moves; least = x .least; refusal = x .refusal }) block)))
+        ap₂ firstOf (ap (λ (x : LineWalk). x .refusal) (both ∙ sym (ap (λ (x : LineWalk). record { moves = was .moves ++ new .moves; least = x .least; refusal = x .refusal }) block)))
         (cut-more a p w)
 
     text-good : mondaysText (a ++ p) ≡ mondaysText a ++ blockText (standing a) p
@@ -205,12 +205,12 @@ module _ (a p : List ℕ) (w : wholeLines a ≡ true) where
         let windows : List ℕ = allWindows (lastMoves (was .moves) ++ new .moves) in
         let end : List ℕ = refusalLine (blockRefusal (standing a) p) in
         let whole : allWindows (walk 0 (linesOf (a ++ p)) .moves) ≡ front ++ windows =
-        ap (λ (x : Walk). allWindows (x .moves)) both ∙ windows-more (was .moves) (new .moves) in
+        ap (λ (x : LineWalk). allWindows (x .moves)) both ∙ windows-more (was .moves) (new .moves) in
         let quiet : mondaysText a ≡ front =
         ap (λ (t : List ℕ). front ++ t) (refusal-none (fileRefusal a) (ap (λ (r : Refusal). r .number) (accepted-none (fileRefusal a) (ap accepted (file-whole a w) ∙ h)))) ∙ append-nil front in
         let put : blockText (standing a) p ≡ windows ++ end =
         ap (λ (b : Bool). cond b (allWindows (blockWalk (standing a) p .moves) ++ end) []) going
-        ∙ ap (λ (x : Walk). allWindows (x .moves) ++ end) block in
+        ∙ ap (λ (x : LineWalk). allWindows (x .moves) ++ end) block in
         ap₂ (λ (t : List ℕ) (r : Refusal). t ++ refusalLine r) whole refusals ∙ append-assoc front windows end
         ∙ sym (ap₂ _++_ quiet put)
 
@@ -218,9 +218,9 @@ module _ (a p : List ℕ) (w : wholeLines a ≡ true) where
     unfolding was tallyAfter standing
     tally-good =
         ap (λ (b : Bool). cond b (tallyOf (blockWalk (standing a) p .moves) (blockWalk (standing a) p .least) (blockRefusal (standing a) p)) (standing a)) going
-        ∙ ap₂ (λ (x : Walk) (r : Refusal). tallyOf (x .moves) (x .least) r) block (sym refusals)
+        ∙ ap₂ (λ (x : LineWalk) (r : Refusal). tallyOf (x .moves) (x .least) r) block (sym refusals)
         ∙ tally-last (lastMoves (was .moves) ++ new .moves) (was .moves ++ new .moves) (new .least) (fileRefusal (a ++ p)) (sym (last-more (was .moves) (new .moves)))
-        ∙ ap (λ (x : Walk). tallyOf (x .moves) (x .least) (fileRefusal (a ++ p))) (sym both)
+        ∙ ap (λ (x : LineWalk). tallyOf (x .moves) (x .least) (fileRefusal (a ++ p))) (sym both)
 
   -- a line of a was bad
   module _ (h : accepted (was .refusal) ≡ false) where
@@ -231,7 +231,7 @@ module _ (a p : List ℕ) (w : wholeLines a ≡ true) where
     ended-refusal : fileRefusal (a ++ p) ≡ fileRefusal a
     unfolding fileRefusal was
     ended-refusal =
-        ap (λ (x : Walk). firstOf (x .refusal) (cutRefusal (length (a ++ p)))) ended-walk
+        ap (λ (x : LineWalk). firstOf (x .refusal) (cutRefusal (length (a ++ p)))) ended-walk
         ∙ first-refused (was .refusal) (cutRefusal (length (a ++ p))) h
         ∙ sym (first-refused (was .refusal) (cutRefusal (length a)) h)
 
@@ -242,7 +242,7 @@ module _ (a p : List ℕ) (w : wholeLines a ≡ true) where
     text-ended : mondaysText (a ++ p) ≡ mondaysText a ++ blockText (standing a) p
     unfolding was mondaysText blockText
     text-ended =
-        ap₂ (λ (x : Walk) (r : Refusal). allWindows (x .moves) ++ refusalLine r) ended-walk ended-refusal
+        ap₂ (λ (x : LineWalk) (r : Refusal). allWindows (x .moves) ++ refusalLine r) ended-walk ended-refusal
         ∙ sym (ap (λ (b : Bool). mondaysText a ++ cond b (allWindows (blockWalk (standing a) p .moves) ++ refusalLine (blockRefusal (standing a) p)) []) closed
         ∙ append-nil (mondaysText a))
 
@@ -250,7 +250,7 @@ module _ (a p : List ℕ) (w : wholeLines a ≡ true) where
     unfolding was tallyAfter standing
     tally-ended =
         ap (λ (b : Bool). cond b (tallyOf (blockWalk (standing a) p .moves) (blockWalk (standing a) p .least) (blockRefusal (standing a) p)) (standing a)) closed
-        ∙ sym (ap₂ (λ (x : Walk) (r : Refusal). tallyOf (x .moves) (x .least) r) ended-walk ended-refusal)
+        ∙ sym (ap₂ (λ (x : LineWalk) (r : Refusal). tallyOf (x .moves) (x .least) r) ended-walk ended-refusal)
 
   -- after bytes of whole lines, a block puts what is missing of the text of both, and gives the tally of both
   pub text-more : mondaysText (a ++ p) ≡ mondaysText a ++ blockText (standing a) p
@@ -261,7 +261,7 @@ module _ (a p : List ℕ) (w : wholeLines a ≡ true) where
 
 -- ---- blocks one after another
 
-pub standing-none : standing [] ≡ fresh
+pub standing-none : standing [] ≡ freshTally
 unfolding standing tallyOf walk linesOf tabulate fileRefusal cutRefusal unless firstOf padded
 standing-none = refl
 
@@ -290,7 +290,7 @@ pieces-after a (b ∷ (c ∷ bs)) w h =
     ∙ ap mondaysText (append-assoc a b (flatten (c ∷ bs)))
 
 -- blocks of whole lines taken one after another print what the whole file would
-pub pieces : (bs : List (List ℕ)) → wholeButLast bs ≡ true → blockTexts fresh bs ≡ mondaysText (flatten bs)
+pub pieces : (bs : List (List ℕ)) → wholeButLast bs ≡ true → blockTexts freshTally bs ≡ mondaysText (flatten bs)
 pieces bs h =
     ap₂ (λ (t : List ℕ) (x : Tally). t ++ blockTexts x bs) (sym none-printed) (sym standing-none) ∙ pieces-after [] bs refl h
 
@@ -326,7 +326,7 @@ window-law bytes h =
 -- ---- room for the text of a block
 
 pub text-length : (t : Tally) (bytes : List ℕ) → length (t .kept) ≡ 63 → length bytes ≤ 32768 → length (blockText t bytes) ≤ 98304
-unfolding blockText blockWalk carried refusalLine numberLine
+unfolding blockText blockWalk keptMoves refusalLine numberLine
 text-length t bytes k h =
     let ms : List ℕ = take (t .count) (t .kept) ++ walk (t .least) (linesOf bytes) .moves in
     let r : Refusal = blockRefusal t bytes in
