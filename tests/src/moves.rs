@@ -135,9 +135,9 @@ fn damage(random: &mut Random, lines: &mut [Line]) {
     let last = lines.len() - 1;
     let any = random.below(lines.len());
     let places: Vec<usize> = PLACES.into_iter().filter(|&at| at <= last).collect();
-    let latest = places[places.len().saturating_sub(2)..].to_vec();
-    let special = random.pick(if random.chance(30) { &latest } else { &places });
-    let at = random.pick(&[any, last, special, special]);
+    let latest = random.pick(&places[places.len().saturating_sub(2)..]);
+    let special = random.pick(&places);
+    let at = random.pick(&[any, last, latest, special, special]);
     let before = lines[at.saturating_sub(1)].restart;
     let line = &mut lines[at];
     let many = [MOST_MOVES + 1, 256, 500, 1 << 16, 1 << 24, u32::MAX];
