@@ -3,6 +3,7 @@
 MOVES is the program that writes a moves file of a kind. On each kind of file the two programs run in turn, from the file to nowhere;
 the table has the medians in seconds. Before that their answers are compared. Ends with 1 if they differ."""
 import os
+import resource
 import statistics
 import subprocess
 import sys
@@ -17,13 +18,18 @@ KINDS = (
 )
 
 
+def processor_seconds():
+    """What the programs that have ended took of the processors."""
+    used = resource.getrusage(resource.RUSAGE_CHILDREN)
+    return used.ru_utime + used.ru_stime
+
+
 def timed(program, path):
-    """The seconds that a run takes, and those of its processor."""
+    """The seconds that a run takes, and those of the processor."""
     with open(path, "rb") as file, open(os.devnull, "wb") as nowhere:
-        before, began = os.times(), time.perf_counter()
+        used, began = processor_seconds(), time.perf_counter()
         subprocess.run([program], stdin=file, stdout=nowhere, check=True)
-        seconds, after = time.perf_counter() - began, os.times()
-    return seconds, after.children_user - before.children_user + after.children_system - before.children_system
+        return time.perf_counter() - began, processor_seconds() - used
 
 
 def same_answers(programs, path, folder):
