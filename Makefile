@@ -34,6 +34,7 @@ performance:
 VERSION := 0.1.0
 ARCHIVE ?= target/staticlib/libc_planner.a
 PROGRAM ?= target/bin/restart
+MONDAYS ?= target/bin/mondays
 SOURCES := crates.txt $(shell find crates -name '*.rt' -o -name '*.antt')
 CFLAGS ?= -O2
 CHECKED := -std=c11 -Wall -Wextra -Werror -pedantic
@@ -46,8 +47,8 @@ target/staticlib/libc_planner.a: $(SOURCES)
 	rt staticlib c_planner
 	touch $@
 
-target/bin/restart: $(SOURCES)
-	@python3 tests/prove.py restart
+target/bin/restart target/bin/mondays: $(SOURCES)
+	@python3 tests/prove.py $(@F)
 	touch $@
 
 target/librestart.a: $(ARCHIVE)
@@ -58,7 +59,7 @@ target/c/service: examples/service.c include/restart.h target/librestart.a
 	mkdir -p $(@D)
 	$(CC) $(CHECKED) $(CFLAGS) -Iinclude $(LDFLAGS) -o $@ examples/service.c target/librestart.a
 
-test-c: target/librestart.a $(PROGRAM)
+test-c: target/librestart.a $(PROGRAM) $(MONDAYS)
 	@sh tests/c/run.sh
 
 # ---- Installation
@@ -72,7 +73,8 @@ EXAMPLEDIR ?= $(PREFIX)/share/restart/example
 # The calls that the header declares: each has a manual page of its own name.
 CALLS := $(shell sed -n 's/^uint32_t \(restart_[a-z_]*\).*/\1/p' include/restart.h)
 REPORTS := $(notdir $(wildcard examples/reports/*.bin))
-PAGES_1 := restart.1 restart-service.1
+PAGES_1 := restart.1 restart-service.1 mondays.1
+EXAMPLES := settings.bin events.txt output.txt moves.bin moves.txt
 TO := $(DESTDIR)
 
 target/restart.pc: restart.pc.in Makefile
@@ -80,10 +82,11 @@ target/restart.pc: restart.pc.in Makefile
 	sed -e 's|@PREFIX@|$(PREFIX)|; s|@INCLUDEDIR@|$(INCLUDEDIR)|; s|@LIBDIR@|$(LIBDIR)|; s|@VERSION@|$(VERSION)|' restart.pc.in > $@
 
 .PHONY: target/restart.pc
-install: target/librestart.a target/c/service target/restart.pc $(PROGRAM)
+install: target/librestart.a target/c/service target/restart.pc $(PROGRAM) $(MONDAYS)
 	install -d $(TO)$(BINDIR) $(TO)$(INCLUDEDIR) $(TO)$(LIBDIR)/pkgconfig $(TO)$(EXAMPLEDIR)/reports
 	install -d $(TO)$(MANDIR)/man1 $(TO)$(MANDIR)/man3 $(TO)$(MANDIR)/man7
 	install -m 755 $(PROGRAM) $(TO)$(BINDIR)/restart
+	install -m 755 $(MONDAYS) $(TO)$(BINDIR)/mondays
 	install -m 755 target/c/service $(TO)$(BINDIR)/restart-service
 	install -m 644 include/restart.h $(TO)$(INCLUDEDIR)
 	install -m 644 target/librestart.a $(TO)$(LIBDIR)
@@ -92,14 +95,14 @@ install: target/librestart.a target/c/service target/restart.pc $(PROGRAM)
 	install -m 644 man/restart.3 $(TO)$(MANDIR)/man3
 	install -m 644 man/restart.7 $(TO)$(MANDIR)/man7
 	for call in $(CALLS); do ln -sf restart.3 $(TO)$(MANDIR)/man3/$$call.3 || exit; done
-	install -m 644 examples/settings.bin examples/events.txt examples/output.txt $(TO)$(EXAMPLEDIR)
+	install -m 644 $(EXAMPLES:%=examples/%) $(TO)$(EXAMPLEDIR)
 	install -m 644 $(REPORTS:%=examples/reports/%) $(TO)$(EXAMPLEDIR)/reports
 
 uninstall:
-	rm -f $(TO)$(BINDIR)/restart $(TO)$(BINDIR)/restart-service $(TO)$(INCLUDEDIR)/restart.h
+	rm -f $(TO)$(BINDIR)/restart $(TO)$(BINDIR)/mondays $(TO)$(BINDIR)/restart-service $(TO)$(INCLUDEDIR)/restart.h
 	rm -f $(TO)$(LIBDIR)/librestart.a $(TO)$(LIBDIR)/pkgconfig/restart.pc
 	rm -f $(PAGES_1:%=$(TO)$(MANDIR)/man1/%) $(TO)$(MANDIR)/man3/restart.3 $(TO)$(MANDIR)/man7/restart.7
 	rm -f $(CALLS:%=$(TO)$(MANDIR)/man3/%.3)
 	rm -f $(REPORTS:%=$(TO)$(EXAMPLEDIR)/reports/%)
-	rm -f $(TO)$(EXAMPLEDIR)/settings.bin $(TO)$(EXAMPLEDIR)/events.txt $(TO)$(EXAMPLEDIR)/output.txt
+	rm -f $(EXAMPLES:%=$(TO)$(EXAMPLEDIR)/%)
 	-rmdir $(TO)$(EXAMPLEDIR)/reports $(TO)$(EXAMPLEDIR) $(dir $(TO)$(EXAMPLEDIR))

@@ -63,8 +63,8 @@ def placement():
 
 def mondays(mock):
     """The table of bench/mondays/times.py and the sentence after it."""
-    program = os.path.join(CARGO, "release", "mondays-reference") if mock else os.path.join(TARGET, "bin", "mondays")
-    lines = said("make", "--no-print-directory", "-C", "bench", "mondays", "MONDAYS=" + program, "LINES=%d" % (10**5 if mock else 10**7))
+    standing_in = ["MONDAYS=" + os.path.join(CARGO, "release", "mondays-reference"), "LINES=100000"]
+    lines = said("make", "--no-print-directory", "-C", "bench", "mondays", *(standing_in if mock else []))
     return lines[lines.index("| moves |") :].strip()
 
 

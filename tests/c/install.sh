@@ -22,11 +22,12 @@ check() { # WHAT COMMAND ..
 
 # What must stand under the prefix.
 names() {
-    echo bin/restart bin/restart-service include/restart.h lib/librestart.a lib/pkgconfig/restart.pc
-    echo share/man/man1/restart.1 share/man/man1/restart-service.1 share/man/man3/restart.3 share/man/man7/restart.7
+    echo bin/restart bin/mondays bin/restart-service include/restart.h lib/librestart.a lib/pkgconfig/restart.pc
+    echo share/man/man1/restart.1 share/man/man1/restart-service.1 share/man/man1/mondays.1
+    echo share/man/man3/restart.3 share/man/man7/restart.7
     sed -n 's|^uint32_t \(restart_[a-z_]*\)(.*|share/man/man3/\1.3|p' include/restart.h
     for report in examples/reports/*.bin; do echo "share/restart/example/reports/${report##*/}"; done
-    for name in settings.bin events.txt output.txt; do echo "share/restart/example/$name"; done
+    for name in settings.bin events.txt output.txt moves.bin moves.txt; do echo "share/restart/example/$name"; done
 }
 
 all_there() { # FOLDER
@@ -72,6 +73,10 @@ shard 2 holder 5 target 7 3 members 3
 PLAN
 }
 
+installed_mondays() { # PREFIX-FOLDER
+    cd "$1/share/restart/example" && "$1/bin/mondays" <moves.bin >"$room/printed" && test -s moves.txt && diff moves.txt "$room/printed"
+}
+
 version_is() { # VERSION LIBRARY-FOLDER
     test "$(PKG_CONFIG_PATH=$2/pkgconfig pkg-config --modversion restart)" = "$1"
 }
@@ -87,7 +92,8 @@ try() { # DESTDIR PREFIX
     check "a C++ program" outside g++ c++17 "$1$2/lib" "$1"
     check "the version" version_is "$(sed -n 's/^VERSION := //p' Makefile)" "$1$2/lib"
     check "the example" installed_example "$1$2"
-    check "the program" installed_program "$1$2"
+    check "the program restart" installed_program "$1$2"
+    check "the program mondays" installed_mondays "$1$2"
     check "a manual page" groff -t -man -Tutf8 -ww "$1$2/share/man/man3/restart_decide.3"
     check "uninstall" make --no-print-directory uninstall DESTDIR="$1" PREFIX="$2"
     check "what is left" nothing_left "$1"
