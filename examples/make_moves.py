@@ -8,7 +8,7 @@ import sys
 
 HERE = os.path.dirname(os.path.abspath(__file__))
 RESTARTS, FIRST = 200, 3117
-EXCHANGE, POWER_CUT = range(84, 103), 151
+EXCHANGE, POWER_CUT = range(84, 103), 128
 
 
 def drawn(state=20):

@@ -3,7 +3,7 @@ import argparse
 import os
 import sys
 
-from . import decode, encode, printing, state, texts, words
+from . import decode, encode, printing, state, texts, windows, words
 from .answers import BadAnswer, Number, Plan, block_at_fault, parse, run
 from .drawing import draw
 from .explaining import differences, explain
@@ -53,6 +53,7 @@ def parser():
         source.add_argument("--program", help="the program restart, which is run")
         source.add_argument("--answer", help="a file with what restart printed")
         made.add_argument("-o", "--output", help="the file to write; standard output without it")
+    windows.options(command("windows", draw_windows, "draw the windows that mondays prints for a moves file, as SVG"))
     return top
 
 
@@ -127,12 +128,17 @@ def to_texts(chosen):
     write(None, ("\n".join(lines) + "\n").encode())
 
 
+def found(program):
+    """A program by its path, or else by its name."""
+    return os.path.abspath(program) if os.path.exists(program) else program
+
+
 def answered(chosen):
     """The input, the answer, and the block at fault where the program refuses and was asked."""
     given = load(read(chosen.file))
     if chosen.answer:
         return given, parse(read(chosen.answer).decode("ascii", "replace")), None
-    program = os.path.abspath(chosen.program) if os.path.exists(chosen.program) else chosen.program
+    program = found(chosen.program)
     answer = parse(run(program, given.blocks))
     return given, answer, block_at_fault(program, given.blocks) if isinstance(answer, Number) else None
 
@@ -151,3 +157,12 @@ def draw_plan(chosen):
     if differences(gathered, given, answer):
         raise Trouble("the answer does not fit the input; explain says why")
     write(chosen.output, draw(gathered, answer).encode())
+
+
+def draw_windows(chosen):
+    data = read(chosen.file)
+    picture, fault = windows.draw(data, read(chosen.answer) if chosen.answer else windows.run(found(chosen.program), data))
+    write(chosen.output, picture.encode())
+    if fault:
+        print("restart-text: %s" % fault, file=sys.stderr)
+    return 1 if fault else 0
