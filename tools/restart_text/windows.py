@@ -91,7 +91,8 @@ def parse(printed):
     for line in io.BytesIO(printed):
         window, number = PRINTED.fullmatch(line), REFUSED.fullmatch(line)
         if found.number or not (window or number):
-            raise BadAnswer("expected windows, then perhaps 'number 24' or 'number 25', found '%s'" % line.decode("ascii", "replace").strip())
+            text = line.decode("ascii", "replace").strip()
+            raise BadAnswer("expected windows, then perhaps 'number 24' or 'number 25', found '%s'" % text)
         if number:
             found.number = int(number[1])
         else:

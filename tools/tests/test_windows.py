@@ -136,6 +136,12 @@ class Plots(unittest.TestCase):
         ):
             self.assertIn(text, texts(picture))
 
+    def test_the_stored_picture_is_the_example_s(self):
+        with open(os.path.join(support.ROOT, "examples", "moves.svg"), encoding="utf-8") as file:
+            stored = file.read()
+        with open(os.path.join(support.ROOT, "examples", "moves.txt"), "rb") as file:
+            self.assertEqual(windows.draw(example(), file.read()), (stored, ""))
+
     def test_many_restarts_are_drawn_by_columns(self):
         lines = numbered([1] * 30000)
         lines[17000] = (17001, 101)
@@ -174,7 +180,7 @@ class Plots(unittest.TestCase):
     def test_no_window(self):
         for data, printed, what in (
             (file_of(numbered([1] * 63)), b"", "there is no window to draw, 64 restarts make one: the file has 63 restarts"),
-            (b"123", b"number 24\n", "there is no window to draw, 64 restarts make one: line 1 is bad (number 24): it is cut short, 3 of 8"),
+            (b"123", b"number 24\n", "there is no window to draw, 64 restarts make one: line 1 is bad (number 24): it is cut short"),
         ):
             with self.assertRaisesRegex(BadAnswer, re.escape(what)):
                 windows.draw(data, printed)
