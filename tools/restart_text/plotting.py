@@ -125,9 +125,9 @@ def legend(picture, panel, size, crowded):
     """What line and bars, or line and shade, are: at the right above the panel."""
     group = Tree.SubElement(picture, "g", {"id": "legend"})
     y, right = panel.top - 17, LEFT + PLOT
-    line, other = ("mean of a column", "least to greatest") if crowded else ("greatest of %d" % size, "each restart alone")
+    drawn, other = ("mean of a column", "least to greatest") if crowded else ("greatest of %d" % size, "each restart alone")
     shape(group, "path", d="M %d %.1f h 26" % (right - 304, y), stroke=GREATEST, **{"stroke-width": "2"})
-    label(group, right - 272, y + 4.5, line, 13)
+    label(group, right - 272, y + 4.5, drawn, 13)
     shape(group, "rect", x=right - 140, y=y - 6, width=12, height=12, fill=SHADE if crowded else SINGLE)
     label(group, right - 122, y + 4.5, other, 13)
 
