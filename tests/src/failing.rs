@@ -106,10 +106,10 @@ fn reset_after_bad(program: &Program) -> Outcome {
     let mut file = moves::good(&mut Random::new(2), 9000);
     file[700 * LINE_BYTES + 4] = 129;
     let ran = run_on_reset(program, &file)?;
-    if ran.printed == mondays::answer(&file).as_bytes() {
+    if ran.printed == mondays::answer(&file).as_bytes() && ran.told.is_empty() {
         return Ok(());
     }
-    Err("the bad line before it is not told".into())
+    Err("the bad line before it is not the last that is told".into())
 }
 
 /// Sends the program a signal.
