@@ -161,7 +161,8 @@ def draw_plan(chosen):
 
 def draw_windows(chosen):
     data = read(chosen.file)
-    picture, fault = windows.draw(data, read(chosen.answer) if chosen.answer else windows.run(found(chosen.program), data))
+    printed = read(chosen.answer) if chosen.answer else windows.run(found(chosen.program), data)
+    picture, fault = windows.draw(data, printed, chosen.last)
     write(chosen.output, picture.encode())
     if fault:
         print("restart-text: %s" % fault, file=sys.stderr)

@@ -4,6 +4,7 @@ window, over bars for the moves of each restart. Both stand over the restart num
 Where restarts crowd, each column of the plot shows the least, the greatest and the mean of the windows in it, and the bars are left
 out: the picture of years is no larger than that of some months, and no peak is lost."""
 import xml.etree.ElementTree as Tree
+from array import array
 from bisect import bisect_left
 from dataclasses import dataclass
 
@@ -39,49 +40,73 @@ class Panel:
         return self.top + self.height
 
 
-def plot(moves, windows, size):
-    """The picture as text. There is at least one window."""
-    ends, first, last = moves.restarts[size - 1 :], moves.restarts[0], moves.restarts[-1]
-    upper = Panel(166 if moves.fault else 142, 230, first, last, ceiling(max(windows.sums)))
-    lower = Panel(upper.bottom + 76, 190, first, last, ceiling(max(moves.moves)))
+@dataclass
+class Shown:
+    """What is drawn: the last restarts of a file, and the windows that end with one of them, each with its first and last restart."""
+
+    restarts: array
+    moves: array
+    starts: array
+    ends: array
+    sums: array
+    greatest: array
+    total: int  # restarts in the file
+    fault: str
+
+
+def shown(moves, windows, size, last):
+    """The last so many restarts, or all, and their windows."""
+    total = len(moves.moves)
+    first = max(total - last, 0) if last else 0
+    window = max(first - size + 1, 0)
+    return Shown(moves.restarts[first:], moves.moves[first:], moves.restarts[window:], moves.restarts[window + size - 1 :],
+                 windows.sums[window:], windows.greatest[window:], total, moves.fault)
+
+
+def plot(moves, windows, size, last=None):
+    """The picture of the last so many restarts, or of all, as text. There is at least one window."""
+    view = shown(moves, windows, size, last)
+    upper = Panel(166 if view.fault else 142, 230, view.restarts[0], view.restarts[-1], ceiling(max(view.sums)))
+    lower = Panel(upper.bottom + 76, 190, view.restarts[0], view.restarts[-1], ceiling(max(max(view.moves), max(view.greatest))))
     picture = sheet(WIDTH, lower.bottom + 72)
     shape(picture, "rect", x=0, y=0, width="100%", height="100%", fill="#ffffff")
-    heading(picture, moves, windows, size)
+    heading(picture, view, size)
     for panel, name, text in (
         (upper, "sum", "Sum of moves in %d restarts" % size),
         (lower, "greatest", "Greatest single restart of the %d" % size),
     ):
-        before_first(picture, panel, ends[0])
+        before_first(picture, panel, view.ends[0])
         axes(picture, panel, name, text)
-    why_none(picture, upper, ends[0], size)
-    crowded = len(moves.moves) > CROWD
+    why_none(picture, upper, view.ends[0], size)
+    crowded = len(view.moves) > CROWD
     if not crowded:
-        bars(picture, lower, moves)
+        bars(picture, lower, view)
     legend(picture, lower, size, crowded)
-    for panel, name, found, colour in ((upper, "sum", windows.sums, SUM), (lower, "greatest", windows.greatest, GREATEST)):
+    for panel, name, found, colour in ((upper, "sum", view.sums, SUM), (lower, "greatest", view.greatest, GREATEST)):
         group = Tree.SubElement(picture, "g", {"id": name})
         if crowded:
-            band(group, panel, ends, found, colour)
+            band(group, panel, view.ends, found, colour)
         else:
-            line(group, panel, ends, found, colour, name == "sum")
-    peaks(picture, upper, lower, moves, windows, size)
+            line(group, panel, view.ends, found, colour, name == "sum")
+    peaks(picture, upper, lower, view)
     label(picture, LEFT + PLOT / 2, lower.bottom + 48, "restart number (of a window, its last restart)", 14, "normal", "middle")
     Tree.indent(picture)
     return '<?xml version="1.0" encoding="UTF-8"?>\n' + Tree.tostring(picture, encoding="unicode") + "\n"
 
 
-def heading(picture, moves, windows, size):
+def heading(picture, view, size):
     headline = "Moves in every %d consecutive restarts" % size
     Tree.SubElement(picture, "title").text = headline
     label(picture, LEFT, 38, headline, 22, "bold")
-    count = "%s restarts, numbers %d to %d" % ("{:,}".format(len(moves.moves)), moves.restarts[0], moves.restarts[-1])
-    label(picture, LEFT, 64, count, 14)
-    now = "The last %d restarts, %d to %d: sum %d, greatest %d." % (
-        size, moves.restarts[-size], moves.restarts[-1], windows.sums[-1], windows.greatest[-1])
-    label(picture, LEFT, 85, now, 14)
-    if moves.fault:
+    count = "{:,}".format(view.total)
+    if len(view.moves) < view.total:
+        count = "The last {:,} of {}".format(len(view.moves), count)
+    label(picture, LEFT, 64, "%s restarts, numbers %d to %d" % (count, view.restarts[0], view.restarts[-1]), 14)
+    now = (size, view.starts[len(view.ends) - 1], view.ends[-1], view.sums[-1], view.greatest[-1])
+    label(picture, LEFT, 85, "The last %d restarts, %d to %d: sum %d, greatest %d." % now, 14)
+    if view.fault:
         text = Tree.SubElement(picture, "g", {"id": "fault", "fill": WARNING})
-        label(text, LEFT, 110, "The file goes on, but %s." % moves.fault, 13, "bold")
+        label(text, LEFT, 110, "The file goes on, but %s." % view.fault, 13, "bold")
 
 
 def axes(picture, panel, name, text):
@@ -113,9 +138,9 @@ def why_none(picture, panel, end, size):
         label(text, (LEFT + panel.x(end)) / 2, panel.top + panel.height / 2, "not yet %d restarts" % size, 13, "normal", "middle")
 
 
-def bars(picture, panel, moves):
+def bars(picture, panel, view):
     """A bar for the moves of each restart."""
-    places = zip(moves.restarts, moves.moves)
+    places = zip(view.restarts, view.moves)
     path = " ".join("M %.1f %.1f V %.1f" % (panel.x(restart), panel.bottom, panel.y(own)) for restart, own in places if own)
     width = min(max(0.6 * PLOT / max(panel.last - panel.first, 1), 1), 8)
     shape(picture, "path", id="moves", d=path or "M 0 0", stroke=SINGLE, fill="none", **{"stroke-width": "%.2f" % width})
@@ -165,15 +190,19 @@ def band(group, panel, ends, found, colour):
     shape(group, "path", d=" ".join(means), fill="none", stroke=colour, **{"stroke-width": "1.5", "stroke-linejoin": "round"})
 
 
-def peaks(picture, upper, lower, moves, windows, size):
+def peaks(picture, upper, lower, view):
     """Marks the greatest sum and the greatest restart, and tells the last window's values at the right."""
-    place = windows.sums.index(max(windows.sums))
-    told = "most: %d, restarts %d to %d" % (windows.sums[place], moves.restarts[place], moves.restarts[place + size - 1])
-    mark(picture, upper, "most-sum", moves.restarts[place + size - 1], windows.sums[place], told, SUM)
-    place = moves.moves.index(max(moves.moves))
-    told = "most: %d, restart %d" % (moves.moves[place], moves.restarts[place])
-    mark(picture, lower, "most-moves", moves.restarts[place], moves.moves[place], told, GREATEST)
-    for panel, value, colour in ((upper, windows.sums[-1], SUM), (lower, windows.greatest[-1], GREATEST)):
+    place = view.sums.index(max(view.sums))
+    told = "most: %d, restarts %d to %d" % (view.sums[place], view.starts[place], view.ends[place])
+    mark(picture, upper, "most-sum", view.ends[place], view.sums[place], told, SUM)
+    most = max(max(view.moves), max(view.greatest))
+    if most in view.moves:
+        restart = view.restarts[view.moves.index(most)]
+        mark(picture, lower, "most-moves", restart, most, "most: %d, restart %d" % (most, restart), GREATEST)
+    else:
+        told = "most: %d, before restart %d" % (most, view.restarts[0])
+        mark(picture, lower, "most-moves", view.ends[view.greatest.index(most)], most, told, GREATEST)
+    for panel, value, colour in ((upper, view.sums[-1], SUM), (lower, view.greatest[-1], GREATEST)):
         end = Tree.SubElement(picture, "g", {"fill": colour})
         shape(end, "circle", cx=panel.x(panel.last), cy=panel.y(value), r=4)
         label(end, LEFT + PLOT + 12, panel.y(value) + 5, "now %d" % value, 15, "bold")

@@ -4,6 +4,7 @@ import io
 import re
 import struct
 import subprocess
+from argparse import ArgumentTypeError
 from array import array
 from collections import deque
 from dataclasses import dataclass
@@ -37,14 +38,14 @@ class Windows:
     number: int = 0
 
 
-def draw(data, printed):
-    """The plot of a moves file, drawn from what `mondays` printed for it, and what is wrong with the file."""
+def draw(data, printed, last=None):
+    """The plot of a moves file or of its last restarts, by what `mondays` printed for it, and what is wrong with the file."""
     moves, answer = moves_of(data), parse(printed)
     compare(moves, answer)
     if not answer.sums:
         reason = moves.fault or "the file has %s" % counted(len(moves.moves), "restart")
         raise BadAnswer("there is no window to draw, %d restarts make one: %s" % (WINDOW, reason))
-    return plot(moves, answer, WINDOW), moves.fault
+    return plot(moves, answer, WINDOW, last), moves.fault
 
 
 def moves_of(data):
@@ -133,4 +134,11 @@ def options(made):
     source = made.add_mutually_exclusive_group(required=True)
     source.add_argument("--program", help="the program mondays, which is run")
     source.add_argument("--answer", help="a file with what mondays printed")
+    made.add_argument("--last", type=positive, metavar="N", help="draw the last N restarts only; the windows are still those of the file")
     made.add_argument("-o", "--output", help="the file to write; standard output without it")
+
+
+def positive(text):
+    if not re.fullmatch("0*[1-9][0-9]*", text):
+        raise ArgumentTypeError("expected a number from 1 up, found '%s'" % text)
+    return int(text)

@@ -142,6 +142,20 @@ class Plots(unittest.TestCase):
         with open(os.path.join(support.ROOT, "examples", "moves.txt"), "rb") as file:
             self.assertEqual(windows.draw(example(), file.read()), (stored, ""))
 
+    def test_the_last_restarts_alone(self):
+        """Each place of the line is that of the whole file; a window may begin before the restarts that are drawn."""
+        moves = [1] * 100 + [50] + [2] * 99
+        lines = numbered(moves)
+        for last, windows_drawn in ((1, 1), (100, 100), (150, 137), (1000, 137)):
+            text = windows.draw(file_of(lines), answer_of(lines), last)[0]
+            path = list(part_of(Tree.fromstring(text.encode()), "greatest").iter(SPACE + "path"))[-1].get("d")
+            self.assertEqual(len(re.findall("H", path)), windows_drawn)
+        said = texts(Tree.fromstring(windows.draw(file_of(lines), answer_of(lines), 90)[0].encode()))
+        self.assertIn("The last 90 of 200 restarts, numbers 111 to 200", said)
+        self.assertIn("most: 176, restarts 101 to 164", said)
+        self.assertIn("most: 50, before restart 111", said)
+        self.assertIn("now 128", said)
+
     def test_many_restarts_are_drawn_by_columns(self):
         lines = numbered([1] * 30000)
         lines[17000] = (17001, 101)
@@ -202,6 +216,14 @@ class Command(unittest.TestCase):
         self.assertEqual(self.run_on(good, "--program", "/bin/false"), (2, b"", "restart-text: /bin/false ended with status 1\n"))
         missing = "restart-text: no-such-program does not run: No such file or directory\n"
         self.assertEqual(self.run_on(good, "--program", "no-such-program"), (2, b"", missing))
+
+    def test_the_last_ones(self):
+        good = file_of(numbered([1] * 70))
+        self.assertEqual(self.run_on(good, "--program", support.program("mondays"), "--last", "5"), (0, b"<?xml", ""))
+        for wrong in ("0", "-3", "x"):
+            status, printed, told = self.run_on(good, "--program", support.program("mondays"), "--last", wrong)
+            self.assertEqual((status, printed), (2, b""))
+            self.assertIn("--last: expected ", told)
 
     def test_an_answer_from_a_file(self):
         with tempfile.TemporaryDirectory() as folder:
