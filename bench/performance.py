@@ -112,10 +112,13 @@ MONDAYS = """
 
 The program `mondays` beside a plain C program with a running sum, a queue of falling moves and digits of its own
 (`bench/mondays/mondays.c`, gcc -O3), from the same file to nowhere; seconds. The last column is the ratio by the processor's time,
-which other work on the machine disturbs less.
+which other work on the machine disturbs less.{apart}
 
 {table}
 """
+
+# Of a section that was measured without the others.
+APART = " Measured apart from the rest of this page, on\n{machine}"
 
 PLACEMENT = """
 ### Placement
@@ -150,7 +153,7 @@ def whole(mock):
         stack=said(BENCH, "stack", str(stacks)),
         needs="" if mock else needs(),
         placement="" if mock else PLACEMENT.format(table=placement()),
-        mondays=MONDAYS.format(table=mondays(mock)),
+        mondays=MONDAYS.format(apart="", table=mondays(mock)),
     )
 
 
@@ -159,7 +162,7 @@ def with_mondays(path):
     with open(path) as file:
         page = file.read()
     section = re.compile(r"\n### Mondays\n.*?(?=\n### |\Z)", re.S)
-    return section.sub("", page) + MONDAYS.format(table=mondays(False))
+    return section.sub("", page) + MONDAYS.format(apart=APART.format(machine=machine()), table=mondays(False))
 
 
 main()

@@ -8,7 +8,8 @@
 #include <string.h>
 #include <unistd.h>
 
-enum { WINDOW = 64, MOST_MOVES = 128, LINE = 8, IN_BYTES = 32768, OUT_BYTES = 65536, TEXT = 16 };
+enum { WINDOW = 64, MOST_MOVES = 128, LINE = 8, IN_BYTES = 32768 };
+enum { OUT_BYTES = 10 * (IN_BYTES / LINE) + 16 }; /* a window's line has at most 9 bytes */
 
 struct windows {
     uint64_t count;         /* lines so far */
@@ -21,20 +22,18 @@ struct windows {
 };
 
 static uint8_t in[IN_BYTES];
-static char out[OUT_BYTES];
-static size_t out_length;
+static char out[OUT_BYTES]; /* what is printed for a block */
 
-static int flush(void)
+static int print(size_t length)
 {
     size_t done = 0;
-    while (done < out_length) {
-        ssize_t wrote = write(1, out + done, out_length - done);
+    while (done < length) {
+        ssize_t wrote = write(1, out + done, length - done);
         if (wrote > 0)
             done += (size_t)wrote;
         else if (wrote < 0 && errno != EINTR)
             return perror("mondays: standard output"), -1;
     }
-    out_length = 0;
     return 0;
 }
 
@@ -61,20 +60,21 @@ static uint32_t word(const uint8_t *at)
     return read;
 }
 
-static void put_number(uint32_t number)
+/* Writes a number below 10000; gives the place after it. */
+static char *put_number(char *at, uint32_t number)
 {
-    char digits[10];
-    size_t at = sizeof digits;
-    do {
-        digits[--at] = (char)('0' + number % 10);
-        number /= 10;
-    } while (number);
-    memcpy(out + out_length, digits + at, sizeof digits - at);
-    out_length += sizeof digits - at;
+    if (number >= 1000)
+        *at++ = (char)('0' + number / 1000);
+    if (number >= 100)
+        *at++ = (char)('0' + number / 100 % 10);
+    if (number >= 10)
+        *at++ = (char)('0' + number / 10 % 10);
+    *at++ = (char)('0' + number % 10);
+    return at;
 }
 
-/* Takes a good line, and prints the window that it ends, if any. */
-static void take(struct windows *w, uint32_t moves)
+/* Takes a good line, and writes the window that it ends, if any; gives the place after it. */
+static char *take(struct windows *w, uint32_t moves, char *at)
 {
     uint64_t line = w->count++;
     uint32_t *place = &w->moves[line % WINDOW];
@@ -86,11 +86,12 @@ static void take(struct windows *w, uint32_t moves)
         w->end--;
     w->queue[w->end++ % WINDOW] = line;
     if (w->count < WINDOW)
-        return;
-    put_number(w->sum);
-    out[out_length++] = ' ';
-    put_number(w->moves[w->queue[w->first % WINDOW] % WINDOW]);
-    out[out_length++] = '\n';
+        return at;
+    at = put_number(at, w->sum);
+    *at++ = ' ';
+    at = put_number(at, w->moves[w->queue[w->first % WINDOW] % WINDOW]);
+    *at++ = '\n';
+    return at;
 }
 
 /* The number of a bad line, 0 of a good one. */
@@ -101,24 +102,24 @@ static uint32_t bad(const struct windows *w, const uint8_t *at, size_t left)
     return word(at + 4) > MOST_MOVES ? 25 : 0;
 }
 
-/* Takes the lines of a block. 1 if all are good, 0 after a bad one, -1 if a write fails. */
+/* Takes the lines of a block and prints their windows: 1 if all are good, 0 after a bad one, -1 if
+ * a write fails. */
 static int take_block(struct windows *w, size_t length)
 {
-    for (size_t at = 0; at < length; at += LINE) {
-        uint32_t number = bad(w, in + at, length - at);
-        if (OUT_BYTES - out_length < TEXT && flush() != 0)
-            return -1;
+    char *at = out;
+    uint32_t number = 0;
+    for (size_t line = 0; line < length && !number; line += LINE) {
+        number = bad(w, in + line, length - line);
         if (number) {
-            memcpy(out + out_length, "number ", 7);
-            out_length += 7;
-            put_number(number);
-            out[out_length++] = '\n';
-            return 0;
+            memcpy(at, "number ", 7);
+            at = put_number(at + 7, number);
+            *at++ = '\n';
+        } else {
+            w->restart = word(in + line);
+            at = take(w, word(in + line + 4), at);
         }
-        w->restart = word(in + at);
-        take(w, word(in + at + 4));
     }
-    return 1;
+    return print((size_t)(at - out)) != 0 ? -1 : !number;
 }
 
 int main(void)
@@ -126,10 +127,7 @@ int main(void)
     static struct windows w;
     ssize_t length;
     int more = 1;
-    while (more == 1 && (length = fill()) != 0) {
-        if (length < 0)
-            return flush(), 1;
-        more = take_block(&w, (size_t)length);
-    }
-    return more < 0 || flush() != 0;
+    while (more == 1 && (length = fill()) != 0)
+        more = length < 0 ? -1 : take_block(&w, (size_t)length);
+    return more < 0;
 }
