@@ -31,29 +31,29 @@ pub const ALL: [Named; 10] = [
     ("memory over a long file", constant_memory),
 ];
 
-/// Nothing more is printed than the answer's windows so far, and the failure
-/// is told.
-fn ended_early(ran: &Ran, windows: &str) -> Outcome {
-    let printed = String::from_utf8_lossy(&ran.printed);
+/// The failure is told, and what is printed are the windows of the lines
+/// before it: of all whole blocks, and perhaps more.
+fn ended_early(ran: &Ran, before: &[u8]) -> Outcome {
     if ran.told.is_empty() {
         return Err("nothing is told on standard error".into());
     }
+    let block = moves::BLOCK * LINE_BYTES;
+    let windows = |unit: usize| mondays::answer(&before[..before.len() / unit * unit]);
+    let (least, most) = (windows(block), windows(LINE_BYTES));
+    let printed = String::from_utf8_lossy(&ran.printed);
     let whole_lines = printed.is_empty() || printed.ends_with('\n');
-    if windows.starts_with(&*printed) && whole_lines {
+    if most.starts_with(&*printed) && printed.starts_with(&least) && whole_lines {
         return Ok(());
     }
-    let end: String = printed
-        .lines()
-        .rev()
-        .take(3)
-        .collect::<Vec<_>>()
-        .join(" | ");
-    Err(format!("something else is printed, from its end: {end}"))
+    let last = printed.lines().last();
+    Err(format!(
+        "other windows are printed, the last line is {last:?}"
+    ))
 }
 
 fn folder(program: &Program) -> Outcome {
     let input = File::open("/").map_err(said)?;
-    ended_early(&finished(program.start(input)?)?, "")
+    ended_early(&finished(program.start(input)?)?, &[])
 }
 
 /// The shell closes standard input. Rust's programs open an empty file in its
@@ -64,12 +64,12 @@ fn closed(program: &Program) -> Outcome {
     }
     let mut shell = Command::new("sh");
     shell.args(["-c", "exec \"$@\" <&-", "sh"]).args(&program.0);
-    ended_early(&finished(started(&mut shell)?)?, "")
+    ended_early(&finished(started(&mut shell)?)?, &[])
 }
 
 fn write_only(program: &Program) -> Outcome {
     let input = OpenOptions::new().write(true).open("/dev/null");
-    ended_early(&finished(program.start(input.map_err(said)?)?)?, "")
+    ended_early(&finished(program.start(input.map_err(said)?)?)?, &[])
 }
 
 /// The program's end of a stream that gives these bytes and then a failed
@@ -92,11 +92,10 @@ fn reset(program: &Program) -> Outcome {
     let random = &mut Random::new(1);
     let lengths = [0, 5, 504, 512, 803, 32_768, 32_848, 65_541, 98_304, 100_000];
     for length in lengths {
-        let file = moves::good(random, 13_000);
-        let whole = length / LINE_BYTES * LINE_BYTES;
-        let windows = mondays::answer(&file[..whole]);
-        let ran = run_on_reset(program, &file[..length])?;
-        ended_early(&ran, &windows).map_err(|what| format!("after {length} bytes: {what}"))?;
+        let mut file = moves::good(random, 13_000);
+        file.truncate(length);
+        let ran = run_on_reset(program, &file)?;
+        ended_early(&ran, &file).map_err(|what| format!("after {length} bytes: {what}"))?;
     }
     Ok(())
 }

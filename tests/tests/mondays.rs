@@ -74,6 +74,7 @@ fn wrong_reads_and_writes_are_found() {
         ("a failed read is not told", folder),
         ("a failed read prints a number", folder),
         ("a failed read is the end, told", bytes),
+        ("a failed read loses the windows before", bytes),
         ("an interrupted read is the end", signal),
         ("an interrupted read fails", signal),
         ("an interrupted read loses its block", signal),
