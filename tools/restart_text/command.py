@@ -128,17 +128,12 @@ def to_texts(chosen):
     write(None, ("\n".join(lines) + "\n").encode())
 
 
-def found(program):
-    """A program by its path, or else by its name."""
-    return os.path.abspath(program) if os.path.exists(program) else program
-
-
 def answered(chosen):
     """The input, the answer, and the block at fault where the program refuses and was asked."""
     given = load(read(chosen.file))
     if chosen.answer:
         return given, parse(read(chosen.answer).decode("ascii", "replace")), None
-    program = found(chosen.program)
+    program = os.path.abspath(chosen.program) if os.path.exists(chosen.program) else chosen.program
     answer = parse(run(program, given.blocks))
     return given, answer, block_at_fault(program, given.blocks) if isinstance(answer, Number) else None
 
@@ -161,9 +156,9 @@ def draw_plan(chosen):
 
 def draw_windows(chosen):
     data = read(chosen.file)
-    printed = read(chosen.answer) if chosen.answer else windows.run(found(chosen.program), data)
+    printed = read(chosen.answer) if chosen.answer else windows.run(chosen.program, data)
     picture, fault = windows.draw(data, printed, chosen.last)
     write(chosen.output, picture.encode())
     if fault:
         print("restart-text: %s" % fault, file=sys.stderr)
-    return 1 if fault else 0
+    return 2 if fault else 0

@@ -1,6 +1,7 @@
 """Moves files and what the program `mondays` prints for them: for every 64 consecutive restarts the sum of their moves and the
 greatest single one. The windows are counted here once more, and an answer that has others is refused."""
 import io
+import os
 import re
 import struct
 import subprocess
@@ -118,9 +119,10 @@ def compare(moves, answer):
 
 
 def run(program, data):
-    """What the program prints for a moves file."""
+    """What the program, named by its path or found by its name, prints for a moves file."""
+    path = os.path.abspath(program) if os.path.exists(program) else program
     try:
-        done = subprocess.run([program], input=data, capture_output=True, check=False)
+        done = subprocess.run([path], input=data, capture_output=True, check=False)
     except OSError as error:
         raise BadAnswer("%s does not run: %s" % (program, error.strerror)) from None
     if done.returncode != 0 or done.stderr:

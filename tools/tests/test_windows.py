@@ -210,7 +210,7 @@ class Command(unittest.TestCase):
         good, bad = file_of(numbered([1] * 64)), file_of(numbered([1] * 64) + [(65, 200)])
         self.assertEqual(self.run_on(good, "--program", program), (0, b"<?xml", ""))
         fault = "restart-text: line 65 is bad (number 25): restart 65 has 200 moves, more than 128\n"
-        self.assertEqual(self.run_on(bad, "--program", program), (1, b"<?xml", fault))
+        self.assertEqual(self.run_on(bad, "--program", program), (2, b"<?xml", fault))
         short = "restart-text: there is no window to draw, 64 restarts make one: the file has 0 restarts\n"
         self.assertEqual(self.run_on(b"", "--program", program), (2, b"", short))
         self.assertEqual(self.run_on(good, "--program", "/bin/false"), (2, b"", "restart-text: /bin/false ended with status 1\n"))
