@@ -11,7 +11,7 @@ ghost use lib.ListN.{length, take};
 ghost use Rattle.mondays.specs.Program.{PrintedBlock, Stands};
 
 // What came of a read: how many bytes, whether more may come, and whether it failed.
-struct Came {
+struct Arrived {
     count: usize,
     more: bool,
     failed: bool,
@@ -31,20 +31,20 @@ struct Shown {
 }
 
 // Reads once. More may come after a read that a signal interrupted.
-fn read_some(buffer: &mut [u8]) -> Came
+fn read_some(buffer: &mut [u8]) -> Arrived
     ensures { λ r. ⌜ r .count ≤ length (now (buffer .exit)) ⌝ }
 {
     let got = libc::read(STDIN_FILENO, buffer);
     if got >= 0 {
         let count = io::count(got, buffer);
-        return Came {
+        return Arrived {
             count,
             more: count > 0,
             failed: false,
         };
     }
     let again = os::errno() == EINTR;
-    Came {
+    Arrived {
         count: 0,
         more: again,
         failed: !again,
