@@ -245,8 +245,9 @@ static void save(const struct leader *leader)
     replace_file(leader->saved, "leader.bin", bytes, sizeof bytes);
 }
 
-/* Takes up what was saved; 0 if nothing was. What was saved in another format, under other settings
- * or has been damaged is not used: somebody has to look, and may remove it to start fresh. */
+/* Takes up what was saved; 0 if nothing was. What was saved in another format, under other
+ * settings, has been damaged or does not belong together is not used: somebody has to look, and may
+ * remove it to start fresh. */
 static int load(struct leader *leader)
 {
     static uint8_t bytes[SAVED_BYTES + 1];
@@ -269,6 +270,8 @@ static int load(struct leader *leader)
     leader->attempt = restart_get_word(bytes, 4);
     memcpy(leader->state, bytes + STATE_AT, sizeof leader->state);
     memcpy(leader->desk, bytes + DESK_AT, sizeof leader->desk);
+    if (restart_check_state(LENT(leader)) != RESTART_ACCEPTED)
+        stop("no sound state in", path);
     return 1;
 }
 

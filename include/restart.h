@@ -374,6 +374,17 @@ uint32_t restart_write_order(const uint8_t *settings, size_t settings_len, const
 uint32_t restart_fresh(uint8_t *state, size_t state_len) RESTART_NONNULL;
 
 /*
+ * Whether the bytes are a state that is sound with these settings and this desk, in whatever phase
+ * it is. Every event asks the same of its state first; a leader that takes up what it has saved can
+ * ask before anything else.
+ * Answers 0, or one of the numbers 1 to 3.
+ * Changes nothing.
+ */
+uint32_t restart_check_state(const uint8_t *settings, size_t settings_len, const uint8_t *state,
+                             size_t state_len, const uint8_t *desk,
+                             size_t desk_len) RESTART_NONNULL RESTART_CHECKED;
+
+/*
  * Takes a node's report, while gathering. The message is copied to the node's slot and the node is
  * held; an older report of the node is replaced. A greater view than the kept one becomes the kept
  * view, with its termination or none; an equal one adds its termination if none is kept.

@@ -43,6 +43,11 @@ fn open(settings: &[u32], state: &[u32], desk: &[u32]) -> Result<Opened, Number>
     })
 }
 
+/// Whether the state is sound with this desk, in whatever phase it is.
+pub fn check(settings: &[u32], state: &[u32], desk: &[u32]) -> Result<(), Number> {
+    open(settings, state, desk).map(|_| ())
+}
+
 /// A report: the next state and the next desk.
 pub fn report(
     settings: &[u32],

@@ -185,8 +185,8 @@ static void put_plan(uint8_t *state)
 }
 
 /* Checks all words of a state after a report of case A; outside gathering it has the plan. */
-static void check_state(const char *what, const struct world *world, enum restart_phase phase,
-                        uint32_t held, uint32_t fetched_mask, uint32_t prepared_mask)
+static void expect_state(const char *what, const struct world *world, enum restart_phase phase,
+                         uint32_t held, uint32_t fetched_mask, uint32_t prepared_mask)
 {
     uint8_t expected[RESTART_STATE_BYTES];
     memset(expected, 0, sizeof expected);
@@ -212,20 +212,21 @@ static void reporting(struct world *world)
 
     world_fresh(world);
     check_bytes("the fresh state", world->state, empty, sizeof empty);
+    check_word("it is sound", restart_check_state(LENT), RESTART_ACCEPTED);
     check_word("no report: wait 1", restart_decide(LENT), 50331648 + 256);
     memcpy(desk, world->desk, sizeof desk);
     memset(desk + 4 * RESTART_SLOT_BYTES, 0, RESTART_SLOT_BYTES);
     size_t length = put_words(message, report_words, 20);
     memcpy(desk + 4 * RESTART_SLOT_BYTES, message, length);
     check_word("a report", restart_report(LENT, message, length), RESTART_ACCEPTED);
-    check_state("the state after a report", world, RESTART_GATHERING, 16, 0, 0);
+    expect_state("the state after a report", world, RESTART_GATHERING, 16, 0, 0);
     check_bytes("the desk after a report", world->desk, desk, sizeof desk);
     check_word("one of seven: wait 2", restart_decide(LENT), 50331648 + 256 * 2);
 
     world_gathered(world);
-    check_state("the state after six reports", world, RESTART_GATHERING, 63, 0, 0);
+    expect_state("the state after six reports", world, RESTART_GATHERING, 63, 0, 0);
     check_word("a drop", restart_drop(LENT, 4), RESTART_ACCEPTED);
-    check_state("the state after a drop", world, RESTART_GATHERING, 47, 0, 0);
+    expect_state("the state after a drop", world, RESTART_GATHERING, 47, 0, 0);
     check_word("a drop of what is not held", restart_drop(LENT, 4), RESTART_NOT_HELD);
     check_word("the holder of shard 2", restart_drop(LENT, 5), RESTART_ACCEPTED);
     check_word("shard 2 without holder: wait 4", restart_decide(LENT), 50331648 + 256 * 4 + 2);
@@ -236,24 +237,26 @@ static void carrying_out(struct world *world)
     uint8_t buffer[RESTART_BUFFER_BYTES];
 
     world_ordered(world);
-    check_state("the state with a plan", world, RESTART_ORDERED, 63, 0, 0);
+    expect_state("the state with a plan", world, RESTART_ORDERED, 63, 0, 0);
+    check_word("it is sound", restart_check_state(LENT), RESTART_ACCEPTED);
     check_word("an order", restart_order(LENT, 4, buffer, sizeof buffer), 16777216 + 36);
     check_buffer("node 4's order", buffer, order_words, 36);
     check_word("fetched", restart_fetched(LENT, 3), RESTART_ACCEPTED);
-    check_state("the state with a mark", world, RESTART_ORDERED, 63, 8, 0);
+    expect_state("the state with a mark", world, RESTART_ORDERED, 63, 8, 0);
     check_word("fetched twice", restart_fetched(LENT, 3), RESTART_NOT_HELD);
     check_word("a drop while ordered", restart_drop(LENT, 3), RESTART_ACCEPTED);
-    check_state("the state after it", world, RESTART_GATHERING, 0, 0, 0);
+    expect_state("the state after it", world, RESTART_GATHERING, 0, 0, 0);
 
     world_preparing(world);
-    check_state("the state with all fetched", world, RESTART_PREPARING, 63, 63, 0);
+    expect_state("the state with all fetched", world, RESTART_PREPARING, 63, 63, 0);
     check_word("prepared", restart_prepared(LENT, 2), RESTART_ACCEPTED);
-    check_state("the state with a mark", world, RESTART_PREPARING, 63, 63, 4);
+    expect_state("the state with a mark", world, RESTART_PREPARING, 63, 63, 4);
     check_word("a drop while preparing", restart_drop(LENT, 0), RESTART_ACCEPTED);
-    check_state("the state after it", world, RESTART_GATHERING, 0, 0, 0);
+    expect_state("the state after it", world, RESTART_GATHERING, 0, 0, 0);
 
     world_committed(world);
-    check_state("the state with all prepared", world, RESTART_COMMITTED, 63, 63, 63);
+    expect_state("the state with all prepared", world, RESTART_COMMITTED, 63, 63, 63);
+    check_word("it is sound", restart_check_state(LENT), RESTART_ACCEPTED);
     check_word("prepared after commit", restart_prepared(LENT, 0), RESTART_WRONG_PHASE);
     check_word("a drop after commit", restart_drop(LENT, 0), RESTART_WRONG_PHASE);
 }

@@ -116,4 +116,15 @@ static inline uint32_t faulty(EVENT)
                           desk_len > RESTART_DESK_BYTES ? RESTART_DESK_BYTES : desk_len);
 }
 #define restart_decide faulty
+
+#elif FAULT == 13 /* whatever is a state is sound */
+static inline uint32_t faulty(SETTINGS, const uint8_t *state, size_t state_len, const uint8_t *desk,
+                              size_t desk_len)
+{
+    uint32_t answer = restart_check_state(PASSED_ON);
+    int is_state =
+        state_len == RESTART_STATE_BYTES && restart_get_word(state, RESTART_STATE_ZEROS) == 0;
+    return answer == RESTART_UNSOUND_STATE && is_state ? RESTART_ACCEPTED : answer;
+}
+#define restart_check_state faulty
 #endif

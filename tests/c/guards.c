@@ -86,6 +86,7 @@ static void events(struct world *world)
     lend_world(pieces, world);
     world_gathered(world);
     everywhere(&fresh, &state, 0, RESTART_ACCEPTED);
+    both(&check_state, pieces, 0, RESTART_ACCEPTED);
     pieces[3].bytes = message;
     pieces[3].length = put_report(message, 4);
     both(&report, pieces, 0, RESTART_ACCEPTED);

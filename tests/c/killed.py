@@ -20,6 +20,8 @@ FAULTY = sys.argv[3:] == ["faulty"]
 SAVE = "open write fsync rename open fsync".split()
 ORDER = re.compile(r"  order to machine (\d+), attempt (\d+), .*\n((?:    .*\n)*)")
 COUNTS = {True: 0, False: 0}
+# of the saved file: five words, the settings and the state stand before the desk
+DESK_AT = 20 + 208 + 640
 
 
 class Many(Exception):
@@ -43,6 +45,14 @@ def run(folder, saved, **environment):
 def saved_in(folder):
     with open(os.path.join(folder, "leader.bin"), "rb") as file:
         return file.read()
+
+
+def sum_of(data):
+    """The check sum of a saved file, FNV-1a."""
+    result = 2166136261
+    for byte in data:
+        result = (result ^ byte) * 16777619 % 2**32
+    return result
 
 
 def orders(printed):
@@ -117,7 +127,7 @@ class Test:
             check("orders with a kill at step %d and another order of reports" % step, alike(orders(self.killed(step, self.other)[1])))
 
     def not_used(self):
-        """What is saved and damaged, of another format or under other settings is not used."""
+        """What is saved and damaged, of another format, unsound or under other settings is not used."""
         folder = self.fresh()
         run(EXAMPLE, folder, KILL_AT="50")
         for place, what in ((2000, "damaged"), (4, "format"), (0, "magic")):
@@ -127,6 +137,12 @@ class Test:
             with open(os.path.join(bad, "leader.bin"), "wb") as file:
                 file.write(data)
             check("not used: %s" % what, run(EXAMPLE, bad)[0] == 2)
+        bad, data = self.fresh(), bytearray(saved_in(folder))
+        data[DESK_AT] ^= 1
+        data[-4:] = sum_of(data[:-4]).to_bytes(4, "little")
+        with open(os.path.join(bad, "leader.bin"), "wb") as file:
+            file.write(data)
+        check("not used: a state that its desk contradicts", run(EXAMPLE, bad)[0] == 2)
         other = os.path.join(self.room, "settings")
         shutil.copytree(EXAMPLE, other)
         with open(os.path.join(other, "settings.bin"), "r+b") as file:

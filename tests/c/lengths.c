@@ -213,6 +213,7 @@ static void events(void)
     desk_lengths();
     message_lengths(3);
 
+    event_lengths(&check_state, RESTART_ACCEPTED, &world);
     event_lengths(&drop, RESTART_ACCEPTED, &world);
     event_lengths(&decide, 33554432, &world);
 

@@ -104,9 +104,8 @@ static void contents(void)
 
 typedef void phase(struct world *);
 
-/* Rows 1 to 4 of an event: the desk's length, the settings, a held node from N up, and the event in
- * a phase that is not its own. */
-static void first_rows(const struct entry *entry, phase *other, phase *own, uint32_t node)
+/* Rows 1 to 3: the desk's length, the settings, and a held node from N up. */
+static void entry_rows(const struct entry *entry, phase *own, uint32_t node)
 {
     own(&world);
     lend_world(pieces, &world);
@@ -119,6 +118,13 @@ static void first_rows(const struct entry *entry, phase *other, phase *own, uint
     check_call(entry, pieces, node, 2);
     restart_put_word(world.settings, 0, 7);
     check_call(entry, pieces, node, 3);
+    own(&world);
+}
+
+/* And row 4 of an event: a phase that is not its own. */
+static void first_rows(const struct entry *entry, phase *other, phase *own, uint32_t node)
+{
+    entry_rows(entry, own, node);
     other(&world);
     check_call(entry, pieces, node, 4);
     own(&world);
@@ -168,6 +174,30 @@ static void reports(void)
     pieces[3].length = sizeof message;
     climb(&report, pieces[3], faults, COUNT(faults));
     check_call(&report, pieces, 0, RESTART_ACCEPTED);
+}
+
+/* A state is sound in every phase, and no longer so once a word of it or of the desk is another
+ * one. */
+static void states(void)
+{
+    static phase *const phases[] = {world_fresh, world_gathered, world_ordered, world_preparing,
+                                    world_committed};
+    for (size_t i = 0; i < COUNT(phases); i++) {
+        entry_rows(&check_state, phases[i], 0);
+        check_call(&check_state, pieces, 0, RESTART_ACCEPTED);
+        restart_put_word(world.state, RESTART_STATE_ZEROS, 1);
+        check_call(&check_state, pieces, 0, 3);
+    }
+    /* Fetched by a node that is not held, a plan with a move less, and the report of another node. */
+    world_ordered(&world);
+    restart_put_word(world.state, RESTART_FETCHED, 64);
+    check_call(&check_state, pieces, 0, 3);
+    world_ordered(&world);
+    restart_put_word(world.state, RESTART_PLAN_MOVES, 1);
+    check_call(&check_state, pieces, 0, 3);
+    world_ordered(&world);
+    restart_put_word(world.desk, 2 * RESTART_SLOT_WORDS, 3);
+    check_call(&check_state, pieces, 0, 3);
 }
 
 static void drops(void)
@@ -242,6 +272,7 @@ int main(void)
 {
     messages();
     contents();
+    states();
     reports();
     drops();
     orders();

@@ -198,6 +198,7 @@ static void restart_once(void)
     const struct piece lent[4] = {on_settings, on_state, on_desk, on_buffer};
     gather();
     made(&decide, lent, 0, RESTART_PLAN);
+    made(&check_state, lent, 0, RESTART_PLAIN);
     for (uint32_t node = 0; node < HELD; node++)
         made(&order, lent, node, RESTART_LENGTH);
     memcpy(message, buffer, sizeof message);

@@ -45,6 +45,8 @@ static int plans(struct work *work)
 
 static int writes_orders(struct work *work)
 {
+    if (restart_check_state(SHARED) != RESTART_ACCEPTED)
+        return 0;
     for (uint32_t node = 0; node < ORDERS; node++)
         if (restart_is_refusal(
                 restart_order(SHARED, node, work->orders[node], RESTART_BUFFER_BYTES)))

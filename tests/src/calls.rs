@@ -18,6 +18,7 @@ pub const BUFFER_BYTES: usize = 4 * MOST_WORDS;
 #[derive(Clone, Copy, Debug, PartialEq, Eq, PartialOrd, Ord)]
 pub enum Kind {
     Fresh,
+    CheckState,
     Report,
     Drop,
     Decide,
@@ -27,8 +28,9 @@ pub enum Kind {
 }
 
 impl Kind {
-    pub const ALL: [Kind; 7] = [
+    pub const ALL: [Kind; 8] = [
         Kind::Fresh,
+        Kind::CheckState,
         Kind::Report,
         Kind::Drop,
         Kind::Decide,
@@ -40,6 +42,7 @@ impl Kind {
     pub fn name(self) -> &'static str {
         match self {
             Kind::Fresh => "fresh",
+            Kind::CheckState => "check_state",
             Kind::Report => "report",
             Kind::Drop => "drop",
             Kind::Decide => "decide",
@@ -131,6 +134,7 @@ fn put_expected(asked: &Asked, outcome: &mut Outcome) -> Result<(), Number> {
     let state = &whole(&asked.table.state);
     let desk = &whole(&asked.table.desk);
     let next = match asked.kind {
+        Kind::CheckState => return events::check(settings, state, desk),
         Kind::Report => {
             let message = whole(&asked.message);
             let (state, desk) = events::report(settings, state, desk, &message)?;
@@ -214,7 +218,7 @@ impl Pages {
     fn constant(&mut self, kind: Kind) -> Vec<&mut Lent> {
         let [settings, state, desk, message, _] = self.all();
         let mut constant = vec![settings, message];
-        if kind == Kind::Order {
+        if matches!(kind, Kind::CheckState | Kind::Order) {
             constant.push(state);
         }
         if kind != Kind::Report {
@@ -274,6 +278,7 @@ fn call_lent(planner: &Planner, pages: &mut Pages, kind: Kind, node: u32) -> u32
     unsafe {
         match kind {
             Kind::Fresh => (planner.fresh)(state, t),
+            Kind::CheckState => (planner.check_state)(settings, s, state, t, desk, d),
             Kind::Report => (planner.report)(settings, s, state, t, desk, d, message, m),
             Kind::Drop => (planner.drop)(settings, s, state, t, desk, d, node),
             Kind::Decide => (planner.decide)(settings, s, state, t, desk, d),

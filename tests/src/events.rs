@@ -24,6 +24,20 @@ pub struct Step {
     pub faults: Vec<&'static str>,
 }
 
+impl Step {
+    /// The check of the state that this call is lent.
+    fn check(&self) -> Step {
+        Step {
+            asked: Asked {
+                kind: Kind::CheckState,
+                ..self.asked.clone()
+            },
+            places: self.places,
+            faults: Vec::new(),
+        }
+    }
+}
+
 /// A sequence of calls under way.
 pub struct Sequence {
     random: Random,
@@ -81,6 +95,9 @@ impl Sequence {
     /// Goes on from what a call left. What was refused changes nothing; what
     /// was accepted under other settings is put aside.
     pub fn go_on(&mut self, asked: &Asked, outcome: &Outcome) {
+        if asked.kind == Kind::CheckState {
+            return;
+        }
         let same_settings = asked.table.settings == self.table.settings;
         if outcome.answer().refused() || !same_settings && asked.kind != Kind::Fresh {
             return;
@@ -224,7 +241,8 @@ pub struct Difference {
     pub asked: Asked,
 }
 
-/// Plays a sequence to its end or to the first difference.
+/// Plays a sequence to its end or to the first difference. Before each call the
+/// state that it is lent is checked.
 pub fn play(
     planner: &Planner,
     pages: &mut Pages,
@@ -232,16 +250,18 @@ pub fn play(
     mut seen: impl FnMut(&Step, &Outcome),
 ) -> Result<(), Box<Difference>> {
     let mut made = 0;
-    while let Some(next) = sequence.step() {
-        match calls::compare(planner, pages, &next.asked, next.places) {
-            Ok(outcome) => {
-                seen(&next, &outcome);
-                sequence.go_on(&next.asked, &outcome);
-            }
-            Err(what) => {
-                let asked = next.asked;
-                let step = made;
-                return Err(Box::new(Difference { step, what, asked }));
+    while let Some(event) = sequence.step() {
+        for next in [event.check(), event] {
+            match calls::compare(planner, pages, &next.asked, next.places) {
+                Ok(outcome) => {
+                    seen(&next, &outcome);
+                    sequence.go_on(&next.asked, &outcome);
+                }
+                Err(what) => {
+                    let asked = next.asked;
+                    let step = made;
+                    return Err(Box::new(Difference { step, what, asked }));
+                }
             }
         }
         made += 1;
@@ -254,7 +274,7 @@ pub fn play(
 pub fn case(planner: &Planner, pages: &mut Pages, seed: u64, index: u64) -> String {
     let mut recorder = Recorder::new(&format!("sequence {index} of seed {seed}"));
     let seen = |step: &Step, outcome: &Outcome| {
-        if !outcome.answer().refused() {
+        if step.asked.kind != Kind::CheckState && !outcome.answer().refused() {
             recorder.call(&step.asked);
         }
     };

@@ -67,6 +67,9 @@ pub type Convert = unsafe extern "C" fn(*const u8, usize, *const u8, usize, *mut
 
 /// A function of a state to be made.
 pub type Fresh = unsafe extern "C" fn(*mut u8, usize) -> u32;
+/// A function of settings, state and desk, which are only read.
+pub type CheckState =
+    unsafe extern "C" fn(*const u8, usize, *const u8, usize, *const u8, usize) -> u32;
 /// A function of settings, state and desk, both written, and a message.
 pub type Report =
     unsafe extern "C" fn(*const u8, usize, *mut u8, usize, *mut u8, usize, *const u8, usize) -> u32;
@@ -92,6 +95,7 @@ pub type Order = unsafe extern "C" fn(
 #[derive(Clone, Copy)]
 pub struct Planner {
     pub fresh: Fresh,
+    pub check_state: CheckState,
     pub report: Report,
     pub drop: OfNode,
     pub decide: Decide,
@@ -147,6 +151,14 @@ mod linked {
             buffer_len: usize,
         ) -> u32;
         pub fn restart_fresh(state: *mut u8, state_len: usize) -> u32;
+        pub fn restart_check_state(
+            settings: *const u8,
+            settings_len: usize,
+            state: *const u8,
+            state_len: usize,
+            desk: *const u8,
+            desk_len: usize,
+        ) -> u32;
         pub fn restart_report(
             settings: *const u8,
             settings_len: usize,
@@ -229,6 +241,7 @@ pub fn tested() -> Library {
 pub fn tested_planner() -> Planner {
     Planner {
         fresh: linked::restart_fresh,
+        check_state: linked::restart_check_state,
         report: linked::restart_report,
         drop: linked::restart_drop,
         decide: linked::restart_decide,

@@ -75,6 +75,7 @@ convert!(write_order, write, Form::Order);
 pub fn planner<B: Behaviour>() -> Planner {
     Planner {
         fresh: fresh::<B>,
+        check_state: check_state::<B>,
         report: report::<B>,
         drop: drop_node::<B>,
         decide: decide::<B>,
@@ -121,6 +122,19 @@ unsafe fn leave((at, _): Piece, before: &[u8], after: &[u8]) {
 
 unsafe extern "C" fn fresh<B: Behaviour>(state: *mut u8, state_len: usize) -> u32 {
     event::<B>(Kind::Fresh, [NONE, (state, state_len), NONE, NONE, NONE], 0)
+}
+
+unsafe extern "C" fn check_state<B: Behaviour>(
+    settings: *const u8,
+    settings_len: usize,
+    state: *const u8,
+    state_len: usize,
+    desk: *const u8,
+    desk_len: usize,
+) -> u32 {
+    let (settings, state) = ((settings, settings_len), (state, state_len));
+    let pieces = [settings, state, (desk, desk_len), NONE, NONE];
+    event::<B>(Kind::CheckState, pieces, 0)
 }
 
 unsafe extern "C" fn report<B: Behaviour>(

@@ -9,7 +9,7 @@
 //! report node N view V members M masks M .. [termination V.K ..] [runs SHARD:V.COUNT ..] [words LENGTH] = ANSWER
 //! message WORD .. = ANSWER             a report, word by word
 //! fresh = ANSWER
-//! decide = ANSWER
+//! decide = ANSWER                      check_state alike
 //! drop N = ANSWER                      order, fetched, prepared alike
 //! set PIECE INDEX WORD                 a word of settings, state or desk
 //! bytes PIECE LENGTH                   for the next call: also message and buffer

@@ -104,7 +104,7 @@ pub fn of(asked: &Asked, outcome: &Outcome) -> Vec<&'static str> {
             names.put(!last, "prepared: one of some");
             names.put(last, "prepared: the last");
         }
-        (Kind::Fresh, _) => {}
+        (Kind::Fresh | Kind::CheckState, _) => {}
     }
     names.0
 }

@@ -27,6 +27,7 @@ pub struct Tally {
 fn wanted(kind: Kind) -> Vec<String> {
     let (good, numbers): (&[&str], &[u32]) = match kind {
         Kind::Fresh => (&["accepted"], &[3]),
+        Kind::CheckState => (&["accepted"], &[1, 2, 3]),
         Kind::Report => (&["accepted"], &[1, 2, 3, 4, 5, 6, 7, 8, 9, 10, 11, 12, 13]),
         Kind::Decide => (
             &["plan", "wait 1", "wait 2", "wait 3", "wait 4", "wait 5"],

@@ -782,6 +782,28 @@ fn another_choice_among_equals_is_taken() {
     assert!(others > 10, "{others} other choices");
 }
 
+wrong!(
+    /// Checks a state while gathering only.
+    CheckedByPhase,
+    a_check_that_asks_for_the_phase,
+    |asked, outcome| refused_if(asked, outcome, 4, |opened| {
+        asked.kind == Kind::CheckState && opened.state.phase != Phase::Gathering
+    })
+);
+
+wrong!(
+    /// Takes words that are a state as sound with any desk.
+    CheckedWithoutDesk,
+    a_check_that_does_not_look_at_the_desk,
+    |asked, outcome| {
+        let is_state = left(asked, &outcome).is_some();
+        if asked.kind == Kind::CheckState && outcome.answer == 3 && is_state {
+            return Outcome::unchanged(asked, 0);
+        }
+        outcome
+    }
+);
+
 /// What a difference prints is a case that shows it again.
 #[test]
 fn a_difference_is_written_down_as_a_case() {

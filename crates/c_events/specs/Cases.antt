@@ -1,8 +1,9 @@
 -- What the calls answer and leave, case by case.
 -- ---- fresh
+-- ---- the check of a state
 -- ---- an event that names a node
 -- the words that are looked at are those that were lent
-use mathlib.Core.Path.{_≡_, refl, ap, ap₂, _∙_, subst}
+use mathlib.Core.Path.{_≡_, refl, sym, ap, ap₂, _∙_, subst}
 use mathlib.Core.Bool.{true}
 use mathlib.Core.List.{List}
 use Prim.Native.Nat.{ℕ}
@@ -12,17 +13,19 @@ use borrow.Author.Tests.{eq-eqb, ne-eqb}
 use Rattle.word_bytes.specs.Words.{bytesOf}
 use Rattle.word_lent.specs.Lent.{wordsIn, wordsWithin}
 use Rattle.word_lent.specs.Answers.{Told, told-refused, told-accepted}
-use Rattle.base_ids.specs.Refusals.{none, refused, unless-true, unless-false}
+use Rattle.base_ids.specs.declared.Refusal.{Refusal}
+use Rattle.base_ids.specs.Refusals.{none, refused, accepted, unless-true, unless-false, first-refused}
 use Rattle.settings_values.specs.Settings.{settingsOk}
 use Rattle.state_planner.specs.declared.State.{State}
 use Rattle.state_planner.specs.declared.Outcome.{Outcome}
 use Rattle.state_planner.specs.States as States
-use Rattle.word_state.specs.StateWords.{stateWords}
+use Rattle.state_planner.specs.Refusing.{deskOk, checkRefusal}
+use Rattle.word_state.specs.StateWords.{stateWords, isState}
 use Rattle.c_state.specs.declared.Entry.{Entry}
-use Rattle.c_state.specs.Calls.{entry, refusalOf}
-use Rattle.c_state.specs.CallLaws.{settings-whole, desk-passes, event-refused, event-done}
+use Rattle.c_state.specs.Calls.{stateLent, entryRefused, called, entry, refusalOf}
+use Rattle.c_state.specs.CallLaws.{settings-whole, desk-entry, desk-passes, event-refused, event-done}
 use Rattle.c_events.specs.declared.Event.{Event}
-use Rattle.c_events.specs.Events.{freshRefused, freshAnswer, freshLeaves, happened, taken, takeAnswer, takeLeaves}
+use Rattle.c_events.specs.Events.{freshRefused, freshAnswer, freshLeaves, checkStateAnswer, happened, taken, takeAnswer, takeLeaves}
 
 module _ (state : List ℕ) where
   abbrev ToldFresh : ℕ → List ℕ → Type 0
@@ -39,6 +42,29 @@ module _ (state : List ℕ) where
   fresh-stored h x e left f =
       let t = told-accepted none (freshRefused state) (unless-true (eqb (length state) 640) 3 none (eq-eqb (length state) 640 h)) 0 (bytesOf (stateWords States.fresh)) state refl in
       (t .answers, f ∙ ap (λ (y : State). bytesOf (stateWords y)) e ∙ t .leaves)
+
+pub check-whole : (x : State) (settings desk : List ℕ) (s d : List ℕ) → settingsOk (wordsIn settings) ≡ true → s ≡ wordsWithin 52 settings
+    → d ≡ wordsIn desk → checkRefusal s x d ≡ checkRefusal (wordsIn settings) x (wordsIn desk)
+check-whole x settings desk s d h e f = ap₂ (λ (a : List ℕ) (b : List ℕ). checkRefusal a x b) (e ∙ settings-whole settings h) f
+
+module _ (settings state desk : List ℕ) (e : Entry) (given : e ≡ entry (eqb (length desk) 65536) settings state) where
+  pub check-refused : (e .refusal .number ≡ 0 → ⊥) → e .refusal .number ≡ checkStateAnswer settings state desk
+  unfolding checkStateAnswer called entry
+  check-refused h =
+      let first : e .refusal ≡ entryRefused (deskOk (wordsIn desk)) settings (isState (wordsIn state)) =
+      ap (λ (x : Entry). x .refusal) (desk-entry settings state desk e given) in
+      ap (λ (r : Refusal). r .number)
+      (first
+      ∙ sym (first-refused (entryRefused (deskOk (wordsIn desk)) settings (isState (wordsIn state))) (checkRefusal (wordsIn settings) (stateLent state) (wordsIn desk)) (ap accepted (sym first) ∙ ne-eqb (e .refusal .number) 0 h)))
+
+  pub check-done : e .refusal .number ≡ 0 → (r : Refusal) → r ≡ checkRefusal (wordsIn settings) (e .state) (wordsIn desk)
+      → r .number ≡ checkStateAnswer settings state desk
+  unfolding checkStateAnswer
+  check-done h r f =
+      let p = desk-passes settings state desk e given h in
+      ap (λ (r : Refusal). r .number)
+      (f ∙ ap (λ (x : State). checkRefusal (wordsIn settings) x (wordsIn desk)) (p .state-is)
+      ∙ sym (p .event (checkRefusal (wordsIn settings) (stateLent state) (wordsIn desk))))
 
 pub outcome-whole : (event : Event) (x : State) (settings desk : List ℕ) (node : ℕ) (s d : List ℕ) → settingsOk (wordsIn settings) ≡ true
     → s ≡ wordsWithin 52 settings → d ≡ wordsIn desk

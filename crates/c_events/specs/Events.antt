@@ -1,4 +1,4 @@
--- What the calls fresh, drop, fetched and prepared answer, and the state's bytes afterwards.
+-- What the calls fresh, check_state, drop, fetched and prepared answer, and the state's bytes afterwards.
 use Prim.Native.Nat.{ℕ}
 use mathlib.Core.List.{List}
 use lib.Dec.{eqb}
@@ -11,9 +11,10 @@ use Rattle.base_ids.specs.Refusals.{none, unless}
 use Rattle.state_planner.specs.declared.State.{State}
 use Rattle.state_planner.specs.declared.Outcome.{Outcome}
 use Rattle.state_planner.specs.States as States
+use Rattle.state_planner.specs.Refusing.{deskOk, checkRefusal}
 use Rattle.state_planner.specs.Events.{dropped, fetchedOf, preparedOf}
 use Rattle.word_state.specs.StateWords.{stateWords}
-use Rattle.c_state.specs.Calls.{stateLent, eventAnswer, eventLeaves}
+use Rattle.c_state.specs.Calls.{stateLent, called, eventAnswer, eventLeaves}
 use Rattle.c_events.specs.declared.Event.{Event}
 use Rattle.c_events.specs.declared.Event.the-variants.{Drop, Fetched, Prepared}
 
@@ -26,6 +27,11 @@ freshAnswer state = answerWord (freshRefused state) 0
 
 unfoldable pub freshLeaves : List ℕ → List ℕ
 freshLeaves state = bytesLeft (freshRefused state) (bytesOf (stateWords States.fresh)) state
+
+-- rows 1 to 3: 0 where the bytes are a state that is sound with the desk, in whatever phase it is
+unfoldable pub checkStateAnswer : List ℕ → List ℕ → List ℕ → ℕ
+checkStateAnswer settings state desk =
+    called (deskOk (wordsIn desk)) settings state (checkRefusal (wordsIn settings) (stateLent state) (wordsIn desk)) .number
 
 -- the outcome of an event that names a node
 abbrev pub happened : Event → List ℕ → State → List ℕ → ℕ → Outcome

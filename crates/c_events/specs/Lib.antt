@@ -1,3 +1,3 @@
--- The fresh state, and drop, fetched and prepared, over lent bytes.
+-- The fresh state, the check of a state, and drop, fetched and prepared, over lent bytes.
 pub mod Events
 pub mod Cases

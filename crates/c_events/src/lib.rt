@@ -1,5 +1,6 @@
-// The fresh state, and drop, fetched and prepared, over lent bytes.
+// The fresh state, the check of a state, and drop, fetched and prepared, over lent bytes.
 use base_ids::Node;
+use base_ids::Refusal;
 use state_planner::Outcome;
 use state_planner::State;
 ghost use mathlib.Core.Bool.{true};
@@ -7,6 +8,7 @@ ghost use mathlib.Core.Path.{_≡_};
 ghost use lib.ListN.{length};
 ghost use Rattle.word_lent.specs.Lent.{wordsIn};
 ghost use Rattle.settings_values.specs.Settings.{settingsOk};
+ghost use Rattle.state_planner.specs.Refusing.{checkRefusal};
 ghost use Rattle.c_events.specs.Events as Events;
 
 // An event that names a node.
@@ -64,4 +66,30 @@ pub fn take(event: Event, settings: &[u8], state: &mut [u8], desk: &[u8], node: 
     }
     let o = outcome_lent(event, entry.state, settings, desk, node);
     c_state::keep(o, state)
+}
+
+// The check of a state beside lent settings and a lent desk.
+fn check_lent(x: State, settings: &[u8], desk: &[u8]) -> Refusal
+    requires { ⌜ settingsOk (wordsIn (now settings)) ≡ true ⌝ }
+    requires { ⌜ length (now desk) ≡ 65536 ⌝ }
+    ensures { λ r. ⌜ r ≡ checkRefusal (wordsIn (now (settings .entry))) x (wordsIn (now (desk .entry))) ⌝ }
+{
+    let lent = word_lent::words_of(52, settings);
+    let n = lent.len;
+    let own = lent.table;
+    let words = c_state::desk_words(desk);
+    x.check(&own[0..n], &words)
+}
+
+// Whether the bytes are a state that is sound with this desk: rows 1 to 3.
+pub fn check_state(settings: &[u8], state: &[u8], desk: &[u8]) -> u32
+    ensures { λ r. ⌜ r ≡ Events.checkStateAnswer (now (settings .entry)) (now (state .entry)) (now (desk .entry)) ⌝ }
+{
+    let lent = c_state::enter(desk.len() == 65536, settings, state);
+    let refusal = lent.refusal;
+    if refusal.number != 0 {
+        return refusal.number;
+    }
+    let check = check_lent(lent.state, settings, desk);
+    check.number
 }

@@ -4,7 +4,7 @@ use c_events::Event;
 use message_format::Form;
 ghost use mathlib.Core.Path.{_≡_};
 ghost use Rattle.c_messages.specs.Answers.{checkAnswer, readAnswer, readLeaves, writeAnswer, writeLeaves};
-ghost use Rattle.c_events.specs.Events.{freshAnswer, freshLeaves, takeAnswer, takeLeaves};
+ghost use Rattle.c_events.specs.Events.{freshAnswer, freshLeaves, checkStateAnswer, takeAnswer, takeLeaves};
 ghost use Rattle.c_report.specs.ReportCalls.{reportAnswer, reportLeaves, reportDesk};
 ghost use Rattle.c_decide.specs.Decisions.{DecideCall};
 ghost use Rattle.c_order.specs.OrderCalls.{orderAnswer, orderLeaves};
@@ -60,6 +60,14 @@ pub extern "C" fn restart_fresh(state: &mut [u8]) -> u32
     ensures bytes { λ r. ⌜ now (state .exit) ≡ freshLeaves (now (state .entry)) ⌝ }
 {
     c_events::fresh(state)
+}
+
+// Whether the bytes are a state that is sound with this desk, in whatever phase: rows 1 to 3.
+#[no_mangle]
+pub extern "C" fn restart_check_state(settings: &[u8], state: &[u8], desk: &[u8]) -> u32
+    ensures { λ r. ⌜ r ≡ checkStateAnswer (now (settings .entry)) (now (state .entry)) (now (desk .entry)) ⌝ }
+{
+    c_events::check_state(settings, state, desk)
 }
 
 // A node reports: rows 1 to 13.

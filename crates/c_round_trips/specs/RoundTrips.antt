@@ -28,8 +28,8 @@ use Rattle.c_round_trips.specs.Lents.{Bytes, Words, words-lent, lent-wor
 -- ---- what was written is read
 
 module _ (form : Form) (settings contents buffer : List ℕ) (bytes : Bytes contents) (h : writeRefused form settings contents buffer ≡ none) where
-  abbrev said : Contents
-  said = contentsLent contents
+  abbrev lentSays : Contents
+  lentSays = contentsLent contents
 
   abbrev written : List ℕ
   written = writeLeaves form settings contents buffer
@@ -38,19 +38,19 @@ module _ (form : Form) (settings contents buffer : List ℕ) (bytes : Bytes cont
   unfolding writeRefused
   settings-passed = unless-ok (settingsOk (wordsIn settings)) 1 _ (unless-rest (eqb (length buffer) 2048) 0 _ h)
 
-  contents-passed : contentsRefusal form (wordsIn settings) said ≡ none
+  contents-passed : contentsRefusal form (wordsIn settings) lentSays ≡ none
   unfolding writeRefused
   contents-passed = unless-rest (settingsOk (wordsIn settings)) 1 _ (unless-rest (eqb (length buffer) 2048) 0 _ h)
 
-  few : said .len ≤ 127
-  few = contents-few form (wordsIn settings) said contents-passed
+  few : lentSays .len ≤ 127
+  few = contents-few form (wordsIn settings) lentSays contents-passed
 
-  written-words : wordsIn written ≡ messageOf said 512
+  written-words : wordsIn written ≡ messageOf lentSays 512
   unfolding writeLeaves bytesLeft
-  written-words = rw h (words-lent (messageOf said 512) (message-words said (lent-small contents bytes)))
+  written-words = rw h (words-lent (messageOf lentSays 512) (message-words lentSays (lent-small contents bytes)))
 
-  reads : ReadsAs form (wordsIn settings) (messageOf said 512) (tidy said)
-  reads = buffer-reads form (wordsIn settings) said contents-passed
+  reads : ReadsAs form (wordsIn settings) (messageOf lentSays 512) (tidy lentSays)
+  reads = buffer-reads form (wordsIn settings) lentSays contents-passed
 
   module _ (room : List ℕ) (l : length room ≡ 2048) where
     -- the reading call takes it
@@ -61,7 +61,7 @@ module _ (form : Form) (settings contents buffer : List ℕ) (bytes : Bytes cont
         (unless-none (settingsOk (wordsIn settings)) 2 _ settings-passed (rw written-words (reads .taken)))
 
     -- and leaves what the contents say
-    written-leaves : readLeaves form settings written room ≡ bytesOf (contentsWords (tidy said))
+    written-leaves : readLeaves form settings written room ≡ bytesOf (contentsWords (tidy lentSays))
     unfolding readLeaves bytesLeft
     written-leaves = rw (written-taken, written-words, reads .found)
 

@@ -1,7 +1,7 @@
 -- A row for each clause of the definitions of quorum, target, holder, placement and cut: with the clause left out or turned
 -- round the row would be false. What a row guards is its name; the view, the settings and the reports are those of case A but for
 -- what its comment says.
-use Prim.Native.Nat.{ℕ}
+use Prim.Native.Nat.{ℕ, _+_, _^_}
 use mathlib.Core.Bool.{true, false}
 use mathlib.Core.List.{List, [], _∷_, _++_}
 use mathlib.Core.Path.{_≡_, refl}
@@ -67,6 +67,13 @@ strangersDesk =
     ++ slotOf (reportOfFour 5)
     ++ replicate 13312 0
 
+-- node 31 alone, with one shard
+abbrev pub lastView : Layout
+lastView = record { number = record { 0 = 7 }; members = 2 ^ 31; masks = 2 ^ 31 ∷ replicate 15 0 }
+
+unfoldable pub lastDesk : List ℕ
+lastDesk = replicate 15872 0 ++ slotOf (31 ∷ 7 ∷ 2 ^ 31 ∷ 1 ∷ 256 ∷ 2 ^ 31 ∷ 0 ∷ 0 ∷ [])
+
 pub record QuorumClauses : Type 0 where
   -- a candidate reported the kept view: document 01's first trap
   pub stale-log : target view7 noTermination 63 staleDesk 1 ≡ pos 6 8
@@ -80,6 +87,8 @@ pub record QuorumClauses : Type 0 where
   pub greatest-holder : holder view7 noTermination 63 laterDesk 1 ≡ 4
   -- of equal ends the lowest node holds
   pub equal-ends : holder view7 noTermination 63 desk 0 ≡ 0
+  -- every node counts, up to node 31
+  pub last-node : holder lastView noTermination (2 ^ 31) lastDesk 0 ≡ 31
   -- a kept termination behind the ends is the target, and the holder is still that with the greatest end
   pub terminated-target : target view7 (endingAt 7 4) 63 laterDesk 1 ≡ pos 7 4
   pub terminated-holder : holder view7 (endingAt 7 4) 63 laterDesk 1 ≡ 4
@@ -120,7 +129,7 @@ pub record QuorumClauses : Type 0 where
       }
 
 pub quorum-clauses : QuorumClauses
-unfolding desk staleDesk outsiderDesk laterDesk lackingDesk olderDesk strangersDesk ones onesIn allBelow anyBelow lowest tabulate pairNotAfter place following bodyWord bodyOf contentsOf endOf reaches holds hasUpdate slot reportOf candidate greatest best target able holder majority firstUnheld quorumOf numberOf valueOf holdersOf targetsOf standingOf
+unfolding desk lastDesk staleDesk outsiderDesk laterDesk lackingDesk olderDesk strangersDesk ones onesIn allBelow anyBelow lowest tabulate pairNotAfter place following bodyWord bodyOf contentsOf endOf reaches holds hasUpdate slot reportOf candidate greatest best target able holder majority firstUnheld quorumOf numberOf valueOf holdersOf targetsOf standingOf
 quorum-clauses =
     record {
       stale-log = refl;
@@ -130,6 +139,7 @@ quorum-clauses =
       greatest-end = refl;
       greatest-holder = refl;
       equal-ends = refl;
+      last-node = refl;
       terminated-target = refl;
       terminated-holder = refl;
       lacking-holder = refl;
@@ -164,8 +174,8 @@ abbrev twoGroups : List ℕ
 twoGroups = 4 ∷ 2 ∷ 1 ∷ 2 ∷ 0 ∷ 0 ∷ 1 ∷ 1 ∷ 1 ∷ 769 ∷ []
 
 -- masks of shards 0 and 1
-abbrev masksOf : ℕ → ℕ → ℕ → ℕ
-masksOf a b s = lib.ListN.getD (a ∷ b ∷ []) s 0
+abbrev pairOfMasks : ℕ → ℕ → ℕ → ℕ
+pairOfMasks a b s = lib.ListN.getD (a ∷ b ∷ []) s 0
 
 -- a view with these masks
 abbrev layoutWith : ℕ → ℕ → Layout
@@ -180,14 +190,15 @@ pub record PlacementClauses : Type 0 where
   pub not-all-held : groupValid oneShard 13 (λ s. 3) 0 ≡ false
   -- no two of one failure set
   pub one-set : groupValid sharedSet 7 (λ s. 3) 0 ≡ false
+  pub last-pair : spread (32 ∷ 2 ∷ 1 ∷ 1 ∷ replicate 32 0 ++ (2 ∷ [])) (2 ^ 30 + 2 ^ 31) ≡ false
   -- no node in two shards of a subgroup, but in shards of two
-  pub shared-node : groupValid oneGroup 15 (masksOf 1 1) 0 ≡ false
-  pub shared-between : groupValid twoGroups 15 (masksOf 1 1) 0 ≡ true
+  pub shared-node : groupValid oneGroup 15 (pairOfMasks 1 1) 0 ≡ false
+  pub shared-between : groupValid twoGroups 15 (pairOfMasks 1 1) 0 ≡ true
   -- the shards of another subgroup play no part
-  pub other-group : groupValid twoGroups 15 (masksOf 1 0) 0 ≡ true
-  pub own-group : groupValid twoGroups 15 (masksOf 1 0) 3 ≡ false
+  pub other-group : groupValid twoGroups 15 (pairOfMasks 1 0) 0 ≡ true
+  pub own-group : groupValid twoGroups 15 (pairOfMasks 1 0) 3 ≡ false
   -- the last shard counts too
-  pub last-shard : groupValid oneGroup 15 (masksOf 1 0) 0 ≡ false
+  pub last-shard : groupValid oneGroup 15 (pairOfMasks 1 0) 0 ≡ false
   -- an old shard of three, which needs two: what came counts, not what left
   pub left : groupMoves oneShard (λ s. 7) (λ s. 3) 0 ≡ 0
   pub came : groupMoves oneShard (λ s. 7) (λ s. 9) 0 ≡ 1
@@ -195,8 +206,8 @@ pub record PlacementClauses : Type 0 where
   pub by-node-valid : groupValid sharedSet 6 (λ s. 6) 0 ≡ true
   pub by-node : groupMoves sharedSet (λ s. 5) (λ s. 6) 0 ≡ 1
   -- the moves of a subgroup are those of its shards
-  pub group-moves : groupMoves twoGroups (masksOf 1 1) (masksOf 2 6) 0 ≡ 1
-  pub group-moves-3 : groupMoves twoGroups (masksOf 1 1) (masksOf 2 6) 3 ≡ 2
+  pub group-moves : groupMoves twoGroups (pairOfMasks 1 1) (pairOfMasks 2 6) 0 ≡ 1
+  pub group-moves-3 : groupMoves twoGroups (pairOfMasks 1 1) (pairOfMasks 2 6) 3 ≡ 2
   -- the moves of all subgroups, up to subgroup 3, from the old view to the new
   pub all-moves : allMoves twoGroups (layoutWith 1 1) (layoutWith 2 6) ≡ 3
 
@@ -209,6 +220,7 @@ placement-clauses =
       one-fewer = refl;
       not-all-held = refl;
       one-set = refl;
+      last-pair = refl;
       shared-node = refl;
       shared-between = refl;
       other-group = refl;

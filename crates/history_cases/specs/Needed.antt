@@ -27,7 +27,7 @@ use Rattle.report_views.specs.Reports.{slot, reportOf, maskAt}
 use Rattle.report_views.specs.Slots.{sameView, row12, sameTermination, row13, termKept, slotOk, slotsOk}
 use Rattle.report_views.specs.Quorums.{candidate, greatest, best, target, able, holder, majority, firstUnheld, quorumOf}
 use Rattle.history_claims.specs.History.{History, KeepsRule, Full, True, Listed, Supposed, numberAt}
-use Rattle.history_cases.specs.Told.{told, overlapsTest, risesTest, rule-of, full-of, trueTest, reportsTest, reports-of, true-somewhere, listed-at}
+use Rattle.history_cases.specs.Told.{toldBy, overlapsTest, risesTest, rule-of, full-of, trueTest, reportsTest, reports-of, true-somewhere, listed-at}
 use Rattle.history_cases.specs.Supposing.{oneShardSettings, viewOfAll, reportOfAll, deskOfThree, threeViews, historyOfThree, supposedThree, slots-three, met-three, all-logged}
 
 -- ---- without the rule of views: of nodes 1 to 3 of view 6 only node 3 is a member of view 7, and all members logged each view
@@ -36,7 +36,7 @@ abbrev unruledViews : List Layout
 unruledViews = viewOfAll 5 7 ∷ viewOfAll 6 14 ∷ viewOfAll 7 56 ∷ []
 
 abbrev pub unruledHistory : History
-unruledHistory = told unruledViews (7 ∷ 14 ∷ 56 ∷ []) deskOfThree
+unruledHistory = toldBy unruledViews (7 ∷ 14 ∷ 56 ∷ []) deskOfThree
 
 unruled-reports : reportsTest oneShardSettings unruledViews (7 ∷ 14 ∷ 56 ∷ []) deskOfThree 6 (0 ∷ 1 ∷ 1 ∷ []) ≡ true
 unfolding deskOfThree allBelow slot reportOf contentsOf bodyOf bodyWord tabulate place following lowest anyBelow
@@ -84,7 +84,7 @@ abbrev skippedViews : List Layout
 skippedViews = viewOfAll 5 7 ∷ viewOfAll 6 62 ∷ viewOfAll 9 28 ∷ []
 
 abbrev pub skippedHistory : History
-skippedHistory = told skippedViews (7 ∷ 60 ∷ 28 ∷ []) deskOfTwo
+skippedHistory = toldBy skippedViews (7 ∷ 60 ∷ 28 ∷ []) deskOfTwo
 
 skipped-reports : reportsTest oneShardSettings skippedViews (7 ∷ 60 ∷ 28 ∷ []) deskOfTwo 3 [] ≡ true
 unfolding deskOfTwo allBelow slot reportOf contentsOf bodyOf bodyWord tabulate place following lowest anyBelow
@@ -155,11 +155,11 @@ termination-needed =
 
 -- nodes 0 to 3, then nodes 2 to 4: just half of the older view
 abbrev pub halfHistory : History
-halfHistory = told (viewOfAll 5 15 ∷ viewOfAll 6 28 ∷ []) (15 ∷ 28 ∷ []) deskOfThree
+halfHistory = toldBy (viewOfAll 5 15 ∷ viewOfAll 6 28 ∷ []) (15 ∷ 28 ∷ []) deskOfThree
 
 -- a number that comes twice
 abbrev pub levelHistory : History
-levelHistory = told (viewOfAll 5 7 ∷ viewOfAll 5 7 ∷ []) (7 ∷ 7 ∷ []) deskOfThree
+levelHistory = toldBy (viewOfAll 5 7 ∷ viewOfAll 5 7 ∷ []) (7 ∷ 7 ∷ []) deskOfThree
 
 -- view 6 with another member, and with another shard mask
 abbrev pub otherMembers : Layout
@@ -170,7 +170,7 @@ otherMasks = record { number = record { 0 = 6 }; members = 14; masks = 6 ∷ rep
 
 -- the history of one view, which its members logged
 abbrev pub onlyView : Layout → History
-onlyView v = told (v ∷ []) (14 ∷ []) deskOfThree
+onlyView v = toldBy (v ∷ []) (14 ∷ []) deskOfThree
 
 -- the one view 6, whose members logged all updates, or none
 abbrev pub loggedSo : Bool → History
@@ -185,8 +185,8 @@ pub record Unsupposed : Type 0 where
   pub half : KeepsRule halfHistory → ⊥
   pub level : KeepsRule levelHistory → ⊥
   -- a true report is of a view that its node has logged, and of the latest
-  pub unlogged : Untrue (told threeViews (7 ∷ 12 ∷ 0 ∷ []) deskOfThree)
-  pub later : Untrue (told threeViews (7 ∷ 14 ∷ 2 ∷ []) deskOfThree)
+  pub unlogged : Untrue (toldBy threeViews (7 ∷ 12 ∷ 0 ∷ []) deskOfThree)
+  pub later : Untrue (toldBy threeViews (7 ∷ 14 ∷ 2 ∷ []) deskOfThree)
   -- its number, members and shard masks are those of the list
   pub number : Untrue (onlyView (viewOfAll 5 14))
   pub members : Untrue (onlyView otherMembers)
@@ -205,7 +205,7 @@ unfolding deskOfThree slot reportOf contentsOf
 own-1 = refl
 
 untold : (views : List Layout) (logs : List ℕ) → anyBelow (length views) (trueTest oneShardSettings views logs deskOfThree 1) ≡ false
-    → Untrue (told views logs deskOfThree)
+    → Untrue (toldBy views logs deskOfThree)
 untold views logs h r = clash (true-somewhere oneShardSettings views logs deskOfThree 1 own-1 r) h
 
 pub unsupposed : Unsupposed

@@ -30,12 +30,12 @@ use Rattle.report_views.specs.Meets.{quorum-given}
 use Rattle.history_claims.specs.History.{History, Full, Supposed}
 use Rattle.history_claims.specs.Claims.{Claims, claims}
 use Rattle.history_cases.specs.Runs.{caseSettings, slotOf, desk, view7}
-use Rattle.history_cases.specs.Told.{told, implies, implies-at, risesTest, overlapsTest, rule-of, full-of, reportsTest, reports-of, listed-at}
+use Rattle.history_cases.specs.Told.{toldBy, implies, implies-at, risesTest, overlapsTest, rule-of, full-of, reportsTest, reports-of, listed-at}
 
 -- ---- case A
 
 abbrev historyA : History
-historyA = told (view7 ∷ []) (127 ∷ []) desk
+historyA = toldBy (view7 ∷ []) (127 ∷ []) desk
 
 reports-a : reportsTest caseSettings (view7 ∷ []) (127 ∷ []) desk 63 [] ≡ true
 unfolding desk allBelow slot reportOf contentsOf bodyOf bodyWord tabulate place following lowest anyBelow
@@ -81,7 +81,7 @@ threeViews = viewOfAll 5 7 ∷ viewOfAll 6 14 ∷ viewOfAll 7 28 ∷ []
 
 -- all members have logged views 5 and 6, and node 4 alone view 7
 abbrev pub historyOfThree : History
-historyOfThree = told threeViews (7 ∷ 14 ∷ 16 ∷ []) deskOfThree
+historyOfThree = toldBy threeViews (7 ∷ 14 ∷ 16 ∷ []) deskOfThree
 
 reports-three : reportsTest oneShardSettings threeViews (7 ∷ 14 ∷ 16 ∷ []) deskOfThree 6 (0 ∷ 1 ∷ 1 ∷ []) ≡ true
 unfolding deskOfThree allBelow slot reportOf contentsOf bodyOf bodyWord tabulate place following lowest anyBelow

@@ -21,8 +21,8 @@ use Rattle.report_views.specs.Logs.{holds}
 use Rattle.report_views.specs.Reports.{reportOf, viewOf, maskAt}
 use Rattle.history_claims.specs.History.{History, KeepsRule, Full, SameView, True, Listed, viewAt, numberAt, membersAt}
 
-abbrev pub told : List Layout → List ℕ → List ℕ → History
-told views logs d =
+abbrev pub toldBy : List Layout → List ℕ → List ℕ → History
+toldBy views logs d =
     record {
       views = views;
       logged = λ n i. has (getD logs i 0) n;
@@ -51,16 +51,16 @@ pub rule-of : (H : History) → risesTest H ≡ true → overlapsTest H ≡ true
 rule-of H r o =
     record {
       rises =
-      λ i j l k.
-      ltb-true (numberAt H i) (numberAt H j)
-      (all-at j (λ m. ltb (numberAt H m) (numberAt H j)) (all-at (length (H .views)) (λ m. allBelow m (λ z. ltb (numberAt H z) (numberAt H m))) r j k) i l);
+          λ i j l k.
+          ltb-true (numberAt H i) (numberAt H j)
+          (all-at j (λ m. ltb (numberAt H m) (numberAt H j)) (all-at (length (H .views)) (λ m. allBelow m (λ z. ltb (numberAt H z) (numberAt H m))) r j k) i l);
       overlaps =
-      λ i l.
-      ⊎-elim (λ e. let z = leb-true (length (H .views)) (suc i) e in absurd (omega arith))
-      (λ e. ltb-true (count (membersAt H i)) (2 * count (bitAnd (membersAt H (suc i)) (membersAt H i))) e)
-      (or-holds (leb (length (H .views)) (suc i)) (ltb (count (membersAt H i)) (2 * count (bitAnd (membersAt H (suc i)) (membersAt H i))))
-      (all-at (length (H .views))
-      (λ m. leb (length (H .views)) (suc m) || ltb (count (membersAt H m)) (2 * count (bitAnd (membersAt H (suc m)) (membersAt H m)))) o i (omega arith)));
+          λ i l.
+          ⊎-elim (λ e. let z = leb-true (length (H .views)) (suc i) e in absurd (omega arith))
+          (λ e. ltb-true (count (membersAt H i)) (2 * count (bitAnd (membersAt H (suc i)) (membersAt H i))) e)
+          (or-holds (leb (length (H .views)) (suc i)) (ltb (count (membersAt H i)) (2 * count (bitAnd (membersAt H (suc i)) (membersAt H i))))
+          (all-at (length (H .views))
+          (λ m. leb (length (H .views)) (suc m) || ltb (count (membersAt H m)) (2 * count (bitAnd (membersAt H (suc m)) (membersAt H m)))) o i (omega arith)));
     }
 
 -- every member of the view at place i has logged it
@@ -87,22 +87,22 @@ module _ (σ : List ℕ) (views : List Layout) (logs d : List ℕ) where
   trueTest n i =
       eqb (reportOf d n .node .0) n && ltb i (length views) && has (getD logs i 0) n && latestTest n i && sameTest n i
 
-  same-of : (n i : ℕ) → sameTest n i ≡ true → SameView σ (told views logs d) (reportOf d n) i
+  same-of : (n i : ℕ) → sameTest n i ≡ true → SameView σ (toldBy views logs d) (reportOf d n) i
   same-of n i h =
-      let number = eqb (viewOf d n) (numberAt (told views logs d) i) in
-      let members = eqb (reportOf d n .members) (membersAt (told views logs d) i) in
-      let masks : ℕ → Bool = λ s. eqb (membersOf (reportOf d n .body) s) (maskAt (viewAt (told views logs d) i) s) in
+      let number = eqb (viewOf d n) (numberAt (toldBy views logs d) i) in
+      let members = eqb (reportOf d n .members) (membersAt (toldBy views logs d) i) in
+      let masks : ℕ → Bool = λ s. eqb (membersOf (reportOf d n .body) s) (maskAt (viewAt (toldBy views logs d) i) s) in
       let two = and-left (number && members) (allBelow (shards σ) masks) h in
       record {
-        number = eqb-true (viewOf d n) (numberAt (told views logs d) i) (and-left number members two);
-        members = eqb-true (reportOf d n .members) (membersAt (told views logs d) i) (and-right number members two);
+        number = eqb-true (viewOf d n) (numberAt (toldBy views logs d) i) (and-left number members two);
+        members = eqb-true (reportOf d n .members) (membersAt (toldBy views logs d) i) (and-right number members two);
         masks =
-        λ s l.
-        eqb-true (membersOf (reportOf d n .body) s) (maskAt (viewAt (told views logs d) i) s)
-        (all-at (shards σ) masks (and-right (number && members) (allBelow (shards σ) masks) h) s l);
+            λ s l.
+            eqb-true (membersOf (reportOf d n .body) s) (maskAt (viewAt (toldBy views logs d) i) s)
+            (all-at (shards σ) masks (and-right (number && members) (allBelow (shards σ) masks) h) s l);
       }
 
-  pub true-of : (n i : ℕ) → trueTest n i ≡ true → True σ (told views logs d) (reportOf d n)
+  pub true-of : (n i : ℕ) → trueTest n i ≡ true → True σ (toldBy views logs d) (reportOf d n)
   true-of n i h =
       let own = eqb (reportOf d n .node .0) n in
       let inside = ltb i (length views) in
@@ -116,17 +116,17 @@ module _ (σ : List ℕ) (views : List Layout) (logs d : List ℕ) where
         listed = ltb-true i (length views) (and-right own inside two);
         logged = subst⁻¹ (λ (m : ℕ). has (getD logs i 0) m ≡ true) node (and-right (own && inside) here three);
         latest =
-        λ j l k.
-        subst⁻¹ (λ (m : ℕ). has (getD logs j 0) m ≡ false) node
-        (⊎-elim (λ e. let z = leb-true j i e in absurd (omega arith)) (λ e. of-not-true (has (getD logs j 0) n) e)
-        (or-holds (leb j i) (not (has (getD logs j 0) n))
-        (all-at (length views) (λ m. leb m i || not (has (getD logs m 0) n)) (and-right (own && inside && here) (latestTest n i) four) j k)));
+            λ j l k.
+            subst⁻¹ (λ (m : ℕ). has (getD logs j 0) m ≡ false) node
+            (⊎-elim (λ e. let z = leb-true j i e in absurd (omega arith)) (λ e. of-not-true (has (getD logs j 0) n) e)
+            (or-holds (leb j i) (not (has (getD logs j 0) n))
+            (all-at (length views) (λ m. leb m i || not (has (getD logs m 0) n)) (and-right (own && inside && here) (latestTest n i) four) j k)));
         same = same-of n i (and-right (own && inside && here && latestTest n i) (sameTest n i) h);
         updates = λ s k p. ap (λ (m : ℕ). holds (reportOf d m .body) (reportOf d m .len) s p) node;
       }
 
   -- the other way: a true report of a node's own is of the view at some place
-  pub true-somewhere : (n : ℕ) → reportOf d n .node .0 ≡ n → True σ (told views logs d) (reportOf d n)
+  pub true-somewhere : (n : ℕ) → reportOf d n .node .0 ≡ n → True σ (toldBy views logs d) (reportOf d n)
       → anyBelow (length views) (trueTest n) ≡ true
   true-somewhere n own r =
       any-at (length views) (trueTest n) (r .at) (r .listed)
@@ -141,17 +141,17 @@ module _ (σ : List ℕ) (views : List Layout) (logs d : List ℕ) where
       (λ k. or-left (not (has (getD logs j 0) n)) (le-leb j (r .at) k))
       (lt-or-le (r .at) j))))
       (and-both
-      (and-both (eq-eqb (viewOf d n) (numberAt (told views logs d) (r .at)) (r .same .number))
-      (eq-eqb (reportOf d n .members) (membersAt (told views logs d) (r .at)) (r .same .members)))
-      (all-of (shards σ) (λ s. eqb (membersOf (reportOf d n .body) s) (maskAt (viewAt (told views logs d) (r .at)) s))
-      (λ s l. eq-eqb (membersOf (reportOf d n .body) s) (maskAt (viewAt (told views logs d) (r .at)) s) (r .same .masks s l)))))
+      (and-both (eq-eqb (viewOf d n) (numberAt (toldBy views logs d) (r .at)) (r .same .number))
+      (eq-eqb (reportOf d n .members) (membersAt (toldBy views logs d) (r .at)) (r .same .members)))
+      (all-of (shards σ) (λ s. eqb (membersOf (reportOf d n .body) s) (maskAt (viewAt (toldBy views logs d) (r .at)) s))
+      (λ s l. eq-eqb (membersOf (reportOf d n .body) s) (maskAt (viewAt (toldBy views logs d) (r .at)) s) (r .same .masks s l)))))
 
   -- every held node's report is true, and of the view at the place that the list says
   abbrev pub reportsTest : ℕ → List ℕ → Bool
   reportsTest held places = implies (has held) (λ n. trueTest n (getD places n 0))
 
   pub reports-of : (held : ℕ) (places : List ℕ) → reportsTest held places ≡ true
-      → (n : ℕ) → n < 32 → has held n ≡ true → True σ (told views logs d) (reportOf d n)
+      → (n : ℕ) → n < 32 → has held n ≡ true → True σ (toldBy views logs d) (reportOf d n)
   reports-of held places h n l e =
       true-of n (getD places n 0) (implies-at (has held) (λ m. trueTest m (getD places m 0)) h n l e)
 

@@ -1,9 +1,11 @@
--- Document 01's runs as the program prints them, one table: whatever text the definitions allow for the input is the one that
--- document 01 gives. A text is the list of its bytes. G and H are cuts, which the program does not print.
+-- Document 01's runs as the program prints them: bytes in and text out. The cases are those of history_cases/Cases; this table adds that
+-- whatever text the definitions allow for the input is the one that document 01 gives. A text is the list of its bytes. G and H are
+-- cuts, which the program does not print.
 use Prim.Native.Nat.{ℕ}
 use mathlib.Core.Bool.{true}
 use mathlib.Core.List.{List, [], _∷_, _++_}
 use mathlib.Core.Path.{_≡_, refl, ap, ap₂, _∙_, subst}
+use native.Mathlib.Omega.{arith}
 use lib.Count.{ones, onesIn}
 use lib.ListN.{getD}
 use Rattle.base_laws.specs.Below.{allBelow, anyBelow, lowest}
@@ -23,6 +25,7 @@ use Rattle.report_views.specs.Quorums.{candidate, greatest, best, target, able,
 use Rattle.report_desk.specs.Desk.{deskWith}
 use Rattle.history_cases.specs.Runs.{caseSettings, settingsWith, desk, view7, sixMembers}
 use Rattle.report_views.specs.Empty.{noTermination}
+use Rattle.history_cases.specs.Cases.{cases}
 use Rattle.state_planner.specs.declared.State.{State}
 use Rattle.state_planner.specs.declared.Decision.{Decision}
 use Rattle.state_planner.specs.declared.Decided.{Decided}
@@ -188,8 +191,8 @@ a-text text p = p .says ∙ a-plan (p .decided) (decided .a (p .decided) (p .dec
 -- ---- the waits
 
 b-short : quorumOf caseSettings view7 noTermination 7 (deskOf emptyDesk (first-three [])) ≡ Short NoMajority
-unfolding ones onesIn majority quorumOf
-b-short = refl
+unfolding ones onesIn
+b-short = cases .b 7 (omega arith) refl (deskOf emptyDesk (first-three []))
 
 c-short : quorumOf caseSettings sixMembers noTermination 7 (deskOf emptyDesk (three-of-six [])) ≡ Short NoMajority
 unfolding ones onesIn majority quorumOf

@@ -17,7 +17,7 @@ use Rattle.report_views.specs.declared.Layout.{Layout}
 use Rattle.report_views.specs.declared.Termination.{Termination}
 use Rattle.report_views.specs.Empty.{noView, noTermination}
 use Rattle.report_views.specs.Logs.{pos, start}
-use Rattle.report_views.specs.Reports.{slot, reportOf}
+use Rattle.report_views.specs.Reports.{slot, reportOf, terminated}
 use Rattle.report_views.specs.Slots.{sameView, row12, sameTermination, row13, termKept, slotOk, slotsOk}
 use Rattle.report_kept.specs.Reports.{keptRefusal, refusalBeside, layoutOf, terminationOf, keeps, renewed}
 use Rattle.report_examples.specs.Samples.{caseSettings, slotOf, view7}
@@ -44,8 +44,8 @@ abbrev pub said : List ℕ → Contents
 said w = contentsOf w
 
 -- a termination of shards 1 and 2
-abbrev pub endsAt : ℕ → ℕ → ℕ → ℕ → Termination
-endsAt v k v' k' = record { made = true; positions = start ∷ pos v k ∷ pos v' k' ∷ replicate 13 start }
+abbrev pub endedAt : ℕ → ℕ → ℕ → ℕ → Termination
+endedAt v k v' k' = record { made = true; positions = start ∷ pos v k ∷ pos v' k' ∷ replicate 13 start }
 
 -- view 7 with members 0 to 5 in place of shard 1's node 6
 abbrev pub withoutSix : ℕ → Layout
@@ -59,22 +59,24 @@ pub record RowClauses : Type 0 where
   pub last-mask : row12 caseSettings view7 (said (reportWith 1 7 127 5 82 8 (0 ∷ []))) ≡ false
   pub other-number : row12 caseSettings view7 (said (reportWith 1 6 63 5 18 32 (0 ∷ []))) ≡ true
   -- row 13: so is every position of a termination, if one is kept and one is reported
-  pub same-positions : row13 caseSettings view7 (endsAt 7 5 6 2) (said (endedReport 7 7 5)) ≡ true
-  pub one-k : row13 caseSettings view7 (endsAt 7 5 6 2) (said (endedReport 7 7 4)) ≡ false
-  pub one-view : row13 caseSettings view7 (endsAt 7 5 6 2) (said (endedReport 7 6 5)) ≡ false
-  pub last-position : row13 caseSettings view7 (endsAt 7 5 6 3) (said (endedReport 7 7 5)) ≡ false
-  pub of-older : row13 caseSettings view7 (endsAt 7 5 6 2) (said (endedReport 6 6 4)) ≡ true
-  pub none-reported : row13 caseSettings view7 (endsAt 7 5 6 2) (said (openReport 7)) ≡ true
+  pub same-positions : row13 caseSettings view7 (endedAt 7 5 6 2) (said (endedReport 7 7 5)) ≡ true
+  pub one-k : row13 caseSettings view7 (endedAt 7 5 6 2) (said (endedReport 7 7 4)) ≡ false
+  pub one-view : row13 caseSettings view7 (endedAt 7 5 6 2) (said (endedReport 7 6 5)) ≡ false
+  pub last-position : row13 caseSettings view7 (endedAt 7 5 6 3) (said (endedReport 7 7 5)) ≡ false
+  pub of-older : row13 caseSettings view7 (endedAt 7 5 6 2) (said (endedReport 6 6 4)) ≡ true
+  pub none-reported : row13 caseSettings view7 (endedAt 7 5 6 2) (said (openReport 7)) ≡ true
   pub none-kept : row13 caseSettings view7 noTermination (said (endedReport 7 7 4)) ≡ true
-  -- a sound slot's termination of the kept view is kept
-  pub kept : termKept caseSettings view7 (endsAt 7 5 6 2) (said (endedReport 7 7 5)) ≡ true
+  -- a report has a termination if the record after its masks is of kind 2; a sound slot's of the kept view is kept
+  pub kept : termKept caseSettings view7 (endedAt 7 5 6 2) (said (endedReport 7 7 5)) ≡ true
   pub not-kept : termKept caseSettings view7 noTermination (said (endedReport 7 7 5)) ≡ false
   pub older-not-kept : termKept caseSettings view7 noTermination (said (endedReport 6 6 5)) ≡ true
+  pub only-runs : terminated caseSettings (said (reportWith 1 7 127 5 82 32 (4 ∷ 769 ∷ 6 ∷ 9 ∷ 0 ∷ []))) ≡ false
+  pub past-the-records : terminated caseSettings (record { node = record { 0 = 1 }; view = record { 0 = 7 }; members = 127; len = 3; body = 256 ∷ 5 ∷ 0 ∷ 257 ∷ 82 ∷ 0 ∷ 258 ∷ 32 ∷ 0 ∷ 512 ∷ [] }) ≡ false
   pub nothing-to-keep : termKept caseSettings view7 noTermination (said (openReport 7)) ≡ true
   -- rows 12 and 13 in their order, after those of the message
-  pub row-12-first : keptRefusal caseSettings view7 (endsAt 7 5 6 2) (said (reportWith 1 7 127 1 82 32 (endings 7 4 6 2))) ≡ refused 12
-  pub row-13 : keptRefusal caseSettings view7 (endsAt 7 5 6 2) (said (endedReport 7 7 4)) ≡ refused 13
-  pub taken : refusalBeside caseSettings view7 (endsAt 7 5 6 2) (endedReport 7 7 5) ≡ none
+  pub row-12-first : keptRefusal caseSettings view7 (endedAt 7 5 6 2) (said (reportWith 1 7 127 1 82 32 (endings 7 4 6 2))) ≡ refused 12
+  pub row-13 : keptRefusal caseSettings view7 (endedAt 7 5 6 2) (said (endedReport 7 7 4)) ≡ refused 13
+  pub taken : refusalBeside caseSettings view7 (endedAt 7 5 6 2) (endedReport 7 7 5) ≡ none
   pub message-first : refusalBeside caseSettings view7 noTermination (reportWith 1 7 127 1 82 32 (4 ∷ 769 ∷ 7 ∷ 0 ∷ 0 ∷ [])) ≡ refused 11
   pub then-kept : refusalBeside caseSettings view7 noTermination (reportWith 1 7 127 1 82 32 (0 ∷ [])) ≡ refused 12
 
@@ -97,6 +99,8 @@ row-clauses =
       kept = refl;
       not-kept = refl;
       older-not-kept = refl;
+      only-runs = refl;
+      past-the-records = refl;
       nothing-to-keep = refl;
       row-12-first = refl;
       row-13 = refl;
@@ -119,7 +123,7 @@ pub record SlotClauses : Type 0 where
   pub above : slotOk caseSettings view7 noTermination (slotOne (openReport 8)) 1 ≡ false
   -- rows 12 and 13, and a termination that is not kept
   pub row-12 : slotOk caseSettings view7 noTermination (slotOne (reportWith 1 7 127 1 82 32 (0 ∷ []))) 1 ≡ false
-  pub row-13 : slotOk caseSettings view7 (endsAt 7 5 6 2) (slotOne (endedReport 7 7 4)) 1 ≡ false
+  pub row-13 : slotOk caseSettings view7 (endedAt 7 5 6 2) (slotOne (endedReport 7 7 4)) 1 ≡ false
   pub not-kept : slotOk caseSettings view7 noTermination (slotOne (endedReport 7 7 5)) 1 ≡ false
   -- the slots of held nodes are sound, up to node 31; others play no part
   pub held : slotsOk caseSettings view7 noTermination 2 (slotOne (openReport 7)) ≡ true
@@ -151,18 +155,21 @@ pub record RenewedClauses : Type 0 where
   -- a first report's view is kept
   pub first : renewed caseSettings noView noTermination (said (openReport 7)) ≡ keeps view7 noTermination
   -- a greater view is kept with its termination: nothing else of the report is in either
-  pub greater : renewed caseSettings view7 noTermination (said (endedReport 8 7 5)) ≡ keeps (view7As 8) (endsAt 7 5 6 2)
+  pub greater : renewed caseSettings view7 noTermination (said (endedReport 8 7 5)) ≡ keeps (view7As 8) (endedAt 7 5 6 2)
   -- and with none where it has none, although one was kept: document 01's third trap
-  pub greater-without : renewed caseSettings view7 (endsAt 7 5 6 2) (said (openReport 8)) ≡ keeps (view7As 8) noTermination
+  pub greater-without : renewed caseSettings view7 (endedAt 7 5 6 2) (said (openReport 8)) ≡ keeps (view7As 8) noTermination
   -- a greater view with a termination replaces the kept one
-  pub greater-again : renewed caseSettings view7 (endsAt 7 5 6 2) (said (endedReport 8 8 1)) ≡ keeps (view7As 8) (endsAt 8 1 6 2)
+  pub greater-again : renewed caseSettings view7 (endedAt 7 5 6 2) (said (endedReport 8 8 1)) ≡ keeps (view7As 8) (endedAt 8 1 6 2)
+  -- runs are no termination
+  pub greater-runs :
+      renewed caseSettings view7 noTermination (said (reportWith 1 8 127 5 82 32 (4 ∷ 769 ∷ 6 ∷ 9 ∷ 0 ∷ []))) ≡ keeps (view7As 8) noTermination
   -- an equal view adds its termination if none is kept
-  pub equal : renewed caseSettings view7 noTermination (said (endedReport 7 7 5)) ≡ keeps view7 (endsAt 7 5 6 2)
+  pub equal : renewed caseSettings view7 noTermination (said (endedReport 7 7 5)) ≡ keeps view7 (endedAt 7 5 6 2)
   -- and takes none away
-  pub equal-without : renewed caseSettings view7 (endsAt 7 5 6 2) (said (openReport 7)) ≡ keeps view7 (endsAt 7 5 6 2)
+  pub equal-without : renewed caseSettings view7 (endedAt 7 5 6 2) (said (openReport 7)) ≡ keeps view7 (endedAt 7 5 6 2)
   -- a smaller view changes neither, with a termination or without
   pub smaller : renewed caseSettings view7 noTermination (said (endedReport 6 6 5)) ≡ keeps view7 noTermination
-  pub smaller-kept : renewed caseSettings view7 (endsAt 7 5 6 2) (said (endedReport 6 6 5)) ≡ keeps view7 (endsAt 7 5 6 2)
+  pub smaller-kept : renewed caseSettings view7 (endedAt 7 5 6 2) (said (endedReport 6 6 5)) ≡ keeps view7 (endedAt 7 5 6 2)
 
 pub renewed-clauses : RenewedClauses
 unfolding allBelow anyBelow lowest tabulate place following bodyWord bodyOf contentsOf layoutOf terminationOf renewed
@@ -172,6 +179,7 @@ renewed-clauses =
       greater = refl;
       greater-without = refl;
       greater-again = refl;
+      greater-runs = refl;
       equal = refl;
       equal-without = refl;
       smaller = refl;

@@ -1,5 +1,5 @@
--- A row for each clause of the soundness of a state's parts: with the clause left out or turned round the row would be false. Settings, the slots of the reports
--- and view are those of case A, and the plan is document 01's, but for what a row changes.
+-- A row for each clause of the soundness of a state's parts: with the clause left out or turned round the row would be
+-- false. Settings, reports and view are those of case A, and the plan is document 01's, but for what a row changes.
 use Prim.Native.Nat.{ℕ}
 use mathlib.Core.Bool.{Bool, true, false}
 use mathlib.Core.List.{List, [], _∷_, _++_}
@@ -176,6 +176,10 @@ planOfCaseA = planWith (viewOfParts 8 63 5 50 8 0) 2
 abbrev pub needsOne : List ℕ
 needsOne = 7 ∷ 3 ∷ 4 ∷ 3 ∷ 0 ∷ 0 ∷ 1 ∷ 1 ∷ 1 ∷ 2 ∷ 2 ∷ 1 ∷ 1 ∷ 1 ∷ []
 
+-- the settings with shard 2 in subgroup 3
+abbrev pub lastGroup : List ℕ
+lastGroup = 7 ∷ 3 ∷ 4 ∷ 3 ∷ 0 ∷ 0 ∷ 1 ∷ 1 ∷ 1 ∷ 2 ∷ 2 ∷ 2 ∷ 3 ∷ 769 ∷ []
+
 abbrev pub planUnheld : Plan
 planUnheld =
     planOf (viewOfParts 8 31 1 2 8 0) 1 (record { 0 = 0 } ∷ record { 0 = 1 } ∷ record { 0 = 32 } ∷ replicate 13 (record { 0 = 0 }))
@@ -205,6 +209,8 @@ pub record PlanClauses : Type 0 where
       ≡ false
   -- nodes 0 and 1 are of one failure set
   pub invalid : planSound caseSettings view7 noTermination 63 caseSlots (planWith (viewOfParts 8 63 3 52 8 0) 3) ≡ false
+  -- shard 2 is of subgroup 3 and gets two nodes where it needs one
+  pub last-group : planSound lastGroup view7 noTermination 63 caseSlots (planWith (viewOfParts 8 63 5 50 9 0) 3) ≡ false
   pub other-total : planSound caseSettings view7 noTermination 63 caseSlots (planWith (viewOfParts 8 63 5 50 8 0) 3) ≡ false
   -- a valid placement with more moves than need be: least moves are not asked again
   pub not-least : planSound caseSettings view7 noTermination 63 caseSlots (planWith (viewOfParts 8 63 9 50 4 0) 3) ≡ true
@@ -232,6 +238,7 @@ plan-clauses =
       other-view = refl;
       target-past = refl;
       invalid = refl;
+      last-group = refl;
       other-total = refl;
       not-least = refl;
       waiting = refl;

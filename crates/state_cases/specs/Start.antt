@@ -4,7 +4,7 @@ use mathlib.Core.List.{List, [], _∷_, _++_}
 use lib.ListN.{replicate}
 use Rattle.report_views.specs.declared.Layout.{Layout}
 use Rattle.report_views.specs.declared.Phase.the-variants.{Gathering}
-use Rattle.history_cases.specs.Runs.{slotOf}
+use Rattle.history_cases.specs.Runs.{caseReport, noRuns, run1, slotOf, sixSlots}
 use Rattle.report_views.specs.Empty.{noTermination}
 use Rattle.state_planner.specs.declared.State.{State}
 use Rattle.state_planner.specs.States.{noPlan}
@@ -32,3 +32,9 @@ unfoldable pub deskOfSix : List ℕ
 deskOfSix =
     slotOf (reportOfSix 0) ++ slotOf (reportOfSix 1) ++ slotOf (reportOfSix 2) ++ slotOf (reportOfSix 3)
     ++ replicate 14336 0
+
+-- the desk of case A with a report of node 6 too
+unfoldable pub deskOfSeven : List ℕ
+deskOfSeven =
+    sixSlots (caseReport 1 (run1 7 5)) (caseReport 3 noRuns) (caseReport 4 (run1 7 4)) (caseReport 5 noRuns)
+    (slotOf (caseReport 6 noRuns) ++ replicate 12800 0)

@@ -1,7 +1,12 @@
 -- Decide refuses none of the runs: desk, settings, state and phase are right in each.
-use mathlib.Core.Bool.{true}
+use Prim.Native.Nat.{ℕ, _<_}
+use native.Mathlib.Omega.{arith}
+use mathlib.Core.Bool.{Bool, true, not, _||_}
+use mathlib.Core.Logic.{⊎-elim}
 use mathlib.Core.Path.{_≡_, refl}
-use Rattle.base_laws.specs.Below.{allBelow, anyBelow, lowest}
+use Rattle.base_laws.specs.Bools.{either, and-both, or-left, or-right, not-of-false}
+use Rattle.base_laws.specs.Below.{allBelow, anyBelow, lowest, all-at, all-of}
+use Rattle.base_laws.specs.Masks.{has, has-below, lt-within}
 use Rattle.base_laws.specs.Tables.{tabulate}
 use Rattle.settings_values.specs.Settings.{sizesOk, nodesOk, shardOk, shardsOk, settingsOk}
 use Rattle.base_ids.specs.Refusals.{accepted, unless, firstOf}
@@ -13,13 +18,14 @@ use Rattle.report_views.specs.Reports.{slot, reportOf}
 use Rattle.report_views.specs.Slots.{sameView, row12, sameTermination, row13, termKept, slotOk, slotsOk}
 use Rattle.report_views.specs.Soundness.{layoutTidy, layoutBlank, viewSound, positionSound, termSoundAt, termSound, nothingKept, keptSound, marksSound, planBlank, planFits}
 use Rattle.history_cases.specs.Runs.{caseSettings, settingsWith, desk, view7, sixMembers}
+use Rattle.report_views.specs.Empty.{noTermination}
 use Rattle.state_planner.specs.States.{sound, fresh}
-use Rattle.state_planner.specs.Refusing.{entryRefusal, decideRefusal}
-use Rattle.state_cases.specs.Start.{gathered, deskOfSix}
+use Rattle.state_planner.specs.Refusing.{entryRows, entryRefusal, decideRefusal}
+use Rattle.state_cases.specs.Start.{gathered, deskOfSix, deskOfSeven}
 
 pub record StatesTaken : Type 0 where
   pub a : accepted (decideRefusal caseSettings (gathered view7 63) desk) ≡ true
-  pub b : accepted (decideRefusal caseSettings (gathered view7 7) desk) ≡ true
+  pub b : (held : ℕ) → held < 128 → accepted (decideRefusal caseSettings (gathered view7 held) deskOfSeven) ≡ true
   pub c-three : accepted (decideRefusal caseSettings (gathered sixMembers 7) deskOfSix) ≡ true
   pub c-four : accepted (decideRefusal caseSettings (gathered sixMembers 15) deskOfSix) ≡ true
   pub d : accepted (decideRefusal caseSettings fresh desk) ≡ true
@@ -27,12 +33,45 @@ pub record StatesTaken : Type 0 where
   pub f : accepted (decideRefusal caseSettings (gathered view7 31) desk) ≡ true
   pub i : accepted (decideRefusal (settingsWith 4 3) (gathered view7 63) desk) ≡ true
 
+-- ---- B: the seven slots are sound, so those of any held nodes are
+
+seven : allBelow 7 (slotOk caseSettings view7 noTermination deskOfSeven) ≡ true
+unfolding deskOfSeven allBelow anyBelow lowest tabulate unless firstOf place following row5 row8 precedes shardsWhere row6 viewOk row7 kindOk plain kindAt shardAt surplus sequenceAt complete shardApart row10At row10 position viewFits legal row11At bodyWord bodyOf contentsOf recordsRefusal headRefusal messageRefusal slot reportOf sameView row12 sameTermination row13 termKept slotOk
+seven = refl
+
+held-slots : (held : ℕ) → held < 128 → slotsOk caseSettings view7 noTermination held deskOfSeven ≡ true
+unfolding slotsOk
+held-slots held l =
+    all-of 32 (λ n. not (has held n) || slotOk caseSettings view7 noTermination deskOfSeven n)
+    (λ n k.
+    ⊎-elim
+    (λ h. or-right (not (has held n)) (all-at 7 (slotOk caseSettings view7 noTermination deskOfSeven) seven n (has-below held 7 n (omega arith) h)))
+    (λ h. or-left (slotOk caseSettings view7 noTermination deskOfSeven n) (not-of-false h))
+    (either (has held n)))
+
+held-kept : (held : ℕ) → held < 128 → keptSound caseSettings view7 noTermination held ≡ true
+unfolding allBelow viewOk shardApart row10At row10 layoutTidy layoutBlank viewSound termSoundAt termSound nothingKept keptSound
+held-kept held l = and-both refl (lt-within 7 held (omega arith))
+
+held-sound : (held : ℕ) → held < 128 → sound caseSettings (gathered view7 held) deskOfSeven ≡ true
+unfolding allBelow layoutBlank marksSound planBlank planFits sound
+held-sound held l = and-both (and-both (and-both (held-kept held l) (held-slots held l)) refl) refl
+
+-- rows 1 to 4 find nothing wrong
+entered : (lengths settings state : Bool) → lengths ≡ true → settings ≡ true → state ≡ true → accepted (entryRows lengths settings state true) ≡ true
+unfolding unless
+entered lengths settings state a b c = rw (a, b, c)
+
+b-taken : (held : ℕ) → held < 128 → accepted (decideRefusal caseSettings (gathered view7 held) deskOfSeven) ≡ true
+unfolding deskOfSeven allBelow sizesOk nodesOk shardOk shardsOk settingsOk entryRefusal decideRefusal
+b-taken held l = entered _ _ _ refl refl (held-sound held l)
+
 pub taken : StatesTaken
 unfolding desk deskOfSix fresh allBelow anyBelow lowest tabulate sizesOk nodesOk shardOk shardsOk settingsOk unless firstOf place following row5 row8 precedes shardsWhere row6 viewOk row7 kindOk plain kindAt shardAt surplus sequenceAt complete shardApart row10At row10 position viewFits legal row11At bodyWord bodyOf contentsOf recordsRefusal headRefusal messageRefusal slot reportOf sameView row12 sameTermination row13 termKept slotOk slotsOk layoutTidy layoutBlank viewSound positionSound termSoundAt termSound nothingKept keptSound marksSound planBlank planFits sound entryRefusal decideRefusal
 taken =
     record {
       a = refl;
-      b = refl;
+      b = b-taken;
       c-three = refl;
       c-four = refl;
       d = refl;

@@ -1,6 +1,6 @@
 -- When each event is refused: rows of document 01's table in their order.
 use Prim.Native.Nat.{ℕ}
-use mathlib.Core.Bool.{Bool, not, _&&_}
+use mathlib.Core.Bool.{Bool, true, not, _&&_}
 use mathlib.Core.List.{List}
 use lib.Dec.{eqb}
 use lib.ListN.{length}
@@ -46,3 +46,7 @@ fetchedRefusal σ x d n =
 unfoldable pub preparedRefusal : List ℕ → State → List ℕ → ℕ → Refusal
 preparedRefusal σ x d n =
     eventRefusal (deskOk d) σ x d (isPreparing (x .phase)) n (has (x .held) n && not (has (x .prepared) n))
+
+-- the state's check: rows 1 to 3, whatever its phase
+unfoldable pub checkRefusal : List ℕ → State → List ℕ → Refusal
+checkRefusal σ x d = entryRefusal (deskOk d) σ x d true

@@ -403,4 +403,11 @@ impl State {
         let verdict = plan_restart::restart(settings, self.kept, self.termination, self.held, desk);
         after_verdict(self, verdict)
     }
+
+    // Whether the state is sound beside these settings and this desk, in whatever phase it is: rows 1 to 3.
+    pub fn check(self, settings: &[u32], desk: &[u32]) -> Refusal
+        ensures { λ r. ⌜ r ≡ Refusing.checkRefusal (now (settings .entry)) self (now (desk .entry)) ⌝ }
+    {
+        entry_refusal(settings, self, desk, true)
+    }
 }

@@ -51,6 +51,11 @@ impl Table {
         }
     }
 
+    fn check(&self) -> u32 {
+        let checked = check(&self.settings, &self.state, &self.desk);
+        checked.err().map_or(0, |number| number.0)
+    }
+
     fn report(&mut self, message: &[u32]) -> u32 {
         match report(&self.settings, &self.state, &self.desk, message) {
             Ok((state, desk)) => {
@@ -101,6 +106,7 @@ fn row_1_desk_and_buffer() {
     assert_eq!(full, Err(Number(1)));
     table.desk.pop();
     table.settings[0] = 0;
+    assert_eq!(table.check(), 1);
     assert_eq!(table.report(&[]), 1);
     assert_eq!(table.drop_node(0), 1);
     assert_eq!(table.decide(), Err(Number(1)));
@@ -114,6 +120,7 @@ fn row_2_settings() {
     let mut table = Table::fresh();
     table.settings[0] = 0;
     table.state[0] = 9;
+    assert_eq!(table.check(), 2);
     assert_eq!(table.report(&[]), 2);
     assert_eq!(table.decide(), Err(Number(2)));
 }
@@ -203,7 +210,9 @@ fn a_changed_slot_makes_the_state_unsound() {
     assert_eq!(table.fetched(0), 0, "only a cut's input");
     table.desk[6 * 512] = 99;
     assert_eq!(table.fetched(1), 0, "a slot that is not held");
+    assert_eq!(table.check(), 0);
     table.desk[2 * 512] = 3;
+    assert_eq!(table.check(), 3);
     assert_eq!(table.fetched(2), 3, "another node's report");
 }
 
@@ -227,6 +236,7 @@ fn row_4_phases() {
         assert_eq!(table.prepared(node), 0);
     }
     assert_eq!(table.state().phase, Phase::Committed);
+    assert_eq!(table.check(), 0);
     assert_eq!(table.report(&printed_report(0)), 4);
     assert_eq!(table.drop_node(99), 4);
     assert_eq!(table.decide(), Err(Number(4)));

@@ -1,0 +1,238 @@
+-- A row for each clause of what the events lead to and when they are refused: with the clause left out or turned round the row would be
+-- false.
+use Prim.Native.Nat.{ℕ}
+use mathlib.Core.Bool.{Bool, true, false}
+use mathlib.Core.List.{List, []}
+use mathlib.Core.Path.{_≡_, refl}
+use lib.Count.{ones, onesIn}
+use lib.ListN.{replicate}
+use Rattle.base_laws.specs.Bools.{and-both}
+use Rattle.base_laws.specs.Below.{allBelow, anyBelow, lowest}
+use Rattle.base_laws.specs.Positions.{pairNotAfter}
+use Rattle.base_laws.specs.Tables.{tabulate}
+use Rattle.base_sums.specs.Sums.{sumBelow}
+use Rattle.settings_values.specs.Settings.{sizesOk, nodesOk, shardOk, shardsOk, settingsOk}
+use Rattle.base_ids.specs.declared.Refusal.{Refusal}
+use Rattle.base_ids.specs.Refusals.{none, refused, unless, firstOf}
+use Rattle.message_format.specs.Chain.{place, following, row5, row8}
+use Rattle.message_format.specs.Records.{precedes, shardsWhere}
+use Rattle.message_format.specs.Rows.{row6, viewOk, row7, kindOk, plain, kindAt, shardAt, surplus, sequenceAt, complete, shardApart, row10At, row10, position, viewFits, legal, row11At}
+use Rattle.message_format.specs.Messages.{bodyWord, bodyOf, contentsOf, recordsRefusal, headRefusal, messageRefusal}
+use Rattle.place_groups.specs.Placements.{spread, shardValid, groupValidAt, groupValid, groupMovesAt, groupMoves}
+use Rattle.report_views.specs.declared.Termination.{Termination}
+use Rattle.report_views.specs.declared.Phase.{Phase}
+use Rattle.report_views.specs.declared.Phase.the-variants.{Gathering, Ordered, Preparing, Committed}
+use Rattle.report_views.specs.declared.Reason.the-variants.{TooFew}
+use Rattle.report_views.specs.declared.Quorum.the-variants.{Met, Short}
+use Rattle.report_views.specs.Empty.{noView, noTermination, noPlan}
+use Rattle.report_views.specs.Logs.{endOf, reaches, holds, hasUpdate}
+use Rattle.report_views.specs.Reports.{slot, reportOf}
+use Rattle.report_views.specs.Slots.{sameView, row12, sameTermination, row13, termKept, slotOk, slotsOk}
+use Rattle.report_views.specs.Quorums.{candidate, greatest, best, target, able, holder, majority, firstUnheld, quorumOf}
+use Rattle.report_views.specs.Soundness.{layoutTidy, layoutBlank, viewSound, positionSound, termSoundAt, termSound, nothingKept, keptSound, marksSound, planBlank, isMet, shardPlanned, allMoves, planSound, planFits}
+use Rattle.report_kept.specs.Reports.{keptRefusal, refusalBeside, layoutOf, terminationOf, renewed}
+use Rattle.report_desk.specs.Desk.{deskWith}
+use Rattle.report_examples.specs.Kept.{openReport, endedReport, endedAt, view7As}
+use Rattle.report_examples.specs.Sound.{planOfCaseA}
+use Rattle.history_cases.specs.Runs.{caseSettings, desk, view7}
+use Rattle.state_rows.specs.Rows.{entryRows, nodeRefusal}
+use Rattle.state_planner.specs.declared.State.{State}
+use Rattle.state_planner.specs.declared.Answer.{Answer}
+use Rattle.state_planner.specs.States.{sound, ofParts, fresh, holding, keeping, marked, restarted, planned}
+use Rattle.state_planner.specs.Refusing.{entryRefusal, eventRefusal, reportRefusal, dropRefusal, decideRefusal, orderRefusal, fetchedRefusal, preparedRefusal}
+use Rattle.state_planner.specs.Events.{afterReport, droppedIn, afterDrop, afterFetched, afterPrepared, outcome, deskAfter}
+use Rattle.state_planner.specs.declared.Decision.{Decision}
+use Rattle.state_planner.specs.Decide.{still, stateBy, decisionBy, decidedBy}
+use Rattle.state_cases.specs.Start.{gathered}
+
+-- view 7 kept with a termination
+abbrev pub withEnds : Phase → ℕ → ℕ → ℕ → State
+withEnds phase held fetched prepared = ofParts phase view7 (endedAt 7 5 6 2) held fetched prepared planOfCaseA
+
+pub record EventClauses : Type 0 where
+  -- a report's node is held, beside those that were; one that reports again is held once
+  pub report-holds : afterReport caseSettings (gathered view7 33) (contentsOf (openReport 7)) ≡ gathered view7 35
+  pub report-again : afterReport caseSettings (gathered view7 35) (contentsOf (openReport 7)) ≡ gathered view7 35
+  -- what is kept is renewed, and the others remain held
+  pub report-renews :
+      afterReport caseSettings (gathered view7 33) (contentsOf (endedReport 8 7 5))
+      ≡ ofParts Gathering (view7As 8) (endedAt 7 5 6 2) 35 0 0 noPlan
+  -- a drop in gathering: the node is no longer held, and kept view and termination remain
+  pub drop-gathering :
+      afterDrop (ofParts Gathering view7 (endedAt 7 5 6 2) 63 0 0 noPlan) 5 ≡ ofParts Gathering view7 (endedAt 7 5 6 2) 31 0 0 noPlan
+  -- a drop while ordered or preparing: nobody is held, marks and plan go, and kept view and termination remain
+  pub drop-ordered : afterDrop (withEnds Ordered 63 31 0) 5 ≡ ofParts Gathering view7 (endedAt 7 5 6 2) 0 0 0 noPlan
+  pub drop-preparing : afterDrop (withEnds Preparing 63 63 31) 5 ≡ ofParts Gathering view7 (endedAt 7 5 6 2) 0 0 0 noPlan
+  pub drop-committed : afterDrop (withEnds Committed 63 63 63) 5 ≡ withEnds Committed 63 63 63
+  -- a plan leads to ordered, and all else remains; a wait changes nothing
+  pub plan-ordered : planned (ofParts Gathering view7 (endedAt 7 5 6 2) 63 0 0 noPlan) planOfCaseA ≡ withEnds Ordered 63 0 0
+  pub met-plans : decidedBy Met (gathered view7 63) planOfCaseA ≡ still (planned (gathered view7 63) planOfCaseA) Decision.Planned
+  pub short-waits : decidedBy (Short TooFew) (gathered view7 63) planOfCaseA ≡ still (gathered view7 63) (Decision.Wait TooFew)
+  -- the node is marked; with the last held one the next phase follows
+  pub fetched-one : afterFetched (withEnds Ordered 63 15 0) 4 ≡ withEnds Ordered 63 31 0
+  pub fetched-last : afterFetched (withEnds Ordered 63 31 0) 5 ≡ withEnds Preparing 63 63 0
+  pub prepared-one : afterPrepared (withEnds Preparing 63 63 15) 4 ≡ withEnds Preparing 63 63 31
+  pub prepared-last : afterPrepared (withEnds Preparing 63 63 31) 5 ≡ withEnds Committed 63 63 63
+  -- the next state, or beside a refusal the state as it was
+  pub outcome-taken : outcome none fresh (gathered view7 1) ≡ record { state = gathered view7 1; answer = Answer.Accepted }
+  pub outcome-refused : outcome (refused 4) fresh (gathered view7 1) ≡ record { state = fresh; answer = Answer.Refused (refused 4) }
+  -- rows 1 to 4 in their order, then rows 6 and 14
+  pub row-1 : entryRows false false false false ≡ refused 1
+  pub row-2 : entryRows true false false false ≡ refused 2
+  pub row-3 : entryRows true true false false ≡ refused 3
+  pub row-4 : entryRows true true true false ≡ refused 4
+  pub row-none : entryRows true true true true ≡ none
+  pub row-6 : nodeRefusal caseSettings 7 false ≡ refused 6
+  pub row-14 : nodeRefusal caseSettings 6 false ≡ refused 14
+  pub node-none : nodeRefusal caseSettings 6 true ≡ none
+
+pub event-clauses : EventClauses
+unfolding allBelow anyBelow lowest tabulate unless place following bodyWord bodyOf contentsOf layoutOf terminationOf renewed fresh holding keeping marked restarted planned afterReport droppedIn afterFetched afterPrepared outcome stateBy decisionBy nodeRefusal
+event-clauses =
+    record {
+      report-holds = refl;
+      report-again = refl;
+      report-renews = refl;
+      drop-gathering = refl;
+      drop-ordered = refl;
+      drop-preparing = refl;
+      drop-committed = refl;
+      plan-ordered = refl;
+      met-plans = refl;
+      short-waits = refl;
+      fetched-one = refl;
+      fetched-last = refl;
+      prepared-one = refl;
+      prepared-last = refl;
+      outcome-taken = refl;
+      outcome-refused = refl;
+      row-1 = refl;
+      row-2 = refl;
+      row-3 = refl;
+      row-4 = refl;
+      row-none = refl;
+      row-6 = refl;
+      row-14 = refl;
+      node-none = refl;
+    }
+
+-- ---- when an event is refused: sound states of each phase beside case A's desk
+
+abbrev pub orderedA : State
+orderedA = ofParts Ordered view7 noTermination 63 1 0 planOfCaseA
+
+abbrev pub preparingA : State
+preparingA = ofParts Preparing view7 noTermination 63 63 1 planOfCaseA
+
+abbrev pub committedA : State
+committedA = ofParts Committed view7 noTermination 63 63 63 planOfCaseA
+
+pub record RefusalClauses : Type 0 where
+  -- a desk of another length, in every event
+  pub report-desk : reportRefusal caseSettings (gathered view7 63) [] (openReport 7) ≡ refused 1
+  pub drop-desk : dropRefusal caseSettings (gathered view7 63) [] 5 ≡ refused 1
+  pub decide-desk : decideRefusal caseSettings (gathered view7 63) [] ≡ refused 1
+  pub fetched-desk : fetchedRefusal caseSettings orderedA [] 5 ≡ refused 1
+  pub prepared-desk : preparedRefusal caseSettings preparingA [] 5 ≡ refused 1
+  -- a report in gathering only, with the rows of what is kept
+  pub report-taken : reportRefusal caseSettings (gathered view7 63) desk (openReport 7) ≡ none
+  pub report-row-5 : reportRefusal caseSettings (gathered view7 63) desk [] ≡ refused 5
+  pub report-ordered : reportRefusal caseSettings orderedA desk (openReport 7) ≡ refused 4
+  -- the desk has the report in its node's slot, and beside a refusal what it had
+  pub desk-taken : deskAfter caseSettings (gathered view7 63) desk (openReport 7) ≡ deskWith desk 1 (openReport 7)
+  pub desk-refused : deskAfter caseSettings (gathered view7 63) desk [] ≡ desk
+  -- a drop in every phase but committed, of a held node
+  pub drop-taken : dropRefusal caseSettings (gathered view7 63) desk 5 ≡ none
+  pub drop-ordered : dropRefusal caseSettings orderedA desk 5 ≡ none
+  pub drop-preparing : dropRefusal caseSettings preparingA desk 5 ≡ none
+  pub drop-committed : dropRefusal caseSettings committedA desk 5 ≡ refused 4
+  pub drop-absent : dropRefusal caseSettings (gathered view7 63) desk 6 ≡ refused 14
+  -- decide in gathering only
+  pub decide-taken : decideRefusal caseSettings (gathered view7 63) desk ≡ none
+  pub decide-ordered : decideRefusal caseSettings orderedA desk ≡ refused 4
+  -- an order while ordered only, of a held node, into 512 words
+  pub order-taken : orderRefusal caseSettings orderedA desk 5 (replicate 512 0) ≡ none
+  pub order-buffer : orderRefusal caseSettings orderedA desk 5 (replicate 511 0) ≡ refused 1
+  pub order-desk : orderRefusal caseSettings orderedA [] 5 (replicate 512 0) ≡ refused 1
+  pub order-gathering : orderRefusal caseSettings (gathered view7 63) desk 5 (replicate 512 0) ≡ refused 4
+  pub order-preparing : orderRefusal caseSettings preparingA desk 5 (replicate 512 0) ≡ refused 4
+  pub order-absent : orderRefusal caseSettings orderedA desk 6 (replicate 512 0) ≡ refused 14
+  -- fetched while ordered only, of a held node that is not marked
+  pub fetched-taken : fetchedRefusal caseSettings orderedA desk 5 ≡ none
+  pub fetched-gathering : fetchedRefusal caseSettings (gathered view7 63) desk 5 ≡ refused 4
+  pub fetched-preparing : fetchedRefusal caseSettings preparingA desk 5 ≡ refused 4
+  pub fetched-absent : fetchedRefusal caseSettings orderedA desk 6 ≡ refused 14
+  pub fetched-twice : fetchedRefusal caseSettings orderedA desk 0 ≡ refused 14
+  -- prepared while preparing only, of a held node that is not marked
+  pub prepared-taken : preparedRefusal caseSettings preparingA desk 5 ≡ none
+  pub prepared-ordered : preparedRefusal caseSettings orderedA desk 5 ≡ refused 4
+  pub prepared-committed : preparedRefusal caseSettings committedA desk 5 ≡ refused 4
+  pub prepared-absent : preparedRefusal caseSettings preparingA desk 6 ≡ refused 14
+  pub prepared-twice : preparedRefusal caseSettings preparingA desk 0 ≡ refused 14
+
+parts-sound : slotsOk caseSettings view7 noTermination 63 desk ≡ true
+unfolding desk allBelow anyBelow lowest tabulate unless firstOf place following row5 row8 precedes shardsWhere row6 viewOk row7 kindOk plain kindAt shardAt surplus sequenceAt complete shardApart row10At row10 position viewFits legal row11At bodyWord bodyOf contentsOf recordsRefusal headRefusal messageRefusal slot reportOf sameView row12 sameTermination row13 termKept slotOk slotsOk
+parts-sound = refl
+
+kept-is-sound : keptSound caseSettings view7 noTermination 63 ≡ true
+unfolding allBelow viewOk shardApart row10At row10 layoutTidy layoutBlank viewSound termSoundAt termSound nothingKept keptSound
+kept-is-sound = refl
+
+plan-is-sound : planSound caseSettings view7 noTermination 63 desk planOfCaseA ≡ true
+unfolding desk ones onesIn allBelow anyBelow lowest tabulate pairNotAfter sumBelow place following bodyWord bodyOf contentsOf endOf reaches holds hasUpdate slot reportOf candidate greatest best target able holder majority firstUnheld quorumOf spread shardValid shardApart groupValidAt groupValid groupMovesAt groupMoves allMoves layoutTidy isMet shardPlanned planSound
+plan-is-sound = refl
+
+gathered-sound : sound caseSettings (gathered view7 63) desk ≡ true
+unfolding allBelow layoutBlank planBlank marksSound planFits sound
+gathered-sound = and-both (and-both (and-both kept-is-sound parts-sound) refl) refl
+
+ordered-sound : sound caseSettings orderedA desk ≡ true
+unfolding marksSound planFits sound
+ordered-sound = and-both (and-both (and-both kept-is-sound parts-sound) refl) plan-is-sound
+
+preparing-sound : sound caseSettings preparingA desk ≡ true
+unfolding marksSound planFits sound
+preparing-sound = and-both (and-both (and-both kept-is-sound parts-sound) refl) plan-is-sound
+
+committed-sound : sound caseSettings committedA desk ≡ true
+unfolding marksSound planFits sound
+committed-sound = and-both (and-both (and-both kept-is-sound parts-sound) refl) plan-is-sound
+
+pub refusal-clauses : RefusalClauses
+unfolding desk allBelow anyBelow lowest tabulate sizesOk nodesOk shardOk shardsOk settingsOk unless firstOf place following row5 row8 precedes shardsWhere row6 viewOk row7 kindOk plain kindAt shardAt surplus sequenceAt complete shardApart row10At row10 position viewFits legal row11At bodyWord bodyOf contentsOf recordsRefusal headRefusal messageRefusal sameView row12 sameTermination row13 keptRefusal refusalBeside entryRefusal eventRefusal nodeRefusal reportRefusal dropRefusal decideRefusal orderRefusal fetchedRefusal preparedRefusal deskAfter
+refusal-clauses =
+    record {
+      report-desk = refl;
+      drop-desk = refl;
+      decide-desk = refl;
+      fetched-desk = refl;
+      prepared-desk = refl;
+      report-taken = rw gathered-sound;
+      report-row-5 = rw gathered-sound;
+      report-ordered = rw ordered-sound;
+      desk-taken = rw gathered-sound;
+      desk-refused = rw gathered-sound;
+      drop-taken = rw gathered-sound;
+      drop-ordered = rw ordered-sound;
+      drop-preparing = rw preparing-sound;
+      drop-committed = rw committed-sound;
+      drop-absent = rw gathered-sound;
+      decide-taken = rw gathered-sound;
+      decide-ordered = rw ordered-sound;
+      order-taken = rw ordered-sound;
+      order-buffer = rw ordered-sound;
+      order-desk = refl;
+      order-gathering = rw gathered-sound;
+      order-preparing = rw preparing-sound;
+      order-absent = rw ordered-sound;
+      fetched-taken = rw ordered-sound;
+      fetched-gathering = rw gathered-sound;
+      fetched-preparing = rw preparing-sound;
+      fetched-absent = rw ordered-sound;
+      fetched-twice = rw ordered-sound;
+      prepared-taken = rw preparing-sound;
+      prepared-ordered = rw ordered-sound;
+      prepared-committed = rw committed-sound;
+      prepared-absent = rw preparing-sound;
+      prepared-twice = rw preparing-sound;
+    }
