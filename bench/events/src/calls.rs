@@ -9,6 +9,7 @@ use std::hint::black_box;
 #[derive(Clone, Copy, Debug, PartialEq, Eq)]
 pub enum Call {
     Fresh,
+    CheckState,
     Report,
     Drop,
     Decide,
@@ -23,7 +24,8 @@ pub enum Call {
 }
 
 impl Call {
-    pub const EVENTS: [Call; 6] = [
+    pub const EVENTS: [Call; 7] = [
+        Call::CheckState,
         Call::Report,
         Call::Drop,
         Call::Decide,
@@ -50,6 +52,7 @@ impl Call {
     pub fn name(self) -> &'static str {
         match self {
             Call::Fresh => "fresh",
+            Call::CheckState => "check_state",
             Call::Report => "report",
             Call::Drop => "drop",
             Call::Decide => "decide",
@@ -67,7 +70,7 @@ impl Call {
     /// The state that the call meets.
     fn state(self, input: &Input) -> &[u32] {
         match self {
-            Call::Order | Call::Fetched => &input.ordered,
+            Call::CheckState | Call::Order | Call::Fetched => &input.ordered,
             Call::Prepared => &input.preparing,
             _ => &input.gathered,
         }
@@ -139,6 +142,7 @@ impl Ready {
         unsafe {
             match self.call {
                 Call::Fresh => (planner.fresh)(state, t),
+                Call::CheckState => (planner.check_state)(settings, s, state, t, desk, d),
                 Call::Report => (planner.report)(settings, s, state, t, desk, d, given, g),
                 Call::Drop => (planner.drop)(settings, s, state, t, desk, d, node),
                 Call::Decide => (planner.decide)(settings, s, state, t, desk, d),
@@ -166,6 +170,7 @@ pub fn by_reference(call: Call, input: &Input, node: u32) {
     };
     match call {
         Call::Fresh => drop(black_box(reference::state::fresh())),
+        Call::CheckState => drop(black_box(events::check(settings, state, desk))),
         Call::Report => drop(black_box(events::report(settings, state, desk, given))),
         Call::Drop => drop(black_box(events::drop_node(settings, state, desk, node))),
         Call::Decide => drop(black_box(events::decide(settings, state, desk))),

@@ -121,7 +121,7 @@ fn whole_restart(medians: &[(Call, f64, f64)]) -> (f64, f64) {
     let (mut own, mut reference) = (0.0, 0.0);
     for &(call, a, b) in medians {
         let times = match call {
-            Call::Drop => 0.0,
+            Call::CheckState | Call::Drop => 0.0,
             Call::Decide => 1.0,
             _ => f64::from(FULL.nodes),
         };

@@ -1,9 +1,10 @@
 -- A row for each clause of the settings' row, of the message rows and of the words that the writer makes: with the clause left out or turned
 -- round the row would be false. What a row guards is its name; settings, report and order are those of Examples but for what it changes.
-use Prim.Native.Nat.{ℕ}
-use mathlib.Core.Bool.{true, false}
+use Prim.Native.Nat.{ℕ, _+_, _/_, _%_}
+use mathlib.Core.Bool.{true, false, cond}
 use mathlib.Core.List.{List, [], _∷_, _++_}
 use mathlib.Core.Path.{_≡_, refl}
+use lib.Dec.{eqb}
 use lib.ListN.{replicate}
 use Rattle.base_laws.specs.Below.{allBelow, anyBelow, lowest}
 use Rattle.base_laws.specs.Tables.{tabulate}
@@ -16,7 +17,7 @@ use Rattle.message_format.specs.Chain.{place, following, row5, row8}
 use Rattle.message_format.specs.Records.{precedes, shardsWhere}
 use Rattle.message_format.specs.Rows.{row6, viewOk, row7, kindOk, plain, kindAt, shardAt, surplus, sequenceAt, complete, shardApart, row10At, row10, position, viewFits, legal, row11At}
 use Rattle.message_format.specs.Messages.{bodyWord, bodyOf, contentsOf, recordsRefusal, headRefusal, messageRefusal, contentsRefusal, readRefusal, blank, readingOf, writeRefusal, tidy, headWord, recordWord, messageWord, messageOf, bufferAfter, writingOf}
-use Rattle.message_examples.specs.Examples.{exampleSettings, message, maskRecords, exampleReport, order}
+use Rattle.message_examples.specs.Examples.{exampleSettings, message, maskRecords, exampleReport}
 
 -- settings of one node, one failure set and one shard, with words changed
 abbrev pub smallSettings : ℕ → ℕ → ℕ → ℕ → ℕ → List ℕ → List ℕ
@@ -245,6 +246,17 @@ exampleContents node len =
       body = 256 ∷ 5 ∷ 0 ∷ 257 ∷ 82 ∷ 0 ∷ 258 ∷ 32 ∷ 0 ∷ 769 ∷ 7 ∷ 5 ∷ replicate 369 0;
     }
 
+-- contents of 127 records: the masks, and runs of shard 2 in views 1 to 124
+abbrev pub fullContents : Contents
+fullContents =
+    record {
+      node = record { 0 = 1 };
+      view = record { 0 = 124 };
+      members = 127;
+      len = 127;
+      body = 256 ∷ 5 ∷ 0 ∷ 257 ∷ 82 ∷ 0 ∷ 258 ∷ 32 ∷ 0 ∷ tabulate 372 (λ k. cond (eqb (k % 3) 0) 770 (cond (eqb (k % 3) 1) (k / 3 + 1) 1));
+    }
+
 pub record WriterClauses : Type 0 where
   -- what a message says, records off the chain left out
   pub says : contentsOf exampleReport ≡ exampleContents 1 4
@@ -270,6 +282,7 @@ pub record WriterClauses : Type 0 where
   -- rows 1, 2 and 5 in their order
   pub buffer : writeRefusal Report [] (exampleContents 7 4) (replicate 511 0) ≡ refused 1
   pub settings : writeRefusal Report [] (exampleContents 7 4) (replicate 512 0) ≡ refused 2
+  pub most-records : contentsRefusal Report exampleSettings fullContents ≡ none
   pub too-long : writeRefusal Report exampleSettings (exampleContents 7 128) (replicate 512 0) ≡ refused 5
 
 pub writer-clauses : WriterClauses
@@ -288,5 +301,6 @@ writer-clauses =
       unchanged = refl;
       buffer = refl;
       settings = refl;
+      most-records = refl;
       too-long = refl;
     }

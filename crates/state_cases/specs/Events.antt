@@ -1,8 +1,8 @@
 -- A row for each clause of what the events lead to and when they are refused: with the clause left out or turned round the row would be
 -- false.
 use Prim.Native.Nat.{ℕ}
-use mathlib.Core.Bool.{Bool, true, false}
-use mathlib.Core.List.{List, []}
+use mathlib.Core.Bool.{true, false}
+use mathlib.Core.List.{[]}
 use mathlib.Core.Path.{_≡_, refl}
 use lib.Count.{ones, onesIn}
 use lib.ListN.{replicate}
@@ -12,24 +12,22 @@ use Rattle.base_laws.specs.Positions.{pairNotAfter}
 use Rattle.base_laws.specs.Tables.{tabulate}
 use Rattle.base_sums.specs.Sums.{sumBelow}
 use Rattle.settings_values.specs.Settings.{sizesOk, nodesOk, shardOk, shardsOk, settingsOk}
-use Rattle.base_ids.specs.declared.Refusal.{Refusal}
 use Rattle.base_ids.specs.Refusals.{none, refused, unless, firstOf}
 use Rattle.message_format.specs.Chain.{place, following, row5, row8}
 use Rattle.message_format.specs.Records.{precedes, shardsWhere}
 use Rattle.message_format.specs.Rows.{row6, viewOk, row7, kindOk, plain, kindAt, shardAt, surplus, sequenceAt, complete, shardApart, row10At, row10, position, viewFits, legal, row11At}
 use Rattle.message_format.specs.Messages.{bodyWord, bodyOf, contentsOf, recordsRefusal, headRefusal, messageRefusal}
 use Rattle.place_groups.specs.Placements.{spread, shardValid, groupValidAt, groupValid, groupMovesAt, groupMoves}
-use Rattle.report_views.specs.declared.Termination.{Termination}
 use Rattle.report_views.specs.declared.Phase.{Phase}
 use Rattle.report_views.specs.declared.Phase.the-variants.{Gathering, Ordered, Preparing, Committed}
 use Rattle.report_views.specs.declared.Reason.the-variants.{TooFew}
 use Rattle.report_views.specs.declared.Quorum.the-variants.{Met, Short}
-use Rattle.report_views.specs.Empty.{noView, noTermination, noPlan}
+use Rattle.report_views.specs.Empty.{noTermination, noPlan}
 use Rattle.report_views.specs.Logs.{endOf, reaches, holds, hasUpdate}
 use Rattle.report_views.specs.Reports.{slot, reportOf}
 use Rattle.report_views.specs.Slots.{sameView, row12, sameTermination, row13, termKept, slotOk, slotsOk}
 use Rattle.report_views.specs.Quorums.{candidate, greatest, best, target, able, holder, majority, firstUnheld, quorumOf}
-use Rattle.report_views.specs.Soundness.{layoutTidy, layoutBlank, viewSound, positionSound, termSoundAt, termSound, nothingKept, keptSound, marksSound, planBlank, isMet, shardPlanned, allMoves, planSound, planFits}
+use Rattle.report_views.specs.Soundness.{layoutTidy, layoutBlank, viewSound, termSoundAt, termSound, nothingKept, keptSound, marksSound, planBlank, isMet, shardPlanned, allMoves, planSound, planFits}
 use Rattle.report_kept.specs.Reports.{keptRefusal, refusalBeside, layoutOf, terminationOf, renewed}
 use Rattle.report_desk.specs.Desk.{deskWith}
 use Rattle.report_examples.specs.Kept.{openReport, endedReport, endedAt, view7As}
