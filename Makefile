@@ -67,6 +67,7 @@ SONUMBER := 0
 SHARED := librestart.so.$(VERSION)
 ARCHIVE ?= target/staticlib/libc_planner.a
 PROGRAM ?= target/bin/restart
+MONDAYS ?= target/bin/mondays
 SOURCES := crates.txt $(shell find crates -name '*.rt' -o -name '*.antt')
 CFLAGS ?= -O2
 CHECKED := -std=c11 -Wall -Wextra -Werror -pedantic
@@ -79,8 +80,8 @@ target/staticlib/libc_planner.a: $(SOURCES)
 	rt staticlib c_planner
 	touch $@
 
-target/bin/restart: $(SOURCES)
-	@python3 tests/prove.py restart
+target/bin/restart target/bin/mondays: $(SOURCES)
+	@python3 tests/prove.py $(@F)
 	touch $@
 
 # Versions, texts and exported small functions, in plain C.
@@ -106,7 +107,7 @@ target/c/service: examples/service.c include/restart.h target/librestart.a
 	mkdir -p $(@D)
 	$(CC) $(CHECKED) $(CFLAGS) -Iinclude $(LDFLAGS) -o $@ examples/service.c target/librestart.a
 
-test-c: lib $(PROGRAM)
+test-c: lib $(PROGRAM) $(MONDAYS)
 	@sh tests/c/run.sh
 
 # ---- Installation
@@ -121,9 +122,9 @@ PKGCONFIGDIR := $(LIBDIR)/pkgconfig
 CMAKEDIR := $(LIBDIR)/cmake/restart
 # The functions that the header declares: each has a manual page of its own name.
 CALLS := $(shell sh c/names.sh)
-EXAMPLES := service.c settings.bin events.txt output.txt
+EXAMPLES := service.c settings.bin events.txt output.txt moves.bin moves.txt
 REPORTS := $(notdir $(wildcard examples/reports/*.bin))
-PAGES_1 := restart.1 restart-service.1
+PAGES_1 := restart.1 restart-service.1 mondays.1
 PAGES_7 := restart.7 restart-model.7
 CONFIGS := restart-config.cmake restart-config-version.cmake
 TO := $(DESTDIR)
@@ -139,10 +140,11 @@ $(MADE): target/%: c/%.in
 	    -e 's|@VERSION@|$(VERSION)|; s|@SONUMBER@|$(SONUMBER)|' $< > $@
 
 .PHONY: $(MADE)
-install: lib target/c/service $(MADE) $(PROGRAM)
+install: lib target/c/service $(MADE) $(PROGRAM) $(MONDAYS)
 	install -d $(TO)$(BINDIR) $(TO)$(INCLUDEDIR) $(TO)$(PKGCONFIGDIR) $(TO)$(CMAKEDIR) $(TO)$(EXAMPLEDIR)/reports
 	install -d $(TO)$(MANDIR)/man1 $(TO)$(MANDIR)/man3 $(TO)$(MANDIR)/man7
 	install -m 755 $(PROGRAM) $(TO)$(BINDIR)/restart
+	install -m 755 $(MONDAYS) $(TO)$(BINDIR)/mondays
 	install -m 755 target/c/service $(TO)$(BINDIR)/restart-service
 	install -m 644 include/restart.h $(TO)$(INCLUDEDIR)
 	install -m 644 target/librestart.a $(TO)$(LIBDIR)

@@ -1,8 +1,9 @@
-"""Measure the library and write docs/PERFORMANCE.md: performance.py [mock].
+"""Measure the library and write docs/PERFORMANCE.md: performance.py [mock | mondays].
 
-Times of every call beside the reference's, instructions by callgrind, stack by painting, and the placement beside LEMON's
-network simplex. With `mock` the reference stands in for the library, the placement is left out and the page goes to
-target/performance.md. It needs valgrind and, for the placement, LEMON (Debian: liblemon-dev)."""
+Times of every call beside the reference's, instructions by callgrind, stack by painting, the placement beside LEMON's network
+simplex, and the program mondays beside a plain C program. With `mock` the reference stands in for the library and for mondays, the
+placement is left out and the page goes to target/performance.md; with `mondays` that section alone is measured and written anew. It
+needs valgrind and, for the placement, LEMON (Debian: liblemon-dev)."""
 import os
 import re
 import subprocess
@@ -28,7 +29,8 @@ def build(mock):
         for name in ("c_planner", "c_placement"):
             subprocess.run(["rt", "staticlib", name], cwd=ROOT, env=ENVIRONMENT, check=True, stdout=subprocess.DEVNULL)
     features = ["--features", "mock"] if mock else []
-    said("cargo", "build", "--release", "--offline", "--quiet", "--manifest-path", "bench/events/Cargo.toml", *features)
+    for folder, more in (("bench/events", features), ("reference", [])):
+        said("cargo", "build", "--release", "--offline", "--quiet", "--manifest-path", folder + "/Cargo.toml", *more)
 
 
 def instructions(inputs):
@@ -57,6 +59,13 @@ def placement():
     differ = sum(int(row.group(10)) for row in rows)
     lines.append("\nThe greatest ratio on a single instance is %.2f; %d answers differ." % (slowest, differ))
     return "\n".join(lines)
+
+
+def mondays(mock):
+    """The table of bench/mondays/times.py and the sentence after it."""
+    standing_in = ["MONDAYS=" + os.path.join(CARGO, "release", "mondays-reference"), "LINES=100000"]
+    lines = said("make", "--no-print-directory", "-C", "bench", "mondays", *(standing_in if mock else []))
+    return lines[lines.index("| moves |") :].strip()
 
 
 def needs():
@@ -96,7 +105,20 @@ Of one call at full size, counted by callgrind over {counted} of the inputs.
 
 Deepest stack of a call at full size, over {stacks} inputs: the call is made on a thread whose stack was painted before. {needs}
 
-{stack}{placement}"""
+{stack}{placement}{mondays}"""
+
+MONDAYS = """
+### Mondays
+
+The program `mondays` beside a plain C program with a running sum, a queue of falling moves and digits of its own
+(`bench/mondays/mondays.c`, gcc -O3), from the same file to nowhere; seconds. The last column is the ratio by the processor's time,
+which other work on the machine disturbs less.{apart}
+
+{table}
+"""
+
+# Of a section that was measured without the others.
+APART = " Measured apart from the rest of this page, on\n{machine}"
 
 PLACEMENT = """
 ### Placement
@@ -110,9 +132,18 @@ graph building included) on the same seeded instances; microseconds. `bench/READ
 
 def main():
     mock = "mock" in sys.argv[1:]
+    path = os.path.join(TARGET, "performance.md") if mock else os.path.join(ROOT, "docs", "PERFORMANCE.md")
+    page = with_mondays(path) if "mondays" in sys.argv[1:] else whole(mock)
+    with open(path, "w") as out:
+        out.write(page)
+    print("written: %s" % os.path.relpath(path, ROOT))
+
+
+def whole(mock):
+    """The page, all of it measured."""
     count, stacks, counted_inputs = (4, 2, 1) if mock else (40, 20, 4)
     build(mock)
-    page = PAGE.format(
+    return PAGE.format(
         machine=machine(),
         count=count,
         stacks=stacks,
@@ -122,11 +153,16 @@ def main():
         stack=said(BENCH, "stack", str(stacks)),
         needs="" if mock else needs(),
         placement="" if mock else PLACEMENT.format(table=placement()),
+        mondays=MONDAYS.format(apart="", table=mondays(mock)),
     )
-    path = os.path.join(TARGET, "performance.md") if mock else os.path.join(ROOT, "docs", "PERFORMANCE.md")
-    with open(path, "w") as out:
-        out.write(page)
-    print("written: %s" % os.path.relpath(path, ROOT))
+
+
+def with_mondays(path):
+    """The page as it stands, with the section of the program mondays measured anew."""
+    with open(path) as file:
+        page = file.read()
+    section = re.compile(r"\n### Mondays\n.*?(?=\n### |\Z)", re.S)
+    return section.sub("", page) + MONDAYS.format(apart=APART.format(machine=machine()), table=mondays(False))
 
 
 main()

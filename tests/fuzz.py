@@ -1,8 +1,8 @@
 """Run the comparisons with fresh seeds until the time is over: fuzz.py SECONDS [mock].
 
-A round is one call of each program: messages, events and runs. The first that finds a difference has printed its input and how
-to make it again, and ends all. With `mock` the reference stands in for the library and for `restart`. The last line is
-`N passed, M failed`, counted by rounds of a program."""
+A round is one call of each program: messages, events, runs and mondays. The first that finds a difference has printed its input and how
+to make it again, and ends all. With `mock` the reference stands in for the library, `restart` and `mondays`. The last line
+is `N passed, M failed`, counted by rounds of a program."""
 import os
 import secrets
 import subprocess
@@ -24,10 +24,10 @@ def build(mock):
     release = os.path.join(CARGO, "release")
     if mock:
         commands = [cargo("reference"), cargo("tests", "--bins", "--features", "mock")]
-        restart = os.path.join(release, "restart-reference")
+        restart, mondays = os.path.join(release, "restart-reference"), os.path.join(release, "mondays-reference")
     else:
-        commands = [["rt", "staticlib", "c_planner"], ["rt", "check", "restart"], cargo("tests", "--bins")]
-        restart = os.path.join(TARGET, "bin", "restart")
+        commands = [["rt", "staticlib", "c_planner"], ["rt", "check", "restart", "mondays"], cargo("tests", "--bins")]
+        restart, mondays = os.path.join(TARGET, "bin", "restart"), os.path.join(TARGET, "bin", "mondays")
     for command in commands:
         done = subprocess.run(command, cwd=ROOT, env=ENVIRONMENT, stdout=subprocess.PIPE, stderr=subprocess.STDOUT, text=True, errors="replace")
         if done.returncode != 0:
@@ -36,6 +36,7 @@ def build(mock):
         ([os.path.join(release, "messages")], "9000"),
         ([os.path.join(release, "events")], "200"),
         ([os.path.join(release, "runs"), restart], "300"),
+        ([os.path.join(release, "mondays"), mondays], "200"),
     ]
 
 

@@ -46,11 +46,12 @@ THEN = [
     ("tests of the comparison itself", cargo("tests", "test", "--release", "--features", "mock"), None),
     (PLACEMENT, ["rt", "staticlib", "c_placement"], LIBRARY),
     ("the program restart against the reference", cargo("tests", "run", "--release", "--bin", "runs", "--", "target/bin/restart", "1", "20000"), LIBRARY),
+    ("the program mondays against the reference", cargo("tests", "run", "--release", "--bin", "mondays", "--", "target/bin/mondays", "1"), LIBRARY),
     ("settings and messages against the reference", cargo("tests", "run", "--release", "--bin", "messages"), LIBRARY),
     ("events against the reference", cargo("tests", "run", "--release", "--bin", "events"), LIBRARY),
     ("placements against the reference", cargo("tests/placement", "run", "--release"), PLACEMENT),
     ("cases and numbers of the program restart", ["python3", "tests/cases.py"], None),
-    ("texts and explanations for operators", ["python3", "tools/tests/run.py", "target/bin/restart"], None),
+    ("texts and explanations for operators", ["python3", "tools/tests/run.py", "target/bin/restart", "target/bin/mondays"], None),
     ("the library from C", ["make", "--no-print-directory", "test-c"], LIBRARY),
     ("the total search is never entered", ["make", "--no-print-directory", "-C", "bench", "fallback"], PLACEMENT),
 ]

@@ -18,6 +18,7 @@
 //! - `soundness`: when a state is sound
 //! - `events`: report, drop, decide, order, fetched and prepared
 //! - `program`: what the program `restart` prints
+//! - `mondays`: what the program `mondays` prints
 
 #![forbid(unsafe_code)]
 
@@ -29,6 +30,7 @@ pub mod flow;
 pub mod log;
 pub mod mask;
 pub mod message;
+pub mod mondays;
 pub mod number;
 pub mod placement;
 pub mod program;

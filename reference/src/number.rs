@@ -32,6 +32,10 @@ pub const OTHER_MASKS: Number = Number(12);
 pub const OTHER_TERMINATION: Number = Number(13);
 /// Row 14: a node that is not held, or is marked already.
 pub const NOT_HELD: Number = Number(14);
+/// Request Thirteen: a line of the moves file out of sequence or cut short.
+pub const LINE: Number = Number(24);
+/// Request Thirteen: more moves than a restart has.
+pub const MOVES: Number = Number(25);
 
 /// Refuses with `number` if the row's condition `bad` holds.
 pub fn refuse_if(bad: bool, number: Number) -> Result<(), Number> {

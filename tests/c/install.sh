@@ -22,14 +22,14 @@ check() { # WHAT COMMAND ..
 
 # What must stand under the prefix.
 names() {
-    echo bin/restart bin/restart-service include/restart.h lib/librestart.a lib/pkgconfig/restart.pc
+    echo bin/restart bin/mondays bin/restart-service include/restart.h lib/librestart.a lib/pkgconfig/restart.pc
     echo "lib/librestart.so lib/librestart.so.0 lib/librestart.so.$version"
     echo lib/cmake/restart/restart-config.cmake lib/cmake/restart/restart-config-version.cmake
-    echo share/man/man1/restart.1 share/man/man1/restart-service.1 share/man/man3/restart.3
+    echo share/man/man1/restart.1 share/man/man1/restart-service.1 share/man/man1/mondays.1 share/man/man3/restart.3
     echo share/man/man7/restart.7 share/man/man7/restart-model.7
     sh c/names.sh | sed 's|.*|share/man/man3/&.3|'
     for report in examples/reports/*.bin; do echo "share/restart/example/reports/${report##*/}"; done
-    for name in service.c settings.bin events.txt output.txt; do echo "share/restart/example/$name"; done
+    for name in service.c settings.bin events.txt output.txt moves.bin moves.txt; do echo "share/restart/example/$name"; done
 }
 
 all_there() { # FOLDER
@@ -150,6 +150,10 @@ installed_tool() { # PREFIX-FOLDER
     test $? = 1 && grep -q '^Switch on machines rack1-a, rack1-c and rack3-a' "$room/printed"
 }
 
+installed_mondays() { # PREFIX-FOLDER
+    cd "$1/share/restart/example" && "$1/bin/mondays" <moves.bin >"$room/printed" && test -s moves.txt && diff moves.txt "$room/printed"
+}
+
 version_is() { # VERSION LIBRARY-FOLDER
     test "$(PKG_CONFIG_PATH=$2/pkgconfig pkg-config --modversion restart)" = "$1"
 }
@@ -165,7 +169,8 @@ try() { # DESTDIR PREFIX CHECK
     check "a C++ program" outside g++ c++17 "$1$2/lib" ""
     check "the version" version_is "$version" "$1$2/lib"
     check "the example" installed_example "$1$2"
-    check "the program" installed_program "$1$2"
+    check "the program restart" installed_program "$1$2"
+    check "the program mondays" installed_mondays "$1$2"
     check "the tool" installed_tool "$1$2"
     check "a manual page" groff -t -man -Tutf8 -ww "$1$2/share/man/man3/restart_decide.3"
     "$3" "$1$2"

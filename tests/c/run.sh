@@ -101,7 +101,7 @@ other_folders() {
 # The example's files are those that its text makes.
 files_made() {
     rm -rf $out/made && python3 examples/make_reports.py $out/made && cmp examples/settings.bin $out/made/settings.bin &&
-        diff -r examples/reports $out/made/reports
+        diff -r examples/reports $out/made/reports && python3 examples/make_moves.py $out/made && cmp examples/moves.bin $out/made/moves.bin
 }
 
 # The library defines what the header declares and nothing else, the proved object the proved calls and nothing else.

@@ -17,16 +17,24 @@
 //! - `situations`, `tally`: what the sequences came to, and how often
 //! - `regressions`, `recorder`: stored sequences of calls, read and written
 //! - `runs`: whole runs of the program `restart`
+//! - `moves`: moves files, the inputs of the program `mondays`
+//! - `feeding`: ways to give a program its input
+//! - `failing`: reads and writes of `mondays` that fail
+//! - `mondays`: the comparison of `mondays` with the reference
 
 pub mod calls;
 pub mod damage;
 pub mod events;
 pub mod expected;
+pub mod failing;
+pub mod feeding;
 pub mod generate;
 pub mod lent;
 pub mod library;
 pub mod messages;
 pub mod mock;
+pub mod mondays;
+pub mod moves;
 pub mod random;
 pub mod recorder;
 pub mod regressions;

@@ -3,7 +3,7 @@ import argparse
 import sys
 
 from .answers import BadAnswer
-from .commands import diff, draw, explain, join, page, split, text, watch, words
+from .commands import diff, draw, explain, join, page, split, text, watch, windows, words
 from .files import Trouble, Unfit
 from .lines import BadText
 from .model import Refused
@@ -20,6 +20,7 @@ COMMANDS = [
     ("page", page, "write drawing, table and explanation as one file of HTML"),
     ("watch", watch, "explain anew whenever a report appears in a folder"),
     ("diff", diff, "compare two answers"),
+    ("windows", windows, "draw the windows that mondays prints for a moves file, as SVG"),
 ]
 STATUSES = "Exit status: 0 a plan, or done; 1 a wait (diff: the answers differ); 2 a refusal; 3 anything else."
 

@@ -12,15 +12,15 @@ COMMAND = os.path.join(ROOT, "tools", "restart-text")
 from restart_text import inputs
 from restart_text.command import main
 
-BUILT = ["target/bin/restart", "target/cargo/release/restart-reference", "reference/target/release/restart-reference"]
+BUILT = ["target/bin/%s", "target/cargo/release/%s-reference", "reference/target/release/%s-reference"]
 
 
-def program():
-    """The program under test: named by RESTART_PROGRAM, else the first that has been built."""
-    named = os.environ.get("RESTART_PROGRAM")
-    found = [named] if named else [path for path in (os.path.join(ROOT, name) for name in BUILT) if os.path.exists(path)]
+def program(name="restart"):
+    """The program under test: named by RESTART_PROGRAM or MONDAYS_PROGRAM, else the first that has been built."""
+    named = os.environ.get(name.upper() + "_PROGRAM")
+    found = [named] if named else [path for path in (os.path.join(ROOT, place % name) for place in BUILT) if os.path.exists(path)]
     if not found:
-        sys.exit("no program to test: name one, as in tools/tests/run.py target/bin/restart")
+        sys.exit("no program to test: name both, as in tools/tests/run.py target/bin/restart target/bin/mondays")
     return os.path.abspath(found[0])
 
 

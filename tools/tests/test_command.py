@@ -85,7 +85,7 @@ class Readme(unittest.TestCase):
             for name in ("tools", "examples"):
                 os.symlink(os.path.join(support.ROOT, name), os.path.join(folder, name))
             for line, printed in shown:
-                done = subprocess.run(["bash", "-c", line], cwd=folder, env=dict(os.environ, RESTART=support.program()),
+                done = subprocess.run(["bash", "-c", line], cwd=folder, env=dict(os.environ, RESTART=support.program(), MONDAYS=support.program("mondays")),
                                       capture_output=True, text=True, check=False)
                 self.assertEqual((done.returncode, done.stderr), (0, ""), line)
                 self.assertEqual(done.stdout, re.sub("^    ", "", printed, flags=re.M), line)

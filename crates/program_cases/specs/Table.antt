@@ -35,7 +35,8 @@ use Rattle.state_cases.specs.Start.{gathered}
 use Rattle.state_cases.specs.PlanA.{PlanOfA as PlanA}
 use Rattle.state_cases.specs.Table.{table as decided}
 use Rattle.program_blocks.specs.Inputs.{inputOf, fits, allFit, blocks-input}
-use Rattle.program_lines.specs.Text.{digitsBy, decimal, field, line, member, membersBelow}
+use Rattle.program_text.specs.Text.{digitsBy, decimal, field, line}
+use Rattle.program_lines.specs.Members.{member, membersBelow}
 use Rattle.program_lines.specs.Lines.{viewLabel, movesLabel, waitFor, waitLine, shardLine, carriers, shardText, shard-text, shardLines, planLines}
 use Rattle.program_decision.specs.Decisions.{decisionText}
 use Rattle.program_run.specs.Runs.{Progress, Underway, atStart, after, Prints, Printed}

@@ -9,8 +9,9 @@ use Rattle.report_views.specs.declared.Plan.{Plan}
 use Rattle.report_views.specs.declared.Reason.{Reason}
 use Rattle.state_planner.specs.declared.Decision.{Decision}
 use Rattle.state_planner.specs.declared.Decision.the-variants.{Planned, Wait, Refused}
-use Rattle.program_lines.specs.Lines.{numberLine, waitLine, planLines, number-length, wait-length, plan-length}
-use Rattle.program_lines.specs.Puts.{Puts}
+use Rattle.program_text.specs.Text.{numberLine}
+use Rattle.program_lines.specs.Lines.{waitLine, planLines, number-length, wait-length, plan-length}
+use Rattle.program_text.specs.Puts.{Puts}
 
 -- the text of a decision, whose plan stands beside it
 unfoldable pub decisionText : List ℕ → Decision → Plan → List ℕ

@@ -1,4 +1,3 @@
--- What a run prints, and text put into lent bytes.
-pub mod Text
+-- What a run prints.
+pub mod Members
 pub mod Lines
-pub mod Puts

@@ -13,17 +13,14 @@ use Rattle.report_views.specs.declared.Reason.{Reason}
 use Rattle.report_views.specs.declared.Reason.the-variants.{NoView, NoMajority, TooFew, NoHolder, NoPlacement}
 use Rattle.report_views.specs.Reports.{holderAt, targetAt}
 use Rattle.report_views.specs.Quorums.{numberOf, valueOf}
-use Rattle.program_lines.specs.Text.{field, line, membersBelow, field-length, line-length, members-length}
+use Rattle.program_text.specs.Text.{field, line, numberLabel, numberLine, field-length, line-length}
+use Rattle.program_lines.specs.Members.{membersBelow, members-length}
 
 abbrev pub newline : List ℕ
 newline = 10 ∷ []
 
 abbrev pub space : List ℕ
 space = 32 ∷ []
-
--- "number "
-abbrev pub numberLabel : List ℕ
-numberLabel = 110 ∷ 117 ∷ 109 ∷ 98 ∷ 101 ∷ 114 ∷ 32 ∷ []
 
 -- "wait "
 abbrev pub waitLabel : List ℕ
@@ -52,10 +49,6 @@ targetLabel = 32 ∷ 116 ∷ 97 ∷ 114 ∷ 103 ∷ 101 ∷ 116 ∷ 32 ∷ []
 -- " members"
 abbrev pub membersLabel : List ℕ
 membersLabel = 32 ∷ 109 ∷ 101 ∷ 109 ∷ 98 ∷ 101 ∷ 114 ∷ 115 ∷ []
-
--- number n
-unfoldable pub numberLine : Refusal → List ℕ
-numberLine r = line numberLabel (r .number)
 
 -- wait r v
 unfoldable pub waitFor : ℕ → ℕ → List ℕ

@@ -6,80 +6,22 @@ use base_ids::Refusal;
 use base_ids::Shard;
 use report_views::Plan;
 use report_views::Reason;
-ghost use mathlib.Core.List.{[], _∷_, _++_};
-ghost use mathlib.Core.Path.{_≡_};
-ghost use Prim.Native.Nat.{_+_, _≤_, _<_};
+ghost use mathlib.Core.List.{_++_};
+ghost use Prim.Native.Nat.{_≤_, _<_};
 ghost use lib.ListN.{length};
-ghost use Rattle.program_lines.specs.Text.{decimal, member, membersBelow};
-ghost use Rattle.program_lines.specs.Text.{field as Text·field, line as Text·line};
+ghost use Rattle.program_text.specs.Text.{numberLine};
+ghost use Rattle.program_text.specs.Text.{field as Text·field, line as Text·line};
+ghost use Rattle.program_text.specs.Puts.{Puts};
+ghost use Rattle.program_lines.specs.Members.{member, membersBelow};
 ghost use Rattle.program_lines.specs.Lines as Lines;
-ghost use Rattle.program_lines.specs.Puts.{Puts};
-
-fn put_byte(out: &mut [u8], at: usize, byte: u8) -> usize
-    requires { ⌜ at ≤ length (now out) ⌝ }
-    ensures { λ r. ⌜ Puts (now (out .entry)) at (byte ∷ []) (now (out .exit)) r ⌝ }
-{
-    if at < out.len() {
-        out[at] = byte;
-        return at + 1;
-    }
-    at
-}
-
-fn put_text(out: &mut [u8], at: usize, text: &[u8]) -> usize
-    requires { ⌜ at ≤ length (now out) ⌝ }
-    ensures { λ r. ⌜ Puts (now (out .entry)) at (now (text .entry)) (now (out .exit)) r ⌝ }
-{
-    let mut next = at;
-    let mut i = 0;
-    while i < text.len() {
-        next = put_byte(out, next, text[i]);
-        i += 1;
-    }
-    next
-}
-
-// A digit as text.
-fn digit(n: u32) -> u8
-    requires { ⌜ n < 10 ⌝ }
-    ensures { λ r. ⌜ r ≡ 48 + n ⌝ }
-{
-    48 + n as u8
-}
-
-// The digits are stored from the last one on, then put.
-fn put_decimal(out: &mut [u8], at: usize, n: u32) -> usize
-    requires { ⌜ at ≤ length (now out) ⌝ }
-    ensures { λ r. ⌜ Puts (now (out .entry)) at (decimal n) (now (out .exit)) r ⌝ }
-{
-    let mut digits = [0u8; 10];
-    let mut first = 9;
-    let mut left = n / 10;
-    digits[9] = digit(n % 10);
-    while left > 0 {
-        first -= 1;
-        digits[first] = digit(left % 10);
-        left /= 10;
-    }
-    put_text(out, at, &digits[first..10])
-}
-
-// A label and a number.
-fn put_field(out: &mut [u8], at: usize, label: &[u8], n: u32) -> usize
-    requires { ⌜ at ≤ length (now out) ⌝ }
-    ensures { λ r. ⌜ Puts (now (out .entry)) at (Text·field (now (label .entry)) n) (now (out .exit)) r ⌝ }
-{
-    let next = put_text(out, at, label);
-    put_decimal(out, next, n)
-}
 
 // Two labels, each with its number.
 fn put_fields(out: &mut [u8], at: usize, label: &[u8], n: u32, second: &[u8], m: u32) -> usize
     requires { ⌜ at ≤ length (now out) ⌝ }
     ensures { λ r. ⌜ Puts (now (out .entry)) at (Text·field (now (label .entry)) n ++ Text·field (now (second .entry)) m) (now (out .exit)) r ⌝ }
 {
-    let next = put_field(out, at, label, n);
-    put_field(out, next, second, m)
+    let next = program_text::put_field(out, at, label, n);
+    program_text::put_field(out, next, second, m)
 }
 
 // A node of a mask.
@@ -89,7 +31,7 @@ fn put_member(out: &mut [u8], at: usize, mask: u32, n: usize) -> usize
     ensures { λ r. ⌜ Puts (now (out .entry)) at (member mask n) (now (out .exit)) r ⌝ }
 {
     if base_masks::has(mask, n) {
-        return put_field(out, at, b" ", n as u32);
+        return program_text::put_field(out, at, b" ", n as u32);
     }
     at
 }
@@ -113,9 +55,9 @@ fn put_carriers(out: &mut [u8], at: usize, mask: u32) -> usize
     requires { ⌜ at ≤ length (now out) ⌝ }
     ensures { λ r. ⌜ Puts (now (out .entry)) at (Lines.carriers mask) (now (out .exit)) r ⌝ }
 {
-    let label = put_text(out, at, b" members");
+    let label = program_text::put_text(out, at, b" members");
     let members = put_members(out, label, mask);
-    put_byte(out, members, b'\n')
+    program_text::put_byte(out, members, b'\n')
 }
 
 // The line of a shard by its holder, target and mask.
@@ -168,15 +110,6 @@ fn put_shards(out: &mut [u8], at: usize, plan: Plan, n: usize) -> usize
     next
 }
 
-// A line of a label and a number.
-fn put_line(out: &mut [u8], at: usize, label: &[u8], n: u32) -> usize
-    requires { ⌜ at ≤ length (now out) ⌝ }
-    ensures { λ r. ⌜ Puts (now (out .entry)) at (Text·line (now (label .entry)) n) (now (out .exit)) r ⌝ }
-{
-    let next = put_field(out, at, label, n);
-    put_byte(out, next, b'\n')
-}
-
 // The lines of a plan of n shards.
 pub fn plan_lines(out: &mut [u8], plan: Plan, n: usize) -> usize
     requires { ⌜ n ≤ 16 ⌝ }
@@ -184,30 +117,30 @@ pub fn plan_lines(out: &mut [u8], plan: Plan, n: usize) -> usize
 {
     let layout = plan.layout;
     let number = layout.number;
-    let view = put_line(out, 0, b"view ", number.0);
-    let moves = put_line(out, view, b"moves ", plan.total);
+    let view = program_text::put_line(out, 0, b"view ", number.0);
+    let moves = program_text::put_line(out, view, b"moves ", plan.total);
     put_shards(out, moves, plan, n)
 }
 
 // The line of a refusal.
 pub fn number_line(out: &mut [u8], refusal: Refusal) -> usize
-    ensures { λ r. ⌜ Puts (now (out .entry)) 0 (Lines.numberLine refusal) (now (out .exit)) r ⌝ }
+    ensures { λ r. ⌜ Puts (now (out .entry)) 0 (numberLine refusal) (now (out .exit)) r ⌝ }
 {
-    put_line(out, 0, b"number ", refusal.number)
+    program_text::put_line(out, 0, b"number ", refusal.number)
 }
 
 // The line of a wait that names nothing, and of one that names a shard or a subgroup.
 fn wait_of(out: &mut [u8], reason: u32) -> usize
     ensures { λ r. ⌜ Puts (now (out .entry)) 0 (Text·line Lines.waitLabel reason) (now (out .exit)) r ⌝ }
 {
-    put_line(out, 0, b"wait ", reason)
+    program_text::put_line(out, 0, b"wait ", reason)
 }
 
 fn wait_for(out: &mut [u8], reason: u32, value: u32) -> usize
     ensures { λ r. ⌜ Puts (now (out .entry)) 0 (Lines.waitFor reason value) (now (out .exit)) r ⌝ }
 {
-    let next = put_field(out, 0, b"wait ", reason);
-    put_line(out, next, b" ", value)
+    let next = program_text::put_field(out, 0, b"wait ", reason);
+    program_text::put_line(out, next, b" ", value)
 }
 
 // The line of a wait: its reason, then its shard or subgroup if there is one.

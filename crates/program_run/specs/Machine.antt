@@ -8,7 +8,7 @@ use Rattle.base_ids.specs.declared.Refusal.{Refusal}
 use Rattle.state_planner.specs.declared.State.{State}
 use Rattle.state_planner.specs.States.{fresh}
 use Rattle.program_blocks.specs.Blocks.{blocks, needed}
-use Rattle.program_lines.specs.Puts.{Puts}
+use Rattle.program_text.specs.Puts.{Puts}
 use Rattle.program_run.specs.declared.Stage.{Stage}
 use Rattle.program_run.specs.declared.Stage.the-variants.{Opening, Open, Closed}
 use Rattle.program_run.specs.declared.Run.{Run}

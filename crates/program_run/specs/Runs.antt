@@ -15,7 +15,7 @@ use Rattle.state_planner.specs.Refusing.{reportRefusal}
 use Rattle.state_planner.specs.Events.{reported, deskAfter}
 use Rattle.state_planner.specs.Decide.{Decides}
 use Rattle.program_blocks.specs.Blocks.{blocks}
-use Rattle.program_lines.specs.Lines.{numberLine}
+use Rattle.program_text.specs.Text.{numberLine}
 use Rattle.program_decision.specs.Decisions.{decisionText}
 
 -- what a run has come to

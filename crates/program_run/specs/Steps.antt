@@ -28,8 +28,9 @@ use Rattle.message_format.specs.Messages.{contentsOf}
 use Rattle.program_blocks.specs.declared.Block.{Block}
 use Rattle.program_blocks.specs.Blocks.{blocks, needed, wholeWords, length-whole, needed-ends, needed-more}
 use Rattle.program_blocks.specs.Held.{held}
-use Rattle.program_lines.specs.Lines.{numberLine, number-length}
-use Rattle.program_lines.specs.Puts.{Puts}
+use Rattle.program_text.specs.Text.{numberLine}
+use Rattle.program_lines.specs.Lines.{number-length}
+use Rattle.program_text.specs.Puts.{Puts}
 use Rattle.program_decision.specs.Decisions.{decisionText, PutsDecision}
 use Rattle.program_run.specs.declared.Stage.{Stage}
 use Rattle.program_run.specs.declared.Stage.the-variants.{Opening, Open, Closed}

@@ -1,6 +1,6 @@
 -- `program_lines::number_line` meets its contract. Assumes nothing.
 use borrow.Author.Needs.{needs}
-use Rattle.program_lines.specs.Lines.{numberLine}
+use Rattle.program_text.specs.Text.{numberLine}
 use Rattle.program_lines.proofs.number_line.Statement.{statement}
 use Rattle.program_lines.proofs.number_line.Tie as tie
 

@@ -1,6 +1,6 @@
 -- `program_lines::put_carriers` meets its contract: the label, the members and a newline. Assumes nothing.
 use borrow.Author.Needs.{needs}
-use Rattle.program_lines.specs.Puts.{then-puts}
+use Rattle.program_text.specs.Puts.{then-puts}
 use Rattle.program_lines.specs.Lines.{carriers}
 use Rattle.program_lines.proofs.put_carriers.Statement.{statement}
 use Rattle.program_lines.proofs.put_carriers.Tie as tie

@@ -1,6 +1,6 @@
 -- `program_lines::put_entry` meets its contract: the parts of the line one after another. Assumes nothing.
 use borrow.Author.Needs.{needs}
-use Rattle.program_lines.specs.Puts.{then-puts}
+use Rattle.program_text.specs.Puts.{then-puts}
 use Rattle.program_lines.specs.Lines.{shardText}
 use Rattle.program_lines.proofs.put_entry.Statement.{statement}
 use Rattle.program_lines.proofs.put_entry.Tie as tie

@@ -1,6 +1,6 @@
 -- `program_lines::put_fields` meets its contract: one field after the other. Assumes nothing.
 use borrow.Author.Needs.{needs}
-use Rattle.program_lines.specs.Puts.{then-puts}
+use Rattle.program_text.specs.Puts.{then-puts}
 use Rattle.program_lines.proofs.put_fields.Statement.{statement}
 use Rattle.program_lines.proofs.put_fields.Tie as tie
 

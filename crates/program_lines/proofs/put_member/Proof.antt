@@ -1,8 +1,8 @@
 -- `program_lines::put_member` meets its contract: the node if the mask has it, and else nothing. Assumes nothing.
 use mathlib.Core.Path.{sym, _∙_}
 use borrow.Author.Needs.{needs}
-use Rattle.program_lines.specs.Puts.{puts-as, puts-none}
-use Rattle.program_lines.specs.Text.{member-in, member-out}
+use Rattle.program_text.specs.Puts.{puts-as, puts-none}
+use Rattle.program_lines.specs.Members.{member-in, member-out}
 use Rattle.program_lines.proofs.put_member.Statement.{statement}
 use Rattle.program_lines.proofs.put_member.Tie as tie
 

@@ -1,6 +1,6 @@
 -- `program_lines::put_shard` meets its contract. Assumes nothing.
 use borrow.Author.Needs.{needs}
-use Rattle.program_lines.specs.Puts.{puts-as}
+use Rattle.program_text.specs.Puts.{puts-as}
 use Rattle.program_lines.specs.Lines.{shard-text}
 use Rattle.program_lines.proofs.put_shard.Statement.{statement}
 use Rattle.program_lines.proofs.put_shard.Tie as tie

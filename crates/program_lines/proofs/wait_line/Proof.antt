@@ -1,7 +1,7 @@
 -- `program_lines::wait_line` meets its contract, reason by reason. Assumes nothing.
 use mathlib.Core.Path.{ap}
 use borrow.Author.Needs.{needs}
-use Rattle.program_lines.specs.Puts.{puts-as}
+use Rattle.program_text.specs.Puts.{puts-as}
 use Rattle.report_views.specs.Quorums.{numberOf, valueOf}
 use Rattle.program_lines.specs.Lines.{waitLine}
 use Rattle.program_lines.proofs.wait_line.Statement.{statement}

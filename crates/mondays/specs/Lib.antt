@@ -1,0 +1,2 @@
+-- What the program promises of the bytes that it reads and prints.
+pub mod Program

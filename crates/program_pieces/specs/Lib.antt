@@ -1,0 +1,2 @@
+-- Theorems of the moves file: its windows by their places, and blocks of it one after another.
+pub mod Pieces

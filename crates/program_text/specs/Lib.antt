@@ -1,0 +1,3 @@
+-- Numbers as text, and text put into lent bytes.
+pub mod Text
+pub mod Puts

@@ -1,0 +1,78 @@
+// Text in lent bytes. Each function puts its text from a place on and answers the place after it; what would lie past the end of
+// the bytes is left out.
+ghost use mathlib.Core.List.{[], _∷_};
+ghost use mathlib.Core.Path.{_≡_};
+ghost use Prim.Native.Nat.{_+_, _≤_, _<_};
+ghost use lib.ListN.{length};
+ghost use Rattle.program_text.specs.Text.{decimal};
+ghost use Rattle.program_text.specs.Text.{field as Text·field, line as Text·line};
+ghost use Rattle.program_text.specs.Puts.{Puts};
+
+// One byte.
+pub fn put_byte(out: &mut [u8], at: usize, byte: u8) -> usize
+    requires { ⌜ at ≤ length (now out) ⌝ }
+    ensures { λ r. ⌜ Puts (now (out .entry)) at (byte ∷ []) (now (out .exit)) r ⌝ }
+{
+    if at < out.len() {
+        out[at] = byte;
+        return at + 1;
+    }
+    at
+}
+
+// Bytes, one after another.
+pub fn put_text(out: &mut [u8], at: usize, text: &[u8]) -> usize
+    requires { ⌜ at ≤ length (now out) ⌝ }
+    ensures { λ r. ⌜ Puts (now (out .entry)) at (now (text .entry)) (now (out .exit)) r ⌝ }
+{
+    let mut next = at;
+    let mut i = 0;
+    while i < text.len() {
+        next = put_byte(out, next, text[i]);
+        i += 1;
+    }
+    next
+}
+
+// A digit as text.
+fn digit(n: u32) -> u8
+    requires { ⌜ n < 10 ⌝ }
+    ensures { λ r. ⌜ r ≡ 48 + n ⌝ }
+{
+    48 + n as u8
+}
+
+// The digits are stored from the last one on, then put.
+pub fn put_decimal(out: &mut [u8], at: usize, n: u32) -> usize
+    requires { ⌜ at ≤ length (now out) ⌝ }
+    ensures { λ r. ⌜ Puts (now (out .entry)) at (decimal n) (now (out .exit)) r ⌝ }
+{
+    let mut digits = [0u8; 10];
+    let mut first = 9;
+    let mut left = n / 10;
+    digits[9] = digit(n % 10);
+    while left > 0 {
+        first -= 1;
+        digits[first] = digit(left % 10);
+        left /= 10;
+    }
+    put_text(out, at, &digits[first..10])
+}
+
+// A label and a number.
+pub fn put_field(out: &mut [u8], at: usize, label: &[u8], n: u32) -> usize
+    requires { ⌜ at ≤ length (now out) ⌝ }
+    ensures { λ r. ⌜ Puts (now (out .entry)) at (Text·field (now (label .entry)) n) (now (out .exit)) r ⌝ }
+{
+    let next = put_text(out, at, label);
+    put_decimal(out, next, n)
+}
+
+// A line of a label and a number.
+pub fn put_line(out: &mut [u8], at: usize, label: &[u8], n: u32) -> usize
+    requires { ⌜ at ≤ length (now out) ⌝ }
+    ensures { λ r. ⌜ Puts (now (out .entry)) at (Text·line (now (label .entry)) n) (now (out .exit)) r ⌝ }
+{
+    let next = put_field(out, at, label, n);
+    put_byte(out, next, b'\n')
+}

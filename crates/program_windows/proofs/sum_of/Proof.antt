@@ -1,0 +1,41 @@
+-- `program_windows::sum_of` meets its contract. The loop's invariant: the sum of the first i moves, each below 256. Assumes nothing.
+use Prim.Native.Nat.{_≤_, _*_, _-_}
+use mathlib.Core.Path.{_≡_, ap, _∙_}
+use native.Mathlib.Omega.{arith}
+use lib.ListN.{length, take}
+use lib.Seq.{take-all}
+use borrow.Author.Needs.{needs}
+use Rattle.program_windows.specs.Windows.{sumOf}
+use Rattle.program_windows.specs.Sliding.{sum-turn}
+use Rattle.program_windows.proofs.sum_of.Statement.{statement}
+use Rattle.program_windows.proofs.sum_of.Tie as tie
+
+abbrev Inv-loop : tie.InvT-loop
+Inv-loop moves sum₀ i₀ sum i = (i ≤ length moves) × (sum ≤ 255 * i) × (sum ≡ sumOf (take i moves))
+
+abbrev μ-loop : tie.MeasureT-loop
+μ-loop moves sum₀ i₀ sum i = length moves - i
+
+loop-holds : tie.Need-loop-holds Inv-loop μ-loop
+unfolding sumOf
+loop-holds c = search needs
+
+add-sum : tie.Need-add-sum Inv-loop μ-loop
+add-sum c = omega (arith, c .before .shared-slice-known2 .given (c .before .before .before .loop .i))
+
+loop-again : tie.Need-loop-again Inv-loop μ-loop
+loop-again c =
+    let l = c .before .before .before .before .before .args .moves .now in
+    let i = c .before .before .before .loop .i in (
+      omega arith,
+      omega (arith, c .before .shared-slice-known2 .given i),
+      sum-turn l i (c .before .before .before .loop .sum) (c .word .result) (omega arith) (c .before .before .before .loop .inv .2) (c .word .ensures),
+    )
+
+returns : tie.Need-returns Inv-loop μ-loop
+returns c = c .before .loop .inv .2 ∙ ap sumOf (take-all (c .before .loop .i) (c .before .before .before .args .moves .now) (c .loop-test .left))
+
+pub sum-of-spec : {M : Type 1} → statement M
+sum-of-spec =
+    tie.close
+    (tie.spec Inv-loop μ-loop loop-holds (λ c. search needs) (λ c κs. search needs) add-sum (λ c. search needs) (λ c. search needs) loop-again returns)

@@ -1,0 +1,22 @@
+"""restart-text windows: what mondays prints for a moves file, as a plot."""
+import sys
+
+from .. import windows
+from ..files import read, write
+from ..statuses import REFUSAL
+from .shared import file_argument
+
+
+def arguments(parser):
+    file_argument(parser, about="the moves file, - for standard input")
+    windows.options(parser)
+
+
+def work(chosen):
+    data = read(chosen.file)
+    printed = read(chosen.answer) if chosen.answer else windows.run(chosen.program, data)
+    picture, fault = windows.draw(data, printed, chosen.last)
+    write(chosen.output, picture.encode())
+    if fault:
+        print("restart-text: %s" % fault, file=sys.stderr)
+    return REFUSAL if fault else 0
