@@ -161,7 +161,7 @@ install: lib target/c/service $(MADE) $(PROGRAM) $(MONDAYS)
 	install -m 644 $(REPORTS:%=examples/reports/%) $(TO)$(EXAMPLEDIR)/reports
 
 uninstall:
-	rm -f $(TO)$(BINDIR)/restart $(TO)$(BINDIR)/restart-service $(TO)$(INCLUDEDIR)/restart.h
+	rm -f $(TO)$(BINDIR)/restart $(TO)$(BINDIR)/mondays $(TO)$(BINDIR)/restart-service $(TO)$(INCLUDEDIR)/restart.h
 	rm -f $(TO)$(LIBDIR)/librestart.a $(TO)$(LIBDIR)/$(SHARED) $(TO)$(LIBDIR)/librestart.so.$(SONUMBER) $(TO)$(LIBDIR)/librestart.so
 	rm -f $(TO)$(PKGCONFIGDIR)/restart.pc $(CONFIGS:%=$(TO)$(CMAKEDIR)/%)
 	rm -f $(PAGES_1:%=$(TO)$(MANDIR)/man1/%) $(TO)$(MANDIR)/man3/restart.3 $(PAGES_7:%=$(TO)$(MANDIR)/man7/%)
