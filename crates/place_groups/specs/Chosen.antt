@@ -12,7 +12,7 @@ use Rattle.base_laws.specs.Masks.{has, ext}
 use Rattle.base_sums.specs.Sums.{sumBelow}
 use Rattle.base_sums.specs.Lists.{listFrom, listBefore, before-self, before-both, list-cong, list-tells}
 use Rattle.settings_values.specs.Settings.{shards, subgroup}
-use Rattle.place_groups.specs.Placements.{groupValid, groupMoves, LeastMoves}
+use Rattle.place_groups.specs.Placements.{groupValid, groupMoves, Lowest, LeastMoves}
 
 -- s is a shard
 unfoldable pub isShard : List ℕ → ℕ → Bool
@@ -65,6 +65,14 @@ pub record ChosenPlan (σ : List ℕ) (held : ℕ) (old masks : ℕ → ℕ) : T
   pub first : (other : ℕ → ℕ) → LeastPlan σ held old other → NotLater (isShard σ) masks other
 
 -- ---- laws
+
+-- there is one lowest subgroup without a valid placement
+pub lowest-one : (σ : List ℕ) (held g h : ℕ) → Lowest σ held g → Lowest σ held h → g ≡ h
+lowest-one σ held g h a b =
+    ⊎-elim (λ l. let v = b .lower g l in absurd (a .none .none (v .0) (v .1)))
+    (λ l.
+    ⊎-elim (λ m. let v = a .lower h m in absurd (b .none .none (v .0) (v .1))) (λ m. omega arith) (lt-or-le h g))
+    (lt-or-le g h)
 
 -- a mask is told by its list
 pub nodes-tell : (a b : ℕ) → a < 2 ^ 32 → b < 2 ^ 32 → nodesIn a ≡ nodesIn b → a ≡ b
