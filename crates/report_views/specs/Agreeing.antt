@@ -9,7 +9,7 @@ use native.Mathlib.Omega.{arith}
 use lib.Dec.{eqb, ltb}
 use lib.ListN.{length, take, drop}
 use lib.Seq.{take-nil, drop-length}
-use Rattle.base_laws.specs.Bools.{either, lt-or-le, and-left}
+use Rattle.base_laws.specs.Bools.{either, lt-or-le, and-left, and-fails-left}
 use Rattle.base_laws.specs.Below.{lowest-cong}
 use Rattle.base_laws.specs.Masks.{has}
 use Rattle.base_laws.specs.Tables.{part, tabulate-cong}
@@ -86,7 +86,9 @@ module _ (σ : List ℕ) (v : Layout) (t : Termination) (held : ℕ) (d e : List
         ap₂ (λ (b c : Bool). b && c) (candidate-agrees s n l)
         (ap (λ (c : Contents). hasUpdate (c .body) (c .len) s (target v t held d s)) (same .told n l (candidate-held s n h))
         ∙ ap (λ (p : Position). hasAt e s p n) (target-agrees s)))
-        (λ h. rw (h, sym (candidate-agrees s n l) ∙ h))
+        (λ h.
+        and-fails-left (hasAt d s (target v t held d s) n) h
+        ∙ sym (and-fails-left (hasAt e s (target v t held e s) n) (sym (candidate-agrees s n l) ∙ h)))
         (either (candidate v held d s n))
 
     pub holder-agrees : (s : ℕ) → holder v t held d s ≡ holder v t held e s
@@ -109,10 +111,10 @@ module _ (σ : List ℕ) (v : Layout) (t : Termination) (held : ℕ) (d e : List
     unfolding standingOf holdersOf targetsOf
     standing-agrees =
         let a = quorum-agrees in
-        let b =
-        tabulate-cong 16 (λ s. record { 0 = cond (ltb s (shards σ)) (holder v t held d s) 0 }) (λ s. record { 0 = cond (ltb s (shards σ)) (holder v t held e s) 0 })
-        (λ s l. ap (λ (n : ℕ). record { 0 = cond (ltb s (shards σ)) n 0 }) (holder-agrees s)) in
-        let c =
-        tabulate-cong 16 (λ s. cond (ltb s (shards σ)) (target v t held d s) start) (λ s. cond (ltb s (shards σ)) (target v t held e s) start)
+        let b : holdersOf σ v t held d ≡ holdersOf σ v t held e =
+        tabulate-cong {A = Node} 16 (λ s. record { 0 = cond (ltb s (shards σ)) (holder v t held d s) 0 }) (λ s. record { 0 = cond (ltb s (shards σ)) (holder v t held e s) 0 })
+        (λ s l. ap {B = Node} (λ (n : ℕ). record { 0 = cond (ltb s (shards σ)) n 0 }) (holder-agrees s)) in
+        let c : targetsOf σ v t held d ≡ targetsOf σ v t held e =
+        tabulate-cong {A = Position} 16 (λ s. cond (ltb s (shards σ)) (target v t held d s) start) (λ s. cond (ltb s (shards σ)) (target v t held e s) start)
         (λ s l. ap (λ (p : Position). cond (ltb s (shards σ)) p start) (target-agrees s)) in
         λ i. record { quorum = a i; holders = b i; targets = c i }
