@@ -44,8 +44,12 @@ plan-as : {l l' : Layout} {t t' : ℕ} {h h' : List Node} {p p' : List Position}
     → _≡_ {A = Plan} (record { layout = l; total = t; holders = h; targets = p }) (record { layout = l'; total = t'; holders = h'; targets = p' })
 plan-as a b c d = λ i. record { layout = a i; total = b i; holders = c i; targets = d i }
 
-module _ {σ : List ℕ} {v : Layout} {t : Termination} {held : ℕ} {d e : List ℕ} (right : Settings σ) (inside : held < 2 ^ nodes σ)
-    (same : standingOf σ v t held d ≡ standingOf σ v t held e) where
+-- a plan and no placement exclude each other
+plan-or-none : {σ : List ℕ} {v : Layout} {t : Termination} {held : ℕ} {d : List ℕ} {r q : Verdict} → FindsPlan σ v t held d r → FindsNone σ held q → ⊥
+plan-or-none {r = r} a b =
+    b .lowest .none .none (maskAt (r .plan .layout)) (a .plans .chosen (b .group) (b .lowest .below) .least .valid)
+
+module _ (σ : List ℕ) (v : Layout) (t : Termination) (held : ℕ) (d e : List ℕ) (same : standingOf σ v t held d ≡ standingOf σ v t held e) where
   quorum-same : quorumOf σ v t held d ≡ quorumOf σ v t held e
   unfolding standingOf
   quorum-same = ap (λ (s : Standing). s .quorum) same
@@ -58,11 +62,13 @@ module _ {σ : List ℕ} {v : Layout} {t : Termination} {held : ℕ} {d e : List
   unfolding standingOf
   targets-same = ap (λ (s : Standing). s .targets) same
 
+module _ {σ : List ℕ} {v : Layout} {t : Termination} {held : ℕ} {d e : List ℕ} (right : Settings σ) (inside : held < 2 ^ nodes σ)
+    (same : standingOf σ v t held d ≡ standingOf σ v t held e) where
   -- there is one plan
   pub plans-one : {p q : Plan} → Plans σ v t held d p → Plans σ v t held e q → p ≡ q
   plans-one {p} {q} a b =
-      plan-as layout (a .total ∙ (ap (allMoves σ v) layout ∙ sym (b .total))) (a .holders ∙ (holders-same ∙ sym (b .holders)))
-      (a .targets ∙ (targets-same ∙ sym (b .targets)))
+      plan-as layout (a .total ∙ (ap (allMoves σ v) layout ∙ sym (b .total))) (a .holders ∙ (holders-same σ v t held d e same ∙ sym (b .holders)))
+      (a .targets ∙ (targets-same σ v t held d e same ∙ sym (b .targets)))
     where
       layout : p .layout ≡ q .layout
       layout =
@@ -70,17 +76,12 @@ module _ {σ : List ℕ} {v : Layout} {t : Termination} {held : ℕ} {d e : List
           (masks-one right inside (p .layout .masks) (q .layout .masks) (a .sized) (b .sized) (a .chosen) (b .chosen)
           (tidy-past σ (p .layout) (a .tidy)) (tidy-past σ (q .layout) (b .tidy)))
 
-  -- a plan and no placement exclude each other
-  plan-or-none : {f : List ℕ} {r q : Verdict} → FindsPlan σ v t held f r → FindsNone σ held q → ⊥
-  plan-or-none {f} {r} {q} a b =
-      b .lowest .none .none (maskAt (r .plan .layout)) (a .plans .chosen (b .group) (b .lowest .below) .least .valid)
-
   -- there is one verdict
   pub restarts-one : {r q : Verdict} → Restarts σ v t held d r → Restarts σ v t held e q → r ≡ q
   restarts-one {r} {q} a b = by (quorumOf σ v t held d) refl
     where
       by : (k : Quorum) → quorumOf σ v t held d ≡ k → r ≡ q
-      by (Short reason) h = a .waits reason h ∙ sym (b .waits reason (sym quorum-same ∙ h))
+      by (Short reason) h = a .waits reason h ∙ sym (b .waits reason (sym (quorum-same σ v t held d e same) ∙ h))
       by Met h =
           ⊎-elim
           (λ x.
@@ -90,11 +91,11 @@ module _ {σ : List ℕ} {v : Layout} {t : Termination} {held : ℕ} {d e : List
           let w : r .plan ≡ q .plan = plans-one (x .plans) (y .plans) in
           λ i. record { quorum = u i; plan = w i })
           (λ y. absurd (plan-or-none x y))
-          (b .answers (sym quorum-same ∙ h)))
+          (b .answers (sym (quorum-same σ v t held d e same) ∙ h)))
           (λ x.
           ⊎-elim (λ y. absurd (plan-or-none y x))
           (λ y. x .given ∙ (ap (λ (g : ℕ). waiting (NoPlacement g)) (lowest-one σ held (x .group) (y .group) (x .lowest) (y .lowest)) ∙ sym (y .given)))
-          (b .answers (sym quorum-same ∙ h)))
+          (b .answers (sym (quorum-same σ v t held d e same) ∙ h)))
           (a .answers h)
 
 -- a plan has least moves in every subgroup
