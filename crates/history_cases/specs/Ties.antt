@@ -39,6 +39,14 @@ pub record OrderClauses : Type 0 where
   -- in a subgroup its own shards do
   pub own-shard : Sooner (ofGroup twoGroups 3) (pairOfMasks 4 1) (pairOfMasks 1 4)
 
+-- shard 0 of the two is not of subgroup 3
+below-own : (s : ℕ) → s < 1 → ofGroup twoGroups 3 s ≡ true → nodesIn (pairOfMasks 4 1 s) ≡ nodesIn (pairOfMasks 1 4 s)
+unfolding ofGroup
+below-own s l o =
+    let z : s ≡ 0 = omega arith in
+    let h : ofGroup twoGroups 3 0 ≡ true = subst (λ (i : ℕ). ofGroup twoGroups 3 i ≡ true) z o in
+    clash h refl
+
 pub order-clauses : OrderClauses
 unfolding listFrom listBefore nodesIn isShard ofGroup
 order-clauses =
@@ -54,15 +62,8 @@ order-clauses =
       itself = refl;
       not-by-mask = refl;
       lower-shard = record { shard = 0; picked = refl; alike = λ s l o. absurd (omega arith); smaller = refl };
-      own-shard = record { shard = 1; picked = refl; alike = λ s l o. below s l o; smaller = refl };
+      own-shard = record { shard = 1; picked = refl; alike = below-own; smaller = refl };
     }
-  where
-    below : (s : ℕ) → s < 1 → ofGroup twoGroups 3 s ≡ true → nodesIn (pairOfMasks 4 1 s) ≡ nodesIn (pairOfMasks 1 4 s)
-    unfolding ofGroup
-    below s l o =
-        let z : s ≡ 0 = omega arith in
-        let h : ofGroup twoGroups 3 0 ≡ true = subst (λ (i : ℕ). ofGroup twoGroups 3 i ≡ true) z o in
-        clash h refl
 
 -- ---- ties: four nodes of four sets, one shard that needs two; node 2 was its only member, and all are held
 
@@ -95,42 +96,38 @@ tie-moves : (P : ℕ → ℕ) → groupMoves oneShard (λ s. 4) P 0 ≡ count (m
 unfolding sumBelow groupMoves groupMovesAt
 tie-moves P = omega arith
 
+tie-five : groupMoves oneShard (λ s. 4) (λ s. 5) 0 ≡ 1
+unfolding ones onesIn sumBelow groupMoves groupMovesAt
+tie-five = refl
+
 -- nodes 0 and 2 have least moves
 tie-least : LeastMoves oneShard 15 (λ s. 4) (λ s. 5) 0
 unfolding allBelow ones onesIn spread shardValid groupValidAt groupValid shardApart
-tie-least = record { valid = refl; least = λ other v. omega (arith, one, tie-moves other, moving other v) }
+tie-least = record { valid = refl; least = λ other v. omega (arith, tie-five, tie-moves other, moving other v) }
   where
-    one : groupMoves oneShard (λ s. 4) (λ s. 5) 0 ≡ 1
-    unfolding ones onesIn sumBelow groupMoves groupMovesAt
-    one = refl
-
     moving : (P : ℕ → ℕ) → groupValid oneShard 15 P 0 ≡ true → 1 ≤ count (minus (P 0) 4)
     moving P v =
         ⊎-elim (λ n. clash (tie-fits P v) (of-not-true (shardValid oneShard 15 (λ i. P 0) 0) n)) (λ y. leb-true 1 (count (minus (P 0) 4)) y)
         (or-holds (not (shardValid oneShard 15 (λ i. P 0) 0)) (leb 1 (count (minus (P 0) 4)))
         (all-at 16 (λ m. not (shardValid oneShard 15 (λ i. m) 0) || leb 1 (count (minus m 4))) moving-test (P 0) (tie-small P v)))
 
+tie-ours : ofGroup oneShard 0 0 ≡ true
+unfolding ofGroup
+tie-ours = refl
+
+tie-shard : (s : ℕ) → ofGroup oneShard 0 s ≡ true → s ≡ 0
+unfolding ofGroup
+tie-shard s o = let l = ltb-true s 1 (and-left (ltb s 1) (eqb (subgroup oneShard s) 0) o) in omega arith
+
 -- nodes 0 and 2, 1 and 2, 2 and 3 move one node each: the first is chosen
 pub tie : (P : ℕ → ℕ) → Chosen oneShard 15 (λ s. 4) P 0 → P 0 ≡ 5
-tie P c = ⊎-elim (λ e. nodes-tell (P 0) 5 (omega (arith, tie-small P (c .least .valid))) (omega arith) (e .alike 0 ours)) (λ f. absurd (sooner f)) (c .first (λ s. 5) tie-least)
+unfolding tied
+tie P c = ⊎-elim (λ e. nodes-tell (P 0) 5 (omega (arith, tie-small P (c .least .valid))) (omega arith) (e .alike 0 tie-ours)) (λ f. absurd (sooner f)) (c .first (λ s. 5) tie-least)
   where
-    ours : ofGroup oneShard 0 0 ≡ true
-    unfolding ofGroup
-    ours = refl
-
-    one-shard : (s : ℕ) → ofGroup oneShard 0 s ≡ true → s ≡ 0
-    unfolding ofGroup
-    one-shard s o = let l = ltb-true s 1 (and-left (ltb s 1) (eqb (subgroup oneShard s) 0) o) in omega arith
-
     few : leb (count (minus (P 0) 4)) 1 ≡ true
-    few = le-leb (count (minus (P 0) 4)) 1 (omega (arith, c .least .least (λ s. 5) (tie-least .valid), tie-moves P, tie-moves (λ s. 5), five))
-      where
-        five : count (minus 5 4) ≡ 1
-        unfolding ones onesIn
-        five = refl
+    few = le-leb (count (minus (P 0) 4)) 1 (omega (arith, c .least .least (λ s. 5) (tie-least .valid), tie-moves P, tie-five))
 
     told : (listBefore (nodesIn 5) (nodesIn (P 0)) || eqb (P 0) 5) ≡ true
-    unfolding tied
     told =
         ⊎-elim
         (λ n. clash (and-both (tie-fits P (c .least .valid)) few) (of-not-true (shardValid oneShard 15 (λ i. P 0) 0 && leb (count (minus (P 0) 4)) 1) n))
@@ -140,7 +137,7 @@ tie P c = ⊎-elim (λ e. nodes-tell (P 0) 5 (omega (arith, tie-small P (c .leas
 
     sooner : Sooner (ofGroup oneShard 0) P (λ s. 5) → ⊥
     sooner f =
-        let z : f .shard ≡ 0 = one-shard (f .shard) (f .picked) in
+        let z : f .shard ≡ 0 = tie-shard (f .shard) (f .picked) in
         let b : listBefore (nodesIn (P 0)) (nodesIn 5) ≡ true = subst (λ (s : ℕ). listBefore (nodesIn (P s)) (nodesIn 5) ≡ true) z (f .smaller) in
         ⊎-elim (λ a. before-both (nodesIn 5) (nodesIn (P 0)) a b)
         (λ a. before-self (nodesIn 5) (subst (λ (m : ℕ). listBefore (nodesIn m) (nodesIn 5) ≡ true) (eqb-true (P 0) 5 a) b))

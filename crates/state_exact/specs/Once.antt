@@ -91,6 +91,12 @@ module _ {σ : List ℕ} {x : State} {d : List ℕ} {r : Decided} (decides : Dec
 
 -- ---- two calls
 
+-- a verdict on two states says the same
+verdict-said : (x y : State) (p : Plan) (z : Quorum) → SameSaid (decidedBy z x p) (decidedBy z y p)
+unfolding stateBy decisionBy planned
+verdict-said x y p Met = record { decision = refl; plan = λ h. refl }
+verdict-said x y p (Short reason) = record { decision = refl; plan = λ h. absurd (let i : _≡_ {A = ℕ} 0 1 = cc in omega arith) }
+
 module _ {σ : List ℕ} {x y : State} {d e : List ℕ} {r q : Decided} (a : Decides σ x d r) (b : Decides σ y e q)
     (taken : accepted (decideRefusal σ x d) ≡ true) (also : accepted (decideRefusal σ y e) ≡ true) (same : SameAsked x y d e) where
   one-verdict : (behind a taken) .verdict ≡ (behind b also) .verdict
@@ -104,7 +110,7 @@ module _ {σ : List ℕ} {x y : State} {d e : List ℕ} {r q : Decided} (a : Dec
 
   -- what the second hands back, from the first's verdict
   pub same-said : SameSaid r q
-  same-said = subst (λ (w : Decided). SameSaid r w) (sym second) (subst (λ (w : Decided). SameSaid w (decidedBy k y p)) (sym (behind a taken .given)) (said k))
+  same-said = subst (λ (w : Decided). SameSaid r w) (sym second) (subst (λ (w : Decided). SameSaid w (decidedBy k y p)) (sym (behind a taken .given)) (verdict-said x y p k))
     where
       k : Quorum
       k = behind a taken .verdict .quorum
@@ -114,14 +120,6 @@ module _ {σ : List ℕ} {x y : State} {d e : List ℕ} {r q : Decided} (a : Dec
 
       second : q ≡ decidedBy k y p
       second = behind b also .given ∙ ap (λ (w : Verdict). decidedBy (w .quorum) y (w .plan)) (sym one-verdict)
-
-      said : (z : Quorum) → SameSaid (decidedBy z x p) (decidedBy z y p)
-      said z = record { decision = refl; plan = λ h. placed z h }
-        where
-          placed : (z : Quorum) → decidedBy z x p .decision ≡ Decision.Planned → decidedBy z x p .state .plan ≡ decidedBy z y p .state .plan
-          unfolding stateBy decisionBy planned
-          placed Met h = refl
-          placed (Short reason) h = absurd (let i : _≡_ {A = ℕ} 0 1 = cc in omega arith)
 
 -- the same state, on desks whose held slots say the same
 pub same-state : {σ : List ℕ} {x : State} {d e : List ℕ} {r q : Decided} → Decides σ x d r → Decides σ x e q
