@@ -1,8 +1,8 @@
--- Ascending lists of numbers and their dictionary order. Laws: congruence, that the order is strict and total, and where lists that
--- part at a number stand in it.
+-- Ascending lists of numbers and their dictionary order. Laws: congruence, that a list tells its numbers, where lists that part at a
+-- number stand in the order, and that the order is strict and total.
 use mathlib.Core.Path.{_≡_, refl, sym, ap, _∙_, subst}
 use mathlib.Core.Bool.{Bool, true, false, cond, _&&_, _||_, false≢true}
-use mathlib.Core.List.{List, [], _∷_}
+use mathlib.Core.List.{List, [], _∷_, _++_}
 use mathlib.Core.Logic.{_⊎_, inl, inr, ⊎-elim}
 use Prim.Native.Nat.{ℕ, zero, suc, _+_, _≤_, _<_}
 use native.Mathlib.Omega.{arith}
@@ -21,49 +21,6 @@ listBefore [] [] = false
 listBefore [] (y ∷ ys) = true
 listBefore (x ∷ xs) [] = false
 listBefore (x ∷ xs) (y ∷ ys) = ltb x y || (eqb x y && listBefore xs ys)
-
--- ---- laws of the order
-
-pub before-self : (l : List ℕ) → listBefore l l ≡ true → ⊥
-unfolding listBefore
-before-self [] e = false≢true e
-before-self (x ∷ xs) e =
-    ⊎-elim (λ h. let z = ltb-true x x h in omega arith) (λ h. before-self xs (and-right (eqb x x) (listBefore xs xs) h)) (or-holds (ltb x x) (eqb x x && listBefore xs xs) e)
-
-pub before-both : (l m : List ℕ) → listBefore l m ≡ true → listBefore m l ≡ true → ⊥
-unfolding listBefore
-before-both [] [] p q = false≢true p
-before-both [] (y ∷ ys) p q = false≢true q
-before-both (x ∷ xs) [] p q = false≢true p
-before-both (x ∷ xs) (y ∷ ys) p q =
-    ⊎-elim
-    (λ h. let i = ltb-true x y h in
-    ⊎-elim (λ k. let j = ltb-true y x k in omega arith) (λ k. let j = eqb-true y x (and-left (eqb y x) (listBefore ys xs) k) in omega arith)
-    (or-holds (ltb y x) (eqb y x && listBefore ys xs) q))
-    (λ h. let i = eqb-true x y (and-left (eqb x y) (listBefore xs ys) h) in
-    ⊎-elim (λ k. let j = ltb-true y x k in omega arith)
-    (λ k. before-both xs ys (and-right (eqb x y) (listBefore xs ys) h) (and-right (eqb y x) (listBefore ys xs) k))
-    (or-holds (ltb y x) (eqb y x && listBefore ys xs) q))
-    (or-holds (ltb x y) (eqb x y && listBefore xs ys) p)
-
--- of two lists that differ one comes before the other
-pub before-either : (l m : List ℕ) → (l ≡ m) ⊎ ((listBefore l m ≡ true) ⊎ (listBefore m l ≡ true))
-unfolding listBefore
-before-either [] [] = inl refl
-before-either [] (y ∷ ys) = inr (inl refl)
-before-either (x ∷ xs) [] = inr (inr refl)
-before-either (x ∷ xs) (y ∷ ys) =
-    ⊎-elim (λ h. inr (inl (or-left (eqb x y && listBefore xs ys) (lt-ltb x y h))))
-    (λ h.
-    ⊎-elim (λ k. inr (inr (or-left (eqb y x && listBefore ys xs) (lt-ltb y x k))))
-    (λ k. let e : x ≡ y = omega arith in
-    ⊎-elim (λ d. inl (ap (λ (i : ℕ). i ∷ xs) e ∙ ap (λ (t : List ℕ). y ∷ t) d))
-    (λ d. inr (⊎-elim
-    (λ b. inl (or-right (ltb x y) (and-both (eq-eqb x y e) b)))
-    (λ b. inr (or-right (ltb y x) (and-both (eq-eqb y x (sym e)) b))) d))
-    (before-either xs ys))
-    (lt-or-le y x))
-    (lt-or-le x y)
 
 -- ---- laws of ascending lists
 
@@ -138,3 +95,72 @@ list-before (suc k) a n m f g p q h e d r s u =
         both : (b : Bool) → listBefore (cond b (a ∷ listFrom (suc a) k f) (listFrom (suc a) k f)) (cond b (a ∷ listFrom (suc a) k g) (listFrom (suc a) k g)) ≡ true
         both true = simp (eq-eqb a a refl, i) (or-right (ltb a a) refl)
         both false = i
+
+-- ---- laws of the order
+
+-- a proper prefix is the smaller
+pub before-longer : (l : List ℕ) (x : ℕ) (xs : List ℕ) → listBefore l (l ++ (x ∷ xs)) ≡ true
+unfolding listBefore
+before-longer [] x xs = refl
+before-longer (y ∷ ys) x xs = or-right (ltb y y) (and-both (eq-eqb y y refl) (before-longer ys x xs))
+
+pub before-self : (l : List ℕ) → listBefore l l ≡ true → ⊥
+unfolding listBefore
+before-self [] e = false≢true e
+before-self (x ∷ xs) e =
+    ⊎-elim (λ h. let z = ltb-true x x h in omega arith) (λ h. before-self xs (and-right (eqb x x) (listBefore xs xs) h)) (or-holds (ltb x x) (eqb x x && listBefore xs xs) e)
+
+pub before-both : (l m : List ℕ) → listBefore l m ≡ true → listBefore m l ≡ true → ⊥
+unfolding listBefore
+before-both [] [] p q = false≢true p
+before-both [] (y ∷ ys) p q = false≢true q
+before-both (x ∷ xs) [] p q = false≢true p
+before-both (x ∷ xs) (y ∷ ys) p q =
+    ⊎-elim
+    (λ h. let i = ltb-true x y h in
+    ⊎-elim (λ k. let j = ltb-true y x k in omega arith) (λ k. let j = eqb-true y x (and-left (eqb y x) (listBefore ys xs) k) in omega arith)
+    (or-holds (ltb y x) (eqb y x && listBefore ys xs) q))
+    (λ h. let i = eqb-true x y (and-left (eqb x y) (listBefore xs ys) h) in
+    ⊎-elim (λ k. let j = ltb-true y x k in omega arith)
+    (λ k. before-both xs ys (and-right (eqb x y) (listBefore xs ys) h) (and-right (eqb y x) (listBefore ys xs) k))
+    (or-holds (ltb y x) (eqb y x && listBefore ys xs) q))
+    (or-holds (ltb x y) (eqb x y && listBefore xs ys) p)
+
+-- of two lists that differ one comes before the other
+pub before-either : (l m : List ℕ) → (l ≡ m) ⊎ ((listBefore l m ≡ true) ⊎ (listBefore m l ≡ true))
+unfolding listBefore
+before-either [] [] = inl refl
+before-either [] (y ∷ ys) = inr (inl refl)
+before-either (x ∷ xs) [] = inr (inr refl)
+before-either (x ∷ xs) (y ∷ ys) =
+    ⊎-elim (λ h. inr (inl (or-left (eqb x y && listBefore xs ys) (lt-ltb x y h))))
+    (λ h.
+    ⊎-elim (λ k. inr (inr (or-left (eqb y x && listBefore ys xs) (lt-ltb y x k))))
+    (λ k. let e : x ≡ y = omega arith in
+    ⊎-elim (λ d. inl (ap (λ (i : ℕ). i ∷ xs) e ∙ ap (λ (t : List ℕ). y ∷ t) d))
+    (λ d. inr (⊎-elim
+    (λ b. inl (or-right (ltb x y) (and-both (eq-eqb x y e) b)))
+    (λ b. inr (or-right (ltb y x) (and-both (eq-eqb y x (sym e)) b))) d))
+    (before-either xs ys))
+    (lt-or-le y x))
+    (lt-or-le x y)
+
+pub before-through : (l m n : List ℕ) → listBefore l m ≡ true → listBefore m n ≡ true → listBefore l n ≡ true
+unfolding listBefore
+before-through [] [] n p q = absurd (false≢true p)
+before-through [] (y ∷ ys) [] p q = absurd (false≢true q)
+before-through [] (y ∷ ys) (z ∷ zs) p q = refl
+before-through (x ∷ xs) [] n p q = absurd (false≢true p)
+before-through (x ∷ xs) (y ∷ ys) [] p q = absurd (false≢true q)
+before-through (x ∷ xs) (y ∷ ys) (z ∷ zs) p q =
+    ⊎-elim
+    (λ h. let i = ltb-true x y h in
+    ⊎-elim (λ k. let j = ltb-true y z k in or-left (eqb x z && listBefore xs zs) (lt-ltb x z (omega arith)))
+    (λ k. let j = eqb-true y z (and-left (eqb y z) (listBefore ys zs) k) in or-left (eqb x z && listBefore xs zs) (lt-ltb x z (omega arith)))
+    (or-holds (ltb y z) (eqb y z && listBefore ys zs) q))
+    (λ h. let i = eqb-true x y (and-left (eqb x y) (listBefore xs ys) h) in
+    ⊎-elim (λ k. let j = ltb-true y z k in or-left (eqb x z && listBefore xs zs) (lt-ltb x z (omega arith)))
+    (λ k. let j = eqb-true y z (and-left (eqb y z) (listBefore ys zs) k) in
+    or-right (ltb x z) (and-both (eq-eqb x z (i ∙ j)) (before-through xs ys zs (and-right (eqb x y) (listBefore xs ys) h) (and-right (eqb y z) (listBefore ys zs) k))))
+    (or-holds (ltb y z) (eqb y z && listBefore ys zs) q))
+    (or-holds (ltb x y) (eqb x y && listBefore xs ys) p)

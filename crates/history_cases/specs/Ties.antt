@@ -1,9 +1,9 @@
 -- Rows of the choice among placements of least moves: a row for each clause of its order, and ties that the order alone decides.
 use Prim.Native.Nat.{ℕ, _^_, _<_, _≤_}
 use mathlib.Core.Bool.{Bool, true, false, not, _&&_, _||_}
-use mathlib.Core.List.{List, [], _∷_}
-use mathlib.Core.Logic.{_⊎_, inl, inr, ⊎-elim}
-use mathlib.Core.Path.{_≡_, refl, sym, ap, _∙_, subst}
+use mathlib.Core.List.{[], _∷_}
+use mathlib.Core.Logic.{_⊎_, ⊎-elim}
+use mathlib.Core.Path.{_≡_, refl, subst}
 use native.Mathlib.Omega.{arith}
 use lib.Dec.{eqb, leb, ltb}
 use lib.Count.{ones, onesIn}
@@ -16,7 +16,7 @@ use Rattle.base_sums.specs.Lists.{listFrom, listBefore, before-self, before-bot
 use Rattle.settings_values.specs.Settings.{shards, subgroup, need}
 use Rattle.message_format.specs.Rows.{shardApart}
 use Rattle.place_groups.specs.Placements.{spread, shardValid, groupValidAt, groupValid, groupMovesAt, groupMoves, LeastMoves}
-use Rattle.place_groups.specs.Chosen.{isShard, ofGroup, nodesIn, SameNodes, Sooner, NotLater, Chosen, nodes-tell}
+use Rattle.place_groups.specs.Chosen.{isShard, ofGroup, nodesIn, Sooner, Chosen, nodes-tell}
 use Rattle.history_cases.specs.Clauses.{oneShard, twoGroups, pairOfMasks}
 
 pub record OrderClauses : Type 0 where

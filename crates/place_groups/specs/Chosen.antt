@@ -5,7 +5,7 @@ use native.Mathlib.Omega.{arith}
 use mathlib.Core.Bool.{Bool, true, _&&_}
 use mathlib.Core.List.{List}
 use mathlib.Core.Logic.{_⊎_, inl, inr, ⊎-elim}
-use mathlib.Core.Path.{_≡_, sym, subst}
+use mathlib.Core.Path.{_≡_, sym, ap, subst}
 use lib.Dec.{eqb, ltb}
 use Rattle.base_laws.specs.Bools.{lt-or-le}
 use Rattle.base_laws.specs.Masks.{has, ext}
@@ -83,6 +83,11 @@ nodes-tell a b p q e = ext 32 a b p q (λ n l. list-tells 32 0 (has a) (has b) e
 pub nodes-listed : (mask : ℕ) (f : ℕ → Bool) → ((n : ℕ) → n < 32 → has mask n ≡ f n) → nodesIn mask ≡ listFrom 0 32 f
 unfolding nodesIn
 nodes-listed mask f h = list-cong 32 0 (has mask) f (λ n p q. h n (omega arith))
+
+-- masks that are equal at the lower of these shards: the smaller list at s decides
+pub decided-at : {of : ℕ → Bool} {a b : ℕ → ℕ} (s : ℕ) → of s ≡ true → ((t : ℕ) → t < s → of t ≡ true → a t ≡ b t)
+    → listBefore (nodesIn (a s)) (nodesIn (b s)) ≡ true → Sooner of a b
+decided-at s o h l = record { shard = s; picked = o; alike = λ t k p. ap nodesIn (h t k p); smaller = l }
 
 module _ {of : ℕ → Bool} {a b : ℕ → ℕ} where
   pub same-back : SameNodes of a b → SameNodes of b a

@@ -11,7 +11,7 @@ use Rattle.base_sums.specs.Sums.{sumBelow, sum-zero}
 use Rattle.settings_values.specs.Settings.{nodes, Settings}
 use Rattle.place_groups.specs.Placements.{groupMoves, Impossible}
 use Rattle.place_groups.specs.Chosen.{Chosen}
-use Rattle.search_theory.specs.Tables.{caseOf, ownersOf}
+use Rattle.search_theory.specs.Tables.{caseOf}
 use Rattle.search_theory.specs.Least.{moves-most}
 use Rattle.search_theory.specs.Floor.{SheetFor}
 use Rattle.search_total.specs.declared.Solution.{Solution}

@@ -7,7 +7,7 @@ use Prim.Native.Nat.{ℕ, _^_, _≤_, _<_}
 use native.Mathlib.Omega.{arith}
 use lib.ListN.{length}
 use lib.Seq.{ext-getD}
-use Rattle.base_laws.specs.Bools.{either, clash, lt-or-le}
+use Rattle.base_laws.specs.Bools.{either, lt-or-le}
 use Rattle.base_sums.specs.Sums.{sumBelow}
 use Rattle.settings_values.specs.Settings.{nodes, shards, subgroup, Settings}
 use Rattle.place_groups.specs.Placements.{groupMoves}

@@ -1,7 +1,7 @@
 -- The choice by masks: it is the search's first placement of least moves, it speaks of its subgroup's masks alone, and there is at
 -- most one.
-use mathlib.Core.Path.{_≡_, refl, sym, ap, _∙_, subst}
-use mathlib.Core.Bool.{Bool, true, false}
+use mathlib.Core.Path.{_≡_, refl, sym, _∙_, subst}
+use mathlib.Core.Bool.{true, false}
 use mathlib.Core.List.{List}
 use mathlib.Core.Logic.{_⊎_, inl, inr, ⊎-elim}
 use Prim.Native.Nat.{ℕ, _^_, _<_}
@@ -9,7 +9,7 @@ use native.Mathlib.Nat.{lt-of-lt-of-le, lt-of-le-of-lt}
 use native.Mathlib.Omega.{arith}
 use lib.Dec.{eqb}
 use lib.Pow.{pow-mono}
-use Rattle.base_laws.specs.Bools.{either, clash, no-true}
+use Rattle.base_laws.specs.Bools.{either, no-true}
 use Rattle.base_laws.specs.Below.{count-pos}
 use Rattle.base_laws.specs.Masks.{subset-le}
 use Rattle.base_sums.specs.Lists.{listBefore, list-cong, before-self}
@@ -18,7 +18,7 @@ use Rattle.place_groups.specs.Placements.{groupValid, LeastMoves}
 use Rattle.place_groups.specs.Chosen.{nodesIn, SameNodes, Sooner, NotLater, Chosen, nodes-tell, nodes-listed, not-later-both, not-later-alike}
 use Rattle.search_theory.specs.Case.{Case, Valid, Least}
 use Rattle.search_theory.specs.Order.{First}
-use Rattle.search_theory.specs.Dictionary.{nodesOf, SameLists, Earlier, first-listed}
+use Rattle.search_theory.specs.Dictionary.{nodesOf, Earlier, first-listed}
 use Rattle.place_owners.specs.Cases.{ofGroup, CaseFor, shard-below, of-group, need-none}
 use Rattle.place_owners.specs.Shards.{shard-placed}
 use Rattle.place_owners.specs.Owners.{Masked, owner, owner-masked, from-masks, moves-same, least-moves}

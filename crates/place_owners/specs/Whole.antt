@@ -1,19 +1,18 @@
 -- The choice in every subgroup is the choice over all shards, and the other way: subgroups share no shard, so moves add up, and at the
 -- first shard that differs, whatever its subgroup, the list is the smaller.
-use mathlib.Core.Path.{_≡_, refl, sym, ap, _∙_, subst}
+use mathlib.Core.Path.{_≡_, refl, sym, ap, subst}
 use mathlib.Core.Bool.{Bool, true, false, cond}
 use mathlib.Core.List.{List}
 use mathlib.Core.Logic.{_⊎_, inl, inr, ⊎-elim}
 use Prim.Native.Nat.{ℕ, zero, suc, _+_, _^_, _≤_, _<_}
 use native.Mathlib.Omega.{arith}
-use lib.Dec.{ltb}
 use borrow.Author.Tests.{lt-ltb, ltb-true}
 use Rattle.base_laws.specs.Bools.{either, lt-or-le, eq-or-ne}
-use Rattle.base_sums.specs.Sums.{sumBelow, sum-mono, sum-tight, sum-but-one}
+use Rattle.base_sums.specs.Sums.{sum-mono, sum-tight, sum-but-one}
 use Rattle.base_sums.specs.Lists.{listBefore}
 use Rattle.settings_values.specs.Settings.{nodes, shards, subgroup, Settings}
 use Rattle.place_groups.specs.Placements.{groupValid, groupMoves, LeastMoves}
-use Rattle.place_groups.specs.Chosen.{isShard, nodesIn, SameNodes, Sooner, NotLater, Chosen, planMoves, AllValid, LeastPlan, ChosenPlan, sooner-parts}
+use Rattle.place_groups.specs.Chosen.{isShard, nodesIn, Sooner, NotLater, Chosen, planMoves, AllValid, LeastPlan, ChosenPlan, sooner-parts}
 use Rattle.place_owners.specs.Cases.{ofGroup, of-group, group-shard, group-other}
 use Rattle.place_owners.specs.Local.{AlikeInGroup, valid-local, moves-local}
 use Rattle.place_owners.specs.Choice.{chosen-unique}

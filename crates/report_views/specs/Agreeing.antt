@@ -1,10 +1,10 @@
 -- What the held reports give depends on their contents alone: desks whose held slots say the same give the same quorum, holders and
 -- targets, whatever stands off the chains and in other slots.
-use Prim.Native.Nat.{ℕ, _*_, _+_, _-_, _<_, _≤_}
-use mathlib.Core.Bool.{Bool, true, false, cond, not, _&&_}
+use Prim.Native.Nat.{ℕ, _-_, _<_}
+use mathlib.Core.Bool.{Bool, true, cond, _&&_}
 use mathlib.Core.List.{List, []}
 use mathlib.Core.Logic.{⊎-elim}
-use mathlib.Core.Path.{_≡_, refl, sym, ap, ap₂, _∙_, subst}
+use mathlib.Core.Path.{_≡_, sym, ap, ap₂, _∙_, subst}
 use native.Mathlib.Omega.{arith}
 use lib.Dec.{eqb, ltb}
 use lib.ListN.{length, take, drop}
@@ -12,7 +12,7 @@ use lib.Seq.{take-nil, drop-length}
 use Rattle.base_laws.specs.Bools.{either, lt-or-le, and-left, and-fails-left}
 use Rattle.base_laws.specs.Below.{lowest-cong}
 use Rattle.base_laws.specs.Masks.{has}
-use Rattle.base_laws.specs.Tables.{part, tabulate-cong}
+use Rattle.base_laws.specs.Tables.{tabulate-cong}
 use Rattle.settings_values.specs.Settings.{shards}
 use Rattle.base_ids.specs.declared.Node.{Node}
 use Rattle.base_ids.specs.declared.Position.{Position}
@@ -20,13 +20,9 @@ use Rattle.message_format.specs.declared.Contents.{Contents}
 use Rattle.message_format.specs.Messages.{contentsOf}
 use Rattle.report_views.specs.declared.Layout.{Layout}
 use Rattle.report_views.specs.declared.Termination.{Termination}
-use Rattle.report_views.specs.declared.Quorum.{Quorum}
-use Rattle.report_views.specs.declared.Quorum.the-variants.{Met, Short}
-use Rattle.report_views.specs.declared.Reason.the-variants.{NoView, NoMajority, TooFew, NoHolder}
-use Rattle.report_views.specs.declared.Standing.{Standing}
 use Rattle.report_views.specs.Logs.{start, endOf, hasUpdate}
 use Rattle.report_views.specs.Reports.{slot, reportOf, viewOf, endAt, hasAt, maskAt, positionAt}
-use Rattle.report_views.specs.Quorums.{candidate, best, target, able, holder, unheld, majority, firstUnheld, quorumOf}
+use Rattle.report_views.specs.Quorums.{candidate, best, target, able, holder, unheld, firstUnheld, quorumOf}
 use Rattle.report_views.specs.Standings.{holdersOf, targetsOf, standingOf}
 use Rattle.report_views.specs.Best.{best-cong, best-given, best-le}
 

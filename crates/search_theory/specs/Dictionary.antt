@@ -1,15 +1,15 @@
 -- The order of placements by their lists: shards ascending, each shard's nodes listed ascending, and the smaller list in
 -- dictionary order wins at the first shard that differs. What the search finds first is first in this order.
-use mathlib.Core.Path.{_≡_, refl, sym, ap, _∙_, subst}
-use mathlib.Core.Bool.{Bool, true, false, cond, _&&_, _||_}
-use mathlib.Core.List.{List, [], _∷_}
+use mathlib.Core.Path.{_≡_, refl, sym, _∙_, subst}
+use mathlib.Core.Bool.{Bool, true, false, _&&_, _||_}
+use mathlib.Core.List.{List}
 use mathlib.Core.Logic.{_⊎_, inl, inr, ⊎-elim}
 use Prim.Native.Nat.{ℕ, zero, suc, _+_, _*_, _/_, _%_, _≤_, _<_}
 use native.Mathlib.Numerals.{add-one}
 use native.Mathlib.Omega.{arith}
 use lib.Dec.{eqb, ltb}
-use borrow.Author.Tests.{eqb-true, eq-eqb, lt-ltb, ltb-true}
-use Rattle.base_laws.specs.Bools.{clash, same, either, or-holds, or-right, and-left, and-right, and-both, lt-or-le, eq-or-ne}
+use borrow.Author.Tests.{eqb-true, lt-ltb, ltb-true}
+use Rattle.base_laws.specs.Bools.{clash, same, either, or-holds, and-left, and-right, and-both, lt-or-le, eq-or-ne}
 use Rattle.base_laws.specs.Below.{countBelow, anyBelow, any-witness, any-fails, count-mono, count-with}
 use Rattle.base_sums.specs.Lists.{listFrom, listBefore, list-cong, list-before}
 use Rattle.search_theory.specs.Case.{Case, Valid}

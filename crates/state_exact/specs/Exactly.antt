@@ -1,6 +1,6 @@
 -- Demand 3, from what decide promises alone: nobody finds a restart that it missed, where it plans one exists, and it waits just for
 -- the first reason that applies.
-use Prim.Native.Nat.{ℕ, _<_, _≤_}
+use Prim.Native.Nat.{ℕ, _<_}
 use mathlib.Core.Bool.{true}
 use mathlib.Core.List.{List}
 use mathlib.Core.Logic.{_⊎_, inl, inr, ⊎-elim}

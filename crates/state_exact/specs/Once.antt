@@ -1,7 +1,7 @@
 -- Two leaders hand back the same: there is one outcome that meets decide's promise, and calls that agree on the settings, the kept
 -- view, its termination, the held mask and the contents of the held reports decide the same and lay out the same plan.
-use Prim.Native.Nat.{ℕ, _^_, _<_}
-use mathlib.Core.Bool.{true, false}
+use Prim.Native.Nat.{ℕ}
+use mathlib.Core.Bool.{true}
 use mathlib.Core.List.{List}
 use mathlib.Core.Logic.{inl, inr, ⊎-elim}
 use mathlib.Core.Path.{_≡_, refl, sym, ap, _∙_, subst}
@@ -12,11 +12,10 @@ use Rattle.report_views.specs.declared.Layout.{Layout}
 use Rattle.report_views.specs.declared.Termination.{Termination}
 use Rattle.report_views.specs.declared.Plan.{Plan}
 use Rattle.report_views.specs.declared.Reason.{Reason}
-use Rattle.report_views.specs.declared.Reason.the-variants.{NoView, NoPlacement}
+use Rattle.report_views.specs.declared.Reason.the-variants.{NoPlacement}
 use Rattle.report_views.specs.declared.Quorum.{Quorum}
 use Rattle.report_views.specs.declared.Quorum.the-variants.{Met, Short}
 use Rattle.report_views.specs.Quorums.{quorumOf}
-use Rattle.report_views.specs.Standings.{standingOf}
 use Rattle.report_views.specs.Agreeing.{SameReports, standing-agrees}
 use Rattle.plan_restart.specs.declared.Verdict.{Verdict}
 use Rattle.plan_restart.specs.Restarts.{waiting, Restarts}
@@ -27,7 +26,7 @@ use Rattle.state_planner.specs.declared.Decision.{Decision}
 use Rattle.state_planner.specs.declared.Decided.{Decided}
 use Rattle.state_planner.specs.States.{planned}
 use Rattle.state_planner.specs.Refusing.{decideRefusal}
-use Rattle.state_planner.specs.Decide.{still, stateBy, decisionBy, decidedBy, Decides}
+use Rattle.state_planner.specs.Decide.{stateBy, decisionBy, decidedBy, Decides}
 use Rattle.state_planner.specs.DecideLaws.{decide-settings, decide-desk, decide-kept}
 
 -- two calls agree on what decide reads: all but the marks, the old plan, the slots of nodes that are not held and what stands off the chains
