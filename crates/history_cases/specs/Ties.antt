@@ -19,7 +19,7 @@ use Rattle.place_groups.specs.Placements.{spread, shardValid, groupValidAt, gro
 use Rattle.place_groups.specs.Chosen.{isShard, ofGroup, nodesIn, Sooner, Chosen, nodes-tell}
 use Rattle.history_cases.specs.Clauses.{oneShard, twoGroups, pairOfMasks}
 
-pub record OrderClauses : Type 0 where
+pub record ChoiceClauses : Type 0 where
   -- the nodes of a mask ascend
   pub ascending : nodesIn 50 ≡ 1 ∷ 4 ∷ 5 ∷ []
   pub last-listed : nodesIn (2 ^ 31) ≡ 31 ∷ []
@@ -47,9 +47,9 @@ below-own s l o =
     let h : ofGroup twoGroups 3 0 ≡ true = subst (λ (i : ℕ). ofGroup twoGroups 3 i ≡ true) z o in
     clash h refl
 
-pub order-clauses : OrderClauses
+pub choice-clauses : ChoiceClauses
 unfolding listFrom listBefore nodesIn isShard ofGroup
-order-clauses =
+choice-clauses =
     record {
       ascending = refl;
       last-listed = refl;
