@@ -52,7 +52,8 @@ fn case(random: &mut Random, most: u32) -> (Settings, u32, Vec<u32>) {
     let subgroups = 1 + random.below(SUBGROUPS);
     let mut words = vec![nodes, sets, 1, shards];
     words.extend((0..nodes).map(|_| random.below(sets)));
-    words.extend((0..shards).map(|_| random.below(subgroups) * 256 + 1 + random.below(sets.min(3))));
+    words
+        .extend((0..shards).map(|_| random.below(subgroups) * 256 + 1 + random.below(sets.min(3))));
     let settings = settings::parse(&words).unwrap();
     let mut old = vec![0; shards as usize];
     for number in 0..SUBGROUPS {
@@ -88,7 +89,9 @@ fn the_greedy_method_finds_the_first() {
             assert_eq!(greedy(&subgroup), first);
             let Some(first) = first else { continue };
             assert!(subgroup.valid(&first));
-            assert!(least.iter().all(|other| compare(&first, other) != Ordering::Greater));
+            assert!(least
+                .iter()
+                .all(|other| compare(&first, other) != Ordering::Greater));
             if !settings.shards_of(subgroup.number).is_empty() {
                 found += 1;
                 equal += u32::from(least.len() > 1);
@@ -125,11 +128,21 @@ fn the_whole_plan_is_first_in_each_subgroup() {
         let Some(first) = first else { continue };
         let least = all.iter().map(|masks| layout.moves(masks)).min();
         assert_eq!(Some(layout.moves(&first)), least);
-        let each_least = layout.subgroups().map(|one| one.least_moves().unwrap()).sum();
+        let each_least = layout
+            .subgroups()
+            .map(|one| one.least_moves().unwrap())
+            .sum();
         assert_eq!(least, Some(each_least));
         found += 1;
-        several += u32::from(settings.subgroup_of.iter().any(|&g| g != settings.subgroup_of[0]));
-        let as_good = all.iter().filter(|masks| Some(layout.moves(masks)) == least);
+        several += u32::from(
+            settings
+                .subgroup_of
+                .iter()
+                .any(|&g| g != settings.subgroup_of[0]),
+        );
+        let as_good = all
+            .iter()
+            .filter(|masks| Some(layout.moves(masks)) == least);
         equal += u32::from(as_good.count() > 1);
     }
     println!("{found} placed, {several} of several subgroups, {equal} with another of equal moves");
