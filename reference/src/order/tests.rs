@@ -87,6 +87,8 @@ fn the_greedy_method_finds_the_first() {
             let first = first_of(least.clone());
             assert_eq!(exhaustive(&subgroup), first);
             assert_eq!(greedy(&subgroup), first);
+            // The least masks as numbers are the same ones.
+            assert_eq!(first, least.iter().min().cloned());
             let Some(first) = first else { continue };
             assert!(subgroup.valid(&first));
             assert!(least
