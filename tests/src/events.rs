@@ -2,8 +2,9 @@
 //! planner and the reference side by side.
 //!
 //! A sequence of calls depends on the seed and its index alone. It goes on from
-//! what the planner left. Some calls get a damaged copy of what is lent; if such
-//! a call is refused, the sequence goes on from the undamaged.
+//! what the planner left, which is what the reference says. Some calls get a
+//! damaged copy of what is lent; if such a call is refused, the sequence goes on
+//! from the undamaged.
 
 use crate::calls::{self, Asked, Kind, Outcome, Pages, Table, DESK_BYTES, STATE_BYTES};
 use crate::lent::Place;
