@@ -41,6 +41,13 @@ impl Size {
         }
     }
 
+    fn most_nodes(self) -> u32 {
+        match self {
+            Size::Small => 9,
+            Size::Large => 32,
+        }
+    }
+
     /// How the reference finds a placement of this size.
     pub fn choice(self) -> Choice {
         match self {
@@ -259,25 +266,31 @@ fn put_fault(random: &mut Random, world: &World, held: u32, table: &mut Table) -
     }
 }
 
+/// What the planner left, which is as it must be.
+pub struct Compared {
+    outcome: Outcome,
+    /// Whether the plan was compared over all shards at once, too.
+    whole: bool,
+}
+
 /// Asks the planner and compares all that it leaves. Gives that, or what
 /// differs.
-pub fn compare(planner: &Planner, pages: &mut Pages, case: &Case) -> Result<Outcome, String> {
+pub fn compare(planner: &Planner, pages: &mut Pages, case: &Case) -> Result<Compared, String> {
     let expected = calls::expected_by(case.size.choice(), &case.asked);
     let outcome = calls::compare_with(&expected, planner, pages, &case.asked, case.places)?;
-    if case.size == Size::Small && outcome.answer == PLAN {
-        compare_whole(&case.asked, &outcome)?;
-    }
-    Ok(outcome)
+    let small = case.size == Size::Small && outcome.answer == PLAN;
+    let whole = small && compare_whole(&case.asked, &outcome)?;
+    Ok(Compared { outcome, whole })
 }
 
 /// Compares a plan with the first over all shards at once, where there are few
-/// placements.
-fn compare_whole(asked: &Asked, outcome: &Outcome) -> Result<(), String> {
+/// placements. Says whether there are.
+fn compare_whole(asked: &Asked, outcome: &Outcome) -> Result<bool, String> {
     let (settings, state) = planned(asked, outcome);
     let (layout, masks) = layout(&settings, &state);
     let all = layout.subgroups().map(|subgroup| subgroup.all().len());
     if all.product::<usize>() > MOST_WHOLE {
-        return Ok(());
+        return Ok(false);
     }
     let first = layout.first_least();
     if first.as_ref() != Some(masks) {
@@ -285,7 +298,7 @@ fn compare_whole(asked: &Asked, outcome: &Outcome) -> Result<(), String> {
             "the masks are {masks:x?}, over all shards the first are {first:x?}"
         ));
     }
-    Ok(())
+    Ok(true)
 }
 
 /// The settings and the state of a plan that the planner left.
@@ -317,23 +330,27 @@ pub struct Tally {
 }
 
 /// What must be found among a hundred plans at least, and how often.
-const WANTED: [(&str, u64); 4] = [
+const WANTED: [(&str, u64); 6] = [
     ("plans with moves", 30),
+    ("plans of as many nodes as there can be", 15),
     ("plans of two subgroups or more", 30),
+    ("plans of four subgroups", 5),
     (
         "plans of shards that lie between those of another subgroup",
         20,
     ),
     ("plans with another placement of equal moves", 40),
 ];
+/// And of small ones.
+const WANTED_SMALL: (&str, u64) = ("plans compared over all shards at once", 50);
 /// And of all cases, in a thousand.
 const WANTED_CASES: [(&str, u64); 6] = [
     ("wait 4", 2),
     ("wait 5", 5),
     ("refused for a fault", 10),
-    ("a fault that changes nothing", 1),
-    ("held: all nodes", 30),
-    ("a fault", 40),
+    ("a plan in spite of a fault", 1),
+    ("a plan with every node held", 30),
+    ("a plan with a node absent", 100),
 ];
 
 impl Tally {
@@ -343,28 +360,33 @@ impl Tally {
         }
     }
 
-    pub fn count(&mut self, case: &Case, outcome: &Outcome) {
+    pub fn count(&mut self, case: &Case, compared: &Compared) {
         self.cases += 1;
-        self.put(case.fault.is_some(), "a fault");
-        match outcome.answer() {
+        match compared.outcome.answer() {
             Answer::Plan => {
-                self.put(case.fault.is_some(), "a fault that changes nothing");
-                let (settings, state) = planned(&case.asked, outcome);
-                self.plan(&settings, &state);
+                self.put(case.fault.is_some(), "a plan in spite of a fault");
+                self.put(compared.whole, WANTED_SMALL.0);
+                let (settings, state) = planned(&case.asked, &compared.outcome);
+                self.plan(case.size, &settings, &state);
             }
             Answer::Wait(reason, _) => self.put(true, &format!("wait {reason}")),
             _ => self.put(true, "refused for a fault"),
         }
     }
 
-    fn plan(&mut self, settings: &Settings, state: &State) {
+    fn plan(&mut self, size: Size, settings: &Settings, state: &State) {
         let (layout, masks) = layout(settings, state);
         self.plans += 1;
-        self.put(state.held == mask::below(settings.nodes), "held: all nodes");
+        let all = state.held == mask::below(settings.nodes);
+        self.put(all, "a plan with every node held");
+        self.put(!all, "a plan with a node absent");
         self.put(layout.moves(masks) > 0, "plans with moves");
-        let of = &settings.subgroup_of;
-        let several = of.iter().any(|&other| other != of[0]);
-        self.put(several, "plans of two subgroups or more");
+        let most = settings.nodes == size.most_nodes();
+        self.put(most, "plans of as many nodes as there can be");
+        let used = |&number: &u32| !settings.shards_of(number).is_empty();
+        let subgroups = (0..SUBGROUPS).filter(used).count();
+        self.put(subgroups > 1, "plans of two subgroups or more");
+        self.put(subgroups == 4, "plans of four subgroups");
         let between = (0..SUBGROUPS).any(|number| {
             let own = settings.shards_of(number);
             own.windows(2).any(|pair| pair[1] > pair[0] + 1)
@@ -391,10 +413,12 @@ impl Tally {
     }
 
     /// What is too rare for the cases to show much.
-    pub fn rare(&self) -> Vec<&'static str> {
+    pub fn rare(&self, size: Size) -> Vec<&'static str> {
         let times = |name: &str| self.counts.get(name).copied().unwrap_or(0);
+        let wanted_small = (size == Size::Small).then_some(&WANTED_SMALL);
         let of_plans = WANTED
             .iter()
+            .chain(wanted_small)
             .filter(|(name, least)| times(name) * 100 < self.plans * least);
         let of_cases = WANTED_CASES
             .iter()

@@ -97,8 +97,10 @@ fn the_reference_agrees_with_itself() {
         let mut tally = Tally::default();
         for index in 0..300 {
             let case = plans::case(SEED, size, index);
-            let outcome = plans::compare(&planner, &mut pages, &case);
-            tally.count(&case, &outcome.expect("the same"));
+            match plans::compare(&planner, &mut pages, &case) {
+                Ok(compared) => tally.count(&case, &compared),
+                Err(what) => panic!("{} case {index}: {what}", size.name()),
+            }
         }
         tally.print(size);
         assert!(tally.plans > 200);

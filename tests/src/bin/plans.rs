@@ -46,7 +46,7 @@ fn main() -> ExitCode {
             return ExitCode::FAILURE;
         };
         tally.print(size);
-        for what in tally.rare() {
+        for what in tally.rare(size) {
             println!(
                 "plans: {}: {what}: too rare, the cases are no good",
                 size.name()
@@ -100,8 +100,8 @@ fn compare(
     lent::at_input(index);
     let case = plans::case(seed, size, index);
     match plans::compare(planner, pages, &case) {
-        Ok(outcome) => {
-            tally.count(&case, &outcome);
+        Ok(compared) => {
+            tally.count(&case, &compared);
             true
         }
         Err(what) => {
