@@ -43,10 +43,10 @@ extern "C" {
 /* ---- Version ---- */
 
 #define RESTART_VERSION_MAJOR 0
-#define RESTART_VERSION_MINOR 2
+#define RESTART_VERSION_MINOR 3
 #define RESTART_VERSION_PATCH 0
-#define RESTART_VERSION "0.2.0"
-#define RESTART_VERSION_NUMBER 200 /* major * 10000 + minor * 100 + patch */
+#define RESTART_VERSION "0.3.0"
+#define RESTART_VERSION_NUMBER 300 /* major * 10000 + minor * 100 + patch */
 
 /* Of the settings, the messages and the state. It is raised when any of their words changes its
  * meaning; save it beside a state, and start fresh where it differs. */
