@@ -4,6 +4,7 @@ from dataclasses import dataclass, field
 from .advising import Advice, advise
 from .answers import Number, Plan, Wait, printed
 from .gathering import Gathered, gather, waits
+from .ordering import First, first_placement
 from .planning import faults, plan_lines
 from .refusing import ADVICE, block_name, refusal_lines
 from .sentences import machines
@@ -20,6 +21,7 @@ class Explanation:
     advice: Advice = field(default_factory=Advice)
     lines: list = field(default_factory=list)
     asked: int = 0  # how often the program was started
+    first: First | None = None  # for a plan: the placement that it must have
 
     @property
     def agrees(self):
@@ -30,7 +32,8 @@ def explain(given, answer, fault=None, program=None, gone=frozenset()):
     """`fault` is the block that the program refuses, where the program was asked; else it is found by reading. Where there is a
     program, it is asked about other inputs as well, for advice."""
     gathered = gather(given.blocks, given.names)
-    told = Explanation(answer, gathered, fault, differences(gathered, given, answer, fault))
+    first = first_placement(gathered) if isinstance(answer, Plan) and not gathered.refused and not waits(gathered) else None
+    told = Explanation(answer, gathered, fault, differences(gathered, given, answer, fault, first), first=first)
     if isinstance(answer, Number) and fault is None and gathered.refused:
         told.fault = gathered.fault
     if told.agrees:
@@ -43,7 +46,7 @@ def explain(given, answer, fault=None, program=None, gone=frozenset()):
     elif told.agrees and isinstance(answer, Wait):
         told.lines = parts(wait_advice(gathered, answer, told.advice, program), summary(gathered), waiting(gathered, answer))
     elif told.agrees:
-        told.lines = parts(plan_advice(gathered, answer, told.advice), summary(gathered), plan_lines(gathered, answer))
+        told.lines = parts(plan_advice(gathered, answer, told.advice), summary(gathered), plan_lines(gathered, answer, told.first))
     told.lines += warning(told.differing)
     told.asked = program.asked if program else 0
     return told
@@ -93,8 +96,8 @@ def waiting(gathered, answer):
     return lines
 
 
-def differences(gathered, given, answer, fault=None):
-    """Where this tool's own counting comes to something else than the answer."""
+def differences(gathered, given, answer, fault=None, first=None):
+    """Where this tool's own counting comes to something else than the answer. `first` is the placement that a plan must have."""
     refused = gathered.refused
     if refused:
         same = answer == Number(refused.number) and fault in (None, gathered.fault)
@@ -102,7 +105,7 @@ def differences(gathered, given, answer, fault=None):
     failing = waits(gathered)
     if failing:
         return [] if answer == Wait(*failing[0]) else [printed(Wait(*failing[0]))]
-    return faults(gathered, answer) if isinstance(answer, Plan) else ["a plan"]
+    return faults(gathered, answer, first) if isinstance(answer, Plan) else ["a plan"]
 
 
 def supposed_differences(settings, found):

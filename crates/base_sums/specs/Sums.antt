@@ -1,13 +1,15 @@
 -- The sum of f over the numbers below n, and its laws: congruence, order, addition, exchange, one term alone, a constant,
--- and the sum over keys (each number below n adds the weight of its key).
-use mathlib.Core.Path.{_≡_, refl, sym, ap, ap₂, _∙_}
+-- the sum over keys (each number below n adds the weight of its key), and sums that are as large or differ in one term.
+use mathlib.Core.Path.{_≡_, refl, sym, ap, ap₂, _∙_, subst}
 use mathlib.Core.Bool.{Bool, true, false, cond}
+use mathlib.Core.Logic.{⊎-elim}
 use Prim.Native.Nat.{ℕ, zero, suc, _+_, _*_, _≤_, _<_, zero-le}
 use native.Mathlib.Nat.{le-antisymm, mul-zero, zero-mul, one-mul, mul-le-mul-right}
 use native.Mathlib.Numerals.{add-one}
 use native.Mathlib.Omega.{arith}
 use lib.Dec.{eqb, ltb}
 use borrow.Author.Tests.{eqb-true, eqb-false, lt-ltb, le-ltb, ltb-true, ltb-false}
+use Rattle.base_laws.specs.Bools.{lt-or-le}
 use Rattle.base_laws.specs.Below.{countBelow, count-none, any-none-of}
 
 -- f 0 + f 1 + .. + f (n - 1)
@@ -159,3 +161,25 @@ sum-past m (suc n) f l h = go (ltb n m) refl (sum-past m n f)
     go : (b : Bool) → ltb n m ≡ b → (m ≤ n → ((k : ℕ) → m ≤ k → k < n → f k ≡ 0) → sumBelow n f ≡ sumBelow m f) → sumBelow n f + f n ≡ sumBelow m f
     go true e i = let d : suc n ≡ m = omega (arith, ltb-true n m e) in ap (λ (k : ℕ). sumBelow k f) d
     go false e i = omega (arith, i (omega (arith, ltb-false n m e)) (λ k p q. h k p (omega arith)), h n (omega (arith, ltb-false n m e)) (omega arith))
+
+-- terms that are at most others, with a sum that is not less, are those others
+pub sum-tight : (n : ℕ) (f g : ℕ → ℕ) → ((k : ℕ) → k < n → f k ≤ g k) → sumBelow n g ≤ sumBelow n f → (k : ℕ) → k < n → g k ≤ f k
+unfolding sumBelow
+sum-tight zero f g h e k l = absurd (omega arith)
+sum-tight (suc n) f g h e k l =
+    ⊎-elim (λ d. sum-tight n f g (λ j i. h j (omega arith)) (omega (arith, h n (omega arith))) k d)
+    (λ d. let z : k ≡ n = omega arith in subst (λ (j : ℕ). g j ≤ f j) (sym z) (omega (arith, sum-mono n f g (λ j i. h j (omega arith)))))
+    (lt-or-le k n)
+
+-- sums that differ in one term alone
+pub sum-but-one : (n : ℕ) (f g : ℕ → ℕ) (k : ℕ) → k < n → ((j : ℕ) → j < n → (j ≡ k → ⊥) → f j ≡ g j) → sumBelow n f + g k ≡ sumBelow n g + f k
+unfolding sumBelow
+sum-but-one zero f g k l h = absurd (omega arith)
+sum-but-one (suc n) f g k l h =
+    ⊎-elim (λ d. omega (arith, sum-but-one n f g k d (λ j i o. h j (omega arith) o), h n (omega arith) (λ e. omega arith)))
+    (λ d.
+    let z : k ≡ n = omega arith in
+    let a : f k ≡ f n = ap f z in
+    let b : g k ≡ g n = ap g z in
+    omega (arith, sum-cong n f g (λ j i. h j (omega arith) (λ e. omega arith))))
+    (lt-or-le k n)

@@ -1,5 +1,4 @@
--- What the call decide answers, and the state's bytes afterwards. The choice among placements of least moves is free, so the call
--- is promised to answer and leave what some outcome of decide says.
+-- What the call decide answers, and the state's bytes afterwards: what the outcome of decide says, of which there is one.
 use Prim.Native.Nat.{ℕ}
 use mathlib.Core.Bool.{true, false}
 use mathlib.Core.List.{List}
@@ -41,7 +40,7 @@ decisionLeaves (Refused r) x state = state
 unfoldable pub decideEntry : List ℕ → List ℕ → List ℕ → Refusal
 decideEntry settings state desk = entryRefused (deskOk (wordsIn desk)) settings (isState (wordsIn state))
 
--- the answer and the bytes are those of an outcome of decide
+-- the answer and the bytes are those of decide's outcome
 pub record ByOutcome (settings state desk : List ℕ) (answer : ℕ) (left : List ℕ) : Type 0 where
   pub outcome : Decided
   pub decides : Decides (wordsIn settings) (stateLent state) (wordsIn desk) outcome

@@ -1,3 +1,4 @@
 -- Decide, over lent bytes.
 pub mod Decisions
 pub mod Cases
+pub mod Once

@@ -16,6 +16,7 @@ use Rattle.base_laws.specs.Positions.{pairNotAfter}
 use Rattle.message_format.specs.Chain.{place, following}
 use Rattle.message_format.specs.Messages.{bodyWord, bodyOf, contentsOf}
 use Rattle.place_groups.specs.Placements.{groupValid, groupMoves, Impossible, LeastMoves}
+use Rattle.place_groups.specs.Chosen.{Chosen}
 use Rattle.report_views.specs.declared.Reason.the-variants.{NoView, NoMajority, TooFew, NoHolder}
 use Rattle.report_views.specs.declared.Quorum.the-variants.{Met, Short}
 use Rattle.report_views.specs.Logs.{pos, endOf, reaches, holds, hasUpdate}
@@ -24,11 +25,11 @@ use Rattle.report_views.specs.Quorums.{candidate, greatest, best, target, able,
 use Rattle.report_views.specs.Cuts.{earlier, upTo, eligible, lastUpTo, cutFrom, cut}
 use Rattle.report_views.specs.Empty.{noView, noTermination}
 use Rattle.history_cases.specs.Runs.{caseSettings, settingsWith, desk, view7, sixMembers, logOf}
-use Rattle.history_cases.specs.Placed.{planA, a-valid, a-moves, a-least, i-none}
+use Rattle.history_cases.specs.Placed.{planA, a-valid, a-moves, a-least, a-chosen, i-none}
 
 pub record Cases : Type 0 where
   -- A: nodes 0 to 5. Every quorum condition is met; holders and targets of the three shards; the plan's placement is valid with two
-  -- moves, and it is the only valid one of least moves
+  -- moves, it is the only valid one of least moves, and the order chooses it
   pub a-met : quorumOf caseSettings view7 noTermination 63 desk ≡ Met
   pub a-holder0 : holder view7 noTermination 63 desk 0 ≡ 0
   pub a-holder1 : holder view7 noTermination 63 desk 1 ≡ 1
@@ -39,6 +40,7 @@ pub record Cases : Type 0 where
   pub a-placed : groupValid caseSettings 63 planA 0 ≡ true
   pub a-moved : groupMoves caseSettings (maskAt view7) planA 0 ≡ 2
   pub a-only : (P : ℕ → ℕ) → LeastMoves caseSettings 63 (maskAt view7) P 0 → (P 0 ≡ 5) × (P 1 ≡ 50) × (P 2 ≡ 8)
+  pub a-first : Chosen caseSettings 63 (maskAt view7) planA 0
   -- B: any three of the seven, whatever the desk
   pub b : (held : ℕ) → held < 128 → count held ≡ 3 → (d : List ℕ) → quorumOf caseSettings view7 noTermination held d ≡ Short NoMajority
   -- C: three of six members, and four
@@ -88,6 +90,7 @@ cases =
       a-placed = a-valid;
       a-moved = a-moves;
       a-only = a-least;
+      a-first = a-chosen;
       b = b-short;
       c-three = refl;
       c-four = refl;

@@ -159,7 +159,7 @@ quorum-clauses =
     }
 
 -- four nodes, each in a failure set of its own; one shard, which needs two
-abbrev oneShard : List ℕ
+abbrev pub oneShard : List ℕ
 oneShard = 4 ∷ 4 ∷ 1 ∷ 1 ∷ 0 ∷ 1 ∷ 2 ∷ 3 ∷ 2 ∷ []
 
 -- nodes 0 and 1 of one failure set, node 2 of another; one shard, which needs two
@@ -170,11 +170,11 @@ sharedSet = 3 ∷ 2 ∷ 1 ∷ 1 ∷ 0 ∷ 0 ∷ 1 ∷ 2 ∷ []
 abbrev oneGroup : List ℕ
 oneGroup = 4 ∷ 2 ∷ 1 ∷ 2 ∷ 0 ∷ 0 ∷ 1 ∷ 1 ∷ 1 ∷ 1 ∷ []
 
-abbrev twoGroups : List ℕ
+abbrev pub twoGroups : List ℕ
 twoGroups = 4 ∷ 2 ∷ 1 ∷ 2 ∷ 0 ∷ 0 ∷ 1 ∷ 1 ∷ 1 ∷ 769 ∷ []
 
 -- masks of shards 0 and 1
-abbrev pairOfMasks : ℕ → ℕ → ℕ → ℕ
+abbrev pub pairOfMasks : ℕ → ℕ → ℕ → ℕ
 pairOfMasks a b s = lib.ListN.getD (a ∷ b ∷ []) s 0
 
 -- a view with these masks

@@ -3,6 +3,7 @@ pub mod Runs
 pub mod Placed
 pub mod Cases
 pub mod Clauses
+pub mod Ties
 pub mod Told
 pub mod Supposing
 pub mod Needed

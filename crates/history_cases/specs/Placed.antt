@@ -3,19 +3,20 @@
 use Prim.Native.Nat.{ℕ, zero, suc, _<_, _≤_}
 use mathlib.Core.Bool.{Bool, true, false, not, _&&_, _||_}
 use mathlib.Core.List.{List}
-use mathlib.Core.Logic.{⊎-elim}
-use mathlib.Core.Path.{_≡_, refl, sym, _∙_, subst}
+use mathlib.Core.Logic.{inl, ⊎-elim}
+use mathlib.Core.Path.{_≡_, refl, sym, ap, _∙_, subst}
 use native.Mathlib.Omega.{arith}
-use lib.Dec.{eqb, leb}
+use lib.Dec.{eqb, leb, ltb}
 use lib.Count.{ones, onesIn}
-use borrow.Author.Tests.{eqb-true, eq-eqb, le-leb}
-use Rattle.base_laws.specs.Bools.{clash, and-both, and-left, and-right, or-holds, of-not-true}
+use borrow.Author.Tests.{eqb-true, eq-eqb, le-leb, ltb-true}
+use Rattle.base_laws.specs.Bools.{clash, and-both, and-left, and-right, or-holds, of-not-true, lt-or-le}
 use Rattle.base_laws.specs.Below.{allBelow, all-at}
 use Rattle.base_laws.specs.Masks.{count, subset, disjoint, subset-le}
 use Rattle.base_sums.specs.Sums.{sumBelow}
 use Rattle.settings_values.specs.Settings.{shards, subgroup, need}
 use Rattle.message_format.specs.Rows.{shardApart}
 use Rattle.place_groups.specs.Placements.{spread, shardValid, groupValid, groupValidAt, groupMoves, groupMovesAt, Impossible, LeastMoves}
+use Rattle.place_groups.specs.Chosen.{ofGroup, nodesIn, Chosen}
 use Rattle.report_views.specs.Reports.{maskAt}
 use Rattle.history_cases.specs.Runs.{caseSettings, settingsWith, view7}
 
@@ -158,6 +159,29 @@ a-only P valid few =
 -- case A: so is every placement with the least moves
 pub a-least : (P : ℕ → ℕ) → LeastMoves caseSettings 63 (maskAt view7) P 0 → (P 0 ≡ 5) × (P 1 ≡ 50) × (P 2 ≡ 8)
 a-least P l = a-only P (l .valid) (omega (arith, l .least planA a-valid, a-moves))
+
+-- case A: so nothing has fewer moves than the plan
+pub a-fewest : LeastMoves caseSettings 63 (maskAt view7) planA 0
+a-fewest = record { valid = a-valid; least = λ other v. at-least other v }
+  where
+    at-least : (P : ℕ → ℕ) → groupValid caseSettings 63 P 0 ≡ true → groupMoves caseSettings (maskAt view7) planA 0 ≤ groupMoves caseSettings (maskAt view7) P 0
+    at-least P v =
+        ⊎-elim
+        (λ l. omega (arith, a-moves))
+        (λ l.
+        let m = a-only P v l in
+        let same : groupMoves caseSettings (maskAt view7) P 0 ≡ groupMoves caseSettings (maskAt view7) planA 0 =
+        three-moves P ∙ rw (m .0, m .1, m .2) in
+        omega arith)
+        (lt-or-le 2 (groupMoves caseSettings (maskAt view7) P 0))
+
+-- case A: the plan's placement is the chosen one, and what is chosen is the plan's
+pub a-chosen : Chosen caseSettings 63 (maskAt view7) planA 0
+unfolding ofGroup
+a-chosen = record { least = a-fewest; first = λ other l. inl (record { alike = λ s o. ap nodesIn (at other l s (ltb-true s 3 (and-left (ltb s 3) (eqb (subgroup caseSettings s) 0) o))) }) }
+  where
+    at : (P : ℕ → ℕ) → LeastMoves caseSettings 63 (maskAt view7) P 0 → (s : ℕ) → s < 3 → planA s ≡ P s
+    at P l s k = let m = a-least P l in one-group s (λ n. planA n ≡ P n) (sym (m .0)) (sym (m .1)) (sym (m .2)) k
 
 -- case I: shard 0 needs 3
 pub i-none : Impossible (settingsWith 4 3) 63 0

@@ -1,6 +1,6 @@
 -- Placements of a subgroup g: a mask of nodes for each shard, from the settings σ, the mask of held nodes and the members
 -- that each shard had in the kept view (old).
-use Prim.Native.Nat.{ℕ, _≤_}
+use Prim.Native.Nat.{ℕ, _≤_, _<_}
 use mathlib.Core.Bool.{Bool, true, cond, not, _&&_, _||_}
 use mathlib.Core.List.{List}
 use mathlib.Core.Path.{_≡_}
@@ -41,6 +41,12 @@ groupMoves σ old masks g = sumBelow (shards σ) (groupMovesAt σ old masks g)
 -- no valid placement of subgroup g exists
 pub record Impossible (σ : List ℕ) (held g : ℕ) : Type 0 where
   pub none : (masks : ℕ → ℕ) → groupValid σ held masks g ≡ true → ⊥
+
+-- g is the lowest subgroup without a valid placement
+pub record Lowest (σ : List ℕ) (held g : ℕ) : Type 0 where
+  pub below : g < 4
+  pub none : Impossible σ held g
+  pub lower : (h : ℕ) → h < g → (masks : ℕ → ℕ) × (groupValid σ held masks h ≡ true)
 
 -- a valid placement of subgroup g, and none has fewer moves
 pub record LeastMoves (σ : List ℕ) (held : ℕ) (old masks : ℕ → ℕ) (g : ℕ) : Type 0 where

@@ -4,25 +4,25 @@ use mathlib.Core.Path.{_≡_}
 use mathlib.Core.Bool.{true, false}
 use mathlib.Core.List.{List}
 use Prim.Native.Nat.{ℕ, _+_, _*_, _≤_, _<_}
-use lib.ListN.{replicate}
+use lib.ListN.{length, replicate}
 use Rattle.base_sums.specs.Sums.{sumBelow}
 use Rattle.settings_values.specs.Settings.{shards}
-use Rattle.place_groups.specs.Placements.{groupValid, groupMoves, Impossible, LeastMoves}
+use Rattle.place_groups.specs.Placements.{groupMoves, Lowest}
+use Rattle.place_groups.specs.Chosen.{Chosen}
 use Rattle.place_owners.specs.Adding.{masksOf}
 use Rattle.place_layout.specs.declared.Placed.{Placed}
 
--- the first k subgroups have a valid placement of least moves each, with the sum of their moves; nothing stands from S up
+-- the first k subgroups have their chosen placement each, with the sum of their moves; nothing stands from S up
 pub record Laid (σ : List ℕ) (held : ℕ) (old : ℕ → ℕ) (k : ℕ) (p : Placed) : Type 0 where
-  pub least : (h : ℕ) → h < k → LeastMoves σ held old (masksOf (p .masks)) h
+  pub chosen : (h : ℕ) → h < k → Chosen σ held old (masksOf (p .masks)) h
   pub total : p .total ≡ sumBelow k (groupMoves σ old (masksOf (p .masks)))
   pub rest : (s : ℕ) → shards σ ≤ s → masksOf (p .masks) s ≡ 0
+  pub sized : length (p .masks) ≡ 16
   pub group : p .group ≡ 0
 
 -- the lowest subgroup without a valid placement, and nothing placed
 pub record Unplaced (σ : List ℕ) (held : ℕ) (p : Placed) : Type 0 where
-  pub below : p .group < 4
-  pub none : Impossible σ held (p .group)
-  pub lower : (h : ℕ) → h < p .group → (masks : ℕ → ℕ) × (groupValid σ held masks h ≡ true)
+  pub lowest : Lowest σ held (p .group)
   pub masks : p .masks ≡ replicate 16 0
   pub total : p .total ≡ 0
 

@@ -5,13 +5,13 @@ use mathlib.Core.List.{List}
 use mathlib.Core.Logic.{⊎-elim}
 use Prim.Native.Nat.{ℕ, _+_, _^_, _≤_, _<_}
 use native.Mathlib.Omega.{arith}
-use lib.ListN.{replicate, length-replicate, getD-replicate, List·getD-eq-default}
+use lib.ListN.{length, replicate, length-replicate, getD-replicate, List·getD-eq-default}
 use Rattle.base_laws.specs.Bools.{lt-or-le, eq-or-ne}
 use Rattle.base_sums.specs.Sums.{sumBelow, sum-zero}
 use Rattle.settings_values.specs.Settings.{nodes, Settings}
-use Rattle.place_groups.specs.Placements.{groupMoves, Impossible, LeastMoves}
-use Rattle.search_theory.specs.Case.{Least, moves}
-use Rattle.search_theory.specs.Tables.{caseOf, ownersOf}
+use Rattle.place_groups.specs.Placements.{groupMoves, Impossible}
+use Rattle.place_groups.specs.Chosen.{Chosen}
+use Rattle.search_theory.specs.Tables.{caseOf}
 use Rattle.search_theory.specs.Least.{moves-most}
 use Rattle.search_theory.specs.Floor.{SheetFor}
 use Rattle.search_total.specs.declared.Solution.{Solution}
@@ -19,9 +19,9 @@ use Rattle.search_total.specs.Post.{LeastAnswer}
 use Rattle.place_sheet.specs.Sheet.{sheetOf}
 use Rattle.place_owners.specs.Floor.{sheet-for}
 use Rattle.place_owners.specs.Tables.{setsTable, needsTable, pricesTable, groupCase, case-for}
-use Rattle.place_owners.specs.Owners.{moves-same, least-moves, impossible}
-use Rattle.place_owners.specs.Local.{least-local}
-use Rattle.place_owners.specs.Adding.{masksOf, masksWith, with-masked, with-alike, with-rest, with-total}
+use Rattle.place_owners.specs.Owners.{moves-same, impossible}
+use Rattle.place_owners.specs.Choice.{chosen-local, first-chosen}
+use Rattle.place_owners.specs.Adding.{masksOf, masksWith, with-masked, with-alike, with-rest, with-total, with-length}
 use Rattle.place_layout.specs.declared.Placed.{Placed}
 use Rattle.place_layout.specs.Post.{Unplaced, LaidSoFar}
 
@@ -54,9 +54,10 @@ stage-start {σ} {held} {old} {p} m t g =
     record {
       laid =
           record {
-            least = λ h l. absurd (omega arith);
+            chosen = λ h l. absurd (omega arith);
             total = t ∙ sym (sum-zero (groupMoves σ old (masksOf (p .masks))));
             rest = λ s l. ap (λ (w : List ℕ). masksOf w s) m ∙ blank-mask s;
+            sized = ap (λ (w : List ℕ). length w) m ∙ length-replicate {A = ℕ} 16 0;
             group = g;
           };
       small = omega arith;
@@ -73,33 +74,34 @@ module _ {σ : List ℕ} {held : ℕ} {old : ℕ → ℕ} {g : ℕ} {p : Placed}
       record {
         laid =
             record {
-              least = λ h l. subst (λ (q : List ℕ). LeastMoves σ held old (masksOf q) h) (sym m) (each h l);
+              chosen = λ h l. subst (λ (q : List ℕ). Chosen σ held old (masksOf q) h) (sym m) (each h l);
               total = t ∙ (with-total σ g (a .owners) (p .masks) right old (p .total) (a .moves) (st .laid .total) counted ∙ ap (λ (q : List ℕ). sumBelow (g + 1) (groupMoves σ old (masksOf q))) (sym m));
               rest = λ s l. ap (λ (q : List ℕ). masksOf q s) m ∙ with-rest σ g (a .owners) (p .masks) (st .laid .rest) s l;
+              sized = ap (λ (q : List ℕ). length q) m ∙ with-length σ g (a .owners) (p .masks);
               group = z;
             };
         small = omega (arith, st .small, answer-small e);
       }
     where
-      best : Least (groupCase σ held old g) (ownersOf (a .owners))
-      best = w .found e .is
-
       counted : a .moves ≡ groupMoves σ old (masksOf (masksWith σ g (a .owners) (p .masks))) g
-      counted = w .exact e ∙ moves-same right inside (case-for σ held old g) (with-masked σ g (a .owners) (p .masks) right) (best .valid)
+      counted = w .exact e ∙ moves-same right inside (case-for σ held old g) (with-masked σ g (a .owners) (p .masks) right) (w .found e .is .valid)
 
-      each : (h : ℕ) → h < g + 1 → LeastMoves σ held old (masksOf (masksWith σ g (a .owners) (p .masks))) h
+      each : (h : ℕ) → h < g + 1 → Chosen σ held old (masksOf (masksWith σ g (a .owners) (p .masks))) h
       each h l =
           ⊎-elim
-          (λ d. subst (LeastMoves σ held old (masksOf (masksWith σ g (a .owners) (p .masks)))) (sym d) (least-moves right inside (case-for σ held old g) (with-masked σ g (a .owners) (p .masks) right) best))
-          (λ d. least-local (with-alike σ g (a .owners) (p .masks) right h d) (st .laid .least h (omega arith)))
+          (λ d. subst (Chosen σ held old (masksOf (masksWith σ g (a .owners) (p .masks)))) (sym d) (first-chosen (case-for σ held old g) right inside (with-masked σ g (a .owners) (p .masks) right) (w .found e)))
+          (λ d. chosen-local (with-alike σ g (a .owners) (p .masks) right h d) (st .laid .chosen h (omega arith)))
           (eq-or-ne h g)
 
   pub none-here : {r : Placed} → g < 4 → a .exists ≡ false → r .group ≡ g → r .masks ≡ replicate 16 0 → r .total ≡ 0 → Unplaced σ held r
   none-here {r} l e d m t =
       record {
-        below = omega arith;
-        none = subst (λ (h : ℕ). Impossible σ held h) (sym d) (impossible right inside (case-for σ held old g) (w .none e));
-        lower = λ h k. (masksOf (p .masks), st .laid .least h (omega arith) .valid);
+        lowest =
+            record {
+              below = omega arith;
+              none = subst (λ (h : ℕ). Impossible σ held h) (sym d) (impossible right inside (case-for σ held old g) (w .none e));
+              lower = λ h k. (masksOf (p .masks), st .laid .chosen h (omega arith) .least .valid);
+            };
         masks = m;
         total = t;
       }

@@ -1,5 +1,5 @@
-// The placement of all four subgroups: a mask for each shard with the least moves in every subgroup, or the lowest subgroup
-// without a valid placement.
+// The placement of all four subgroups: a mask for each shard, in every subgroup the first placement of least moves, or the lowest
+// subgroup without a valid placement.
 use base_ids::Node;
 use base_ids::Shard;
 use search_total::Solution;
@@ -35,7 +35,7 @@ fn least(sets: &[u8; 32], needs: &[u8; 16], prices: &[u8; 512], sheet: &[[u8; 16
     search_hinted::least(sets, needs, prices, sheet)
 }
 
-// The owners of least moves of subgroup g.
+// The first owners of least moves of subgroup g.
 fn solve(settings: &[u32], held: u32, old: &[u32; 16], sheet: &[[u8; 16]; 16], g: u32) -> Solution
     requires { ⌜ Settings (now settings) ⌝ }
     requires { ⌜ held < 2 ^ nodes (now settings) ⌝ }

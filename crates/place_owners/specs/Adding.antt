@@ -6,10 +6,10 @@ use mathlib.Core.Logic.{⊎-elim}
 use Prim.Native.Nat.{ℕ, _+_, _^_, _≤_, _<_}
 use native.Mathlib.Omega.{arith}
 use lib.Dec.{eqb}
-use lib.ListN.{getD}
+use lib.ListN.{length, getD}
 use Rattle.base_laws.specs.Bools.{lt-or-le}
 use Rattle.base_laws.specs.Masks.{has}
-use Rattle.base_laws.specs.Tables.{tabulate, getD-tabulate, getD-tabulate-past}
+use Rattle.base_laws.specs.Tables.{tabulate, length-tabulate, getD-tabulate, getD-tabulate-past}
 use Rattle.base_sums.specs.Sums.{sumBelow, sum-cong, sum-next}
 use Rattle.settings_values.specs.Settings.{shards, Settings}
 use Rattle.place_groups.specs.Placements.{groupMoves}
@@ -45,6 +45,10 @@ module _ (σ : List ℕ) (g : ℕ) (o masks : List ℕ) where
 
   with-other : (s : ℕ) → s < 16 → ofGroup σ g s ≡ false → masksOf (masksWith σ g o masks) s ≡ masksOf masks s
   with-other s l p = with-at s l ∙ ap (λ (b : Bool). cond b (ownedBy o s) (masksOf masks s)) p
+
+  pub with-length : length (masksWith σ g o masks) ≡ 16
+  unfolding masksWith
+  with-length = length-tabulate 16 (λ s. maskWith σ g o (getD masks s 0) s)
 
   -- from S up nothing stands
   pub with-rest : ((s : ℕ) → shards σ ≤ s → masksOf masks s ≡ 0) → (s : ℕ) → shards σ ≤ s → masksOf (masksWith σ g o masks) s ≡ 0

@@ -10,11 +10,8 @@ use borrow.Author.Tests.{ltb-true, lt-ltb, le-ltb, eqb-true, eq-eqb}
 use Rattle.base_laws.specs.Bools.{and-both, and-left, and-right, and-fails-left, and-fails-right, no-true, lt-or-le}
 use Rattle.base_laws.specs.Masks.{has, has-below}
 use Rattle.settings_values.specs.Settings.{nodes, shards, setOf, subgroup, need, Settings}
+pub use Rattle.place_groups.specs.Chosen.{ofGroup}
 use Rattle.search_theory.specs.Case.{Case}
-
--- s is a shard, of subgroup g
-unfoldable pub ofGroup : List ℕ → ℕ → ℕ → Bool
-ofGroup σ g s = ltb s (shards σ) && eqb (subgroup σ s) g
 
 -- the failure set of node n; 0 from N up
 unfoldable pub setIn : List ℕ → ℕ → ℕ

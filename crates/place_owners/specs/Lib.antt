@@ -1,8 +1,11 @@
--- A subgroup's case from settings and masks, and that its least placement is the least in document 01's own terms.
+-- A subgroup's case from settings and masks, and that its first placement of least moves is the choice in the model's own terms,
+-- which there is once, in each subgroup and over all shards.
 pub mod Cases
 pub mod Shards
 pub mod Owners
 pub mod Local
+pub mod Choice
+pub mod Whole
 pub mod Tables
 pub mod Adding
 pub mod Floor

@@ -26,6 +26,7 @@ use Rattle.report_views.specs.Meets.{quorum-given}
 use Rattle.history_claims.specs.Claims.{claims}
 use Rattle.place_layout.specs.declared.Placed.{Placed}
 use Rattle.place_layout.specs.Post.{Laid, Unplaced, Placement}
+use Rattle.place_layout.specs.Unique.{laid-whole}
 use Rattle.plan_restart.specs.declared.Verdict.{Verdict}
 use Rattle.plan_restart.specs.Kept.{members-below}
 use Rattle.plan_restart.specs.Restarts.{waiting, Plans, FindsPlan, FindsNone, Restarts}
@@ -74,10 +75,12 @@ module _ (σ : List ℕ) (v : Layout) (t : Termination) (held : ℕ) (d : List �
         record {
           number = refl;
           members = refl;
+          sized = laid .sized;
           tidy = tidy-of σ (viewBy v held p) (laid .rest);
           holders = refl;
           targets = refl;
-          least = laid .least;
+          chosen = laid .chosen;
+          whole = laid-whole right laid;
           total = laid .total;
           majority = q .most;
           claims = claims σ v t held d (members-below σ v t held right kept) slots q;
@@ -88,7 +91,7 @@ module _ (σ : List ℕ) (v : Layout) (t : Termination) (held : ℕ) (d : List �
         record {
           group = p .group;
           given = verdict-none v held st p e;
-          lowest = record { below = none .below; none = none .none; lower = none .lower };
+          lowest = none .lowest;
         }
 
     planned-by : p .found ≡ true → Laid σ held (maskAt v) 4 p

@@ -53,7 +53,7 @@ unfoldable pub after : Progress → List (List ℕ) → Progress
 after p [] = p
 after p (w ∷ ws) = after (taking p w) ws
 
--- the text is that of a decision of decide, which is free only in the choice among placements of equal moves
+-- the text is that of decide's decision, of which there is one
 pub record DecisionPrinted (σ : List ℕ) (x : State) (d text : List ℕ) : Type 0 where
   pub decided : Decided
   pub decides : Decides σ x d decided

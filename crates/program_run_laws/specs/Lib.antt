@@ -1,5 +1,6 @@
 -- What a run of the program can come to: sound states, and the numbers 2 and 5 to 13 (Numbers, Reaches); what accepted reports lead
--- to (Accepted).
+-- to (Accepted); and that one text is printed (Once).
 pub mod Numbers
 pub mod Reaches
 pub mod Accepted
+pub mod Once

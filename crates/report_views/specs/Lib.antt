@@ -14,3 +14,4 @@ pub mod Cuts
 pub mod CutLaws
 pub mod Ends
 pub mod Meets
+pub mod Agreeing

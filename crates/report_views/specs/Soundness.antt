@@ -7,12 +7,12 @@ use lib.Dec.{eqb, leb, ltb}
 use lib.ListN.{getD}
 use Rattle.base_laws.specs.Below.{allBelow}
 use Rattle.base_laws.specs.Masks.{within, subset}
-use Rattle.base_sums.specs.Sums.{sumBelow}
 use Rattle.settings_values.specs.Settings.{nodes, shards}
 use Rattle.base_ids.specs.declared.Position.{Position}
 use Rattle.message_format.specs.declared.Form.the-variants.{Report}
 use Rattle.message_format.specs.Rows.{viewOk, row10, position}
-use Rattle.place_groups.specs.Placements.{groupValid, groupMoves}
+use Rattle.place_groups.specs.Placements.{groupValid}
+use Rattle.place_groups.specs.Chosen.{planMoves}
 use Rattle.report_views.specs.declared.Layout.{Layout}
 use Rattle.report_views.specs.declared.Termination.{Termination}
 use Rattle.report_views.specs.declared.Plan.{Plan}
@@ -89,7 +89,7 @@ shardPlanned σ v t held d p s =
 
 -- the moves of all four subgroups
 unfoldable pub allMoves : List ℕ → Layout → Layout → ℕ
-allMoves σ old new = sumBelow 4 (groupMoves σ (maskAt old) (maskAt new))
+allMoves σ old new = planMoves σ (maskAt old) (maskAt new)
 
 -- a plan: no wait applies (its own placements show that wait 5 does not); number, members, holders, targets and total are
 -- document 01's, and every subgroup's placement is valid. Least moves are not asked again.

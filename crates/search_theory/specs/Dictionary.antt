@@ -1,34 +1,23 @@
 -- The order of placements by their lists: shards ascending, each shard's nodes listed ascending, and the smaller list in
 -- dictionary order wins at the first shard that differs. What the search finds first is first in this order.
-use mathlib.Core.Path.{_≡_, refl, sym, ap, _∙_, subst}
-use mathlib.Core.Bool.{Bool, true, false, cond, _&&_, _||_}
-use mathlib.Core.List.{List, [], _∷_}
+use mathlib.Core.Path.{_≡_, refl, sym, _∙_, subst}
+use mathlib.Core.Bool.{Bool, true, false, _&&_, _||_}
+use mathlib.Core.List.{List}
 use mathlib.Core.Logic.{_⊎_, inl, inr, ⊎-elim}
 use Prim.Native.Nat.{ℕ, zero, suc, _+_, _*_, _/_, _%_, _≤_, _<_}
 use native.Mathlib.Numerals.{add-one}
 use native.Mathlib.Omega.{arith}
 use lib.Dec.{eqb, ltb}
-use borrow.Author.Tests.{eqb-true, eq-eqb, lt-ltb, ltb-true}
-use Rattle.base_laws.specs.Bools.{clash, same, either, or-holds, or-right, and-left, and-right, and-both, lt-or-le, eq-or-ne}
+use borrow.Author.Tests.{eqb-true, lt-ltb, ltb-true}
+use Rattle.base_laws.specs.Bools.{clash, same, either, or-holds, and-left, and-right, and-both, lt-or-le, eq-or-ne}
 use Rattle.base_laws.specs.Below.{countBelow, anyBelow, any-witness, any-fails, count-mono, count-with}
+use Rattle.base_sums.specs.Lists.{listFrom, listBefore, list-cong, list-before}
 use Rattle.search_theory.specs.Case.{Case, Valid}
 use Rattle.search_theory.specs.Order.{takes, takes-at, Agree, Ahead, First, agree-start, agree-more}
-
--- the numbers from a to a + k - 1 of which f holds, ascending
-unfoldable pub listFrom : ℕ → ℕ → (ℕ → Bool) → List ℕ
-listFrom a zero f = []
-listFrom a (suc k) f = cond (f a) (a ∷ listFrom (suc a) k f) (listFrom (suc a) k f)
 
 -- the nodes of shard i, ascending
 unfoldable pub nodesOf : (ℕ → ℕ) → ℕ → List ℕ
 nodesOf z i = listFrom 0 32 (λ n. eqb (z n) i)
-
--- dictionary order of lists
-unfoldable pub listBefore : List ℕ → List ℕ → Bool
-listBefore [] [] = false
-listBefore [] (y ∷ ys) = true
-listBefore (x ∷ xs) [] = false
-listBefore (x ∷ xs) (y ∷ ys) = ltb x y || (eqb x y && listBefore xs ys)
 
 -- at the first shard that differs, z's list is the smaller
 pub record Earlier (z y : ℕ → ℕ) : Type 0 where
@@ -40,47 +29,6 @@ pub record Earlier (z y : ℕ → ℕ) : Type 0 where
 -- every shard has the same list
 pub record SameLists (z y : ℕ → ℕ) : Type 0 where
   pub alike : (j : ℕ) → j < 16 → nodesOf z j ≡ nodesOf y j
-
-list-cong : (k a : ℕ) (f g : ℕ → Bool) → ((n : ℕ) → a ≤ n → n < a + k → f n ≡ g n) → listFrom a k f ≡ listFrom a k g
-unfolding listFrom
-list-cong zero a f g h = refl
-list-cong (suc k) a f g h =
-    rw (h a (omega arith) (omega arith))
-    (ap (λ (l : List ℕ). cond (g a) (a ∷ l) l) (list-cong k (suc a) f g (λ n p q. h n (omega arith) (omega arith))))
-
--- a list whose numbers are all larger than n comes after one that starts with n, if it has a number
-later : (k b n m : ℕ) (xs : List ℕ) (g : ℕ → Bool) → n < b → b ≤ m → m < b + k → g m ≡ true → listBefore (n ∷ xs) (listFrom b k g) ≡ true
-unfolding listFrom listBefore
-later zero b n m xs g p q r e = absurd (omega arith)
-later (suc k) b n m xs g p q r e = go (later k (suc b) n m xs g (omega arith)) (g b) refl
-  where
-    go : (suc b ≤ m → m < suc b + k → g m ≡ true → listBefore (n ∷ xs) (listFrom (suc b) k g) ≡ true) → (d : Bool) → g b ≡ d →
-        listBefore (n ∷ xs) (cond (g b) (b ∷ listFrom (suc b) k g) (listFrom (suc b) k g)) ≡ true
-    go h true d = simp (d, lt-ltb n b p)
-    go h false d =
-        simp d
-        (⊎-elim (λ s. absurd (clash {A = ⊥} (subst (λ (j : ℕ). g j ≡ true) (sym s) e) d)) (λ s. h (omega arith) (omega arith) e) (eq-or-ne b m))
-
--- two lists that agree below n, where only the first has n and the second has a larger number
-list-before : (k a n m : ℕ) (f g : ℕ → Bool) → a ≤ n → n < a + k → ((j : ℕ) → a ≤ j → j < n → f j ≡ g j) →
-    f n ≡ true → g n ≡ false → n < m → m < a + k → g m ≡ true → listBefore (listFrom a k f) (listFrom a k g) ≡ true
-unfolding listFrom listBefore
-list-before zero a n m f g p q h e d r s u = absurd (omega arith)
-list-before (suc k) a n m f g p q h e d r s u =
-    ⊎-elim (λ w. here w) (λ w. past w (list-before k (suc a) n m f g (omega arith) (omega arith) (λ j v x. h j (omega arith) x) e d r (omega arith) u)) (eq-or-ne a n)
-  where
-    here : a ≡ n → listBefore (cond (f a) (a ∷ listFrom (suc a) k f) (listFrom (suc a) k f)) (cond (g a) (a ∷ listFrom (suc a) k g) (listFrom (suc a) k g)) ≡ true
-    here w =
-        simp (subst (λ (j : ℕ). f j ≡ true) (sym w) e, subst (λ (j : ℕ). g j ≡ false) (sym w) d)
-        (later k (suc a) a m (listFrom (suc a) k f) g (omega arith) (omega arith) (omega arith) u)
-
-    past : (a ≡ n → ⊥) → listBefore (listFrom (suc a) k f) (listFrom (suc a) k g) ≡ true →
-        listBefore (cond (f a) (a ∷ listFrom (suc a) k f) (listFrom (suc a) k f)) (cond (g a) (a ∷ listFrom (suc a) k g) (listFrom (suc a) k g)) ≡ true
-    past w i = rw (h a (omega arith) (omega arith)) (both (g a))
-      where
-        both : (b : Bool) → listBefore (cond b (a ∷ listFrom (suc a) k f) (listFrom (suc a) k f)) (cond b (a ∷ listFrom (suc a) k g) (listFrom (suc a) k g)) ≡ true
-        both true = simp (eq-eqb a a refl, i) (or-right (ltb a a) refl)
-        both false = i
 
 -- of two tests that hold equally often, agree below n and differ at n, the one that fails there holds later
 holds-later : (f g : ℕ → Bool) (n : ℕ) → n < 32 → ((j : ℕ) → j < n → f j ≡ g j) → f n ≡ true → g n ≡ false →

@@ -104,7 +104,7 @@ module _ (r : Decided) (decides : Decides caseSettings (gathered view7 63) desk 
   printed =
       let p = found .plan in
       let w = found .plans in
-      let m = a-least (maskAt (p .layout)) (w .least 0 (omega arith)) in
+      let m = a-least (maskAt (p .layout)) (w .chosen 0 (omega arith) .least) in
       record {
         plan = p;
         given = found .given;

@@ -66,7 +66,7 @@ d-waits r w = w .waits (taken .d) NoView (cases .d)
 -- subgroup 0 has no placement, so it is the lowest without one
 i-waits : Waits (settingsWith 4 3) (gathered view7 63) desk (Decision.Wait (NoPlacement 0))
 i-waits r w =
-    ⊎-elim (λ p. absurd (cases .i .none _ (p .plans .least 0 (omega arith) .valid))) (λ s. lowest-is s)
+    ⊎-elim (λ p. absurd (cases .i .none _ (p .plans .chosen 0 (omega arith) .least .valid))) (λ s. lowest-is s)
     (w .answers (taken .i) (cases .i-met))
   where
     lowest-is : Stuck (settingsWith 4 3) (gathered view7 63) r → r ≡ still (gathered view7 63) (Decision.Wait (NoPlacement 0))

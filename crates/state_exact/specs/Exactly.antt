@@ -1,21 +1,20 @@
 -- Demand 3, from what decide promises alone: nobody finds a restart that it missed, where it plans one exists, and it waits just for
 -- the first reason that applies.
-use Prim.Native.Nat.{ℕ, _<_, _≤_}
+use Prim.Native.Nat.{ℕ, _<_}
 use mathlib.Core.Bool.{true}
 use mathlib.Core.List.{List}
 use mathlib.Core.Logic.{_⊎_, inl, inr, ⊎-elim}
 use mathlib.Core.Path.{_≡_, refl, sym, ap, _∙_}
 use native.Mathlib.Omega.{arith}
-use Rattle.base_laws.specs.Bools.{lt-or-le}
 use Rattle.base_ids.specs.Refusals.{accepted}
-use Rattle.place_groups.specs.Placements.{groupValid}
+use Rattle.place_groups.specs.Placements.{groupValid, Lowest}
+use Rattle.place_groups.specs.Chosen.{lowest-one}
 use Rattle.report_views.specs.declared.Reason.{Reason}
 use Rattle.report_views.specs.declared.Reason.the-variants.{NoView, NoPlacement}
 use Rattle.report_views.specs.declared.Quorum.{Quorum}
 use Rattle.report_views.specs.declared.Quorum.the-variants.{Met, Short}
 use Rattle.report_views.specs.Reports.{maskAt}
 use Rattle.report_views.specs.Quorums.{quorumOf}
-use Rattle.plan_restart.specs.Restarts.{Lowest}
 use Rattle.state_planner.specs.declared.State.{State}
 use Rattle.state_planner.specs.declared.Decision.{Decision}
 use Rattle.state_planner.specs.declared.Decided.{Decided}
@@ -46,7 +45,7 @@ module _ (σ : List ℕ) (x : State) (d : List ℕ) (r : Decided) (decides : Dec
           absurd (omega arith)
       by Met h =
           ⊎-elim
-          (λ w. record { quorum = h; placements = λ g l. (maskAt (w .plan .layout), w .plans .least g l .valid) })
+          (λ w. record { quorum = h; placements = λ g l. (maskAt (w .plan .layout), w .plans .chosen g l .least .valid) })
           (λ s.
           let w = ap (λ (o : Decided). o .decision) (s .given) in
           let z : _≡_ {A = ℕ} 0 1 = cc in
@@ -65,14 +64,6 @@ abbrev pub FirstReason : List ℕ → State → List ℕ → Reason → Type 0
 FirstReason σ x d reason =
     (quorumOf σ (x .kept) (x .termination) (x .held) d ≡ Short reason) ⊎ LowestNamed σ x d reason
 
--- there is one lowest subgroup
-lowest-unique : (σ : List ℕ) (held g h : ℕ) → Lowest σ held g → Lowest σ held h → g ≡ h
-lowest-unique σ held g h a b =
-    ⊎-elim (λ l. let v = b .lower g l in absurd (a .none .none (v .0) (v .1)))
-    (λ l.
-    ⊎-elim (λ m. let v = a .lower h m in absurd (b .none .none (v .0) (v .1))) (λ m. omega arith) (lt-or-le h g))
-    (lt-or-le g h)
-
 -- the reason of a wait
 unfoldable reasonOf : Decision → Reason
 reasonOf Decision.Planned = NoView
@@ -85,9 +76,9 @@ module _ (σ : List ℕ) (x : State) (d : List ℕ) (r : Decided) (decides : Dec
   waits-where-first reason (inl e) = decides .waits taken reason e
   waits-where-first reason (inr n) =
       ⊎-elim
-      (λ w. absurd (n .lowest .none .none (maskAt (w .plan .layout)) (w .plans .least (n .group) (n .lowest .below) .valid)))
+      (λ w. absurd (n .lowest .none .none (maskAt (w .plan .layout)) (w .plans .chosen (n .group) (n .lowest .below) .least .valid)))
       (λ s.
-      let e : s .group ≡ n .group = lowest-unique σ (x .held) (s .group) (n .group) (s .lowest) (n .lowest) in
+      let e : s .group ≡ n .group = lowest-one σ (x .held) (s .group) (n .group) (s .lowest) (n .lowest) in
       s .given ∙ ap (λ (g : ℕ). still x (Decision.Wait (NoPlacement g))) e ∙ ap (λ (k : Reason). still x (Decision.Wait k)) (sym (n .named)))
       (decides .answers taken (n .quorum))
 

@@ -70,7 +70,7 @@ module _ (σ : List ℕ) (x : State) (d : List ℕ) (p : Plan) (w : Plans σ (x 
       (and-both
       (and-both (and-both (and-both (ap isMet met) (eq-eqb _ _ (w .number))) (eq-eqb _ _ (w .members))) (w .tidy))
       shards-planned)
-      (all-of 4 (groupValid σ (x .held) (maskAt (p .layout))) (λ g l. w .least g l .valid)))
+      (all-of 4 (groupValid σ (x .held) (maskAt (p .layout))) (λ g l. w .chosen g l .least .valid)))
       (eq-eqb _ _ (w .total))
 
 module _ (σ : List ℕ) (x : State) (d : List ℕ) (r : Decided) (h : decideRefusal σ x d ≡ none) (w : Decides σ x d r) where

@@ -1,5 +1,4 @@
--- What decide hands back. Everything is the definitions' but the choice among placements of least moves: of the plan's
--- placements it is promised that each is valid and that no valid one has fewer moves.
+-- What decide hands back. Nothing is left free: of the placements of least moves the plan has the first, and there is one outcome.
 use Prim.Native.Nat.{ℕ}
 use mathlib.Core.Bool.{true, false}
 use mathlib.Core.List.{List}
@@ -12,7 +11,8 @@ use Rattle.report_views.specs.declared.Reason.the-variants.{NoPlacement}
 use Rattle.report_views.specs.declared.Quorum.{Quorum}
 use Rattle.report_views.specs.declared.Quorum.the-variants.{Met, Short}
 use Rattle.report_views.specs.Quorums.{quorumOf}
-use Rattle.plan_restart.specs.Restarts.{Plans, Lowest}
+use Rattle.place_groups.specs.Placements.{Lowest}
+use Rattle.plan_restart.specs.Restarts.{Plans}
 use Rattle.state_planner.specs.declared.State.{State}
 use Rattle.state_planner.specs.declared.Decision.{Decision}
 use Rattle.state_planner.specs.declared.Decided.{Decided}

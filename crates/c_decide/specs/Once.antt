@@ -1,0 +1,41 @@
+-- The promise of the call leaves no freedom: one answer meets it, and one state afterwards; and of two desks whose held slots say the
+-- same both are the same.
+use Prim.Native.Nat.{ℕ}
+use mathlib.Core.Bool.{true}
+use mathlib.Core.List.{List}
+use mathlib.Core.Logic.{⊎-elim}
+use mathlib.Core.Path.{_≡_, sym, ap, _∙_}
+use Rattle.base_laws.specs.Bools.{either}
+use Rattle.word_lent.specs.Lent.{wordsIn}
+use Rattle.base_ids.specs.Refusals.{accepted}
+use Rattle.report_views.specs.Agreeing.{SameReports}
+use Rattle.state_planner.specs.declared.Decided.{Decided}
+use Rattle.state_planner.specs.Refusing.{decideRefusal}
+use Rattle.state_exact.specs.Once.{same-state, decides-unique}
+use Rattle.c_state.specs.Calls.{stateLent}
+use Rattle.c_decide.specs.Decisions.{decisionWord, decisionLeaves, decideEntry, ByOutcome, DecideCall}
+
+-- the same outcome gives the same answer and the same bytes
+outcome-same : {settings state desk other : List ℕ} {a b : ℕ} {l m : List ℕ} (p : ByOutcome settings state desk a l) (q : ByOutcome settings state other b m)
+    → p .outcome ≡ q .outcome → (a ≡ b) × (l ≡ m)
+outcome-same {state = state} p q e = (
+  p .answers ∙ (ap (λ (o : Decided). decisionWord (o .decision)) e ∙ sym (q .answers)),
+  p .leaves ∙ (ap (λ (o : Decided). decisionLeaves (o .decision) (o .state) state) e ∙ sym (q .leaves)),
+)
+
+-- one call: one answer, and the same bytes
+pub call-unique : {settings state desk : List ℕ} {a b : ℕ} {l m : List ℕ} → DecideCall settings state desk a l → DecideCall settings state desk b m
+    → (a ≡ b) × (l ≡ m)
+call-unique {settings} {state} {desk} p q =
+    ⊎-elim (λ h. outcome-same (p .decided h) (q .decided h) (decides-unique (p .decided h .decides) (q .decided h .decides)))
+    (λ h. (p .refused h .0 ∙ sym (q .refused h .0), p .refused h .1 ∙ sym (q .refused h .1)))
+    (either (accepted (decideEntry settings state desk)))
+
+-- the same settings and state, with held reports of the same contents
+pub calls-agree : {settings state desk other : List ℕ} {a b : ℕ} {l m : List ℕ} → DecideCall settings state desk a l → DecideCall settings state other b m
+    → accepted (decideEntry settings state desk) ≡ true → accepted (decideEntry settings state other) ≡ true
+    → accepted (decideRefusal (wordsIn settings) (stateLent state) (wordsIn desk)) ≡ true
+    → accepted (decideRefusal (wordsIn settings) (stateLent state) (wordsIn other)) ≡ true
+    → SameReports (stateLent state .held) (wordsIn desk) (wordsIn other) → (a ≡ b) × (l ≡ m)
+calls-agree p q h k taken also same =
+    outcome-same (p .decided h) (q .decided k) (same-state (p .decided h .decides) (q .decided k .decides) taken also same)
