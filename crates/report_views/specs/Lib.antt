@@ -10,7 +10,8 @@ pub mod Standings
 pub mod PositionTables
 pub mod Soundness
 pub mod PlanLaws
+pub mod RunLaws
+pub mod Updates
 pub mod Cuts
-pub mod CutLaws
 pub mod Ends
 pub mod Meets

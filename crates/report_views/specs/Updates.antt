@@ -1,0 +1,42 @@
+-- A log as the list of its updates, in their order, and what of it a node keeps and fetches.
+use Prim.Native.Nat.{ℕ, zero, suc}
+use mathlib.Core.Bool.{Bool, cond, not, _&&_}
+use mathlib.Core.List.{List, [], _∷_, _++_}
+use Rattle.base_ids.specs.declared.Position.{Position}
+use Rattle.base_ids.specs.Order.{notAfter}
+use Rattle.report_views.specs.Logs.{pos, runsOf}
+
+-- n updates of view v, after update k
+unfoldable pub updatesAfter : ℕ → ℕ → ℕ → List Position
+updatesAfter v k zero = []
+updatesAfter v k (suc n) = pos v (suc k) ∷ updatesAfter v (suc k) n
+
+-- the updates of a log that is given run by run: run (v, c) holds (v, 1) to (v, c)
+unfoldable pub updatesIn : List Position → List Position
+updatesIn [] = []
+updatesIn (r ∷ rs) = updatesAfter (r .view .0) 0 (r .k) ++ updatesIn rs
+
+-- the updates of a report's log of shard s
+abbrev pub updatesOf : List ℕ → ℕ → ℕ → List Position
+updatesOf b s len = updatesIn (runsOf b s len)
+
+-- those of a list that meet a test, in their order
+unfoldable pub thoseOf : (Position → Bool) → List Position → List Position
+thoseOf f [] = []
+thoseOf f (p ∷ ps) = cond (f p) (p ∷ thoseOf f ps) (thoseOf f ps)
+
+-- what of a log is not past p
+abbrev pub upTo : Position → List Position → List Position
+upTo p log = thoseOf (λ q. notAfter q p) log
+
+-- what of a log is past p
+abbrev pub beyond : Position → List Position → List Position
+beyond p log = thoseOf (λ q. not (notAfter q p)) log
+
+-- what a node with this log keeps: all up to the cut
+abbrev pub keptUpdates : Position → List Position → List Position
+keptUpdates c log = upTo c log
+
+-- what it fetches: all that the holder has after the cut, up to the target
+abbrev pub fetchedUpdates : Position → Position → List Position → List Position
+fetchedUpdates c t holder = beyond c (upTo t holder)
