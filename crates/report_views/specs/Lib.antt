@@ -12,6 +12,9 @@ pub mod Soundness
 pub mod PlanLaws
 pub mod RunLaws
 pub mod Updates
+pub mod Stretches
 pub mod Cuts
+pub mod UpdateLaws
+pub mod CutLaws
 pub mod Ends
 pub mod Meets

@@ -134,4 +134,3 @@ module _ (b : List ℕ) (len s : ℕ) (p : Position) where
       (eqb-true (p .k) 0 (and-right (eqb (p .view .0) 0) (eqb (p .k) 0) e))))
       (λ e. inr e)
       (or-holds (isStart p) (holds b len s p) h)
-

@@ -1,7 +1,9 @@
--- A log as the list of its updates, in their order, and what of it a node keeps and fetches.
+-- A log as the list of its updates, in their order; what two logs share from their beginning, and what of them a node keeps and
+-- fetches.
 use Prim.Native.Nat.{ℕ, zero, suc}
 use mathlib.Core.Bool.{Bool, cond, not, _&&_}
 use mathlib.Core.List.{List, [], _∷_, _++_}
+use lib.Dec.{eqb}
 use Rattle.base_ids.specs.declared.Position.{Position}
 use Rattle.base_ids.specs.Order.{notAfter}
 use Rattle.report_views.specs.Logs.{pos, runsOf}
@@ -19,6 +21,21 @@ updatesIn (r ∷ rs) = updatesAfter (r .view .0) 0 (r .k) ++ updatesIn rs
 -- the updates of a report's log of shard s
 abbrev pub updatesOf : List ℕ → ℕ → ℕ → List Position
 updatesOf b s len = updatesIn (runsOf b s len)
+
+-- p and q are one position
+unfoldable pub onePosition : Position → Position → Bool
+onePosition p q = eqb (p .view .0) (q .view .0) && eqb (p .k) (q .k)
+
+-- the longest stretch that two logs share from their beginning
+unfoldable pub sharedStretch : List Position → List Position → List Position
+sharedStretch [] qs = []
+sharedStretch (p ∷ ps) [] = []
+sharedStretch (p ∷ ps) (q ∷ qs) = cond (onePosition p q) (p ∷ sharedStretch ps qs) []
+
+-- the last of some updates, a where there are none
+unfoldable pub lastAfter : Position → List Position → Position
+lastAfter a [] = a
+lastAfter a (p ∷ ps) = lastAfter p ps
 
 -- those of a list that meet a test, in their order
 unfoldable pub thoseOf : (Position → Bool) → List Position → List Position
