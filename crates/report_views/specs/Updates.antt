@@ -7,6 +7,7 @@ use lib.Dec.{eqb}
 use Rattle.base_ids.specs.declared.Position.{Position}
 use Rattle.base_ids.specs.Order.{notAfter}
 use Rattle.report_views.specs.Logs.{pos, runsOf}
+use Rattle.report_views.specs.Reports.{reportOf}
 
 -- n updates of view v, after update k
 unfoldable pub updatesAfter : ℕ → ℕ → ℕ → List Position
@@ -21,6 +22,10 @@ updatesIn (r ∷ rs) = updatesAfter (r .view .0) 0 (r .k) ++ updatesIn rs
 -- the updates of a report's log of shard s
 abbrev pub updatesOf : List ℕ → ℕ → ℕ → List Position
 updatesOf b s len = updatesIn (runsOf b s len)
+
+-- the updates that node n has reported of shard s
+abbrev pub updatesAt : List ℕ → ℕ → ℕ → List Position
+updatesAt d s n = updatesOf (reportOf d n .body) s (reportOf d n .len)
 
 -- p and q are one position
 unfoldable pub onePosition : Position → Position → Bool
