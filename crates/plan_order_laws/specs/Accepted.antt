@@ -3,7 +3,7 @@
 -- kept termination's position or the end of a held report's log, and by the cuts, whose views are not above the targets'.
 use Prim.Native.Nat.{ℕ, _+_, _<_}
 use native.Mathlib.Omega.{arith}
-use mathlib.Core.Bool.{true, not}
+use mathlib.Core.Bool.{true}
 use mathlib.Core.List.{List, _++_}
 use mathlib.Core.Path.{_≡_}
 use borrow.Author.Tests.{le-leb, lt-ltb}
@@ -12,7 +12,7 @@ use Rattle.base_laws.specs.Masks.{has}
 use Rattle.settings_values.specs.Settings.{nodes, shards, Settings}
 use Rattle.base_ids.specs.Refusals.{none}
 use Rattle.message_format.specs.declared.Form.the-variants.{Order}
-use Rattle.message_format.specs.Rows.{row6, viewOk, row7, position}
+use Rattle.message_format.specs.Rows.{row6, viewOk, row7}
 use Rattle.message_format.specs.Messages.{contentsRefusal}
 use Rattle.message_format.specs.Passed.{HeadPasses, ContentsPass, contents-none}
 use Rattle.report_views.specs.declared.Layout.{Layout}

@@ -2,12 +2,12 @@
 -- 10 does, the slots that it is made from can be read, and a node that follows it has the holder's log up to the target.
 use Prim.Native.Nat.{ℕ, _<_}
 use native.Mathlib.Omega.{arith}
-use mathlib.Core.Bool.{Bool, true, false, cond, not}
+use mathlib.Core.Bool.{Bool, true, false, cond}
 use mathlib.Core.List.{List, _++_}
 use mathlib.Core.Path.{_≡_, refl, subst⁻¹}
 use Rattle.base_laws.specs.Masks.{has, within-has}
 use Rattle.settings_values.specs.Settings.{nodes, shards, Settings}
-use Rattle.message_format.specs.Rows.{row10, position}
+use Rattle.message_format.specs.Rows.{row10}
 use Rattle.report_views.specs.declared.Layout.{Layout}
 use Rattle.report_views.specs.declared.Termination.{Termination}
 use Rattle.report_views.specs.declared.Plan.{Plan}

@@ -1,13 +1,13 @@
 -- One turn of the walk over two logs.
-use Prim.Native.Nat.{ℕ, zero, suc, _+_, _-_, _<_, _≤_, min}
+use Prim.Native.Nat.{ℕ, suc, _+_, _-_, _<_, _≤_, min}
 use mathlib.Core.Bool.{Bool, true, false, cond, _&&_}
 use mathlib.Core.List.{List, [], _∷_}
 use mathlib.Core.Logic.{_⊎_, inl, inr, ⊎-elim}
-use mathlib.Core.Path.{_≡_, refl, sym, ap, ap₂, _∙_, subst}
+use mathlib.Core.Path.{_≡_, refl, sym, ap, ap₂, _∙_}
 use native.Mathlib.Omega.{arith}
 use lib.Dec.{eqb, ltb, leb}
-use borrow.Author.Tests.{eqb-true, ltb-true, ltb-false, eq-eqb, ne-eqb, le-leb, lt-leb, lt-ltb, le-ltb}
-use Rattle.base_laws.specs.Bools.{either, clash, and-both, and-left, and-right, and-fails, and-fails-left, and-fails-right, eq-or-ne, lt-or-le}
+use borrow.Author.Tests.{eq-eqb, ne-eqb, le-leb, lt-leb, lt-ltb, le-ltb}
+use Rattle.base_laws.specs.Bools.{either, clash, and-both, and-left, and-right, and-fails-left, and-fails-right, eq-or-ne}
 use Rattle.base_ids.specs.declared.Position.{Position}
 use Rattle.message_format.specs.Records.{word1, word2}
 use Rattle.report_views.specs.Logs.{pos, start, run, runsFrom, runsOf}

@@ -2,7 +2,7 @@
 -- holder's log up to the target share from their beginning; what the node keeps, followed by what it fetches, is the holder's log up
 -- to the target. It is a legal position that both logs have, no further than the target, and the holder's own cut is the target.
 use Prim.Native.Nat.{ℕ, _≤_, min}
-use mathlib.Core.Bool.{Bool, true, false, not, _&&_, _||_}
+use mathlib.Core.Bool.{Bool, true, not, _&&_, _||_}
 use mathlib.Core.List.{List, [], _∷_, _++_, append-nil}
 use mathlib.Core.Logic.{_⊎_, inl, inr, ⊎-elim}
 use mathlib.Core.Path.{_≡_, refl, sym, ap, ap₂, _∙_, subst}
@@ -60,112 +60,115 @@ shared-within t a (r ∷ rs) (q ∷ qs) l =
 -- ---- the cut
 
 module _ (b : List ℕ) (len : ℕ) (hb : List ℕ) (hlen s : ℕ) (t : Position) where
-  pub cut-target : notAfter (cutFrom b len hb hlen s t) t ≡ true
+  -- the node's log, the holder's, and the cut
+  abbrev nodeLog : List Position
+  nodeLog = updatesOf b s len
+
+  abbrev holderLog : List Position
+  holderLog = updatesOf hb s hlen
+
+  abbrev thisCut : Position
+  thisCut = cutFrom b len hb hlen s t
+
+  pub cut-target : notAfter thisCut t ≡ true
   unfolding cutFrom
   cut-target = shared-within t start (runsOf b s len) (runsOf hb s hlen) (start-first t)
 
-  pub cut-view : cutFrom b len hb hlen s t .view .0 ≤ t .view .0
-  cut-view = order-views (cutFrom b len hb hlen s t) t cut-target
+  pub cut-view : thisCut .view .0 ≤ t .view .0
+  cut-view = order-views thisCut t cut-target
 
   module _ (own : Runs b len s) (holder : Runs hb hlen s) where
-    -- the node's log, and the holder's up to the target
-    abbrev log : List Position
-    log = updatesOf b s len
-
-    abbrev wanted : List Position
-    wanted = upTo t (updatesOf hb s hlen)
-
-    -- both rise
-    log-rising : risesAfter start log ≡ true
+    -- the node's log rises, and so does the holder's up to the target
+    log-rising : risesAfter start nodeLog ≡ true
     log-rising = log-rises 0 0 (runsOf b s len) (runs-rises b len s own)
 
-    to-wanted : updatesIn (runsTo t (runsOf hb s hlen)) ≡ wanted
+    to-wanted : updatesIn (runsTo t (runsOf hb s hlen)) ≡ upTo t holderLog
     to-wanted = updates-to t 0 (runsOf hb s hlen) (runs-rises hb hlen s holder)
 
     to-log : logAbove 0 (runsTo t (runsOf hb s hlen)) ≡ true
     to-log = log-to t 0 (runsOf hb s hlen) (runs-rises hb hlen s holder)
 
-    wanted-rising : risesAfter start wanted ≡ true
+    wanted-rising : risesAfter start (upTo t holderLog) ≡ true
     wanted-rising = subst (λ (ps : List Position). risesAfter start ps ≡ true) to-wanted (log-rises 0 0 (runsTo t (runsOf hb s hlen)) to-log)
 
     -- it is the end of what they share from their beginning
-    pub cut-shared : cutFrom b len hb hlen s t ≡ lastAfter start (sharedStretch log wanted)
+    pub cut-shared : thisCut ≡ lastAfter start (sharedStretch nodeLog (upTo t holderLog))
     unfolding cutFrom
     cut-shared =
         shared-updates start (runsOf b s len) (runsTo t (runsOf hb s hlen)) (runs-rises b len s own) to-log
-        ∙ ap (λ (ps : List Position). lastAfter start (sharedStretch log ps)) to-wanted
+        ∙ ap (λ (ps : List Position). lastAfter start (sharedStretch nodeLog ps)) to-wanted
 
     -- which is what the node keeps, and what the holder has up to the cut
-    pub kept-shared : keptUpdates (cutFrom b len hb hlen s t) log ≡ sharedStretch log wanted
-    kept-shared = rw cut-shared (shared-up start log wanted log-rising wanted-rising .0)
+    pub kept-shared : keptUpdates thisCut nodeLog ≡ sharedStretch nodeLog (upTo t holderLog)
+    kept-shared = rw cut-shared (shared-up start nodeLog (upTo t holderLog) log-rising wanted-rising .0)
 
-    wanted-shared : upTo (cutFrom b len hb hlen s t) wanted ≡ sharedStretch log wanted
-    wanted-shared = rw cut-shared (shared-up start log wanted log-rising wanted-rising .1)
+    wanted-shared : upTo thisCut (upTo t holderLog) ≡ sharedStretch nodeLog (upTo t holderLog)
+    wanted-shared = rw cut-shared (shared-up start nodeLog (upTo t holderLog) log-rising wanted-rising .1)
 
     -- what the node keeps, followed by what it fetches, is the holder's log up to the target
-    pub kept-fetched : keptUpdates (cutFrom b len hb hlen s t) log ++ fetchedUpdates (cutFrom b len hb hlen s t) t (updatesOf hb s hlen) ≡ wanted
+    pub kept-fetched : keptUpdates thisCut nodeLog ++ fetchedUpdates thisCut t holderLog ≡ upTo t holderLog
     kept-fetched =
-        ap (λ (ps : List Position). ps ++ fetchedUpdates (cutFrom b len hb hlen s t) t (updatesOf hb s hlen)) (kept-shared ∙ sym wanted-shared)
-        ∙ parted start (cutFrom b len hb hlen s t) wanted wanted-rising
+        ap (λ (ps : List Position). ps ++ fetchedUpdates thisCut t holderLog) (kept-shared ∙ sym wanted-shared)
+        ∙ parted start thisCut (upTo t holderLog) wanted-rising
 
     -- what it keeps stands at the beginning of its own log
-    pub kept-first : keptUpdates (cutFrom b len hb hlen s t) log ++ beyond (cutFrom b len hb hlen s t) log ≡ log
-    kept-first = parted start (cutFrom b len hb hlen s t) log log-rising
+    pub kept-first : keptUpdates thisCut nodeLog ++ beyond thisCut nodeLog ≡ nodeLog
+    kept-first = parted start thisCut nodeLog log-rising
 
     -- and no longer stretch is shared: any from the beginning of both stands at the beginning of what is kept
-    pub kept-longest : (us ps qs : List Position) → log ≡ us ++ ps → wanted ≡ us ++ qs
-        → (zs : List Position) × (keptUpdates (cutFrom b len hb hlen s t) log ≡ us ++ zs)
+    pub kept-longest : (us ps qs : List Position) → nodeLog ≡ us ++ ps → upTo t holderLog ≡ us ++ qs
+        → (zs : List Position) × (keptUpdates thisCut nodeLog ≡ us ++ zs)
     kept-longest us ps qs e d = (sharedStretch ps qs, kept-shared ∙ ap₂ (λ (x y : List Position). sharedStretch x y) e d ∙ shared-both us ps qs)
 
     -- update by update: a node has an update after the fetch just where the holder has it, up to the target
     pub kept-or-fetched : (p : Position)
-        → (notAfter p (cutFrom b len hb hlen s t) && holds b len s p
-        || (not (notAfter p (cutFrom b len hb hlen s t)) && (notAfter p t && holds hb hlen s p)))
+        → (notAfter p thisCut && holds b len s p
+        || (not (notAfter p thisCut) && (notAfter p t && holds hb hlen s p)))
         ≡ (notAfter p t && holds hb hlen s p)
     kept-or-fetched p =
-        let c = cutFrom b len hb hlen s t in
+        let c = thisCut in
         let in-log = holds-runs b len s p in
         let in-holder = holds-runs hb hlen s p in
-        let to-t = among-those (λ q. notAfter q t) p (updatesOf hb s hlen) in
+        let to-t = among-those (λ q. notAfter q t) p holderLog in
         rw (in-log, in-holder)
-        (ap₂ _||_ (sym (among-those (λ q. notAfter q c) p log))
-        (ap (λ (x : Bool). not (notAfter p c) && x) (sym to-t) ∙ sym (among-those (λ q. not (notAfter q c)) p wanted))
-        ∙ sym (among-append p (keptUpdates c log) (fetchedUpdates c t (updatesOf hb s hlen)))
+        (ap₂ _||_ (sym (among-those (λ q. notAfter q c) p nodeLog))
+        (ap (λ (x : Bool). not (notAfter p c) && x) (sym to-t) ∙ sym (among-those (λ q. not (notAfter q c)) p (upTo t holderLog)))
+        ∙ sym (among-append p (keptUpdates c nodeLog) (fetchedUpdates c t holderLog))
         ∙ ap (among p) kept-fetched
         ∙ to-t)
 
     -- it is (0, 0), or both logs hold it
-    cut-among : (cutFrom b len hb hlen s t ≡ start) ⊎ (among (cutFrom b len hb hlen s t) (sharedStretch log wanted) ≡ true)
+    cut-among : (thisCut ≡ start) ⊎ (among thisCut (sharedStretch nodeLog (upTo t holderLog)) ≡ true)
     cut-among =
-        ⊎-elim (λ e. inl (cut-shared ∙ e)) (λ h. inr (subst (λ (p : Position). among p (sharedStretch log wanted) ≡ true) (sym cut-shared) h))
-        (last-among start (sharedStretch log wanted))
+        ⊎-elim (λ e. inl (cut-shared ∙ e)) (λ h. inr (subst (λ (p : Position). among p (sharedStretch nodeLog (upTo t holderLog)) ≡ true) (sym cut-shared) h))
+        (last-among start (sharedStretch nodeLog (upTo t holderLog)))
 
-    pub cut-kept : (cutFrom b len hb hlen s t ≡ start) ⊎ (holds b len s (cutFrom b len hb hlen s t) ≡ true)
+    pub cut-kept : (thisCut ≡ start) ⊎ (holds b len s thisCut ≡ true)
     cut-kept =
-        let c = cutFrom b len hb hlen s t in
+        let c = thisCut in
         ⊎-elim (λ e. inl e)
         (λ h.
         inr (holds-runs b len s c
-        ∙ and-right (notAfter c c) (among c log) (sym (among-those (λ q. notAfter q c) c log) ∙ ap (among c) kept-shared ∙ h)))
+        ∙ and-right (notAfter c c) (among c nodeLog) (sym (among-those (λ q. notAfter q c) c nodeLog) ∙ ap (among c) kept-shared ∙ h)))
         cut-among
 
-    pub cut-held : (cutFrom b len hb hlen s t ≡ start) ⊎ (holds hb hlen s (cutFrom b len hb hlen s t) ≡ true)
+    pub cut-held : (thisCut ≡ start) ⊎ (holds hb hlen s thisCut ≡ true)
     cut-held =
-        let c = cutFrom b len hb hlen s t in
+        let c = thisCut in
         ⊎-elim (λ e. inl e)
         (λ h.
-        let shown = and-right (notAfter c c) (among c wanted) (sym (among-those (λ q. notAfter q c) c wanted) ∙ ap (among c) wanted-shared ∙ h) in
+        let shown = and-right (notAfter c c) (among c (upTo t holderLog)) (sym (among-those (λ q. notAfter q c) c (upTo t holderLog)) ∙ ap (among c) wanted-shared ∙ h) in
         inr (holds-runs hb hlen s c
-        ∙ and-right (notAfter c t) (among c (updatesOf hb s hlen)) (sym (among-those (λ q. notAfter q t) c (updatesOf hb s hlen)) ∙ shown)))
+        ∙ and-right (notAfter c t) (among c holderLog) (sym (among-those (λ q. notAfter q t) c holderLog) ∙ shown)))
         cut-among
 
     -- it is a legal position
-    pub cut-position : position (cutFrom b len hb hlen s t .view .0) (cutFrom b len hb hlen s t .k) ≡ true
-    cut-position = ⊎-elim (λ e. rw e (position-start 0 0 refl refl)) (λ e. held-position hb hlen s (cutFrom b len hb hlen s t) holder e) cut-held
+    pub cut-position : position (thisCut .view .0) (thisCut .k) ≡ true
+    cut-position = ⊎-elim (λ e. rw e (position-start 0 0 refl refl)) (λ e. held-position hb hlen s thisCut holder e) cut-held
 
     -- no further than the node's end
-    pub cut-end : notAfter (cutFrom b len hb hlen s t) (endOf b s len) ≡ true
-    cut-end = ⊎-elim (λ e. rw e (start-first (endOf b s len))) (λ e. held-end b len s (own .rise) (cutFrom b len hb hlen s t) e) cut-kept
+    pub cut-end : notAfter thisCut (endOf b s len) ≡ true
+    cut-end = ⊎-elim (λ e. rw e (start-first (endOf b s len))) (λ e. held-end b len s (own .rise) thisCut e) cut-kept
 
 -- of a log that has the target: the cut is the target
 module _ (b : List ℕ) (len s : ℕ) (t : Position) (own : Runs b len s) where

@@ -7,7 +7,7 @@ use mathlib.Core.Logic.{_⊎_, inl, inr, ⊎-elim}
 use mathlib.Core.Path.{_≡_, refl, sym, ap, ap₂, _∙_, subst}
 use lib.Dec.{eqb}
 use borrow.Author.Tests.{eqb-true, eq-eqb}
-use Rattle.base_laws.specs.Bools.{either, clash, no-true, and-both, and-left, and-right, or-left, or-right, of-not-true, not-of-false, not-of-true}
+use Rattle.base_laws.specs.Bools.{either, clash, no-true, and-both, and-left, and-right, or-left, or-right, of-not-true, not-of-false}
 use Rattle.base_laws.specs.Positions.{not-after-refl, not-after-total}
 use Rattle.base_ids.specs.declared.Position.{Position}
 use Rattle.base_ids.specs.Order.{notAfter, order-trans}

@@ -1,22 +1,22 @@
 -- From runs to updates: the updates of a log rise, a log holds just the updates of its list, its end is its last run, a log up to
 -- a target has the updates that are not past it, and what two logs share by their runs is what they share by their updates.
 use Prim.Native.Nat.{ℕ, zero, suc, _+_, _-_, _<_, _≤_, min}
-use mathlib.Core.Bool.{Bool, true, false, cond, _&&_, _||_}
+use mathlib.Core.Bool.{Bool, true, false, cond, _&&_}
 use mathlib.Core.List.{List, [], _∷_, _++_, append-assoc, append-nil}
 use mathlib.Core.Logic.{_⊎_, inl, inr, ⊎-elim}
 use mathlib.Core.Path.{_≡_, refl, sym, ap, ap₂, _∙_, subst}
 use native.Mathlib.Omega.{arith}
 use lib.Dec.{eqb, ltb, leb}
-use borrow.Author.Tests.{eqb-true, eqb-false, leb-true, ltb-true, ltb-false, eq-eqb, ne-eqb, le-leb, lt-ltb}
+use borrow.Author.Tests.{leb-true, ltb-true, ltb-false, eq-eqb, ne-eqb, le-leb, lt-ltb}
 use Rattle.base_laws.specs.Bools.{either, clash, same, no-true, and-both, and-left, and-right, and-fails-left, and-fails-right, or-left, or-right, or-holds, eq-or-ne, lt-or-le}
 use Rattle.base_ids.specs.declared.Position.{Position}
-use Rattle.base_ids.specs.Order.{notAfter, order-views, order-places, order-of}
+use Rattle.base_ids.specs.Order.{notAfter, order-places, order-of}
 use Rattle.message_format.specs.Records.{word1, word2}
 use Rattle.report_views.specs.Logs.{pos, start, run, endOf, runsFrom, runsOf, reaches, holds}
 use Rattle.report_views.specs.LogLaws.{reaches-run, reaches-view, reaches-count, reaches-of}
 use Rattle.report_views.specs.RunLaws.{Runs, held-given, held-of}
 use Rattle.report_views.specs.Updates.{updatesAfter, updatesIn, updatesOf, onePosition, sharedStretch, lastAfter, thoseOf, upTo}
-use Rattle.report_views.specs.Stretches.{one-same, one-refl, risesAfter, rises-on, rises-sooner, none-up-to, last-append, shared-both, shared-turned, those-append, among, among-append}
+use Rattle.report_views.specs.Stretches.{one-same, risesAfter, rises-on, rises-sooner, none-up-to, last-append, shared-both, shared-turned, those-append, among, among-append}
 use Rattle.report_views.specs.Cuts.{runsTo, sharedAfter}
 
 -- ---- runs of a log

@@ -1,7 +1,6 @@
 -- `report_cuts::shared_whole` meets its contract, test by test.
 use mathlib.Core.Path.{sym}
 use lib.Dec.{eqb, ltb}
-use borrow.Author.Needs.{needs}
 use borrow.Author.Tests.{eq-eqb, ne-eqb}
 use Rattle.base_laws.specs.Bools.{and-both, and-rest, and-fails-left, and-fails-right}
 use Rattle.report_cuts.proofs.shared_whole.Statement.{statement}
