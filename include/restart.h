@@ -43,10 +43,10 @@ extern "C" {
 /* ---- Version ---- */
 
 #define RESTART_VERSION_MAJOR 0
-#define RESTART_VERSION_MINOR 2
+#define RESTART_VERSION_MINOR 3
 #define RESTART_VERSION_PATCH 0
-#define RESTART_VERSION "0.2.0"
-#define RESTART_VERSION_NUMBER 200 /* major * 10000 + minor * 100 + patch */
+#define RESTART_VERSION "0.3.0"
+#define RESTART_VERSION_NUMBER 300 /* major * 10000 + minor * 100 + patch */
 
 /* Of the settings, the messages and the state. It is raised when any of their words changes its
  * meaning; save it beside a state, and start fresh where it differs. */
@@ -422,7 +422,8 @@ uint32_t restart_decide(const uint8_t *settings, size_t settings_len, uint8_t *s
 /*
  * Writes a held node's order, while ordered: the new view with its members, each shard's members
  * and target, and for each shard that the node carries the holder and the node's cut. The node
- * keeps its log up to the cut and fetches what the holder has after it, up to the target.
+ * keeps its log up to the cut and fetches what the holder has after it, up to the target. The cut
+ * is the end of what its log and the holder's, up to the target, share from their beginning.
  * Answers class 1 with the order's length in words, or one of the numbers 1 (desk or buffer) to 4,
  * 6, 14.
  * Changes the buffer: the order, then zeros.
