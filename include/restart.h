@@ -422,7 +422,8 @@ uint32_t restart_decide(const uint8_t *settings, size_t settings_len, uint8_t *s
 /*
  * Writes a held node's order, while ordered: the new view with its members, each shard's members
  * and target, and for each shard that the node carries the holder and the node's cut. The node
- * keeps its log up to the cut and fetches what the holder has after it, up to the target.
+ * keeps its log up to the cut and fetches what the holder has after it, up to the target. The cut
+ * is the end of what its log and the holder's, up to the target, share from their beginning.
  * Answers class 1 with the order's length in words, or one of the numbers 1 (desk or buffer) to 4,
  * 6, 14.
  * Changes the buffer: the order, then zeros.

@@ -1,4 +1,4 @@
-"""Run the program restart on the runs that document 01 names, on a run for each number that it can give, on inputs that are
+"""Run the program restart on the runs that documents 01 and 02 name, on a run for each number that it can give, on inputs that are
 cut, and where reading or writing fails. What it must print is written here by hand.
 
     python3 tests/cases.py [PROGRAM]        target/bin/restart unless told otherwise
@@ -84,7 +84,7 @@ CASE_A = case(ALL)
 
 
 def named():
-    """Cases A to F and I; G and H speak of orders, which restart does not print."""
+    """Cases A to F and I."""
     yield "A", CASE_A, PLAN
     for nodes in ([0, 1, 2], [3, 4, 5], [1, 3, 4]):
         yield "B %s" % nodes, case(nodes), "wait 2\n"
@@ -96,6 +96,21 @@ def named():
     yield "E", case(ALL, changed(SETTINGS, 2, 7)), "wait 3\n"
     yield "F", case([0, 1, 2, 3, 4]), "wait 4 2\n"
     yield "I", case(ALL, changed(SETTINGS, 11, 3)), "wait 5 0\n"
+
+
+def logs_of_cuts():
+    """The logs of cases G, H and J. Their cuts stand in orders, which restart does not print (tests/c/cuts.c has them); what it prints
+    is whose log is taken and up to where, and that is not the end of a log that is stale or differs below its end."""
+    others = [of_case_a(n) for n in (0, 2, 3)]
+
+    def with_logs(holder, four, five=(), view=7):
+        return after(*others, report(1, runs(1, *holder)), report(4, runs(1, *four), view=view), report(5, runs(1, *five)))
+
+    yield "G", with_logs([(5, 3), (6, 8)], [(5, 3), (6, 9)], view=6), PLAN.replace("target 7 5", "target 6 8")
+    yield "H", with_logs([(5, 3), (7, 2)], [(5, 3), (6, 9)], [(5, 2)]), PLAN.replace("target 7 5", "target 7 2")
+    yield "J", with_logs([(5, 3), (6, 2)], [(5, 2), (6, 2)]), PLAN.replace("target 7 5", "target 6 2")
+    # of two logs with one end the lower machine's is taken, whatever lies below it
+    yield "J the other way", with_logs([(5, 2), (6, 2)], [(5, 3), (6, 2)]), PLAN.replace("target 7 5", "target 6 2")
 
 
 def more_plans():
@@ -397,7 +412,7 @@ def own_input():
 
 
 def main():
-    rows = list(named()) + list(more_plans()) + list(cures()) + list(cut()) + list(counts()) + list(long_runs())
+    rows = list(named()) + list(logs_of_cuts()) + list(more_plans()) + list(cures()) + list(cut()) + list(counts()) + list(long_runs())
     rows += [(name, data, "number %d\n" % number) for name, data, number in refused()]
     tried = [(name, data, text, None) for name, data, text in rows]
     tried += [(name + ", byte by byte", data, text, 1) for name, data, text in named()]

@@ -1,9 +1,10 @@
-"""The worked example of restart-model(7) is what the planner does: model.py PAGE PROGRAM LIBRARY
+"""The worked examples of restart-model(7) are what the planner does: model.py PAGE PROGRAM LIBRARY
 
 The example's text, turned into words, gives PROGRAM's answer as it stands in the page, and waits 2 before the last report; the report's
-words are those of the text; the order's words are those that LIBRARY writes; with a termination the target is its position. The last
-line is `N passed, M failed`."""
+words are those of the text; the order's words are those that LIBRARY writes; with a termination the target is its position. The two logs
+of the page's cut, reported by two machines, give an order with that cut. The last line is `N passed, M failed`."""
 import ctypes
+import itertools
 import os
 import re
 import struct
@@ -67,6 +68,28 @@ def terminated(text):
     return text.replace("\nreport node 4 ", lines + "\nreport node 4 ")
 
 
+def positions(line):
+    return [(int(view), int(k)) for view, k in re.findall(r"\((\d+), (\d+)\)", line)]
+
+
+def reported(node, log):
+    """The report of a machine with this log of shard 0, which in the kept view is on machine 0 alone."""
+    runs = ["run shard 0 view %d count %d" % (view, sum(at[0] == view for at in log)) for view in sorted({at[0] for at in log})]
+    return "\n".join(["report node %d view 6" % node, "members 0 1", "shard 0 members 0", *runs]) + "\n"
+
+
+def cut_of_two_logs(lines, library):
+    """What the library writes where machine 0 has the holder's log of these lines and machine 1 the other."""
+    head, *logs = [positions(line) for line in lines.splitlines()]
+    target, holder, (machine, shared) = head[0], head[1:], logs
+    same = itertools.takewhile(lambda both: both[0] == both[1], zip(holder, machine))
+    check("what the two logs share", [one for one, _ in same], shared)
+    text = "settings\nfailure sets 2\nleast group size 1\nnode 0 set 0\nnode 1 set 1\nshard 0 subgroup 0 needs 2\n"
+    settings, *messages = blocks("\n".join([text, reported(0, holder), reported(1, machine)]))
+    found = order(library, settings, messages, 1)
+    check("the target, the holder and the cut", found[8:11] + found[12:15] + found[16:19], [512, *target, 1024, 0, 0, 1280, *shared[-1]])
+
+
 def main():
     path, program, library = sys.argv[1:]
     with open(path) as file:
@@ -83,6 +106,7 @@ def main():
     check("the target with a termination", "shard 0 holder 2 target 4 1 members 1 2" in answer(program, with_termination).splitlines(), True)
     thrown_out = order(library, with_termination[0], with_termination[1:], 2)
     check("what machine 2 throws out", thrown_out[-4:-1], [1280, 4, 1])
+    cut_of_two_logs(example(page, "cut"), library)
     print("%d passed, %d failed" % (COUNTS[True], COUNTS[False]))
     sys.exit(1 if COUNTS[False] else 0)
 

@@ -1,8 +1,8 @@
 //! The unrelated reference implementation of the restart planner.
 //!
-//! It is written from document 01 alone and shares nothing with the proved
-//! planner. It is plain and slow on purpose: the comparison programs trust it
-//! because a reader can check it against document 01 by eye.
+//! It is written from documents 01 and 02 alone and shares nothing with the
+//! proved planner. It is plain and slow on purpose: the comparison programs
+//! trust it because a reader can check it against the documents by eye.
 //!
 //! The modules, in the order in which data flows:
 //! - `number`: the numbers a refusal carries

@@ -1,7 +1,8 @@
-//! Logs and positions (document 01, end of "Messages" and end of "Quorum and
-//! plan").
+//! Logs and positions (document 01, end of "Messages"), and cuts (document 02,
+//! request Five).
 
 use crate::message::{Contents, RUN};
+use std::cmp::Ordering;
 
 /// A place in a shard's log: update k of a view. Ordered by view, then k.
 #[derive(Clone, Copy, Debug, PartialEq, Eq, PartialOrd, Ord)]
@@ -66,29 +67,39 @@ impl Log {
         target == START || self.holds(target)
     }
 
-    /// The last position in the log that is not past `target` and whose view is
-    /// at most `last_view`; (0, 0) if there is none.
-    pub fn last_up_to(&self, target: Position, last_view: u32) -> Position {
-        let mut last = START;
-        for run in &self.runs {
-            let mut position = Position::new(run.view, run.count);
-            if run.view == target.view {
-                position.k = position.k.min(target.k);
-            }
-            if run.view <= last_view && position <= target && self.holds(position) {
-                last = last.max(position);
-            }
+    /// The log without the updates past `target`.
+    pub fn up_to(&self, target: Position) -> Log {
+        let left = |run: &Run| match run.view.cmp(&target.view) {
+            Ordering::Less => run.count,
+            Ordering::Equal => run.count.min(target.k),
+            Ordering::Greater => 0,
+        };
+        let shorter = self.runs.iter().map(|run| Run {
+            view: run.view,
+            count: left(run),
+        });
+        Log {
+            runs: shorter.filter(|run| run.count > 0).collect(),
         }
-        last
     }
 }
 
-/// The cut of a placed node: the lesser of its log's end and the last position
-/// of the holder's log, not past the target, whose view is at most the view of
-/// the node's end.
+/// The cut of a placed node (document 02, request Five): the end of the longest
+/// stretch of updates that its log and the holder's, up to the target, share
+/// from their beginning. Runs of one view begin alike; after two of other
+/// lengths, or two of other views, nothing more is shared.
 pub fn cut(node: &Log, holder: &Log, target: Position) -> Position {
-    let end = node.end();
-    end.min(holder.last_up_to(target, end.view))
+    let mut end = START;
+    for (own, wanted) in node.runs.iter().zip(&holder.up_to(target).runs) {
+        if own.view != wanted.view {
+            break;
+        }
+        end = Position::new(own.view, own.count.min(wanted.count));
+        if own.count != wanted.count {
+            break;
+        }
+    }
+    end
 }
 
 #[cfg(test)]
@@ -116,22 +127,34 @@ mod tests {
         assert!(!some.holds(START) && some.has(START) && log(&[]).has(START));
     }
 
-    /// Document 01, case G.
+    /// Document 01's case G, as document 02's request Five restates it.
     #[test]
     fn case_g() {
         let holder = log(&[(5, 3), (6, 8)]);
-        let cut = cut(&log(&[(6, 9)]), &holder, at(6, 8));
+        let cut = cut(&log(&[(5, 3), (6, 9)]), &holder, at(6, 8));
         assert_eq!(cut, at(6, 8));
     }
 
-    /// Document 01, case H.
+    /// Document 01's case H, restated.
     #[test]
     fn case_h() {
         let holder = log(&[(5, 3), (7, 2)]);
         let cut = |node: &Log| cut(node, &holder, at(7, 2));
-        assert_eq!(cut(&log(&[(6, 9)])), at(5, 3));
+        assert_eq!(cut(&log(&[(5, 3), (6, 9)])), at(5, 3));
         assert_eq!(cut(&log(&[(5, 2)])), at(5, 2));
         assert_eq!(cut(&log(&[])), START);
+    }
+
+    /// Request Five's new case.
+    #[test]
+    fn case_j() {
+        let holder = log(&[(5, 3), (6, 2)]);
+        let cut = |node: &Log| cut(node, &holder, at(6, 2));
+        assert_eq!(cut(&log(&[(5, 2), (6, 2)])), at(5, 2));
+        // A longer older run parts the logs at the same place as a shorter one.
+        assert_eq!(cut(&log(&[(5, 4), (6, 2)])), at(5, 3));
+        assert_eq!(cut(&log(&[(4, 1), (5, 3), (6, 2)])), START);
+        assert_eq!(cut(&log(&[(6, 2)])), START);
     }
 
     #[test]
@@ -144,32 +167,69 @@ mod tests {
         assert_eq!(cut(&log(&[(4, 9)]), &holder, at(7, 2)), START);
     }
 
-    /// Every log with views 1 to 3 and counts up to 2.
+    /// A target inside a run, and counts at the end of their range.
+    #[test]
+    fn cuts_inside_a_run() {
+        let one = |count: u32| log(&[(6, count)]);
+        for (own, k) in [(4, 4), (5, 5), (6, 5), (9, 5)] {
+            assert_eq!(cut(&one(own), &one(8), at(6, 5)), at(6, k));
+        }
+        let most = u32::MAX;
+        assert_eq!(cut(&one(most), &one(most), at(6, most)), at(6, most));
+        assert_eq!(
+            cut(&one(most), &one(most - 1), at(6, most)),
+            at(6, most - 1)
+        );
+        let longer = log(&[(6, most - 1), (7, 1)]);
+        assert_eq!(cut(&longer, &one(most), at(6, most)), at(6, most - 1));
+    }
+
+    /// Every log with views 1 to 3 and counts up to 3.
     fn small_logs() -> Vec<Log> {
         let mut logs = Vec::new();
-        for code in 0..27 {
-            let counts = [code / 9, code / 3 % 3, code % 3];
+        for code in 0..64 {
+            let counts = [code / 16, code / 4 % 4, code % 4];
             let runs = (1..).zip(counts).filter(|&(_, count)| count > 0);
             logs.push(log(&runs.collect::<Vec<_>>()));
         }
         logs
     }
 
-    /// The cut is the definition's, tried over all positions.
+    /// The log's updates one by one.
+    fn updates(log: &Log) -> Vec<Position> {
+        let of_run = |run: &Run| {
+            let view = run.view;
+            (1..=run.count).map(move |k| Position::new(view, k))
+        };
+        log.runs.iter().flat_map(of_run).collect()
+    }
+
+    /// The cut by runs is the one found update by update; and what the node
+    /// keeps, followed by what it fetches, is the holder's log up to the target.
     #[test]
     fn cuts_of_small_logs() {
-        let places = || (0..4).flat_map(|view| (0..4).map(move |k| at(view, k)));
+        let places = || (0..5).flat_map(|view| (0..5).map(move |k| at(view, k)));
+        let mut logs = 0;
         for node in small_logs() {
             for holder in small_logs() {
                 for target in places() {
-                    let end = node.end();
-                    let fits = |&p: &Position| {
-                        p == START || holder.holds(p) && p <= target && p.view <= end.view
-                    };
-                    let last = places().filter(fits).max().unwrap();
-                    assert_eq!(cut(&node, &holder, target), last.min(end));
+                    let cut = cut(&node, &holder, target);
+                    let own = updates(&node);
+                    let mut wanted = updates(&holder);
+                    wanted.retain(|&update| update <= target);
+                    let pairs = own.iter().zip(&wanted);
+                    let shared = pairs.take_while(|(own, wanted)| own == wanted);
+                    let last = shared.last().map_or(START, |(&update, _)| update);
+                    assert_eq!(cut, last, "{node:?} {holder:?} {target:?}");
+
+                    let kept = own.into_iter().filter(|&update| update <= cut);
+                    let fetched = wanted.iter().copied().filter(|&update| update > cut);
+                    let log: Vec<Position> = kept.chain(fetched).collect();
+                    assert_eq!(log, wanted, "{node:?} {holder:?} {target:?}");
+                    logs += 1;
                 }
             }
         }
+        assert_eq!(logs, 64 * 64 * 25);
     }
 }

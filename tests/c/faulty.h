@@ -127,4 +127,26 @@ static inline uint32_t faulty(SETTINGS, const uint8_t *state, size_t state_len, 
     return answer == RESTART_UNSOUND_STATE && is_state ? RESTART_ACCEPTED : answer;
 }
 #define restart_check_state faulty
+
+#elif FAULT == 14 /* logs with one end are taken for the same */
+static inline uint32_t faulty(SETTINGS, const uint8_t *state, size_t state_len, const uint8_t *desk,
+                              size_t desk_len, uint32_t node, uint8_t *buffer, size_t buffer_len)
+{
+    uint32_t answer = restart_order(PASSED_ON, node, buffer, buffer_len);
+    const uint8_t *slot = desk + node * (size_t)RESTART_SLOT_BYTES;
+    for (size_t cut = 4; cut < restart_length_of(answer); cut += 4) {
+        uint32_t shard = restart_get_word(buffer, cut) % 256;
+        const uint8_t *target = state + 4 * (RESTART_PLAN_TARGETS + 2 * (size_t)shard);
+        if (restart_get_word(buffer, cut) / 256 != RESTART_KIND_CUT)
+            continue;
+        size_t end = 0; /* the record of the shard's last run */
+        for (size_t at = 4; at < RESTART_SLOT_WORDS; at += 4)
+            if (restart_get_word(slot, at) == RESTART_KIND_RUN * 256 + shard)
+                end = at;
+        if (end != 0 && memcmp(slot + 4 * (end + 1), target, 8) == 0)
+            memcpy(buffer + 4 * (cut + 1), target, 8);
+    }
+    return answer;
+}
+#define restart_order faulty
 #endif

@@ -15,7 +15,7 @@ strict="-D_DEFAULT_SOURCE -Iinclude -Wall -Wextra -Werror -pedantic -Wconversion
 sanitizers="-fsanitize=address,undefined -fno-sanitize-recover=all"
 memcheck="valgrind -q --error-exitcode=9 --leak-check=full --show-leak-kinds=all"
 shared="tests/c/harness.c tests/c/calls.c tests/c/world.c"
-tests="entry_points rows lengths guards"
+tests="entry_points rows lengths guards cuts"
 passed=0 failed=0
 mkdir -p $out
 
@@ -140,7 +140,7 @@ names_agree() {
     done <$out/declared
 }
 
-# The worked example of restart-model(7), its text turned into words, gives the answer that stands there.
+# The worked examples of restart-model(7), turned into words, give the answers that stand there.
 model_example() {
     python3 tests/model.py man/restart-model.7 target/bin/restart $shared_library
 }
@@ -220,12 +220,12 @@ check "the example with wrong settings" service_ends 2 $out/long
 check "the example without files" service_ends 2 $out/none
 
 fault=0
-for name in lengths entry_points entry_points entry_points guards rows guards rows entry_points guards rows lengths rows; do
+for name in lengths entry_points entry_points entry_points guards rows guards rows entry_points guards rows lengths rows cuts; do
     fault=$((fault + 1))
     check "fault $fault is found by $name" found $fault $name
 done
 for file in man/*; do check "$file" page "$file"; done
-check "the example of restart-model(7)" model_example
+check "the examples of restart-model(7)" model_example
 check "documents that are not there" no_document_01
 check "make help" help_names_all
 check "installation" sh tests/c/install.sh

@@ -3,14 +3,14 @@
 
 use crate::calls::{Asked, Kind, Outcome};
 use crate::library::Answer;
-use reference::log::Log;
+use reference::log::{Log, Position, START};
 use reference::message::{self, Contents, Form, CUT, HOLDER, TERMINATION};
 use reference::settings::{self, Settings};
 use reference::state::{self, Phase, Plan, State, View};
 use reference::{desk, mask, words};
 
 /// Every situation that enough sequences must come to.
-pub const ALL: [&str; 51] = [
+pub const ALL: [&str; 58] = [
     "report: the first",
     "report: a greater view",
     "report: a greater view without termination takes the kept one away",
@@ -54,6 +54,13 @@ pub const ALL: [&str; 51] = [
     "order: cut before the node's end",
     "order: cut before the target",
     "order: cut between (0, 0) and both the node's end and the target",
+    "order: the node's end is the target, and the cut before it",
+    "order: the ends' views alone give a later cut",
+    "order: the logs part inside a view that both have",
+    "order: the logs part at runs of two views",
+    "order: the logs part at their first runs",
+    "order: the logs share updates after the cut",
+    "order: a target inside the holder's run",
     "fetched: one of some",
     "fetched: the last",
     "prepared: one of some",
@@ -294,4 +301,53 @@ fn order(names: &mut Names, settings: &Settings, asked: &Asked, outcome: &Outcom
             "order: cut between (0, 0) and both the node's end and the target",
         );
     }
+    for holder in order.of_kind(HOLDER) {
+        let shard = holder.shard();
+        let at = |kind| {
+            let record = order.find(kind, shard);
+            record.map_or(START, |record| Position::new(record.word1, record.word2))
+        };
+        if let Some(holder) = desk::report(settings, &desk, holder.word1) {
+            let (own, holder) = (Log::of(&own, shard), Log::of(&holder, shard));
+            parted(names, &own, &holder, at(TERMINATION), at(CUT));
+        }
+    }
+}
+
+/// How the node's log and the holder's part, and where the cut lies.
+fn parted(names: &mut Names, own: &Log, holder: &Log, target: Position, cut: Position) {
+    let wanted = holder.up_to(target);
+    let end = own.end();
+    names.put(
+        end == target && cut < target,
+        "order: the node's end is the target, and the cut before it",
+    );
+    let by_views = wanted.up_to(Position::new(end.view, u32::MAX)).end();
+    names.put(
+        cut < end.min(by_views),
+        "order: the ends' views alone give a later cut",
+    );
+    let next = |log: &Log| {
+        let mut later = log.runs.iter().filter(|run| run.view >= cut.view);
+        let run = later.find(|run| run.view > cut.view || run.count > cut.k);
+        run.map(|run| run.view)
+    };
+    if let (Some(own_view), Some(view)) = (next(own), next(&wanted)) {
+        let inside = own_view == cut.view || view == cut.view;
+        names.put(
+            inside && cut.view > 0,
+            "order: the logs part inside a view that both have",
+        );
+        names.put(!inside, "order: the logs part at runs of two views");
+        names.put(cut == START, "order: the logs part at their first runs");
+    }
+    let in_both = |view: u32| own.holds(Position::new(view, 1));
+    let again = wanted
+        .runs
+        .iter()
+        .any(|run| run.view > cut.view && in_both(run.view));
+    names.put(again, "order: the logs share updates after the cut");
+    let past = target.k.checked_add(1);
+    let inside = past.is_some_and(|k| holder.holds(Position::new(target.view, k)));
+    names.put(inside, "order: a target inside the holder's run");
 }

@@ -166,6 +166,28 @@ fn other_run(random: &mut Random, runs: &mut Vec<(u32, u32)>, number: u32) {
     }
 }
 
+/// Makes a log one that was restored from a disk image: an older run is another
+/// one, and the end stays.
+fn restored(random: &mut Random, runs: &mut Vec<(u32, u32)>) {
+    if runs.is_empty() {
+        return;
+    }
+    let place = random.below(runs.len());
+    let (view, count) = runs[place];
+    let older = place + 1 < runs.len();
+    match random.between(0, 4) {
+        0 | 1 if older => runs[place].1 = count.saturating_add(1),
+        2 if older => runs[place].1 = random.between(1, count),
+        3 if older => drop(runs.remove(place)),
+        _ => {
+            let before = place.checked_sub(1).map_or(0, |place| runs[place].0);
+            if before + 1 < view {
+                runs.insert(place, (view - 1, random.pick(&[1, 2, 5])));
+            }
+        }
+    }
+}
+
 /// Makes a log that goes on after a target that it does not have.
 fn skip(random: &mut Random, runs: &mut Vec<(u32, u32)>, target: (u32, u32), number: u32) {
     if target.0 < number {
@@ -218,6 +240,9 @@ impl World {
             let mut runs = shortened(random, &up_to(log, number));
             if random.chance(25) {
                 other_run(random, &mut runs, number);
+            }
+            if random.chance(15) {
+                restored(random, &mut runs);
             }
             if let (Some(positions), true) = (&era.termination, random.chance(8)) {
                 skip(random, &mut runs, positions[shard as usize], number);

@@ -8,9 +8,9 @@ use differential::mock::{self, Behaviour, Faithful};
 use differential::recorder::Recorder;
 use differential::{events, regressions};
 use reference::desk::{self, SLOT_WORDS};
-use reference::log::Log;
+use reference::log::{self, Log, Position, Run, START};
 use reference::mask;
-use reference::message::{self, Contents, Form, CUT, TERMINATION};
+use reference::message::{self, Contents, Form, CUT, HOLDER, TERMINATION};
 use reference::quorum::{Gathered, Reports};
 use reference::settings::{self, Settings, SUBGROUPS};
 use reference::soundness;
@@ -586,30 +586,130 @@ wrong!(
     }
 );
 
+/// The order with other cuts: each by the node's log, the holder's and the
+/// target.
+fn with_cuts(
+    asked: &Asked,
+    mut outcome: Outcome,
+    cut: impl Fn(&Log, &Log, Position) -> Position,
+) -> Outcome {
+    let Some(opened) =
+        open(asked).filter(|_| outcome.answer > ACCEPTED && asked.kind == Kind::Order)
+    else {
+        return outcome;
+    };
+    let order = words::whole_words(&outcome.buffer);
+    let order = message::read_with(Form::Order, &opened.settings, &order);
+    let mut order = order.expect("an order");
+    let log = |node: u32, shard: u32| {
+        let report = opened.reports.iter().find(|r| r.node == node);
+        Log::of(report.expect("a held node"), shard)
+    };
+    let (targets, holders) = (order.of_kind(TERMINATION), order.of_kind(HOLDER));
+    for record in order.records.iter_mut().filter(|r| r.kind() == CUT) {
+        let shard = record.shard();
+        let holder = holders.iter().find(|r| r.shard() == shard);
+        let holder = holder.expect("a holder").word1;
+        let target = targets[shard as usize];
+        let target = Position::new(target.word1, target.word2);
+        let cut = cut(&log(asked.node, shard), &log(holder, shard), target);
+        (record.word1, record.word2) = (cut.view, cut.k);
+    }
+    let words = words::padded(&message::encode(&order), SLOT_WORDS);
+    outcome.buffer = words::to_bytes(&words);
+    outcome
+}
+
 wrong!(
     /// Cuts at the lesser of the node's end and the target.
     CutAtTarget,
     a_cut_without_the_holders_log,
-    |asked, mut outcome| {
-        let Some(opened) = open(asked).filter(|_| outcome.answer > ACCEPTED && asked.kind == Kind::Order)
-        else {
-            return outcome;
+    |asked, outcome| with_cuts(asked, outcome, |node, _, target| node.end().min(target))
+);
+
+wrong!(
+    /// Cuts by the view of the node's end alone, as document 01 does.
+    CutByViews,
+    a_cut_by_the_view_of_the_end,
+    |asked, outcome| with_cuts(asked, outcome, |node, holder, target| {
+        let views = Position::new(node.end().view, u32::MAX);
+        node.end().min(holder.up_to(target).up_to(views).end())
+    })
+);
+
+wrong!(
+    /// Cuts at the last update that both logs have, wherever they part.
+    CutAtLastShared,
+    a_cut_after_the_logs_have_parted,
+    |asked, outcome| with_cuts(asked, outcome, |node, holder, target| {
+        let shared = |run: &Run| {
+            let own = node.runs.iter().find(|own| own.view == run.view);
+            own.map(|own| Position::new(run.view, own.count.min(run.count)))
         };
-        let order = words::whole_words(&outcome.buffer);
-        let order = message::read_with(Form::Order, &opened.settings, &order);
-        let mut order = order.expect("an order");
-        let own = opened.reports.iter().find(|r| r.node == asked.node);
-        let own = own.expect("a held node");
-        let targets = order.of_kind(TERMINATION);
-        for record in order.records.iter_mut().filter(|r| r.kind() == CUT) {
-            let end = Log::of(own, record.shard()).end();
-            let target = targets[record.shard() as usize];
-            (record.word1, record.word2) = (end.view, end.k).min((target.word1, target.word2));
+        let wanted = holder.up_to(target);
+        wanted.runs.iter().filter_map(shared).max().unwrap_or(START)
+    })
+);
+
+wrong!(
+    /// Goes on after two runs of one view whose counts differ.
+    CutGoesOn,
+    a_cut_that_skips_other_counts,
+    |asked, outcome| with_cuts(asked, outcome, |node, holder, target| {
+        let wanted = holder.up_to(target);
+        let pairs = node.runs.iter().zip(&wanted.runs);
+        let alike = pairs.take_while(|(own, run)| own.view == run.view);
+        let end = |(own, run): (&Run, &Run)| Position::new(run.view, own.count.min(run.count));
+        alike.map(end).last().unwrap_or(START)
+    })
+);
+
+wrong!(
+    /// Keeps whole runs only.
+    CutBetweenRuns,
+    a_cut_at_the_end_of_equal_runs,
+    |asked, outcome| with_cuts(asked, outcome, |node, holder, target| {
+        let wanted = holder.up_to(target);
+        let pairs = node.runs.iter().zip(&wanted.runs);
+        let alike = pairs.take_while(|(own, run)| own == run);
+        let end = |(_, run): (&Run, &Run)| Position::new(run.view, run.count);
+        alike.map(end).last().unwrap_or(START)
+    })
+);
+
+wrong!(
+    /// Takes two logs with one end as equal.
+    CutByEnds,
+    a_cut_by_equal_ends,
+    |asked, outcome| with_cuts(asked, outcome, |node, holder, target| {
+        if node.end() == holder.end() || node.end() == target {
+            return target;
         }
-        let words = words::padded(&message::encode(&order), SLOT_WORDS);
-        outcome.buffer = words::to_bytes(&words);
-        outcome
-    }
+        log::cut(node, holder, target)
+    })
+);
+
+wrong!(
+    /// Shares with the holder's whole log.
+    CutPastTarget,
+    a_cut_past_the_target,
+    |asked, outcome| with_cuts(asked, outcome, |node, holder, _| {
+        log::cut(node, holder, holder.end())
+    })
+);
+
+wrong!(
+    /// Leaves out a first run that only one of the logs has.
+    CutFromSharedView,
+    a_cut_that_does_not_start_at_the_beginning,
+    |asked, outcome| with_cuts(asked, outcome, |node, holder, target| {
+        let first = |log: &Log| log.runs.first().map_or(0, |run| run.view);
+        let from = first(node).max(first(holder));
+        let later = |log: &Log| Log {
+            runs: log.runs.iter().filter(|run| run.view >= from).copied().collect(),
+        };
+        log::cut(&later(node), &later(holder), target)
+    })
 );
 
 wrong!(

@@ -119,6 +119,23 @@ fn check_plan(settings: &Settings, after: &Table) {
     }
 }
 
+/// Up to the cut both logs are one, and the next updates differ or are missing.
+fn check_cut(node: &Log, holder: &Log, target: Position, cut: Position) {
+    let wanted = holder.up_to(target);
+    assert_eq!(node.up_to(cut), wanted.up_to(cut));
+    let next = |log: &Log| {
+        let same = Position::new(cut.view, cut.k.saturating_add(1));
+        let later = log.runs.iter().find(|run| run.view > cut.view);
+        let later = later.map(|run| Position::new(run.view, 1));
+        if cut.k < u32::MAX && log.holds(same) {
+            Some(same)
+        } else {
+            later
+        }
+    };
+    assert!(next(node).is_none() || next(node) != next(&wanted));
+}
+
 /// The order is read back, and each cut is (0, 0) or in the holder's log, and
 /// not past the target or the node's end.
 fn check_order(settings: &Settings, table: &Table, node: u32, words: &[u32]) {
@@ -137,6 +154,7 @@ fn check_order(settings: &Settings, table: &Table, node: u32, words: &[u32]) {
         assert!(log(holder, shard).has(target));
         assert!(cut == START || log(holder, shard).holds(cut));
         assert!(cut <= target && cut <= log(node, shard).end());
+        check_cut(&log(node, shard), &log(holder, shard), target, cut);
         if node == holder {
             assert_eq!(cut, target);
         }

@@ -90,14 +90,27 @@ def holding(gathered, shard):
     return next(report.node for report in able if report.end(shard) == greatest), target
 
 
+def up_to(runs, target):
+    """The runs of a log up to this position."""
+    whole = [run for run in runs if run[0] < target[0]]
+    return whole + [(view, min(count, target[1])) for view, count in runs if view == target[0]]
+
+
+def common(runs, others):
+    """The end of what two logs share from their beginning: START where they share nothing."""
+    end = START
+    for (view, count), (other_view, other_count) in zip(runs, others):
+        if view != other_view:
+            return end
+        end = (view, min(count, other_count))
+        if count != other_count:
+            return end
+    return end
+
+
 def cut(gathered, node, shard, holder, target):
     """Up to where the node keeps its log of the shard."""
-    end, last = gathered.reports[node].end(shard), START
-    for view, count in gathered.reports[holder].runs[shard]:
-        at = (view, min(count, target[1]) if view == target[0] else count)
-        if at <= target and view <= end[0]:
-            last = at
-    return min(end, last)
+    return common(gathered.reports[node].runs[shard], up_to(gathered.reports[holder].runs[shard], target))
 
 
 @dataclass

@@ -1,7 +1,7 @@
 """A plan in words: its shards as a table, who stays, who moves, and from where each member's log is completed."""
 from dataclasses import dataclass
 
-from .gathering import cut, holding
+from .gathering import cut, holding, up_to
 from .model import START
 from .printing import numbers
 from .sentences import counted, listed, machine, machines, pair, table
@@ -71,6 +71,7 @@ def cut_lines(gathered, plan):
         lines.append("  shard %d up to %s, from %s" % (shard, pair(placed.target), machine(gathered.settings, placed.holder)))
         rows = [log_row(gathered, node, shard, placed) for node in sorted(placed.members)]
         lines += ["    " + row for row in table(rows)]
+        lines += ["    " + line for line in parting_lines(gathered, shard, placed)]
     if empty:
         lines.append("  shard%s %s: no updates, nothing to fetch" % ("s" * (len(empty) > 1), numbers(empty)))
     return lines
@@ -103,6 +104,28 @@ def log_row(gathered, node, shard, placed):
         keeps += ", discards %s" % counted(log.discards, "update")
     return [machine(gathered.settings, node), "log ends at %s" % pair(log.end), "cut %s" % pair(log.cut), keeps,
             "fetches %s" % (counted(log.fetches, "update") if log.fetches else "nothing")]
+
+
+def parting_lines(gathered, shard, placed):
+    """Where a member's log goes on after the cut otherwise than the holder's does, as after a disk image was put back."""
+    lines, holders = [], up_to(gathered.reports[placed.holder].runs[shard], placed.target)
+    for node in sorted(placed.members):
+        log = log_of(gathered, node, shard, placed)
+        own, taken = (next_update(runs, log.cut) for runs in (gathered.reports[node].runs[shard], holders))
+        if own and taken:
+            lines.append("%s: after %s its log has %s, that of %s has %s" % (machine(gathered.settings, node), pair(log.cut), pair(own),
+                                                                            machine(gathered.settings, placed.holder), pair(taken)))
+    return lines
+
+
+def next_update(runs, position):
+    """The first update of a log after this position; None where there is none."""
+    for view, count in runs:
+        if view > position[0]:
+            return view, 1
+        if view == position[0] and count > position[1]:
+            return view, position[1] + 1
+    return None
 
 
 def updates_after(runs, start, target):

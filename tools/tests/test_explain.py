@@ -128,21 +128,46 @@ class Cases(unittest.TestCase):
         )
         self.assertIn("a termination is kept", told)
 
-    def test_cuts_of_cases_g_and_h(self):
-        """Case H in a plan: the holder has (5, 3), (7, 2); machine 4 ends at (6, 9), machine 5 at (5, 2)."""
-        runs = {"count 5": "run shard 1 view 5 count 3\nrun shard 1 view 7 count 2", "count 4": "run shard 1 view 6 count 9"}
-        text = A
-        for old, new in runs.items():
-            text = text.replace("run shard 1 view 7 " + old, new)
-        text = text.rstrip() + "\nrun shard 1 view 5 count 2\n"
-        self.says(
+    def with_logs(self, holder, four, five=""):
+        """Case A with these runs of shard 1: the holder's, those of machine 4 and of machine 5."""
+        def runs(log):
+            return "\n".join("run shard 1 view %s count %s" % tuple(run.split(".")) for run in log.split())
+
+        text = A.replace("run shard 1 view 7 count 5", runs(holder)).replace("run shard 1 view 7 count 4", runs(four))
+        return text.rstrip() + "\n" + runs(five) + "\n"
+
+    def test_cuts_of_case_g(self):
+        """The holder has (5, 3), (6, 8); machine 4, which is stale, ends at (6, 9)."""
+        text = self.with_logs("5.3 6.8", "5.3 6.9").replace("report node 4 view 7", "report node 4 view 6")
+        told = self.says(
             text,
+            support.ANSWER_A.replace("target 7 5", "target 6 8"),
+            "    machine 4  log ends at (6, 9)  cut (6, 8)  keeps up to the cut, discards 1 update  fetches nothing\n",
+        )
+        self.assertNotIn("after (", told)
+
+    def test_cuts_of_case_h(self):
+        """The holder has (5, 3), (7, 2); machine 4 ends at (6, 9), machine 5 at (5, 2)."""
+        self.says(
+            self.with_logs("5.3 7.2", "5.3 6.9", "5.2"),
             support.ANSWER_A.replace("target 7 5", "target 7 2"),
             "    machine 1  log ends at (7, 2)  cut (7, 2)  keeps all                                fetches nothing\n"
             "    machine 4  log ends at (6, 9)  cut (5, 3)  keeps up to the cut, discards 9 updates  fetches 2 updates\n"
-            "    machine 5  log ends at (5, 2)  cut (5, 2)  keeps all                                fetches 3 updates\n",
+            "    machine 5  log ends at (5, 2)  cut (5, 2)  keeps all                                fetches 3 updates\n"
+            "    machine 4: after (5, 3) its log has (6, 1), that of machine 1 has (7, 1)\n",
         )
 
+    def test_cuts_of_case_j(self):
+        """A disk image: both logs end at (6, 2), and the older views differ. Machine 5 shares nothing with the holder."""
+        self.says(
+            self.with_logs("5.3 6.2", "5.2 6.2", "4.1 5.3"),
+            support.ANSWER_A.replace("target 7 5", "target 6 2"),
+            "    machine 1  log ends at (6, 2)  cut (6, 2)  keeps all                                fetches nothing\n"
+            "    machine 4  log ends at (6, 2)  cut (5, 2)  keeps up to the cut, discards 2 updates  fetches 3 updates\n"
+            "    machine 5  log ends at (5, 3)  cut (0, 0)  keeps nothing, discards 4 updates        fetches 5 updates\n"
+            "    machine 4: after (5, 2) its log has (6, 1), that of machine 1 has (5, 3)\n"
+            "    machine 5: after (0, 0) its log has (4, 1), that of machine 1 has (5, 1)\n",
+        )
 
     def test_a_termination_inside_the_logs(self):
         ending = "".join("termination shard %d view %d update %d\n" % row for row in ((0, 0, 0), (1, 7, 3), (2, 0, 0)))

@@ -1,4 +1,4 @@
--- Document 01's cases A to I from the rules: the one table. Reports are those of case A, and held masks name who is back.
+-- Document 01's cases A to I and Request Five's case J from the rules: the one table. Reports are those of case A, and held masks name who is back.
 -- What decide answers in them stands in state_cases, what the program prints in program_cases; both cite this table.
 use Prim.Native.Nat.{ℕ, _<_}
 use mathlib.Core.Bool.{true, not, _||_}
@@ -19,10 +19,10 @@ use Rattle.place_groups.specs.Placements.{groupValid, groupMoves, Impossible, L
 use Rattle.place_groups.specs.Chosen.{Chosen}
 use Rattle.report_views.specs.declared.Reason.the-variants.{NoView, NoMajority, TooFew, NoHolder}
 use Rattle.report_views.specs.declared.Quorum.the-variants.{Met, Short}
-use Rattle.report_views.specs.Logs.{pos, endOf, reaches, holds, hasUpdate}
+use Rattle.report_views.specs.Logs.{pos, endOf, runsFrom, runsOf, reaches, holds, hasUpdate}
 use Rattle.report_views.specs.Reports.{slot, reportOf, maskAt}
 use Rattle.report_views.specs.Quorums.{candidate, greatest, best, target, able, holder, majority, firstUnheld, quorumOf}
-use Rattle.report_views.specs.Cuts.{earlier, upTo, eligible, lastUpTo, cutFrom, cut}
+use Rattle.report_views.specs.Cuts.{runsTo, sharedAfter, cutFrom, cut}
 use Rattle.report_views.specs.Empty.{noView, noTermination}
 use Rattle.history_cases.specs.Runs.{caseSettings, settingsWith, desk, view7, sixMembers, logOf}
 use Rattle.history_cases.specs.Placed.{planA, a-valid, a-moves, a-least, a-chosen, i-none}
@@ -52,11 +52,13 @@ pub record Cases : Type 0 where
   pub e : quorumOf (settingsWith 7 2) view7 noTermination 63 desk ≡ Short TooFew
   -- F: A without node 5
   pub f : quorumOf caseSettings view7 noTermination 31 desk ≡ Short (NoHolder (record { 0 = 2 }))
-  -- G and H: cuts against the holder's log
-  pub g : cut (logOf 1 (768 ∷ 6 ∷ 9 ∷ [])) (logOf 2 (768 ∷ 5 ∷ 3 ∷ 768 ∷ 6 ∷ 8 ∷ [])) 0 (pos 6 8) ≡ pos 6 8
-  pub h-later : cut (logOf 1 (768 ∷ 6 ∷ 9 ∷ [])) (logOf 2 (768 ∷ 5 ∷ 3 ∷ 768 ∷ 7 ∷ 2 ∷ [])) 0 (pos 7 2) ≡ pos 5 3
+  -- G and H: cuts against the holder's log. A node that ends in view 6 has run (5, 3) before it, one that ends in view 5 nothing
+  pub g : cut (logOf 2 (768 ∷ 5 ∷ 3 ∷ 768 ∷ 6 ∷ 9 ∷ [])) (logOf 2 (768 ∷ 5 ∷ 3 ∷ 768 ∷ 6 ∷ 8 ∷ [])) 0 (pos 6 8) ≡ pos 6 8
+  pub h-later : cut (logOf 2 (768 ∷ 5 ∷ 3 ∷ 768 ∷ 6 ∷ 9 ∷ [])) (logOf 2 (768 ∷ 5 ∷ 3 ∷ 768 ∷ 7 ∷ 2 ∷ [])) 0 (pos 7 2) ≡ pos 5 3
   pub h-within : cut (logOf 1 (768 ∷ 5 ∷ 2 ∷ [])) (logOf 2 (768 ∷ 5 ∷ 3 ∷ 768 ∷ 7 ∷ 2 ∷ [])) 0 (pos 7 2) ≡ pos 5 2
   pub h-empty : cut (logOf 0 []) (logOf 2 (768 ∷ 5 ∷ 3 ∷ 768 ∷ 7 ∷ 2 ∷ [])) 0 (pos 7 2) ≡ pos 0 0
+  -- J: logs that end at one position and differ before it
+  pub j : cut (logOf 2 (768 ∷ 5 ∷ 2 ∷ 768 ∷ 6 ∷ 2 ∷ [])) (logOf 2 (768 ∷ 5 ∷ 3 ∷ 768 ∷ 6 ∷ 2 ∷ [])) 0 (pos 6 2) ≡ pos 5 2
   -- I: A with shard 0 needing 3. Every quorum condition is met, and no placement of subgroup 0 is valid
   pub i-met : quorumOf (settingsWith 4 3) view7 noTermination 63 desk ≡ Met
   pub i : Impossible (settingsWith 4 3) 63 0
@@ -77,7 +79,7 @@ b-short held l three d =
     (or-holds (not (eqb (count held) 3)) (not (majority view7 held)) (all-at 128 (λ m. not (eqb (count m) 3) || not (majority view7 m)) b-test held l))
 
 pub cases : Cases
-unfolding desk ones onesIn allBelow anyBelow lowest tabulate pairNotAfter place following bodyWord bodyOf contentsOf endOf reaches holds hasUpdate slot reportOf candidate greatest best target able holder majority firstUnheld quorumOf earlier upTo eligible lastUpTo cutFrom
+unfolding desk ones onesIn allBelow anyBelow lowest tabulate pairNotAfter place following bodyWord bodyOf contentsOf endOf reaches holds hasUpdate slot reportOf candidate greatest best target able holder majority firstUnheld quorumOf runsFrom runsOf runsTo sharedAfter cutFrom
 cases =
     record {
       a-met = refl;
@@ -101,6 +103,7 @@ cases =
       h-later = refl;
       h-within = refl;
       h-empty = refl;
+      j = refl;
       i-met = refl;
       i = i-none;
     }

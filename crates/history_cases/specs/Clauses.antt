@@ -20,12 +20,13 @@ use Rattle.report_views.specs.declared.Termination.{Termination}
 use Rattle.report_views.specs.declared.Reason.the-variants.{NoView, NoMajority, TooFew, NoHolder, NoPlacement}
 use Rattle.report_views.specs.declared.Quorum.the-variants.{Met, Short}
 use Rattle.report_views.specs.Empty.{noTermination}
-use Rattle.report_views.specs.Logs.{pos, start, endOf, reaches, holds, hasUpdate}
+use Rattle.report_views.specs.Logs.{pos, start, endOf, runsFrom, runsOf, reaches, holds, hasUpdate}
 use Rattle.report_views.specs.Reports.{slot, reportOf}
 use Rattle.report_views.specs.Quorums.{candidate, greatest, best, target, able, holder, majority, firstUnheld, quorumOf, numberOf, valueOf}
 use Rattle.report_views.specs.Standings.{holdersOf, targetsOf, standingOf}
 use Rattle.report_views.specs.Soundness.{allMoves}
-use Rattle.report_views.specs.Cuts.{earlier, upTo, eligible, lastUpTo, cutFrom, cut}
+use Rattle.report_views.specs.Updates.{updatesAfter, updatesIn, updatesOf, thoseOf, upTo, keptUpdates, fetchedUpdates}
+use Rattle.report_views.specs.Cuts.{runsTo, sharedAfter, cutFrom, cut}
 use Rattle.history_cases.specs.Runs.{caseSettings, settingsWith, reportUnder, caseReport, noRuns, run1, twoRuns1, slotOf, deskWithReports, desk, view7, logOf}
 
 -- node 1 ends with (6, 8); node 4, of the same shard, reports view 6 and ends with (6, 9)
@@ -261,21 +262,42 @@ pub record LogClauses : Type 0 where
   pub cut-at-target : cut (logOf 1 (768 ∷ 6 ∷ 7 ∷ [])) (logOf 1 (768 ∷ 6 ∷ 8 ∷ [])) 0 (pos 6 5) ≡ pos 6 5
   -- nor past the node's own end
   pub cut-at-end : cut (logOf 1 (768 ∷ 6 ∷ 3 ∷ [])) (logOf 1 (768 ∷ 6 ∷ 8 ∷ [])) 0 (pos 6 5) ≡ pos 6 3
+  -- nor past the holder's end, whatever the target
+  pub cut-at-holder : cut (logOf 1 (768 ∷ 6 ∷ 9 ∷ [])) (logOf 1 (768 ∷ 6 ∷ 4 ∷ [])) 0 (pos 6 7) ≡ pos 6 4
   -- the holder's runs of a view after the target's do not count
-  pub cut-before-view : cut (logOf 1 (768 ∷ 7 ∷ 1 ∷ [])) (logOf 2 (768 ∷ 5 ∷ 3 ∷ 768 ∷ 7 ∷ 2 ∷ [])) 0 (pos 5 2) ≡ pos 5 2
+  pub cut-before-view :
+      cut (logOf 2 (768 ∷ 5 ∷ 3 ∷ 768 ∷ 7 ∷ 1 ∷ [])) (logOf 2 (768 ∷ 5 ∷ 3 ∷ 768 ∷ 7 ∷ 2 ∷ [])) 0 (pos 6 4) ≡ pos 5 3
+  -- the run of the target's view does not count whole
+  pub cut-inside-run :
+      cut (logOf 2 (768 ∷ 5 ∷ 3 ∷ 768 ∷ 7 ∷ 1 ∷ [])) (logOf 2 (768 ∷ 5 ∷ 3 ∷ 768 ∷ 7 ∷ 2 ∷ [])) 0 (pos 5 2) ≡ pos 5 2
   -- a run of an earlier view than the target's counts whole
-  pub cut-whole-run : cut (logOf 1 (768 ∷ 6 ∷ 1 ∷ [])) (logOf 2 (768 ∷ 5 ∷ 3 ∷ 768 ∷ 7 ∷ 2 ∷ [])) 0 (pos 7 2) ≡ pos 5 3
-  -- nor do those of a view after that of the node's end
-  pub cut-of-older : cut (logOf 1 (768 ∷ 5 ∷ 9 ∷ [])) (logOf 2 (768 ∷ 5 ∷ 3 ∷ 768 ∷ 6 ∷ 8 ∷ [])) 0 (pos 6 8) ≡ pos 5 3
+  pub cut-whole-run :
+      cut (logOf 2 (768 ∷ 5 ∷ 3 ∷ 768 ∷ 6 ∷ 1 ∷ [])) (logOf 2 (768 ∷ 5 ∷ 3 ∷ 768 ∷ 7 ∷ 2 ∷ [])) 0 (pos 7 2) ≡ pos 5 3
+  -- of a view in which the node has more than the holder the holder's are shared, and nothing after them
+  pub cut-of-longer : cut (logOf 1 (768 ∷ 5 ∷ 9 ∷ [])) (logOf 2 (768 ∷ 5 ∷ 3 ∷ 768 ∷ 6 ∷ 8 ∷ [])) 0 (pos 6 8) ≡ pos 5 3
+  pub cut-then-same :
+      cut (logOf 2 (768 ∷ 5 ∷ 9 ∷ 768 ∷ 6 ∷ 8 ∷ [])) (logOf 2 (768 ∷ 5 ∷ 3 ∷ 768 ∷ 6 ∷ 8 ∷ [])) 0 (pos 6 8) ≡ pos 5 3
+  -- nor where the node lacks a view that the holder has, or has one that the holder lacks
+  pub cut-lacked-view : cut (logOf 1 (768 ∷ 6 ∷ 8 ∷ [])) (logOf 2 (768 ∷ 5 ∷ 3 ∷ 768 ∷ 6 ∷ 8 ∷ [])) 0 (pos 6 8) ≡ start
+  pub cut-other-view : cut (logOf 2 (768 ∷ 4 ∷ 1 ∷ 768 ∷ 5 ∷ 3 ∷ [])) (logOf 1 (768 ∷ 5 ∷ 3 ∷ [])) 0 (pos 5 3) ≡ start
   -- the runs of another shard play no part
   pub cut-of-shard :
-      cut (logOf 2 (768 ∷ 6 ∷ 9 ∷ 769 ∷ 5 ∷ 1 ∷ [])) (logOf 3 (768 ∷ 5 ∷ 3 ∷ 768 ∷ 6 ∷ 4 ∷ 769 ∷ 5 ∷ 9 ∷ [])) 0 (pos 6 4)
+      cut (logOf 2 (768 ∷ 6 ∷ 9 ∷ 769 ∷ 5 ∷ 1 ∷ [])) (logOf 3 (768 ∷ 6 ∷ 4 ∷ 769 ∷ 5 ∷ 2 ∷ 769 ∷ 6 ∷ 9 ∷ [])) 0 (pos 6 4)
       ≡ pos 6 4
+  pub cut-of-shard-1 :
+      cut (logOf 2 (768 ∷ 6 ∷ 9 ∷ 769 ∷ 5 ∷ 1 ∷ [])) (logOf 3 (768 ∷ 6 ∷ 4 ∷ 769 ∷ 5 ∷ 2 ∷ 769 ∷ 6 ∷ 9 ∷ [])) 1 (pos 6 4)
+      ≡ pos 5 1
   -- up to (0, 0) nothing is kept
   pub cut-at-start : cut (logOf 1 (768 ∷ 6 ∷ 7 ∷ [])) (logOf 1 (768 ∷ 6 ∷ 8 ∷ [])) 0 start ≡ start
+  -- case J: what the node keeps, what it fetches, and the holder's log up to the target
+  pub j-kept : keptUpdates (pos 5 2) (updatesOf (768 ∷ 5 ∷ 2 ∷ 768 ∷ 6 ∷ 2 ∷ []) 0 2) ≡ pos 5 1 ∷ pos 5 2 ∷ []
+  pub j-fetched :
+      fetchedUpdates (pos 5 2) (pos 6 2) (updatesOf (768 ∷ 5 ∷ 3 ∷ 768 ∷ 6 ∷ 2 ∷ []) 0 2) ≡ pos 5 3 ∷ pos 6 1 ∷ pos 6 2 ∷ []
+  pub j-log :
+      upTo (pos 6 2) (updatesOf (768 ∷ 5 ∷ 3 ∷ 768 ∷ 6 ∷ 2 ∷ []) 0 2) ≡ pos 5 1 ∷ pos 5 2 ∷ pos 5 3 ∷ pos 6 1 ∷ pos 6 2 ∷ []
 
 pub log-clauses : LogClauses
-unfolding anyBelow pairNotAfter endOf reaches holds hasUpdate earlier upTo eligible lastUpTo cutFrom
+unfolding anyBelow pairNotAfter endOf reaches holds hasUpdate runsFrom runsOf runsTo sharedAfter cutFrom updatesAfter updatesIn thoseOf
 log-clauses =
     record {
       last-run = refl;
@@ -294,9 +316,18 @@ log-clauses =
       k-without-view = refl;
       cut-at-target = refl;
       cut-at-end = refl;
+      cut-at-holder = refl;
       cut-before-view = refl;
+      cut-inside-run = refl;
       cut-whole-run = refl;
-      cut-of-older = refl;
+      cut-of-longer = refl;
+      cut-then-same = refl;
+      cut-lacked-view = refl;
+      cut-other-view = refl;
       cut-of-shard = refl;
+      cut-of-shard-1 = refl;
       cut-at-start = refl;
+      j-kept = refl;
+      j-fetched = refl;
+      j-log = refl;
     }

@@ -1,1 +1,1 @@
-// Document 01's runs A to I, computed from the definitions. No code.
+// Document 01's runs A to I and Request Five's J, computed from the definitions. No code.

@@ -1,10 +1,10 @@
 -- The writer never refuses the order of a held node under a sound plan: rows 5 to 7 and 9 to 11 pass.
 -- Rows 6 and 7 are the plan's number and members; row 10 is the validity of the placements; row 11 goes by the targets, each a
 -- kept termination's position or the end of a held report's log, and by the cuts, whose views are not above the targets'.
-use Prim.Native.Nat.{ℕ, _+_}
+use Prim.Native.Nat.{ℕ, _+_, _<_}
 use native.Mathlib.Omega.{arith}
-use mathlib.Core.Bool.{true, not}
-use mathlib.Core.List.{List}
+use mathlib.Core.Bool.{true}
+use mathlib.Core.List.{List, _++_}
 use mathlib.Core.Path.{_≡_}
 use borrow.Author.Tests.{le-leb, lt-ltb}
 use Rattle.base_laws.specs.Bools.{and-both}
@@ -12,22 +12,24 @@ use Rattle.base_laws.specs.Masks.{has}
 use Rattle.settings_values.specs.Settings.{nodes, shards, Settings}
 use Rattle.base_ids.specs.Refusals.{none}
 use Rattle.message_format.specs.declared.Form.the-variants.{Order}
-use Rattle.message_format.specs.Rows.{row6, viewOk, row7, position}
+use Rattle.message_format.specs.Rows.{row6, viewOk, row7}
 use Rattle.message_format.specs.Messages.{contentsRefusal}
 use Rattle.message_format.specs.Passed.{HeadPasses, ContentsPass, contents-none}
 use Rattle.report_views.specs.declared.Layout.{Layout}
 use Rattle.report_views.specs.declared.Termination.{Termination}
 use Rattle.report_views.specs.declared.Plan.{Plan}
+use Rattle.report_views.specs.Reports.{holderAt, targetAt}
+use Rattle.report_views.specs.Updates.{updatesAt, upTo, keptUpdates, fetchedUpdates}
 use Rattle.report_views.specs.Slots.{slotsOk}
 use Rattle.report_views.specs.Soundness.{keptSound, planSound}
-use Rattle.plan_order.specs.Orders.{orderContents}
+use Rattle.plan_order.specs.Orders.{cutOf, orderContents}
 use Rattle.plan_order.specs.Recorded.{len-few}
 use Rattle.plan_order_laws.specs.Says.{saying, order-body}
 use Rattle.plan_order_laws.specs.Passing.{order-records-pass}
 use Rattle.plan_order_laws.specs.Sound.{KeptView, PlanSound, kept-given, plan-given}
 use lib.ListN.{length}
 use Rattle.plan_order.specs.Readable.{ReadableSlot, Holders}
-use Rattle.plan_order_laws.specs.Fits.{node-below, fitting, readable, holders-readable}
+use Rattle.plan_order_laws.specs.Fits.{node-below, restored, fitting, readable, holders-readable}
 
 module _ (σ : List ℕ) (v : Layout) (t : Termination) (held : ℕ) (d : List ℕ) (p : Plan) (w : Settings σ) (kept : keptSound σ v t held ≡ true)
     (slots : slotsOk σ v t held d ≡ true) (plan : planSound σ v t held d p ≡ true) where
@@ -46,6 +48,12 @@ module _ (σ : List ℕ) (v : Layout) (t : Termination) (held : ℕ) (d : List �
     -- and so can the slot of a held node
     pub held-readable : length d ≡ 16384 → ReadableSlot d n
     held-readable = readable σ v t held d p w k slots ps n mine
+
+    -- a node that follows it has the holder's log up to the target
+    pub order-restored : (s : ℕ) → s < shards σ
+        → keptUpdates (cutOf p d n s) (updatesAt d s n) ++ fetchedUpdates (cutOf p d n s) (targetAt p s) (updatesAt d s (holderAt p s))
+        ≡ upTo (targetAt p s) (updatesAt d s (holderAt p s))
+    order-restored = restored σ v t held d p w k slots ps n mine
 
     -- rows 6 and 7
     head-passes : HeadPasses Order σ n (p .layout .number .0) (p .layout .members)

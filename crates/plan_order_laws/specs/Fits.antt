@@ -1,13 +1,13 @@
 -- What a sound plan and sound slots give a held node's order: its targets, holders and cuts are as row 11 asks, its masks as row
--- 10 does, and the slots that it is made from can be read.
+-- 10 does, the slots that it is made from can be read, and a node that follows it has the holder's log up to the target.
 use Prim.Native.Nat.{ℕ, _<_}
 use native.Mathlib.Omega.{arith}
-use mathlib.Core.Bool.{Bool, true, false, cond, not}
-use mathlib.Core.List.{List}
+use mathlib.Core.Bool.{Bool, true, false, cond}
+use mathlib.Core.List.{List, _++_}
 use mathlib.Core.Path.{_≡_, refl, subst⁻¹}
 use Rattle.base_laws.specs.Masks.{has, within-has}
 use Rattle.settings_values.specs.Settings.{nodes, shards, Settings}
-use Rattle.message_format.specs.Rows.{row10, position}
+use Rattle.message_format.specs.Rows.{row10}
 use Rattle.report_views.specs.declared.Layout.{Layout}
 use Rattle.report_views.specs.declared.Termination.{Termination}
 use Rattle.report_views.specs.declared.Plan.{Plan}
@@ -15,7 +15,9 @@ use Rattle.report_views.specs.Reports.{reportOf, viewOf, endAt, maskAt, positio
 use Rattle.report_views.specs.Slots.{slotsOk}
 use Rattle.report_views.specs.Quorums.{candidate, best, target, holder}
 use Rattle.report_views.specs.Best.{best-found}
-use Rattle.report_views.specs.CutLaws.{Runs, passed-runs, cut-position, cut-view}
+use Rattle.report_views.specs.RunLaws.{Runs, passed-runs}
+use Rattle.report_views.specs.Updates.{updatesAt, upTo, keptUpdates, fetchedUpdates}
+use Rattle.report_views.specs.CutLaws.{cut-position, cut-view, kept-fetched}
 use Rattle.report_views.specs.Meets.{slot-given, report-records, candidate-given, holder-given, able-candidate}
 use Rattle.plan_order.specs.Orders.{cutOf}
 use Rattle.plan_order_laws.specs.Says.{saying}
@@ -91,9 +93,18 @@ module _ (σ : List ℕ) (v : Layout) (t : Termination) (held : ℕ) (d : List �
         record {
           is-position =
               cut-position (reportOf d n .body) (reportOf d n .len) (reportOf d h .body) (reportOf d h .len) s (targetAt p s)
-              own other (planned-legal s l .is-position);
+              own other;
           no-later = cut-view (reportOf d n .body) (reportOf d n .len) (reportOf d h .body) (reportOf d h .len) s (targetAt p s);
         }
+
+    -- what the node keeps of its log, followed by what it fetches, is the holder's log up to the target
+    pub restored : (s : ℕ) → s < shards σ
+        → keptUpdates (cutOf p d n s) (updatesAt d s n) ++ fetchedUpdates (cutOf p d n s) (targetAt p s) (updatesAt d s (holderAt p s))
+        ≡ upTo (targetAt p s) (updatesAt d s (holderAt p s))
+    restored s l =
+        let h = holderAt p s in
+        kept-fetched (reportOf d n .body) (reportOf d n .len) (reportOf d h .body) (reportOf d h .len) s (targetAt p s)
+        (held-runs s n l (omega (arith, node-below, w .sizes .nodes-to)) mine) (held-runs s h l (holder-node s l) (holder-held s l))
 
     -- what the order says is as rows 10 and 11 ask
     pub fitting : Fitting σ n (p .layout .number .0) (p .layout .members) (saying p d n)

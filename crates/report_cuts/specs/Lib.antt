@@ -1,2 +1,2 @@
--- One turn of the walk over a holder's log.
+-- One turn of the walk over two logs.
 pub mod Walks

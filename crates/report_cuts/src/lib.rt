@@ -3,19 +3,12 @@
 use base_ids::Position;
 use base_ids::Shard;
 use base_ids::View;
+ghost use mathlib.Core.List.{[], _∷_};
 ghost use mathlib.Core.Path.{_≡_};
-ghost use Prim.Native.Nat.{_<_, _≤_};
+ghost use Prim.Native.Nat.{_≤_};
 ghost use Prim.Native.Nat as Nat;
-ghost use Rattle.report_views.specs.Logs.{run};
-ghost use Rattle.report_views.specs.Cuts.{earlier, upTo, eligible, lastUpTo, cutFrom};
-ghost use Rattle.message_format.specs.Records.{word1};
-
-// The earlier of two positions.
-fn earlier(p: Position, q: Position) -> Position
-    ensures { λ r. ⌜ r ≡ earlier p q ⌝ }
-{
-    if base_ids::not_after(p, q) { p } else { q }
-}
+ghost use Rattle.report_views.specs.Cuts.{runsTo, sharedAfter, cutFrom};
+ghost use Rattle.report_cuts.specs.Walks.{NextRun, wholeRun};
 
 fn min(a: u32, b: u32) -> u32
     ensures { λ r. ⌜ r ≡ Nat.min a b ⌝ }
@@ -23,57 +16,67 @@ fn min(a: u32, b: u32) -> u32
     if a < b { a } else { b }
 }
 
-// The last position of run j that is not past the target.
-fn up_to(body: &[u32; 381], t: Position, j: usize) -> Position
-    requires { ⌜ j < 127 ⌝ }
-    ensures { λ r. ⌜ r ≡ upTo (now (body .entry)) t j ⌝ }
+// The first record from i on that is a run of shard s, or len.
+fn next_run(body: &[u32; 381], len: usize, s: Shard, i: usize) -> usize
+    requires { ⌜ (i ≤ len) × (len ≤ 127) ⌝ }
+    ensures { λ r. ⌜ NextRun (now (body .entry)) len (s .0) i r ⌝ }
 {
-    let end = report_logs::run_end(body, j);
-    let v = end.view;
+    let mut j = i;
+    while j < len {
+        if report_logs::is_run(body, s, j) {
+            return j;
+        }
+        j += 1;
+    }
+    len
+}
+
+// The node's run r and the holder's run q are the same, and the target is of a later view: the next runs may be shared too.
+fn shared_whole(r: Position, q: Position, t: Position) -> bool
+    ensures { λ x. ⌜ x ≡ wholeRun r q t ⌝ }
+{
+    let v = r.view;
+    let w = q.view;
+    if v.0 != w.0 {
+        return false;
+    }
+    if r.k != q.k {
+        return false;
+    }
     let u = t.view;
-    if v.0 == u.0 {
+    w.0 < u.0
+}
+
+// Where logs that are the same up to a stop being the same, if the node's log goes on with run r alone and the holder's with q.
+fn shared_part(a: Position, r: Position, q: Position, t: Position) -> Position
+    ensures { λ x. ⌜ x ≡ sharedAfter a (r ∷ []) (runsTo t (q ∷ [])) ⌝ }
+{
+    let v = r.view;
+    let w = q.view;
+    let u = t.view;
+    if v.0 != w.0 {
+        return a;
+    }
+    if w.0 < u.0 {
         return Position {
             view: v,
-            k: min(end.k, t.k),
+            k: min(r.k, q.k),
         };
     }
-    end
-}
-
-// Record j is a run of shard s whose view is at most the target's and at most v.
-fn eligible(body: &[u32; 381], s: Shard, t: Position, v: View, j: usize) -> bool
-    requires { ⌜ j < 127 ⌝ }
-    ensures { λ r. ⌜ r ≡ eligible (now (body .entry)) (s .0) t (v .0) j ⌝ }
-{
-    if !report_logs::is_run(body, s, j) {
-        return false;
+    if w.0 != u.0 {
+        return a;
     }
-    let u = t.view;
-    if u.0 < message_fields::word1(body, j) {
-        return false;
-    }
-    message_fields::word1(body, j) <= v.0
-}
-
-// The last position of the log of shard s that is not past the target and whose view is at most v.
-fn last_up_to(body: &[u32; 381], len: usize, s: Shard, t: Position, v: View) -> Position
-    requires { ⌜ len ≤ 127 ⌝ }
-    ensures { λ r. ⌜ r ≡ lastUpTo (now (body .entry)) (s .0) t (v .0) len ⌝ }
-{
-    let mut n = len;
-    while 0 < n {
-        n -= 1;
-        if eligible(body, s, t, v, n) {
-            return up_to(body, t, n);
-        }
+    if t.k < 1 {
+        return a;
     }
     Position {
-        view: View(0),
-        k: 0,
+        view: v,
+        k: min(r.k, min(q.k, t.k)),
     }
 }
 
-// The cut for shard s of the node whose report has this body, against the holder's body and the target t.
+// The cut for shard s of the node whose report has this body, against the holder's body and the target t: run by run, as long as the
+// two logs are the same.
 pub fn cut(
     body: &[u32; 381],
     len: usize,
@@ -85,6 +88,24 @@ pub fn cut(
     requires { ⌜ (len ≤ 127) × (hlen ≤ 127) ⌝ }
     ensures { λ r. ⌜ r ≡ cutFrom (now (body .entry)) len (now (holder .entry)) hlen (s .0) t ⌝ }
 {
-    let end = report_logs::end_of(body, len, s);
-    earlier(end, last_up_to(holder, hlen, s, t, end.view))
+    let mut a = Position {
+        view: View(0),
+        k: 0,
+    };
+    let mut i = next_run(body, len, s, 0);
+    let mut j = next_run(holder, hlen, s, 0);
+    while i < len {
+        if hlen <= j {
+            return a;
+        }
+        let r = report_logs::run_end(body, i);
+        let q = report_logs::run_end(holder, j);
+        if !shared_whole(r, q, t) {
+            return shared_part(a, r, q, t);
+        }
+        a = r;
+        i = next_run(body, len, s, i + 1);
+        j = next_run(holder, hlen, s, j + 1);
+    }
+    a
 }

@@ -1,34 +1,32 @@
--- The cut of a placed node: where its log stops being kept, from its own log, the holder's and the target.
-use Prim.Native.Nat.{ℕ, zero, suc, min}
-use mathlib.Core.Bool.{Bool, cond, _&&_}
-use mathlib.Core.List.{List}
-use lib.Dec.{eqb, leb}
+-- The cut of a placed node: the end of the longest stretch of updates that its log and the holder's log, up to the target,
+-- share from their beginning. Here logs are lists of runs, as they stand in reports; of their updates, one by one, this is told
+-- by CutLaws.
+use Prim.Native.Nat.{ℕ, min}
+use mathlib.Core.Bool.{cond, _&&_}
+use mathlib.Core.List.{List, [], _∷_}
+use lib.Dec.{eqb, ltb, leb}
 use Rattle.base_ids.specs.declared.Position.{Position}
-use Rattle.base_ids.specs.Order.{notAfter}
-use Rattle.message_format.specs.Records.{word1, word2}
 use Rattle.message_format.specs.declared.Contents.{Contents}
-use Rattle.report_views.specs.Logs.{pos, start, run, endOf}
+use Rattle.report_views.specs.Logs.{pos, start, runsOf}
 
--- the earlier of two positions
-unfoldable pub earlier : Position → Position → Position
-earlier p q = cond (notAfter p q) p q
+-- a log up to the target t: the runs of earlier views than its, and of the run of its view what is not past it
+unfoldable pub runsTo : Position → List Position → List Position
+runsTo t [] = []
+runsTo t (q ∷ qs) =
+    cond (ltb (q .view .0) (t .view .0)) (q ∷ runsTo t qs)
+    (cond (eqb (q .view .0) (t .view .0) && leb 1 (t .k)) (pos (q .view .0) (min (q .k) (t .k)) ∷ []) [])
 
--- the last position of run j that is not past the target t
-unfoldable pub upTo : List ℕ → Position → ℕ → Position
-upTo b t j = cond (eqb (word1 b j) (t .view .0)) (pos (word1 b j) (min (word2 b j) (t .k))) (pos (word1 b j) (word2 b j))
-
--- record j is a run of shard s whose view is at most the target's and at most v
-unfoldable pub eligible : List ℕ → ℕ → Position → ℕ → ℕ → Bool
-eligible b s t v j = run b s j && leb (word1 b j) (t .view .0) && leb (word1 b j) v
-
--- the last position of a log, by its first n records, that is not past the target and whose view is at most v
-unfoldable pub lastUpTo : List ℕ → ℕ → Position → ℕ → ℕ → Position
-lastUpTo b s t v zero = start
-lastUpTo b s t v (suc n) = cond (eligible b s t v n) (upTo b t n) (lastUpTo b s t v n)
+-- where two logs that are the same up to a stop being the same: a run of the same view and count is shared whole and the next ones
+-- are looked at; of one view and two counts the lesser is shared, and nothing after it; of two views nothing is
+unfoldable pub sharedAfter : Position → List Position → List Position → Position
+sharedAfter a [] qs = a
+sharedAfter a (r ∷ rs) [] = a
+sharedAfter a (r ∷ rs) (q ∷ qs) =
+    cond (eqb (r .view .0) (q .view .0)) (cond (eqb (r .k) (q .k)) (sharedAfter r rs qs) (pos (r .view .0) (min (r .k) (q .k)))) a
 
 -- the cut for shard s of a node whose report has the body b of len records, from the holder's body hb of hlen and the target t
 unfoldable pub cutFrom : List ℕ → ℕ → List ℕ → ℕ → ℕ → Position → Position
-cutFrom b len hb hlen s t = earlier (endOf b s len) (lastUpTo hb s t (endOf b s len .view .0) hlen)
+cutFrom b len hb hlen s t = sharedAfter start (runsOf b s len) (runsTo t (runsOf hb s hlen))
 
 -- the cut for shard s of a node with report c, the holder's report h and the target t
 abbrev pub cut : Contents → Contents → ℕ → Position → Position

@@ -15,7 +15,7 @@ use Rattle.message_format.specs.Records.{tag, word1, word2, kind}
 use Rattle.message_format.specs.Rows.{position, viewFits, legal, row11At}
 use Rattle.message_format.specs.Passed.{RecordsPass}
 use Rattle.report_views.specs.Logs.{run, endOf}
-use Rattle.report_views.specs.CutLaws.{passed-runs, position-start, position-from, LastRun, end-cases}
+use Rattle.report_views.specs.RunLaws.{passed-runs, position-start, position-from, LastRun, end-cases}
 
 -- a position, and its view is at most v
 pub record Legal (v : ℕ) (p : Position) : Type 0 where

@@ -10,7 +10,11 @@ pub mod Standings
 pub mod PositionTables
 pub mod Soundness
 pub mod PlanLaws
+pub mod RunLaws
+pub mod Updates
+pub mod Stretches
 pub mod Cuts
+pub mod UpdateLaws
 pub mod CutLaws
 pub mod Ends
 pub mod Meets

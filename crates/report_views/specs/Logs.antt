@@ -2,7 +2,7 @@
 -- records it has.
 use Prim.Native.Nat.{ℕ, zero, suc, _+_}
 use mathlib.Core.Bool.{Bool, cond, _&&_, _||_}
-use mathlib.Core.List.{List}
+use mathlib.Core.List.{List, [], _∷_}
 use lib.Dec.{eqb, leb}
 use Rattle.base_laws.specs.Below.{anyBelow}
 use Rattle.base_ids.specs.declared.Position.{Position}
@@ -24,6 +24,15 @@ run b s j = eqb (tag b j) (768 + s)
 unfoldable pub endOf : List ℕ → ℕ → ℕ → Position
 endOf b s zero = start
 endOf b s (suc n) = cond (run b s n) (pos (word1 b n) (word2 b n)) (endOf b s n)
+
+-- the runs of shard s among k records from record i on, in their order, each by its last update
+unfoldable pub runsFrom : List ℕ → ℕ → ℕ → ℕ → List Position
+runsFrom b s i zero = []
+runsFrom b s i (suc k) = cond (run b s i) (pos (word1 b i) (word2 b i) ∷ runsFrom b s (suc i) k) (runsFrom b s (suc i) k)
+
+-- the log of shard s, run by run
+unfoldable pub runsOf : List ℕ → ℕ → ℕ → List Position
+runsOf b s len = runsFrom b s 0 len
 
 -- run j is of the position's view and reaches it
 unfoldable pub reaches : List ℕ → ℕ → Position → ℕ → Bool

@@ -1,5 +1,5 @@
 -- What decide answers in cases A to F and I of document 01's table, which is history_cases/Cases: whatever decide's promise allows it to
--- hand back is document 01's. G and H are cuts and stand there.
+-- hand back is document 01's. G, H and J are cuts and stand there.
 use Prim.Native.Nat.{ℕ, _<_}
 use mathlib.Core.List.{List}
 use mathlib.Core.Logic.{⊎-elim}

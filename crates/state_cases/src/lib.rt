@@ -1,1 +1,1 @@
-// Document 01's runs A to I as one table: what decide hands back in A to F and I, and the cuts of G and H. No code.
+// Document 01's runs A to I as one table: what decide hands back in A to F and I, and the cuts of G, H and J. No code.

@@ -1,8 +1,8 @@
--- An order that the planner writes is always accepted by the reader, and says what the plan and the desk give: from what the event
--- answers and leaves alone.
-use Prim.Native.Nat.{ℕ, _*_}
+-- An order that the planner writes is always accepted by the reader, and says what the plan and the desk give; a node that follows
+-- it has the holder's log up to the target: from what the event answers and leaves alone.
+use Prim.Native.Nat.{ℕ, _*_, _<_}
 use mathlib.Core.Bool.{Bool, true, false, cond}
-use mathlib.Core.List.{List}
+use mathlib.Core.List.{List, _++_}
 use mathlib.Core.Path.{_≡_, refl, sym, ap, ap₂, _∙_}
 use lib.Dec.{ltb}
 use lib.ListN.{take, getD}
@@ -11,12 +11,15 @@ use Rattle.base_ids.specs.Refusals.{none}
 use Rattle.message_format.specs.declared.Form.the-variants.{Order}
 use Rattle.message_format.specs.declared.Writing.{Writing}
 use Rattle.message_format.specs.Messages.{readingOf, writingOf, tidy}
+use Rattle.settings_values.specs.Settings.{shards}
 use Rattle.report_views.specs.declared.Plan.{Plan}
-use Rattle.plan_order.specs.Orders.{orderLen, orderWord, orderBody, orderContents}
+use Rattle.report_views.specs.Reports.{holderAt, targetAt}
+use Rattle.report_views.specs.Updates.{updatesAt, upTo, keptUpdates, fetchedUpdates}
+use Rattle.plan_order.specs.Orders.{cutOf, orderLen, orderWord, orderBody, orderContents}
 use Rattle.message_inverse.specs.Calls.{readAs, written-buffer, written-words}
 use Rattle.state_planner.specs.declared.State.{State}
 use Rattle.state_order.specs.Orders.{ordered, orderBuffer}
-use Rattle.state_order.specs.Taken.{writer-takes, written-answer, written-leaves}
+use Rattle.state_order.specs.Taken.{taken-restored, writer-takes, written-answer, written-leaves}
 
 -- the words of an order past its records are zero
 order-tidy : (σ : List ℕ) (p : Plan) (d : List ℕ) (n : ℕ) → tidy (orderContents σ p d n) ≡ orderContents σ p d n
@@ -48,3 +51,11 @@ module _ (σ : List ℕ) (x : State) (d : List ℕ) (n : ℕ) (buffer : List ℕ
       (sym (written-leaves σ x d n buffer h))
       ∙ written-words Order σ (orderContents σ (x .plan) d n) buffer (writer-takes σ x d n buffer h)
       ∙ ap readAs (order-tidy σ (x .plan) d n)
+
+  -- what the node keeps of its log by the order's cut, followed by what it fetches, is the holder's log up to the target
+  pub order-restores : (s : ℕ) → s < shards σ
+      → keptUpdates (cutOf (x .plan) d n s) (updatesAt d s n)
+      ++ fetchedUpdates (cutOf (x .plan) d n s) (targetAt (x .plan) s) (updatesAt d s (holderAt (x .plan) s))
+      ≡ upTo (targetAt (x .plan) s) (updatesAt d s (holderAt (x .plan) s))
+  unfolding ordered
+  order-restores = taken-restored σ x d n buffer h

@@ -1,8 +1,8 @@
 -- What an order that is not refused gives: a sound plan and a held node. So the writer takes the node's order, and what the writer
 -- answers and leaves is what the event does.
-use Prim.Native.Nat.{ℕ}
+use Prim.Native.Nat.{ℕ, _<_}
 use mathlib.Core.Bool.{Bool, true, false, _&&_}
-use mathlib.Core.List.{List}
+use mathlib.Core.List.{List, _++_}
 use mathlib.Core.Path.{_≡_, refl, ap, _∙_}
 use lib.Dec.{eqb}
 use lib.ListN.{length}
@@ -20,10 +20,12 @@ use Rattle.report_views.specs.declared.Termination.{Termination}
 use Rattle.report_views.specs.declared.Plan.{Plan}
 use Rattle.report_views.specs.declared.Phase.{Phase}
 use Rattle.report_views.specs.declared.Phase.the-variants.{Gathering, Ordered, Preparing, Committed}
+use Rattle.report_views.specs.Reports.{holderAt, targetAt}
+use Rattle.report_views.specs.Updates.{updatesAt, upTo, keptUpdates, fetchedUpdates}
 use Rattle.report_views.specs.Soundness.{planSound, planFits}
-use Rattle.plan_order.specs.Orders.{orderContents}
+use Rattle.plan_order.specs.Orders.{cutOf, orderContents}
 use Rattle.plan_order.specs.Readable.{ReadableSlot, Holders}
-use Rattle.plan_order_laws.specs.Accepted.{planned-holders, held-readable, order-accepted}
+use Rattle.plan_order_laws.specs.Accepted.{planned-holders, held-readable, order-restored, order-accepted}
 use Rattle.state_planner.specs.declared.State.{State}
 use Rattle.state_planner.specs.Refusing.{isOrdered, deskOk, entryRefusal, eventRefusal, orderRefusal}
 use Rattle.state_planner.specs.Entry.{Sound, sound-given, node-given}
@@ -97,6 +99,17 @@ module _ (σ : List ℕ) (x : State) (d : List ℕ) (n : ℕ) (buffer : List ℕ
       planned-holders σ (x .kept) (x .termination) (x .held) d (x .plan) taken-settings (taken .state-sound .kept-sound) (taken .state-sound .slots-ok)
       (taken .plan-sound)
       (taken .desk-words)
+
+  -- a node that follows it has the holder's log up to the target
+  pub taken-restored : (s : ℕ) → s < shards σ
+      → keptUpdates (cutOf (x .plan) d n s) (updatesAt d s n)
+      ++ fetchedUpdates (cutOf (x .plan) d n s) (targetAt (x .plan) s) (updatesAt d s (holderAt (x .plan) s))
+      ≡ upTo (targetAt (x .plan) s) (updatesAt d s (holderAt (x .plan) s))
+  taken-restored =
+      order-restored σ (x .kept) (x .termination) (x .held) d (x .plan) taken-settings (taken .state-sound .kept-sound) (taken .state-sound .slots-ok)
+      (taken .plan-sound)
+      n
+      (taken .node-held)
 
   -- the writer takes the node's order
   pub writer-takes : writeRefusal Order σ (orderContents σ (x .plan) d n) buffer ≡ none
