@@ -1,10 +1,11 @@
 -- Row 9 as a whole: its three passes find nothing, and no record is missing.
-use mathlib.Core.Path.{_≡_, sym, _∙_}
+use mathlib.Core.Path.{_≡_, refl, sym, _∙_}
 use mathlib.Core.Bool.{Bool, true, false, _&&_}
 use mathlib.Core.List.{List}
 use Prim.Native.Nat.{ℕ}
 use Rattle.base_laws.specs.Below.{allBelow}
-use Rattle.base_ids.specs.Refusals.{none, refused, unless, unless-true, unless-false, unless-and}
+use Rattle.base_ids.specs.Refusals.{none, refused, unless, unless-true, unless-false}
+use Rattle.base_ids.specs.declared.Refusal.{Refusal}
 use Rattle.message_format.specs.declared.Form.{Form}
 use Rattle.message_format.specs.Records.{membersOf}
 use Rattle.message_format.specs.Rows.{kindAt, shardAt, sequenceAt, complete, row10, row11At}
@@ -14,6 +15,12 @@ unfoldable pub row9 : Form → List ℕ → ℕ → List ℕ → ℕ → Bool
 row9 form σ node b len =
     allBelow len (kindAt form b) && allBelow len (shardAt σ b) && allBelow len (sequenceAt node b)
     && complete form σ node b len
+
+-- two conditions of one number are one condition
+unless-and : (p q : Bool) (k : ℕ) (rest : Refusal) → unless p k (unless q k rest) ≡ unless (p && q) k rest
+unfolding unless
+unless-and true q k rest = refl
+unless-and false q k rest = refl
 
 module _ (form : Form) (σ : List ℕ) (node view members : ℕ) (b : List ℕ) (len : ℕ) where
   abbrev positionsPass : Bool

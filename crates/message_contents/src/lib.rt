@@ -17,12 +17,12 @@ pub fn head_refusal(form: Form, settings: &[u32], node: Node, view: View, member
     ensures { λ r. ⌜ r ≡ headRefusal form (now (settings .entry)) (node .0) (view .0) members ⌝ }
 {
     if settings_values::nodes(settings) <= node.0 {
-        return Refusal { number: 6 };
+        return Refusal { code: 6 };
     }
     if !message_rows::row7(form, settings, node, view, members) {
-        return Refusal { number: 7 };
+        return Refusal { code: 7 };
     }
-    Refusal { number: 0 }
+    Refusal { code: 0 }
 }
 
 // Row 9: kinds, shards, sequence, and whether the records are complete.
@@ -58,16 +58,16 @@ pub fn records_refusal(
     ensures { λ r. ⌜ r ≡ recordsRefusal form (now (settings .entry)) (node .0) (view .0) members (now (body .entry)) len ⌝ }
 {
     if !row9(form, settings, node, body, len) {
-        return Refusal { number: 9 };
+        return Refusal { code: 9 };
     }
     let masks = message_records::masks_of(settings, body);
     if !message_shards::row10(settings, members, &masks) {
-        return Refusal { number: 10 };
+        return Refusal { code: 10 };
     }
     if message_passes::positions(form, view, members, body, len) < len {
-        return Refusal { number: 11 };
+        return Refusal { code: 11 };
     }
-    Refusal { number: 0 }
+    Refusal { code: 0 }
 }
 
 // The refusal of contents under right settings: rows 5 (by the words needed), 6, 7 and 9 to 11.
@@ -77,10 +77,10 @@ pub fn contents_refusal(form: Form, settings: &[u32], c: Contents) -> Refusal
 {
     let len = c.len;
     if 127 < len {
-        return Refusal { number: 5 };
+        return Refusal { code: 5 };
     }
     let head = head_refusal(form, settings, c.node, c.view, c.members);
-    if head.number != 0 {
+    if head.code != 0 {
         return head;
     }
     records_refusal(form, settings, c.node, c.view, c.members, &c.body, len)

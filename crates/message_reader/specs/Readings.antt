@@ -39,7 +39,7 @@ answer-refused : (r s : Refusal) (c : Contents) → s ≡ r → accepted r ≡ f
 answer-refused r s c e h = rw (e, h)
 
 -- a refusal with the number 0 is none
-pub number-zero : (r s : Refusal) → r ≡ s → r .number ≡ 0 → s ≡ none
+pub number-zero : (r s : Refusal) → r ≡ s → r .code ≡ 0 → s ≡ none
 number-zero r s e h = sym e ∙ ap refused h
 
 -- a message has at most 127 records after the head
@@ -55,10 +55,10 @@ module _ (form : Form) (σ w : List ℕ) where
   reading-length h = answer-refused (refused 5) _ _ (unless-false (row5 w) 5 _ h) refl
 
   module _ (sized : row5 w ≡ true) where
-    pub reading-head : (r : Refusal) → r ≡ headOf form σ w → (r .number ≡ 0 → ⊥) → nothing r ≡ readingUnder form σ w
+    pub reading-head : (r : Refusal) → r ≡ headOf form σ w → (r .code ≡ 0 → ⊥) → nothing r ≡ readingUnder form σ w
     unfolding readingUnder messageRefusal
     reading-head r e h =
-        let bad : accepted r ≡ false = ne-eqb (r .number) 0 h in
+        let bad : accepted r ≡ false = ne-eqb (r .code) 0 h in
         let bad-head : accepted (headOf form σ w) ≡ false = rw e at bad in
         answer-refused r _ _ (unless-true (row5 w) 5 _ sized ∙ first-refused (headOf form σ w) _ bad-head ∙ sym e) bad
 

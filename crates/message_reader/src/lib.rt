@@ -107,7 +107,7 @@ fn refuse(refusal: Refusal) -> Reading
 fn answer_with(refusal: Refusal, c: Contents) -> Reading
     ensures { λ r. ⌜ r ≡ answer refusal c ⌝ }
 {
-    if refusal.number != 0 {
+    if refusal.code != 0 {
         return refuse(refusal);
     }
     Reading {
@@ -152,14 +152,14 @@ pub fn read_under(form: Form, settings: &[u32], words: &[u32]) -> Reading
     ensures { λ r. ⌜ r ≡ readingUnder form (now (settings .entry)) (now (words .entry)) ⌝ }
 {
     if !length_ok(words) {
-        return refuse(Refusal { number: 5 });
+        return refuse(Refusal { code: 5 });
     }
     let head = head_of(form, settings, words);
-    if head.number != 0 {
+    if head.code != 0 {
         return refuse(head);
     }
     if !chain_ok(words) {
-        return refuse(Refusal { number: 8 });
+        return refuse(Refusal { code: 8 });
     }
     let c = contents_of(words);
     let records = records_of(form, settings, c);
@@ -180,7 +180,7 @@ pub fn read(form: Form, settings: &[u32], words: &[u32]) -> Reading
     ensures { λ r. ⌜ r ≡ readingOf form (now (settings .entry)) (now (words .entry)) ⌝ }
 {
     if !settings_check::check(settings) {
-        return refuse(Refusal { number: 2 });
+        return refuse(Refusal { code: 2 });
     }
     read_under(form, settings, words)
 }

@@ -104,7 +104,7 @@ shards-step p n = ap (shardLines p) (add-one n)
 
 pub number-length : (r : Refusal) → length (numberLine r) ≤ 8192
 unfolding numberLine
-number-length r = omega (arith, line-length numberLabel (r .number))
+number-length r = omega (arith, line-length numberLabel (r .code))
 
 wait-for-length : (reason value : ℕ) → length (waitFor reason value) ≤ 8192
 unfolding waitFor

@@ -207,7 +207,7 @@ module _ (a p : List ℕ) (w : wholeLines a ≡ true) where
         let whole : allWindows (walk 0 (linesOf (a ++ p)) .moves) ≡ front ++ windows =
         ap (λ (x : LineWalk). allWindows (x .moves)) both ∙ windows-more (was .moves) (new .moves) in
         let quiet : mondaysText a ≡ front =
-        ap (λ (t : List ℕ). front ++ t) (refusal-none (fileRefusal a) (ap (λ (r : Refusal). r .number) (accepted-none (fileRefusal a) (ap accepted (file-whole a w) ∙ h)))) ∙ append-nil front in
+        ap (λ (t : List ℕ). front ++ t) (refusal-none (fileRefusal a) (ap (λ (r : Refusal). r .code) (accepted-none (fileRefusal a) (ap accepted (file-whole a w) ∙ h)))) ∙ append-nil front in
         let put : blockText (standing a) p ≡ windows ++ end =
         ap (λ (b : Bool). cond b (allWindows (blockWalk (standing a) p .moves) ++ end) []) going
         ∙ ap (λ (x : LineWalk). allWindows (x .moves) ++ end) block in
@@ -333,6 +333,6 @@ text-length t bytes k h =
     let many : length ms ≤ 4159 =
     omega (arith, length-append (take (t .count) (t .kept)) (walk (t .least) (linesOf bytes) .moves), length-take (t .count) (t .kept), walk-length (t .least) (linesOf bytes), length-lines bytes) in
     let end : length (refusalLine r) ≤ 18 =
-    cond-of (λ (l : List ℕ). length l ≤ 18) (accepted r) {y = []} {z = line numberLabel (r .number)} (λ _. omega arith) (λ _. line-length numberLabel (r .number)) in
+    cond-of (λ (l : List ℕ). length l ≤ 18) (accepted r) {y = []} {z = line numberLabel (r .code)} (λ _. omega arith) (λ _. line-length numberLabel (r .code)) in
     cond-of (λ (l : List ℕ). length l ≤ 98304) (accepted (t .refusal)) {y = allWindows ms ++ refusalLine r} {z = []}
     (λ _. omega (arith, length-append (allWindows ms) (refusalLine r), windows-length ms)) (λ _. omega arith)

@@ -16,7 +16,7 @@ use Rattle.report_kept.specs.Reports.{keptRefusal, refusalBeside}
 
 -- no refusal, or a number from 5 to 13
 abbrev pub InRows : Refusal → Type 0
-InRows r = (r .number ≡ 0) ⊎ ((5 ≤ r .number) × (r .number ≤ 13))
+InRows r = (r .code ≡ 0) ⊎ ((5 ≤ r .code) × (r .code ≤ 13))
 
 in-none : InRows none
 in-none = inl refl

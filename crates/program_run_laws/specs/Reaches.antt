@@ -35,7 +35,7 @@ pub record Gathers (σ : List ℕ) (x : State) (d : List ℕ) : Type 0 where
 unfoldable pub Reaches : Progress → Type 0
 Reaches (Started d) = deskOk d ≡ true
 Reaches (Underway σ x d) = Gathers σ x d
-Reaches (Ended r d) = (r .number ≡ 2) ⊎ ((5 ≤ r .number) × (r .number ≤ 13))
+Reaches (Ended r d) = (r .code ≡ 2) ⊎ ((5 ≤ r .code) × (r .code ≤ 13))
 
 -- while a run gathers, rows 1 to 4 refuse nothing
 entry-none : (σ : List ℕ) (x : State) (d : List ℕ) → Gathers σ x d → entryRefusal (deskOk d) σ x d (isGathering (x .phase)) ≡ none
@@ -76,8 +76,8 @@ module _ (σ : List ℕ) (x : State) (d w : List ℕ) (g : Gathers σ x d) where
   unfolding Reaches
   ended-number e =
       let r : reportRefusal σ x d w ≡ refusalBeside σ (x .kept) (x .termination) w = report-none σ x d w g in
-      ⊎-elim (λ z. clash (eq-eqb (reportRefusal σ x d w .number) 0 (ap (λ (q : Refusal). q .number) r ∙ z)) e)
-      (λ z. inr (subst⁻¹ (λ (q : Refusal). (5 ≤ q .number) × (q .number ≤ 13)) r z))
+      ⊎-elim (λ z. clash (eq-eqb (reportRefusal σ x d w .code) 0 (ap (λ (q : Refusal). q .code) r ∙ z)) e)
+      (λ z. inr (subst⁻¹ (λ (q : Refusal). (5 ≤ q .code) × (q .code ≤ 13)) r z))
       (in-beside σ (x .kept) (x .termination) w)
 
   reaches-told : Reaches (told σ x d w)
@@ -118,6 +118,6 @@ pub decide-taken : (input σ : List ℕ) (x : State) (d : List ℕ) → after at
 decide-taken input σ x d e = decide-none (blocks input) σ x d e
 
 -- the numbers that end a run
-pub ended-by : (input : List ℕ) (r : Refusal) (d : List ℕ) → after atStart (blocks input) ≡ Ended r d → (r .number ≡ 2) ⊎ ((5 ≤ r .number) × (r .number ≤ 13))
+pub ended-by : (input : List ℕ) (r : Refusal) (d : List ℕ) → after atStart (blocks input) ≡ Ended r d → (r .code ≡ 2) ⊎ ((5 ≤ r .code) × (r .code ≤ 13))
 unfolding Reaches
 ended-by input r d e = subst (λ (p : Progress). Reaches p) e (run-reaches input)

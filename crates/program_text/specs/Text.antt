@@ -37,7 +37,7 @@ numberLabel = 110 ∷ 117 ∷ 109 ∷ 98 ∷ 101 ∷ 114 ∷ 32 ∷ []
 
 -- number n
 unfoldable pub numberLine : Refusal → List ℕ
-numberLine r = line numberLabel (r .number)
+numberLine r = line numberLabel (r .code)
 
 -- ---- laws
 
