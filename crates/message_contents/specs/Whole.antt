@@ -8,14 +8,14 @@ use Rattle.base_ids.specs.Refusals.{refused, unless-true, unless-false, accepte
 use Rattle.base_ids.specs.declared.Refusal.{Refusal}
 use Rattle.message_format.specs.declared.Form.{Form}
 use Rattle.message_format.specs.declared.Contents.{Contents}
-use Rattle.message_format.specs.Messages.{headRefusal, recordsRefusal, contentsRefusal}
+use Rattle.message_format.specs.Messages.{inOrder, headRefusal, recordsRefusal, contentsRefusal}
 
 module _ (form : Form) (σ : List ℕ) (c : Contents) where
   abbrev pub headPart : Refusal
   headPart = headRefusal form σ (c .node .0) (c .view .0) (c .members)
 
   abbrev pub restOf : Refusal
-  restOf = recordsRefusal form σ (c .node .0) (c .view .0) (c .members) (c .body) (c .len)
+  restOf = recordsRefusal inOrder form σ (c .node .0) (c .view .0) (c .members) (c .body) (c .len)
 
   pub contents-5 : 127 < c .len → refused 5 ≡ contentsRefusal form σ c
   unfolding contentsRefusal
