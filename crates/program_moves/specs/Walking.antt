@@ -16,7 +16,7 @@ use Rattle.base_ids.specs.declared.Refusal.{Refusal}
 use Rattle.base_ids.specs.Refusals.{refused, none, accepted, unless, firstOf, unless-ok, unless-rest, unless-true, unless-false, first-none, first-refused}
 use Rattle.word_bytes.specs.Words.{wordAt}
 use Rattle.program_text.specs.Puts.{Puts, puts-as, puts-none, puts-first, then-puts}
-use Rattle.program_text.specs.Text.{numberLine, line, numberLabel}
+use Rattle.program_text.specs.Text.{numberLine}
 use Rattle.program_windows.specs.Windows.{allWindows, lastMoves}
 use Rattle.program_moves.specs.declared.Tally.{Tally}
 use Rattle.program_moves.specs.declared.Taken.{Taken}
@@ -187,8 +187,8 @@ pub refusal-none : (r : Refusal) → r .code ≡ 0 → refusalLine r ≡ []
 unfolding refusalLine
 refusal-none r h = rw (eq-eqb (r .code) 0 h)
 
-pub refusal-some : (r : Refusal) → (r .code ≡ 0 → ⊥) → refusalLine r ≡ line numberLabel (r .code)
-unfolding refusalLine numberLine
+pub refusal-some : (r : Refusal) → (r .code ≡ 0 → ⊥) → refusalLine r ≡ numberLine r
+unfolding refusalLine
 refusal-some r h = rw (ne-eqb (r .code) 0 h)
 
 -- ---- what is kept

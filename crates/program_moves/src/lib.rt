@@ -116,7 +116,7 @@ fn put_refusal(out: &mut [u8], at: usize, refusal: Refusal) -> usize
     if refusal.code == 0 {
         return at;
     }
-    program_text::put_line(out, at, b"number ", refusal.code)
+    program_text::put_number(out, at, refusal)
 }
 
 // Puts the moves that are kept.
