@@ -26,14 +26,14 @@ pub fn head_refusal(form: Form, settings: &[u32], node: Node, view: View, member
     Refusal { code: 0 }
 }
 
-// The refusal with a number and the index of a record.
-pub fn told_at(number: u32, i: usize) -> Refusal
-    requires { ⌜ number < 256 ⌝ }
+// The refusal by the number of a row, told at record i.
+pub fn told_at(row: u32, i: usize) -> Refusal
+    requires { ⌜ row < 256 ⌝ }
     requires { ⌜ i ≤ 127 ⌝ }
-    ensures { λ r. ⌜ r ≡ refusedAt number i ⌝ }
+    ensures { λ r. ⌜ r ≡ refusedAt row i ⌝ }
 {
     Refusal {
-        code: number + 256 * i as u32,
+        code: row + 256 * i as u32,
     }
 }
 

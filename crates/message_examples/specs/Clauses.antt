@@ -126,7 +126,7 @@ pub record ReportClauses : Type 0 where
   pub position-twice : reads (followedBy (4 ∷ 512 ∷ 0 ∷ 0 ∷ 5 ∷ 513 ∷ 6 ∷ 1 ∷ 6 ∷ 513 ∷ 7 ∷ 1 ∷ 7 ∷ 514 ∷ 0 ∷ 0 ∷ 0 ∷ [])) ≡ refusedAt 17 6
   pub mask-missing : reads (message 1 7 127 (256 ∷ 5 ∷ 0 ∷ 2 ∷ 257 ∷ 82 ∷ 0 ∷ 0 ∷ [])) ≡ refusedAt 17 2
   pub head-alone : reads (1 ∷ 7 ∷ 127 ∷ 0 ∷ []) ≡ refusedAt 17 0
-  -- row 10: a shard is not empty, lies inside the members and shares no node within its subgroup; row 9 comes before it
+  -- row 10: a shard is not empty, lies inside the members and shares no node within its subgroup; rows 9 and 17 come before it
   pub shard-outside : reads (maskedBy 63 5 82 32) ≡ refused 10
   pub shard-shared : reads (maskedBy 127 5 82 36) ≡ refused 10
   pub shard-between : readRefusal Report twoSubgroups (maskedBy 127 5 82 36) ≡ none

@@ -1,11 +1,10 @@
 -- What a message says, when reader and writer refuse, and the words that the writer makes.
 use Prim.Native.Nat.{ℕ, suc, _+_, _*_, _-_, _/_, _%_}
-use mathlib.Core.Bool.{Bool, cond}
+use mathlib.Core.Bool.{Bool, cond, not}
 use mathlib.Core.List.{List}
 use lib.Dec.{eqb, leb, ltb}
 use lib.ListN.{length, getD, replicate}
-use Rattle.base_laws.specs.Below.{allBelow}
-use Rattle.base_laws.specs.Loops.{firstBad}
+use Rattle.base_laws.specs.Below.{allBelow, lowest}
 use Rattle.base_laws.specs.Tables.{tabulate}
 use Rattle.settings_values.specs.Settings.{settingsOk}
 use Rattle.base_ids.specs.Refusals.{none, accepted, unless, unlessAt, firstOf}
@@ -51,7 +50,7 @@ blank =
 -- number k for the first record of the contents that fails a test. `at` gives the index of the record so many steps along
 -- the chain; record j of the contents is j + 1 steps along.
 abbrev pub firstAt : (ℕ → ℕ) → ℕ → (ℕ → Bool) → ℕ → Refusal → Refusal
-firstAt at len f k rest = unlessAt (allBelow len f) k (at (suc (firstBad len f))) rest
+firstAt at len f k rest = unlessAt (allBelow len f) k (at (suc (lowest len (λ j. not (f j))))) rest
 
 -- where the writer's records stand: one after another
 abbrev pub inOrder : ℕ → ℕ
@@ -69,7 +68,7 @@ recordsRefusal at form σ node view members b len =
 
 -- the index of the first record on the chain whose next index is wrong
 unfoldable pub brokenAt : List ℕ → ℕ
-brokenAt w = place w (firstBad (suc (following w)) (λ j. linked w (place w j)))
+brokenAt w = place w (lowest (suc (following w)) (λ j. not (linked w (place w j))))
 
 -- rows 6 and 7 over the contents' head
 unfoldable pub headRefusal : Form → List ℕ → ℕ → ℕ → ℕ → Refusal

@@ -55,7 +55,7 @@ module _ (at : ℕ → ℕ) where
 
 -- ---- the index is at most the number of records
 
-bad-below : (n : ℕ) (f : ℕ → Bool) → allBelow n f ≡ false → suc (firstBad n f) ≤ n
+pub bad-below : (n : ℕ) (f : ℕ → Bool) → allBelow n f ≡ false → suc (firstBad n f) ≤ n
 bad-below n f h =
     ⊎-elim (λ l. omega arith) (λ l. clash (bad-holds n f (firstBad n f) refl l) h) (lt-or-le (firstBad n f) n)
 
