@@ -173,7 +173,7 @@ enum restart_state_word {
     RESTART_PLAN_MEMBERS = 56,
     /* total of moves; a move is a node in a shard that it did not carry in the kept view */
     RESTART_PLAN_MOVES = 57,
-    /* 16 words: each shard's members mask in the new view */
+    /* 16 words: each shard's members mask in the new view; which, restart_decide says */
     RESTART_PLAN_MASKS = 58,
     /* 16 words: for each shard the node whose log is taken */
     RESTART_PLAN_HOLDERS = 74,
@@ -409,6 +409,9 @@ uint32_t restart_drop(const uint8_t *settings, size_t settings_len, uint8_t *sta
 /*
  * Decides, while gathering: a plan, or a wait with its reason. A plan leads to ordered and stands
  * in the state. A wait changes nothing.
+ * Of the placements with the fewest moves the plan has the first: shards ascending, each shard's
+ * nodes listed ascending, the smaller list in dictionary order wins at the first shard that
+ * differs. So the same settings, kept view, termination and held reports give the same plan.
  * Answers class 2 (a plan) or class 3 (a wait), or one of the numbers 1 to 4.
  * Changes the state where there is a plan.
  */

@@ -1,6 +1,6 @@
 """Run the comparisons with fresh seeds until the time is over: fuzz.py SECONDS [mock].
 
-A round is one call of each program: messages, events, runs and mondays. The first that finds a difference has printed its input and how
+A round is one call of each program: messages, events, plans, runs and mondays. The first that finds a difference has printed its input and how
 to make it again, and ends all. With `mock` the reference stands in for the library, `restart` and `mondays`. The last line
 is `N passed, M failed`, counted by rounds of a program."""
 import os
@@ -33,10 +33,11 @@ def build(mock):
         if done.returncode != 0:
             sys.exit(done.stdout + "not built: " + " ".join(command))
     return [
-        ([os.path.join(release, "messages")], "9000"),
-        ([os.path.join(release, "events")], "200"),
-        ([os.path.join(release, "runs"), restart], "300"),
-        ([os.path.join(release, "mondays"), mondays], "200"),
+        ([os.path.join(release, "messages")], ["9000"]),
+        ([os.path.join(release, "events")], ["200"]),
+        ([os.path.join(release, "plans")], ["900", "100"]),
+        ([os.path.join(release, "runs"), restart], ["300"]),
+        ([os.path.join(release, "mondays"), mondays], ["200"]),
     ]
 
 
@@ -46,12 +47,12 @@ def main():
     end = time.time() + seconds
     passed = 0
     while time.time() < end:
-        for program, count in programs:
+        for program, counts in programs:
             seed = str(secrets.randbits(48))
-            done = subprocess.run([*program, seed, count], cwd=ROOT, stdout=subprocess.PIPE, stderr=subprocess.STDOUT, text=True, errors="replace")
+            done = subprocess.run([*program, seed, *counts], cwd=ROOT, stdout=subprocess.PIPE, stderr=subprocess.STDOUT, text=True, errors="replace")
             if done.returncode != 0:
                 print(done.stdout)
-                print("found by: %s %s %s" % (" ".join(program), seed, count))
+                print("found by: %s" % " ".join([*program, seed, *counts]))
                 print("%d passed, 1 failed" % passed)
                 sys.exit(1)
             passed += 1

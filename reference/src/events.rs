@@ -9,9 +9,9 @@ use crate::log::{self, Log, Position};
 use crate::mask;
 use crate::message::{self, Contents, Form, Triple, CUT, HOLDER, MEMBERS, TERMINATION};
 use crate::number::{self, refuse_if, Number, Refusal};
-use crate::placement::Placement;
+use crate::order::{self, Choice};
 use crate::quorum::{Reports, Wait};
-use crate::settings::{self, Settings, SUBGROUPS};
+use crate::settings::{self, Settings};
 use crate::soundness::{self, gathered, row_12, row_13};
 use crate::state::{self, Phase, Plan, State};
 
@@ -121,9 +121,19 @@ pub fn decide(
     state: &[u32],
     desk: &[u32],
 ) -> Result<(Decision, Vec<u32>), Number> {
+    decide_by(order::greedy, settings, state, desk)
+}
+
+/// Decide, where `choice` finds each subgroup's placement.
+pub fn decide_by(
+    choice: Choice,
+    settings: &[u32],
+    state: &[u32],
+    desk: &[u32],
+) -> Result<(Decision, Vec<u32>), Number> {
     let opened = open(settings, state, desk)?;
     refuse_if(opened.state.phase != Phase::Gathering, number::PHASE)?;
-    match plan(&opened) {
+    match plan(&opened, choice) {
         Err(wait) => Ok((Decision::Wait(wait), state.to_vec())),
         Ok(plan) => {
             let next = State {
@@ -137,8 +147,8 @@ pub fn decide(
 }
 
 /// The plan, or the first reason to wait. Of the placements of least moves the
-/// first in request One's order is taken.
-fn plan(opened: &Opened) -> Result<Plan, Wait> {
+/// first in request One's order is taken, if `choice` does so in a subgroup.
+fn plan(opened: &Opened, choice: Choice) -> Result<Plan, Wait> {
     let Opened {
         settings,
         state,
@@ -146,20 +156,12 @@ fn plan(opened: &Opened) -> Result<Plan, Wait> {
     } = opened;
     let gathered = gathered(settings, state, reports);
     let (view, holdings) = gathered.quorum()?;
-    let mut masks: Placement = vec![0; settings.shards as usize];
-    let mut total = 0;
-    for number in 0..SUBGROUPS {
-        let subgroup = gathered.subgroup(view, number);
-        let own = subgroup.first_least().ok_or(Wait::NoPlacement(number))?;
-        total += subgroup.moves(&own);
-        for (mask, own) in masks.iter_mut().zip(own) {
-            *mask |= own;
-        }
-    }
+    let layout = gathered.layout(view);
+    let masks = layout.each(choice).map_err(Wait::NoPlacement)?;
     Ok(Plan {
         number: view.number + 1,
         members: state.held,
-        total,
+        total: layout.moves(&masks),
         masks,
         holders: holdings.iter().map(|h| h.holder).collect(),
         targets: holdings.iter().map(|h| h.target).collect(),

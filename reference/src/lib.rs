@@ -13,6 +13,7 @@
 //! - `log`: logs, positions and cuts
 //! - `flow`: flow of least cost, for placements
 //! - `placement`: placing held nodes in shards
+//! - `order`: request One's order of placements, and which is the first
 //! - `state`, `desk`: what the planner keeps between events
 //! - `quorum`: candidates, targets, holders and waits
 //! - `soundness`: when a state is sound
@@ -32,6 +33,7 @@ pub mod mask;
 pub mod message;
 pub mod mondays;
 pub mod number;
+pub mod order;
 pub mod placement;
 pub mod program;
 pub mod quorum;

@@ -73,7 +73,7 @@ impl Subgroup<'_> {
         self.shards().into_iter().map(of_shard).sum()
     }
 
-    /// All valid placements in request One's order. For small cases only.
+    /// All valid placements. For small cases only.
     pub fn all(&self) -> Vec<Placement> {
         let mut found = Vec::new();
         self.extend(&self.shards(), self.empty(), self.held, &mut found);
@@ -99,7 +99,7 @@ impl Subgroup<'_> {
 
     /// The least moves of a valid placement, if there is one.
     pub fn least_moves(&self) -> Option<u32> {
-        self.least_moves_with(&[])
+        self.cheapest(&[]).map(|(_, moves)| moves)
     }
 
     /// Some valid placement of least moves.
@@ -107,7 +107,8 @@ impl Subgroup<'_> {
         self.cheapest(&[]).map(|(masks, _)| masks)
     }
 
-    /// The first placement of least moves in request One's order.
+    /// The first placement of least moves in request One's order, which
+    /// `order::exhaustive` defines.
     pub fn first_least(&self) -> Option<Placement> {
         self.first_within(self.least_moves()?)
     }
@@ -119,18 +120,22 @@ impl Subgroup<'_> {
 
     /// The first valid placement of at most `most` moves in request One's order.
     /// Pairs are decided by shard, then node: a pair is taken if what was taken
-    /// before can be completed together with it.
+    /// before can be completed together with it. The last placement that was
+    /// found has all that was taken; what it has besides need not be asked.
     pub fn first_within(&self, most: u32) -> Option<Placement> {
-        let reaches = |taken: &[Pair]| self.least_moves_with(taken).is_some_and(|m| m <= most);
-        if !reaches(&[]) {
-            return None;
-        }
+        let within = |taken: &[Pair]| self.cheapest(taken).filter(|&(_, moves)| moves <= most);
+        let (mut found, _) = within(&[])?;
         let mut taken: Vec<Pair> = Vec::new();
         for shard in self.shards() {
             for node in mask::nodes(self.held) {
                 taken.push(Pair { shard, node });
-                if !self.possible(&taken) || !reaches(&taken) {
-                    taken.pop();
+                if mask::has(found[shard as usize], node) {
+                    continue;
+                }
+                let completed = self.possible(&taken).then(|| within(&taken)).flatten();
+                match completed {
+                    Some((masks, _)) => found = masks,
+                    None => drop(taken.pop()),
                 }
             }
         }
@@ -162,14 +167,8 @@ impl Subgroup<'_> {
         })
     }
 
-    /// The least moves of a valid placement that has all the pairs of `taken`,
-    /// which are possible.
-    fn least_moves_with(&self, taken: &[Pair]) -> Option<u32> {
-        self.cheapest(taken).map(|(_, moves)| moves)
-    }
-
-    /// A valid placement with all the pairs of `taken` and, of those, the least
-    /// moves; with its moves.
+    /// A valid placement with all the pairs of `taken`, which are possible, and,
+    /// of those, the least moves; with its moves.
     ///
     /// The rest is a flow: from the source to each shard, as many as it still
     /// needs; from a shard to each failure set that it doesn't use yet, one;

@@ -38,7 +38,12 @@ pub struct Ended {
 
 /// What is printed for this standard input.
 pub fn run(input: &[u8]) -> String {
-    match decide(input) {
+    printed(&decide(input))
+}
+
+/// What is printed for this end of a run.
+pub fn printed(ended: &Result<Ended, Refusal>) -> String {
+    match ended {
         Err(refusal) => format!("{refusal}\n"),
         Ok(ended) => match (ended.decision, &ended.state.plan) {
             (Decision::Wait(wait), _) => wait_line(wait),

@@ -4,6 +4,7 @@
 use crate::log::{Log, Position};
 use crate::mask;
 use crate::message::Contents;
+use crate::order::Layout;
 use crate::placement::Subgroup;
 use crate::settings::Settings;
 use crate::state::View;
@@ -98,14 +99,18 @@ impl Gathered<'_> {
         best.map(|&(holder, _)| Holding { holder, target })
     }
 
-    /// The subgroup to be placed.
-    pub fn subgroup<'b>(&'b self, view: &'b View, number: u32) -> Subgroup<'b> {
-        Subgroup {
+    /// All subgroups to be placed.
+    pub fn layout<'b>(&'b self, view: &'b View) -> Layout<'b> {
+        Layout {
             settings: self.settings,
-            number,
             held: self.held,
             old: &view.masks,
         }
+    }
+
+    /// The subgroup to be placed.
+    pub fn subgroup<'b>(&'b self, view: &'b View, number: u32) -> Subgroup<'b> {
+        self.layout(view).subgroup(number)
     }
 
     /// The first of waits 1 to 4 that applies; else the kept view and each

@@ -7,9 +7,9 @@ use reference::desk::DESK_WORDS;
 use reference::events::{self, Decision};
 use reference::message::MOST_WORDS;
 use reference::number::{self, Refusal};
-use reference::settings::{self, Settings, SUBGROUPS};
-use reference::state::{self, State, STATE_WORDS};
-use reference::{placement::Subgroup, words};
+use reference::order::{self, Choice};
+use reference::state::{self, STATE_WORDS};
+use reference::words;
 
 pub const STATE_BYTES: usize = 4 * STATE_WORDS;
 pub const DESK_BYTES: usize = 4 * DESK_WORDS;
@@ -111,8 +111,14 @@ pub fn wait_word(reason: u32, value: Option<u32>) -> u32 {
 
 /// What the reference says of a call.
 pub fn expected(asked: &Asked) -> Outcome {
+    expected_by(order::greedy, asked)
+}
+
+/// What the reference says of a call, where `choice` finds each subgroup's
+/// placement.
+pub fn expected_by(choice: Choice, asked: &Asked) -> Outcome {
     let mut outcome = Outcome::unchanged(asked, 0);
-    if let Err(refusal) = put_expected(asked, &mut outcome) {
+    if let Err(refusal) = put_expected(choice, asked, &mut outcome) {
         outcome.answer = refusal.word();
     }
     outcome
@@ -124,7 +130,7 @@ fn whole(bytes: &[u8]) -> Vec<u32> {
     words::from_bytes(bytes).unwrap_or_default()
 }
 
-fn put_expected(asked: &Asked, outcome: &mut Outcome) -> Result<(), Refusal> {
+fn put_expected(choice: Choice, asked: &Asked, outcome: &mut Outcome) -> Result<(), Refusal> {
     if asked.kind == Kind::Fresh {
         number::refuse_if(asked.table.state.len() != STATE_BYTES, number::STATE)?;
         outcome.state = words::to_bytes(&state::encode(&state::fresh()));
@@ -152,7 +158,7 @@ fn put_expected(asked: &Asked, outcome: &mut Outcome) -> Result<(), Refusal> {
             return Ok(());
         }
         Kind::Decide | Kind::Fresh => {
-            let (decision, state) = events::decide(settings, state, desk)?;
+            let (decision, state) = events::decide_by(choice, settings, state, desk)?;
             outcome.answer = match decision {
                 Decision::Plan => PLAN,
                 Decision::Wait(wait) => wait_word(wait.reason(), wait.value()),
@@ -297,7 +303,17 @@ pub fn compare(
     asked: &Asked,
     places: [Place; 5],
 ) -> Result<Outcome, String> {
-    let expected = expected(asked);
+    compare_with(&expected(asked), planner, pages, asked, places)
+}
+
+/// Compares one call with what is expected of it.
+pub fn compare_with(
+    expected: &Outcome,
+    planner: &Planner,
+    pages: &mut Pages,
+    asked: &Asked,
+    places: [Place; 5],
+) -> Result<Outcome, String> {
     let outcome = call(planner, pages, asked, places)?;
     if outcome.answer != expected.answer {
         return Err(format!(
@@ -306,9 +322,7 @@ pub fn compare(
             expected.answer()
         ));
     }
-    let same_state = outcome.state == expected.state
-        || expected.answer == PLAN && equal_plan(asked, &expected, &outcome);
-    if !same_state {
+    if outcome.state != expected.state {
         return Err(differing("state", &outcome.state, &expected.state));
     }
     if outcome.desk != expected.desk {
@@ -327,38 +341,4 @@ fn differing(name: &str, left: &[u8], wanted: &[u8]) -> String {
     let value = |bytes: &[u8]| words::whole_words(bytes).get(word).copied().unwrap_or(0);
     let (is, wanted) = (value(left), value(wanted));
     format!("word {word} of the {name} is {is}, the reference says {wanted}")
-}
-
-/// Whether the plan is the reference's but for the choice among placements of
-/// equal moves: in each subgroup valid and of the least moves.
-fn equal_plan(asked: &Asked, expected: &Outcome, outcome: &Outcome) -> bool {
-    let Ok(settings) = settings::parse(&whole(&asked.table.settings)) else {
-        return false;
-    };
-    let (Some(wanted), Some(mut is)) = (
-        state::decode(&settings, &whole(&expected.state)),
-        state::decode(&settings, &whole(&outcome.state)),
-    ) else {
-        return false;
-    };
-    let as_good = as_good_placement(&settings, &wanted, &is);
-    if let (Some(plan), Some(wanted)) = (&mut is.plan, &wanted.plan) {
-        plan.masks.clone_from(&wanted.masks);
-    }
-    as_good && is == wanted
-}
-
-fn as_good_placement(settings: &Settings, wanted: &State, is: &State) -> bool {
-    let (Some(kept), Some(best), Some(plan)) = (&wanted.kept, &wanted.plan, &is.plan) else {
-        return false;
-    };
-    (0..SUBGROUPS).all(|number| {
-        let subgroup = Subgroup {
-            settings,
-            number,
-            held: wanted.held,
-            old: &kept.masks,
-        };
-        subgroup.valid(&plan.masks) && subgroup.moves(&plan.masks) == subgroup.moves(&best.masks)
-    })
 }

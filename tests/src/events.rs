@@ -2,8 +2,9 @@
 //! planner and the reference side by side.
 //!
 //! A sequence of calls depends on the seed and its index alone. It goes on from
-//! what the planner left. Some calls get a damaged copy of what is lent; if such
-//! a call is refused, the sequence goes on from the undamaged.
+//! what the planner left, which is what the reference says. Some calls get a
+//! damaged copy of what is lent; if such a call is refused, the sequence goes on
+//! from the undamaged.
 
 use crate::calls::{self, Asked, Kind, Outcome, Pages, Table, DESK_BYTES, STATE_BYTES};
 use crate::lent::Place;
@@ -190,7 +191,7 @@ impl Sequence {
 }
 
 /// Changes the words of bytes, if they are whole words.
-fn in_words(
+pub fn in_words(
     bytes: &mut Vec<u8>,
     change: impl FnOnce(&mut Vec<u32>) -> &'static str,
 ) -> &'static str {
@@ -203,7 +204,7 @@ fn in_words(
 }
 
 /// Makes a piece shorter or longer, by bytes or words.
-fn length(random: &mut Random, bytes: &mut Vec<u8>, name: &'static str) -> &'static str {
+pub fn length(random: &mut Random, bytes: &mut Vec<u8>, name: &'static str) -> &'static str {
     let whole = bytes.len();
     let less = |by: usize| whole.saturating_sub(by);
     let choices = [
@@ -225,7 +226,7 @@ fn length(random: &mut Random, bytes: &mut Vec<u8>, name: &'static str) -> &'sta
     name
 }
 
-fn place(random: &mut Random) -> Place {
+pub fn place(random: &mut Random) -> Place {
     match random.between(0, 2) {
         0 => Place::First,
         1 => Place::Last,

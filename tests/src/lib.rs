@@ -16,6 +16,7 @@
 //! - `unsound`: faults put into states and desks
 //! - `events`: the sequences of the `events` program
 //! - `situations`, `tally`: what the sequences came to, and how often
+//! - `plans`: the cases of the `plans` program, layouts that decide places
 //! - `regressions`, `recorder`: stored sequences of calls, read and written
 //! - `runs`: whole runs of the program `restart`
 //! - `moves`: moves files, the inputs of the program `mondays`
@@ -36,6 +37,7 @@ pub mod messages;
 pub mod mock;
 pub mod mondays;
 pub mod moves;
+pub mod plans;
 pub mod random;
 pub mod recorder;
 pub mod records;

@@ -4,10 +4,7 @@
 use crate::random::Random;
 use crate::world;
 use crate::{damage, generate};
-use reference::mask;
-use reference::program::{self, Ended};
-use reference::quorum::Gathered;
-use reference::settings::SUBGROUPS;
+use reference::program;
 use reference::words;
 use std::io::Write;
 use std::process::{Command, Stdio};
@@ -118,82 +115,26 @@ pub fn printed(path: &str, input: &[u8]) -> Result<String, String> {
 pub enum Ending {
     Number(u32),
     Wait(u32),
-    /// The plan is the one that request One puts first.
-    FirstPlan,
-    /// A plan of equal moves.
-    EqualPlan,
+    Plan,
 }
 
-/// Compares what was printed with the reference: every word of it, but for the
-/// choice among placements of equal moves.
+/// Compares what was printed with the reference: every word of it.
 pub fn compare(input: &[u8], printed: &str) -> Result<Ending, String> {
-    let expected = program::run(input);
     let ended = program::decide(input);
-    if printed == expected {
-        return Ok(match ended {
-            Err(refusal) => Ending::Number(refusal.number.0),
-            Ok(ended) if ended.state.plan.is_some() => Ending::FirstPlan,
-            Ok(_) => Ending::Wait(reason(&expected)),
-        });
+    let expected = program::printed(&ended);
+    if printed != expected {
+        return Err(format!("printed {printed:?}, the reference {expected:?}"));
     }
-    let differs = || format!("printed {printed:?}, the reference {expected:?}");
-    let ended = ended.map_err(|_| differs())?;
-    if ended.state.plan.is_some() && equal_plan(&ended, printed, &expected) {
-        return Ok(Ending::EqualPlan);
-    }
-    Err(differs())
+    Ok(match ended {
+        Err(refusal) => Ending::Number(refusal.number.0),
+        Ok(ended) if ended.state.plan.is_some() => Ending::Plan,
+        Ok(_) => Ending::Wait(reason(&expected)),
+    })
 }
 
 fn reason(wait_line: &str) -> u32 {
     let reason = wait_line.split_whitespace().nth(1);
     reason.and_then(|word| word.parse().ok()).unwrap_or(0)
-}
-
-/// Whether the plan is the reference's but for members that are as good.
-fn equal_plan(ended: &Ended, printed: &str, expected: &str) -> bool {
-    let Some(masks) = members(printed) else {
-        return false;
-    };
-    let (Some(kept), Some(plan)) = (&ended.state.kept, &ended.state.plan) else {
-        return false;
-    };
-    let gathered = Gathered {
-        settings: &ended.settings,
-        kept: Some(kept),
-        termination: ended.state.termination.as_ref(),
-        held: ended.state.held,
-        reports: &Vec::new(),
-    };
-    let as_good = |number: u32| {
-        let subgroup = gathered.subgroup(kept, number);
-        subgroup.valid(&masks) && subgroup.moves(&masks) == subgroup.moves(&plan.masks)
-    };
-    masks.len() == plan.masks.len()
-        && without_members(printed) == without_members(expected)
-        && (0..SUBGROUPS).all(as_good)
-}
-
-/// The text with each line's members left out.
-fn without_members(text: &str) -> Vec<&str> {
-    text.split('\n')
-        .map(|line| line.split(" members ").next().unwrap_or(line))
-        .collect()
-}
-
-/// The mask of each line's members, which must ascend.
-fn members(text: &str) -> Option<Vec<u32>> {
-    let mut masks = Vec::new();
-    for line in text.lines().skip(2) {
-        let (_, list) = line.split_once(" members ")?;
-        let nodes: Option<Vec<u32>> = list.split(' ').map(|word| word.parse().ok()).collect();
-        let nodes = nodes?;
-        let ascending = nodes.windows(2).all(|pair| pair[0] < pair[1]);
-        if !ascending || nodes.iter().any(|&node| node >= 32) {
-            return None;
-        }
-        masks.push(nodes.into_iter().map(mask::only).sum());
-    }
-    Some(masks)
 }
 
 #[cfg(test)]
@@ -249,10 +190,11 @@ mod tests {
     }
 
     #[test]
-    fn only_the_choice_among_equal_placements_is_free() {
-        assert_eq!(with_members(1, "0 3"), Ok(Ending::FirstPlan));
-        assert_eq!(with_members(1, "2 3"), Ok(Ending::EqualPlan));
-        assert!(with_members(1, "3 2").is_err());
+    fn nothing_in_a_plan_is_free() {
+        assert_eq!(with_members(1, "0 3"), Ok(Ending::Plan));
+        assert!(with_members(1, "1 3").is_err());
+        assert!(with_members(1, "2 3").is_err());
+        assert!(with_members(1, "3 0").is_err());
         assert!(with_members(2, "2 3").is_err());
         assert!(with_members(2, "1 2").is_err());
         assert!(with_members(1, "1 2").is_err());

@@ -47,6 +47,26 @@ pub fn world(random: &mut Random) -> World {
     }
 }
 
+/// A group with these views, by ascending number, none of which has a
+/// termination but one that keeps nothing, now and then.
+pub fn of_views(random: &mut Random, words: Vec<u32>, views: Vec<View>) -> World {
+    let settings = settings::parse(&words).expect("good settings");
+    let numbers: Vec<u32> = views.iter().map(|view| view.number).collect();
+    let logs = (0..settings.shards)
+        .map(|_| longest_log(random, &numbers))
+        .collect();
+    let mut era = |view: View| Era {
+        termination: random.chance(10).then(|| vec![(0, 0); view.masks.len()]),
+        view,
+    };
+    World {
+        eras: views.into_iter().map(&mut era).collect(),
+        words,
+        settings,
+        logs,
+    }
+}
+
 /// Settings that most sets of nodes can satisfy.
 fn roomy_settings(random: &mut Random) -> Vec<u32> {
     let nodes = random.pick(&[3, 4, 5, 6, 7, 8, 12, 20, 32, 32]);
@@ -188,6 +208,24 @@ impl World {
         } else {
             random.pick(&has)
         };
+        Some(self.report_in(random, node, era))
+    }
+
+    /// A valid report of a node and the view with this number.
+    pub fn report_of(&self, random: &mut Random, node: u32, number: u32) -> Option<Contents> {
+        let mut eras = self.eras.iter();
+        let era = eras.find(|era| era.view.number == number)?;
+        let member = mask::has(era.view.members, node);
+        member.then(|| self.report_in(random, node, era))
+    }
+
+    /// The termination of the last view.
+    pub fn last_termination(&self) -> Option<&Vec<(u32, u32)>> {
+        self.eras.last()?.termination.as_ref()
+    }
+
+    /// A valid report of a member of a view.
+    fn report_in(&self, random: &mut Random, node: u32, era: &Era) -> Contents {
         let number = era.view.number;
         let mut records = Vec::new();
         for (shard, &own) in (0..).zip(&era.view.masks) {
@@ -214,12 +252,12 @@ impl World {
             }
         }
         records.truncate(reference::message::MOST_RECORDS - 1);
-        Some(Contents {
+        Contents {
             node,
             view: number,
             members: era.view.members,
             records,
-        })
+        }
     }
 
     /// A message that reports a node, now and then with a fault.

@@ -125,7 +125,7 @@ fn plan(settings: &Settings, gathered: &Gathered) -> Result<Plan, u32> {
     let mut total = 0;
     for number in 0..SUBGROUPS {
         let subgroup = gathered.subgroup(view, number);
-        let own = subgroup.any_least().ok_or(wait_word(5, Some(number)))?;
+        let own = subgroup.first_least().ok_or(wait_word(5, Some(number)))?;
         total += subgroup.moves(&own);
         masks
             .iter_mut()
@@ -887,36 +887,6 @@ wrong!(
         outcome
     }
 );
-
-/// Any choice among placements of equal moves is taken.
-struct OtherChoice;
-
-impl Behaviour for OtherChoice {
-    fn event(asked: &Asked) -> Outcome {
-        let expected = calls::expected(asked);
-        match open(asked) {
-            Some(opened) if expected.answer == PLAN => opened.decide(asked),
-            _ => expected,
-        }
-    }
-}
-
-#[test]
-fn another_choice_among_equals_is_taken() {
-    let planner = mock::planner::<OtherChoice>();
-    let mut pages = Pages::new(true);
-    let mut others = 0;
-    for index in 0..200 {
-        let sequence = events::sequence(SEED, index);
-        let seen = |step: &events::Step, outcome: &Outcome| {
-            let plan = outcome.answer == PLAN;
-            others += u32::from(plan && *outcome != calls::expected(&step.asked));
-        };
-        let played = events::play(&planner, &mut pages, sequence, seen);
-        assert!(played.is_ok(), "sequence {index}");
-    }
-    assert!(others > 10, "{others} other choices");
-}
 
 wrong!(
     /// Checks a state while gathering only.

@@ -1,6 +1,6 @@
-"""Two answers compared, in words."""
+"""Two answers compared, in words, and what of their inputs differs: the same settings and reports give the same plan."""
 from .answers import Plan, Wait, printed
-from .sentences import counted, machine, machines, pair
+from .sentences import counted, listed, machine, machines, pair
 from .telling import reason
 
 
@@ -40,3 +40,58 @@ def shard_lines(shard, one, other, settings):
     if other.target != one.target:
         parts.append("the target is %s, was %s" % (pair(other.target), pair(one.target)))
     return ["Shard %d: %s." % (shard, "; ".join(parts))] if parts else []
+
+
+def cause_lines(one, other, gathered, settings):
+    """What the two answers come from, as far as that can be known; `gathered` is what each input adds up to, or None where there is
+    only the answer."""
+    if None not in gathered:
+        return ["The inputs differ: %s." % part for part in input_parts(*gathered, settings)] or [
+            "The inputs say the same, and the same inputs give the same answer: keep both files and call the developers."]
+    if not isinstance(one, Plan) or not isinstance(other, Plan):
+        return []
+    return ["The same settings and reports give the same plan, so these were made from different ones: %s." % known(one, other)]
+
+
+def known(one, other):
+    """What two plans alone show of what they were made from."""
+    if len(one.shards) != len(other.shards):
+        return "other settings"
+    if one.view != other.view:
+        return "the kept view was %d, then %d" % (one.view - 1, other.view - 1)
+    pairs = list(zip(one.shards, other.shards))
+    logs = [shard for shard, (was, now) in enumerate(pairs) if (was.holder, was.target) != (now.holder, now.target)]
+    if logs:
+        return "other reports of shard%s %s, or another termination" % ("s" * (len(logs) > 1), listed(logs))
+    return "other machines were held, or the settings or the kept view's members were others; the inputs would show it"
+
+
+def input_parts(one, other, settings):
+    """Where the second input differs from the first, one thing after another."""
+    if one.refused or other.refused:
+        told = ["%s is refused with number %d" % (name, gathered.refused.number)
+                for name, gathered in (("the first", one), ("the second", other)) if gathered.refused]
+        return [listed(told)]
+    if one.settings != other.settings:
+        return ["other settings"]
+    parts = ["only the %s has a report of %s" % (name, machines(settings, more))
+             for name, more in (("first", one.held - other.held), ("second", other.held - one.held)) if more]
+    found = {}
+    for node in sorted(one.held & other.held):
+        for what in report_parts(one.reports[node], other.reports[node]):
+            found.setdefault(what, []).append(node)
+    parts += ["%s on %s" % (what, machines(settings, nodes)) for what, nodes in found.items()]
+    if not parts and (one.kept, one.termination) != (other.kept, other.termination):
+        parts.append("an earlier report, which was replaced, had another view or termination")
+    return parts
+
+
+def report_parts(one, other):
+    """How a machine's report differs from its other one."""
+    if one.view.number != other.view.number:
+        return ["view %d, was %d," % (other.view.number, one.view.number)]
+    if one.view != other.view:
+        return ["other members of view %d" % one.view.number]
+    parts = ["another termination"] if one.termination != other.termination else []
+    logs = [shard for shard, both in enumerate(zip(one.runs, other.runs)) if both[0] != both[1]]
+    return parts + (["another log of shard%s %s" % ("s" * (len(logs) > 1), listed(logs))] if logs else [])

@@ -4,6 +4,7 @@ from dataclasses import dataclass, field
 from .advising import Advice, advise
 from .answers import Number, Plan, Wait, printed
 from .gathering import Gathered, gather, waits
+from .ordering import First, first_placement
 from .planning import faults, plan_lines
 from .refusing import ADVICE, block_name, refusal_lines
 from .sentences import machines
@@ -16,6 +17,7 @@ class Explanation:
     answer: object
     gathered: Gathered
     fault: int | None = None  # the block that is refused
+    first: First | None = None  # of a plan: which placement it must have
     differing: list = field(default_factory=list)  # where this tool's own counting comes to something else than the answer
     advice: Advice = field(default_factory=Advice)
     lines: list = field(default_factory=list)
@@ -30,7 +32,10 @@ def explain(given, answer, fault=None, program=None, gone=frozenset()):
     """`fault` is the block that the program refuses, where the program was asked; else it is found by reading. Where there is a
     program, it is asked about other inputs as well, for advice."""
     gathered = gather(given.blocks, given.names)
-    told = Explanation(answer, gathered, fault, differences(gathered, given, answer, fault))
+    told = Explanation(answer, gathered, fault)
+    if isinstance(answer, Plan) and not gathered.refused and not waits(gathered):
+        told.first = first_placement(gathered)
+    told.differing = differences(told, given)
     if isinstance(answer, Number) and fault is None and gathered.refused:
         told.fault = gathered.fault
     if told.agrees:
@@ -43,7 +48,7 @@ def explain(given, answer, fault=None, program=None, gone=frozenset()):
     elif told.agrees and isinstance(answer, Wait):
         told.lines = parts(wait_advice(gathered, answer, told.advice, program), summary(gathered), waiting(gathered, answer))
     elif told.agrees:
-        told.lines = parts(plan_advice(gathered, answer, told.advice), summary(gathered), plan_lines(gathered, answer))
+        told.lines = parts(plan_advice(gathered, answer, told.advice), summary(gathered), plan_lines(gathered, answer, told.first))
     told.lines += warning(told.differing)
     told.asked = program.asked if program else 0
     return told
@@ -93,16 +98,16 @@ def waiting(gathered, answer):
     return lines
 
 
-def differences(gathered, given, answer, fault=None):
+def differences(told, given):
     """Where this tool's own counting comes to something else than the answer."""
-    refused = gathered.refused
+    gathered, refused, answer = told.gathered, told.gathered.refused, told.answer
     if refused:
-        same = answer == Number(refused.number) and fault in (None, gathered.fault)
+        same = answer == Number(refused.number) and told.fault in (None, gathered.fault)
         return [] if same else ["number %d for %s: %s" % (refused.number, block_name(gathered.fault, given), refused.why)]
     failing = waits(gathered)
     if failing:
         return [] if answer == Wait(*failing[0]) else [printed(Wait(*failing[0]))]
-    return faults(gathered, answer) if isinstance(answer, Plan) else ["a plan"]
+    return faults(gathered, answer, told.first) if isinstance(answer, Plan) else ["a plan"]
 
 
 def supposed_differences(settings, found):

@@ -15,7 +15,7 @@ def json_of(given, told):
     if not gathered.refused:
         value["reports"] = reports_value(gathered)
     if told.agrees and isinstance(answer, Plan):
-        value["plan"] = plan_value(gathered, answer, told.advice)
+        value["plan"] = plan_value(gathered, answer, told)
     elif told.agrees and isinstance(answer, Wait):
         value["wait"] = wait_value(gathered, told.advice)
     elif told.agrees:
@@ -54,7 +54,7 @@ def position(at):
     return {"view": at[0], "update": at[1]}
 
 
-def plan_value(gathered, plan, advice):
+def plan_value(gathered, plan, told):
     shards = []
     for number, placed in enumerate(plan.shards):
         logs = [log_of(gathered, node, number, placed) for node in sorted(placed.members)]
@@ -62,7 +62,8 @@ def plan_value(gathered, plan, advice):
                        "members": sorted(placed.members), "logs": [log_value(log) for log in logs]})
     return {"view": plan.view, "after": gathered.kept.number, "members": sorted(gathered.held), "shards": shards,
             "moves": [{"node": node, "from": before, "to": shard} for node, before, shard in moves(gathered, plan)],
-            "with_one_more": [{"node": node, "moves": count} for node, count in sorted(advice.savings.items())]}
+            "as_few_moves": told.first.others,
+            "with_one_more": [{"node": node, "moves": count} for node, count in sorted(told.advice.savings.items())]}
 
 
 def log_value(log):

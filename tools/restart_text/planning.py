@@ -4,16 +4,17 @@ from dataclasses import dataclass
 from .gathering import cut, holding
 from .model import START
 from .printing import numbers
-from .sentences import counted, machine, machines, pair, table
+from .sentences import counted, listed, machine, machines, pair, table
 
 
-def plan_lines(gathered, plan):
+def plan_lines(gathered, plan, first):
     settings = gathered.settings
     idle = gathered.held - frozenset().union(*(shard.members for shard in plan.shards))
     lines = ["Members: %s." % machines(settings, gathered.held)]
     if idle:
         lines.append("Without a shard: %s." % machines(settings, idle))
-    return lines + [""] + table(shard_rows(gathered, plan)) + [""] + move_lines(gathered, plan) + [""] + cut_lines(gathered, plan)
+    lines += [""] + table(shard_rows(gathered, plan)) + [""] + order_lines(first) + [""] + move_lines(gathered, plan)
+    return lines + [""] + cut_lines(gathered, plan)
 
 
 def shard_rows(gathered, plan):
@@ -25,6 +26,17 @@ def shard_rows(gathered, plan):
         rows.append([str(number), str(shard.subgroup), str(shard.needs), gathered.settings.name(placed.holder), pair(placed.target)]
                     + [gathered.settings.those(nodes) if nodes else "-" for nodes in lists])
     return rows
+
+
+def order_lines(first):
+    """Why it is this placement and no other."""
+    with_moves = "with %s" % counted(first.moves, "move")
+    if not first.others:
+        return ["No other placement has as few moves."]
+    several = len(first.others) > 1
+    return ["Other placements %s as well have other members in shard%s %s. This is the first of them: shards ascending, the members"
+            " of each listed ascending, the lower machine where two lists differ. The same reports give any leader this one."
+            % (with_moves, "s" * several, listed(first.others))]
 
 
 def moves(gathered, plan):
@@ -102,8 +114,8 @@ def updates_after(runs, start, target):
     return sum(below(view, count, target) - below(view, count, min(start, target)) for view, count in runs)
 
 
-def faults(gathered, plan):
-    """What this plan has otherwise than this tool's own counting. Least moves are not counted again."""
+def faults(gathered, plan, first):
+    """What this plan has otherwise than this tool's own counting."""
     settings, found = gathered.settings, []
     if plan.view != gathered.kept.number + 1:
         found.append("the new view is %d, not %d" % (plan.view, gathered.kept.number + 1))
@@ -120,4 +132,15 @@ def faults(gathered, plan):
                 found.append("shards %d and %d share a machine" % (other, shard))
     if not found and plan.moves != len(moves(gathered, plan)):
         found.append("the moves add up to %d" % len(moves(gathered, plan)))
-    return found
+    return found or placement_faults(gathered, plan, first)
+
+
+def placement_faults(gathered, plan, first):
+    """Where the placement is not the first of the fewest moves."""
+    if first.moves < plan.moves:
+        return ["%s are enough" % counted(first.moves, "move") if first.moves != 1 else "1 move is enough"]
+    for shard, placed in enumerate(plan.shards):
+        if placed.members != first.members[shard]:
+            return ["shard %d with machines %s: of the placements with %s that is the first"
+                    % (shard, gathered.settings.those(first.members[shard]), counted(first.moves, "move"))]
+    return []

@@ -87,6 +87,9 @@ class JoinAndSplit(Folder):
         self.assertEqual((status, words.split(data)[1]), (0, [2, 0, 127, 0]))
 
 
+MADE_FROM = "The same settings and reports give the same plan, so these were made from different ones: "
+
+
 class Diff(Folder):
     def test_two_plans(self):
         one = self.put("one", support.ANSWER_A.encode())
@@ -100,22 +103,72 @@ class Diff(Folder):
             "1 move, was 2.",
             "Shard 1: machine 6 comes in; machine 5 leaves; the log is taken from machine 4, was from machine 1;"
             " the target is (7, 4), was (7, 5).",
+            MADE_FROM + "the kept view was 7, then 8.",
         ])
         short = self.put("short", "\n".join(support.ANSWER_A.splitlines()[:-1]).encode())
-        self.assertEqual(command("diff", one, short), (1, b"2 shards, was 3.\n", ""))
+        self.assertEqual(command("diff", one, short), (1, ("2 shards, was 3.\n%sother settings.\n" % MADE_FROM).encode(), ""))
+
+    def test_what_plans_alone_show(self):
+        one = self.put("one", support.ANSWER_A.encode())
+        for piece, instead, known in (
+            ("holder 0", "holder 2", "other reports of shard 0, or another termination."),
+            ("target 0 0", "target 7 1", "other reports of shards 0 and 2, or another termination."),
+            ("members 3", "members 2", "other machines were held, or the settings or the kept view's members were others; the inputs"
+             " would show it."),
+        ):
+            other = self.put("other", support.ANSWER_A.replace(piece, instead).encode())
+            status, printed, _ = command("diff", one, other)
+            self.assertEqual((status, printed.decode().splitlines()[-1]), (1, MADE_FROM + known))
+        wait = self.put("wait", b"wait 2\n")
+        self.assertEqual(len(command("diff", one, wait)[1].splitlines()), 2)
+
+    def test_which_inputs_differ(self):
+        """Two leaders: one has not heard machine 5, has an older log of machine 1, or the like."""
+        case = support.example("a")
+        part = {section.split(" view")[0]: section for section in case.split("\n\n")}
+        lost = part["report node 1"].replace("count 5", "count 3")
+        ended = part["report node 3"] + "".join("\ntermination shard %d view 0 update 0" % shard for shard in range(3))
+        more = part["report node 5"].replace("node 5", "node 6")
+        for other, parts in (
+            (case.replace(part["report node 1"], lost), ["another log of shard 1 on machine 1"]),
+            (case.replace("least group size 4", "least group size 7"), ["other settings"]),
+            (case.replace(part["report node 2"] + "\n\n", "").rstrip("\n") + "\n\n" + more,
+             ["only the first has a report of machine 2", "only the second has a report of machine 6"]),
+            (case.replace("view 7", "view 6"), ["view 6, was 7, on machines 0, 1, 2, 3, 4 and 5"]),
+            (case.replace(part["report node 3"], ended), ["another termination on machine 3"]),
+            (case.replace("shard 0 members 0 2", "shard 0 members 0 3"), ["other members of view 7 on machines 0, 1, 2, 3, 4 and 5"]),
+            (support.with_block(6, [5, 0, 127, 0]).data, ["the second is refused with number 7"]),
+        ):
+            path = self.put("other", other if isinstance(other, bytes) else other.encode())
+            status, printed, told = command("diff", CASE, path, "--program", support.program())
+            self.assertEqual((status, told), (1, ""), other)
+            causes = [line for line in printed.decode().splitlines() if line.startswith("The inputs")]
+            self.assertEqual(causes, ["The inputs differ: %s." % one for one in parts])
+
+    def test_a_report_that_was_replaced(self):
+        """The kept view stays that of a report which the same machine has replaced since."""
+        case = support.example("a")
+        report = next(section for section in case.split("\n\n") if section.startswith("report node 0 "))
+        before = report.replace("view 7", "view 8")
+        path = self.put("other.txt", case.replace(report, before + "\n\n" + report).encode())
+        status, printed, _ = command("diff", CASE, path, "--program", support.program())
+        self.assertEqual(status, 1)
+        self.assertIn("The inputs differ: an earlier report, which was replaced, had another view or termination.", printed.decode())
 
     def test_inputs_and_answers(self):
         one = self.put("one", support.ANSWER_A.encode())
         self.assertEqual(command("diff", one, CASE, "--program", support.program()), (0, b"The answers are the same.\n", ""))
         status, printed, _ = command("diff", CASE, "examples/night.txt", "--program", support.program())
         self.assertEqual((status, printed.decode()),
-                         (1, "First: a plan, new view 8, 2 moves.\nSecond: wait 2, no majority of the kept view.\n"))
+                         (1, "First: a plan, new view 8, 2 moves.\nSecond: wait 2, no majority of the kept view.\n"
+                             "The inputs differ: other settings.\n"))
 
     def test_names(self):
         names = self.put("names.txt", support.example("a").replace("node 6 set 2", "node 6 set 2 name six").encode())
         one = self.put("one", support.ANSWER_A.encode())
         other = self.put("other", support.ANSWER_A.replace("members 1 4 5", "members 1 4 6").encode())
-        self.assertEqual(command("diff", one, other, "--names", names)[1], b"Shard 1: machine six comes in; machine 5 leaves.\n")
+        printed = command("diff", one, other, "--names", names)[1].decode()
+        self.assertEqual(printed.splitlines()[0], "Shard 1: machine six comes in; machine 5 leaves.")
 
     def test_no_answer(self):
         self.assertEqual(command("diff", self.put("one", b"view 8\n"), CASE)[0], 3)

@@ -1,12 +1,14 @@
 //! Compares the proved placement of a subgroup with the reference:
 //! `placements [SEED [SMALL [LARGE]]]`.
 //!
-//! Small cases (up to 9 nodes) against the exhaustive search, large ones (up
-//! to 32 nodes, 16 shards) against the flow of least cost. Feasibility, least
-//! moves and the first placement in request One's order must agree.
+//! Small cases (up to 9 nodes) against the search through all placements, large
+//! ones (up to 32 nodes, 16 shards) against the greedy method over the flow of
+//! least cost. Feasibility, least moves and the first placement in request
+//! One's order must agree.
 
 use differential::random::Random;
 use reference::mask;
+use reference::order::{self, Choice};
 use reference::placement::{Placement, Subgroup};
 use reference::settings::Settings;
 use std::process::ExitCode;
@@ -67,7 +69,7 @@ fn main() -> ExitCode {
     for index in 0..small + large {
         let mut random = Random::of_input(seed, index);
         let case = if index < small { small_case(&mut random) } else { large_case(&mut random) };
-        let expected = if index < small { exhaustive(&case) } else { by_flow(&case) };
+        let expected = chosen(&case, if index < small { order::exhaustive } else { order::greedy });
         let found = library(&case);
         if found != expected {
             println!("placements: seed {seed}, case {index}: library {found:x?}, reference {expected:x?}");
@@ -104,18 +106,10 @@ fn clock() -> u64 {
     SystemTime::now().duration_since(UNIX_EPOCH).map_or(1, |t| t.as_nanos() as u64)
 }
 
-/// The least moves, and the first placement that has them, of all.
-fn exhaustive(case: &Case) -> Option<(u32, Placement)> {
+/// The least moves, and the first placement that has them.
+fn chosen(case: &Case, choice: Choice) -> Option<(u32, Placement)> {
     let subgroup = case.subgroup();
-    let all = subgroup.all();
-    let least = all.iter().map(|p| subgroup.moves(p)).min()?;
-    all.into_iter().find(|p| subgroup.moves(p) == least).map(|p| (least, p))
-}
-
-fn by_flow(case: &Case) -> Option<(u32, Placement)> {
-    let subgroup = case.subgroup();
-    let least = subgroup.least_moves()?;
-    subgroup.first_least().map(|p| (least, p))
+    choice(&subgroup).map(|masks| (subgroup.moves(&masks), masks))
 }
 
 fn least(sets: &[u8], needs: &[u8], prices: &[u8], owners: &mut [u8]) -> u32 {

@@ -73,15 +73,7 @@ fn compare(program: &str, input: &[u8], endings: &mut Endings) -> Result<(), Str
 fn missing(endings: &Endings) -> Vec<String> {
     let numbers = [2, 5, 6, 7, 8, 9, 10, 11, 12, 13, 16, 17].map(Ending::Number);
     let waits = [1, 2, 3, 4, 5].map(Ending::Wait);
-    let mut missing = Vec::new();
-    for ending in numbers.into_iter().chain(waits) {
-        if !endings.contains_key(&ending) {
-            missing.push(format!("{ending:?}"));
-        }
-    }
-    let plans = [Ending::FirstPlan, Ending::EqualPlan];
-    if !plans.iter().any(|plan| endings.contains_key(plan)) {
-        missing.push("a plan".into());
-    }
-    missing
+    let wanted = numbers.into_iter().chain(waits).chain([Ending::Plan]);
+    let missing = wanted.filter(|ending| !endings.contains_key(ending));
+    missing.map(|ending| format!("{ending:?}")).collect()
 }

@@ -1,0 +1,195 @@
+use super::*;
+use crate::settings;
+
+/// A small xorshift generator.
+struct Random(u64);
+
+impl Random {
+    fn below(&mut self, limit: u32) -> u32 {
+        self.0 ^= self.0 << 13;
+        self.0 ^= self.0 >> 7;
+        self.0 ^= self.0 << 17;
+        ((self.0 >> 33) % u64::from(limit)) as u32
+    }
+}
+
+/// Lists, not numbers: 0 3 comes before 1 2, though its mask is greater. The
+/// first shard that differs decides, and the beginning of a list is smaller.
+#[test]
+fn which_comes_first() {
+    assert_eq!(compare(&[0b1001], &[0b0110]), Ordering::Less);
+    assert_eq!(compare(&[0b0110], &[0b1001]), Ordering::Greater);
+    assert_eq!(compare(&[0b11, 0b100], &[0b11, 0b1000]), Ordering::Less);
+    assert_eq!(compare(&[0b100, 0b01], &[0b010, 0b10]), Ordering::Greater);
+    assert_eq!(compare(&[0b01], &[0b11]), Ordering::Less);
+    assert_eq!(compare(&[7, 8], &[7, 8]), Ordering::Equal);
+    assert_eq!(first_of(vec![vec![6], vec![9], vec![10]]), Some(vec![9]));
+    assert_eq!(first_of(Vec::new()), None);
+}
+
+/// Shards 0 and 2 of subgroup 1 around shard 1 of subgroup 0; nothing stays.
+#[test]
+fn an_interleaved_layout() {
+    let settings = settings::parse(&[4, 2, 1, 3, 0, 1, 0, 1, 258, 1, 257]).unwrap();
+    let layout = Layout {
+        settings: &settings,
+        held: 0b1111,
+        old: &[0, 0, 0],
+    };
+    let first = vec![0b0011, 0b0001, 0b0100];
+    assert!(layout.valid(&first));
+    assert_eq!(layout.moves(&first), 4);
+    assert_eq!(layout.first_least(), Some(first.clone()));
+    assert_eq!(layout.each(exhaustive), Ok(first));
+}
+
+/// Settings of up to `most` nodes with up to four subgroups whose shards lie
+/// between one another, and old masks that are disjoint in each subgroup.
+fn case(random: &mut Random, most: u32) -> (Settings, u32, Vec<u32>) {
+    let nodes = 1 + random.below(most);
+    let sets = 1 + random.below(nodes.min(5));
+    let shards = 1 + random.below(5);
+    let subgroups = 1 + random.below(SUBGROUPS);
+    let mut words = vec![nodes, sets, 1, shards];
+    words.extend((0..nodes).map(|_| random.below(sets)));
+    words
+        .extend((0..shards).map(|_| random.below(subgroups) * 256 + 1 + random.below(sets.min(3))));
+    let settings = settings::parse(&words).unwrap();
+    let mut old = vec![0; shards as usize];
+    for number in 0..SUBGROUPS {
+        let own = settings.shards_of(number);
+        for node in 0..nodes {
+            if !own.is_empty() && random.below(3) > 0 {
+                let shard = own[random.below(own.len() as u32) as usize];
+                old[shard as usize] |= mask::only(node);
+            }
+        }
+    }
+    let held = random.below(1 << nodes) | random.below(1 << nodes);
+    (settings, held, old)
+}
+
+/// The greedy method over the flow finds what the definition says, with up to
+/// nine nodes.
+#[test]
+fn the_greedy_method_finds_the_first() {
+    let mut random = Random(0x0DDB_1A5E_5BAD_5EED);
+    let (mut found, mut equal) = (0, 0);
+    for _ in 0..4000 {
+        let (settings, held, old) = case(&mut random, 9);
+        let layout = Layout {
+            settings: &settings,
+            held,
+            old: &old,
+        };
+        for subgroup in layout.subgroups() {
+            let least = all_least(&subgroup);
+            let first = first_of(least.clone());
+            assert_eq!(exhaustive(&subgroup), first);
+            assert_eq!(greedy(&subgroup), first);
+            // The least masks as numbers are the same ones.
+            assert_eq!(first, least.iter().min().cloned());
+            let Some(first) = first else { continue };
+            assert!(subgroup.valid(&first));
+            assert!(least
+                .iter()
+                .all(|other| compare(&first, other) != Ordering::Greater));
+            if !settings.shards_of(subgroup.number).is_empty() {
+                found += 1;
+                equal += u32::from(least.len() > 1);
+            }
+        }
+    }
+    println!("{found} placed, {equal} with another of equal moves");
+    assert!(found > 3000 && equal > 1500);
+}
+
+/// First in every subgroup is first over all shards, and least in every
+/// subgroup is least in all.
+#[test]
+fn the_whole_plan_is_first_in_each_subgroup() {
+    let mut random = Random(31_415_926_535);
+    let (mut found, mut several, mut equal) = (0, 0, 0);
+    for _ in 0..6000 {
+        let (settings, held, old) = case(&mut random, 6);
+        let layout = Layout {
+            settings: &settings,
+            held,
+            old: &old,
+        };
+        let each: usize = layout.subgroups().map(|one| one.all().len()).product();
+        if each > 3000 {
+            continue;
+        }
+        let all = layout.all();
+        assert_eq!(all.len(), each);
+        assert!(all.iter().all(|masks| layout.valid(masks)));
+        let first = layout.first_least();
+        assert_eq!(layout.each(exhaustive).ok(), first);
+        assert_eq!(layout.each(greedy).ok(), first);
+        let Some(first) = first else { continue };
+        let least = all.iter().map(|masks| layout.moves(masks)).min();
+        assert_eq!(Some(layout.moves(&first)), least);
+        let each_least = layout
+            .subgroups()
+            .map(|one| one.least_moves().unwrap())
+            .sum();
+        assert_eq!(least, Some(each_least));
+        found += 1;
+        several += u32::from(
+            settings
+                .subgroup_of
+                .iter()
+                .any(|&g| g != settings.subgroup_of[0]),
+        );
+        let as_good = all
+            .iter()
+            .filter(|masks| Some(layout.moves(masks)) == least);
+        equal += u32::from(as_good.count() > 1);
+    }
+    println!("{found} placed, {several} of several subgroups, {equal} with another of equal moves");
+    assert!(found > 1500 && several > 800 && equal > 700);
+}
+
+/// The lowest subgroup without a placement is named.
+#[test]
+fn a_subgroup_without_a_placement() {
+    let settings = settings::parse(&[2, 2, 1, 3, 0, 0, 1, 514, 258]).unwrap();
+    let layout = Layout {
+        settings: &settings,
+        held: 0b11,
+        old: &[1, 1, 1],
+    };
+    assert_eq!(layout.each(exhaustive), Err(1));
+    assert_eq!(layout.each(greedy), Err(1));
+    assert_eq!(layout.first_least(), None);
+}
+
+/// All placements of a layout are all masks that are valid.
+#[test]
+fn all_placements_are_all_valid_masks() {
+    let mut random = Random(271_828);
+    for _ in 0..300 {
+        let (settings, held, old) = case(&mut random, 3);
+        if settings.shards > 3 {
+            continue;
+        }
+        let layout = Layout {
+            settings: &settings,
+            held,
+            old: &old,
+        };
+        let mut every: Vec<Placement> = vec![Vec::new()];
+        for _ in 0..settings.shards {
+            let longer = |masks: &Placement| -> Vec<Placement> {
+                let with = |own| [&masks[..], &[own]].concat();
+                (0..1 << settings.nodes).map(with).collect()
+            };
+            every = every.iter().flat_map(longer).collect();
+        }
+        every.retain(|masks| layout.valid(masks));
+        let mut all = layout.all();
+        all.sort_unstable();
+        assert_eq!(all, every);
+    }
+}

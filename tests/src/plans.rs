@@ -1,0 +1,460 @@
+//! The cases of the `plans` program: decisions whose plan must be the first of
+//! least moves, mask for mask. Small ones are compared with the search through
+//! all placements, large ones with the greedy method over the flow.
+//!
+//! A case depends on the seed, its size and its index alone.
+
+use crate::calls::{self, Asked, Kind, Outcome, Pages, Table, DESK_BYTES};
+use crate::events::{in_words, length, place};
+use crate::lent::Place;
+use crate::library::{Answer, Planner, PLAN};
+use crate::random::Random;
+use crate::world::{self, World};
+use crate::{damage, generate, unsound};
+use reference::desk::SLOT_WORDS;
+use reference::log::Position;
+use reference::order::{self, Choice, Layout};
+use reference::settings::{self, Settings, SUBGROUPS};
+use reference::state::{self, State, View};
+use reference::{mask, words};
+use std::collections::BTreeMap;
+
+/// A small case has at most so many placements of a subgroup, by a bound that
+/// leaves failure sets out.
+const MOST_PLACEMENTS: u64 = 3000;
+/// Up to so many placements over all shards are gone through at once.
+const MOST_WHOLE: usize = 1500;
+
+#[derive(Clone, Copy, Debug, PartialEq, Eq, PartialOrd, Ord)]
+pub enum Size {
+    /// Up to 9 nodes.
+    Small,
+    /// Up to 32 nodes and 16 shards.
+    Large,
+}
+
+impl Size {
+    pub fn name(self) -> &'static str {
+        match self {
+            Size::Small => "small",
+            Size::Large => "large",
+        }
+    }
+
+    fn most_nodes(self) -> u32 {
+        match self {
+            Size::Small => 9,
+            Size::Large => 32,
+        }
+    }
+
+    /// How the reference finds a placement of this size.
+    pub fn choice(self) -> Choice {
+        match self {
+            Size::Small => order::exhaustive,
+            Size::Large => order::greedy,
+        }
+    }
+}
+
+/// A decision to be asked for.
+pub struct Case {
+    pub size: Size,
+    pub asked: Asked,
+    places: [Place; 5],
+    /// The name of the fault in what is lent, if there is one.
+    pub fault: Option<&'static str>,
+}
+
+/// Case `index` of this size under a seed.
+pub fn case(seed: u64, size: Size, index: u64) -> Case {
+    let seed = match size {
+        Size::Small => seed,
+        Size::Large => !seed,
+    };
+    let random = &mut Random::of_input(seed, index);
+    let words = match size {
+        Size::Small => small_settings(random),
+        Size::Large => large_settings(random),
+    };
+    let settings = settings::parse(&words).expect("generated settings are good");
+    let view = view(random, &settings);
+    let world = world(random, words, &view);
+    let (held, stale) = held(random, &settings, &view);
+    let mut asked = Asked {
+        kind: Kind::Decide,
+        table: table(random, &world, &view, held, stale),
+        message: Vec::new(),
+        node: 0,
+        buffer: Vec::new(),
+    };
+    let fault = random
+        .chance(6)
+        .then(|| put_fault(random, &world, held, &mut asked.table));
+    Case {
+        size,
+        asked,
+        places: [(); 5].map(|()| place(random)),
+        fault,
+    }
+}
+
+/// Up to 9 nodes and 8 shards.
+fn small_settings(random: &mut Random) -> Vec<u32> {
+    loop {
+        let nodes = random.pick(&[1, 2, 3, 4, 5, 6, 7, 8, 8, 9, 9, 9]);
+        let sets = random.between(1, nodes).max(random.between(1, nodes));
+        let shards = random.between(1, 8).min(nodes);
+        let words = settings_of(random, nodes, sets, shards, 3);
+        let settings = settings::parse(&words).expect("generated settings are good");
+        if (0..SUBGROUPS).all(|number| placements(&settings, number) <= MOST_PLACEMENTS) {
+            return words;
+        }
+    }
+}
+
+/// How many placements a subgroup has if each node is a failure set.
+fn placements(settings: &Settings, number: u32) -> u64 {
+    let mut left = u64::from(settings.nodes);
+    let mut count = 1;
+    for shard in settings.shards_of(number) {
+        for taken in 1..=u64::from(settings.need(shard)) {
+            count = count * left / taken;
+            left = left.saturating_sub(1);
+        }
+    }
+    count
+}
+
+/// 20 to 32 nodes and up to 16 shards.
+fn large_settings(random: &mut Random) -> Vec<u32> {
+    let nodes = random.pick(&[20, 24, 27, 31, 32, 32, 32]);
+    let sets = random.between(4, 16);
+    let shards = random.between(2, 16).max(random.between(2, 16));
+    settings_of(random, nodes, sets, shards, sets)
+}
+
+/// Settings whose shards, of up to four subgroups that lie between one another,
+/// need about what the nodes can give, `most` at most.
+fn settings_of(random: &mut Random, nodes: u32, sets: u32, shards: u32, most: u32) -> Vec<u32> {
+    let mut words = vec![nodes, sets, random.between(1, nodes / 2 + 1), shards];
+    let even = random.chance(60);
+    words.extend((0..nodes).map(|node| match even {
+        true => node % sets,
+        false => random.between(0, sets - 1),
+    }));
+    let subgroups = random.pick(&[1, 2, 3, 4, 4]);
+    let in_turn = random.chance(40);
+    let of_shard: Vec<u32> = (0..shards)
+        .map(|shard| match in_turn {
+            true => shard % subgroups,
+            false => random.between(0, subgroups - 1),
+        })
+        .collect();
+    let tight = random.pick(&[0, 0, 0, 1]);
+    for &subgroup in &of_shard {
+        let beside = of_shard.iter().filter(|&&other| other == subgroup).count() as u32;
+        let fair = (nodes / beside + tight).clamp(1, sets.min(most));
+        words.push(subgroup * 256 + random.between(1, fair));
+    }
+    words
+}
+
+/// The kept view.
+fn view(random: &mut Random, settings: &Settings) -> View {
+    let members = generate::members(random, settings);
+    let node = random.pick(&mask::nodes(members));
+    View {
+        number: random.pick(&[2, 7, 100, u32::MAX - 1]),
+        members,
+        masks: generate::shard_masks(random, settings, members, node),
+    }
+}
+
+/// The group with that view and an older one of all nodes.
+fn world(random: &mut Random, words: Vec<u32>, view: &View) -> World {
+    let settings = settings::parse(&words).expect("generated settings are good");
+    let members = mask::below(settings.nodes);
+    let older = View {
+        number: view.number - 1,
+        members,
+        masks: generate::shard_masks(random, &settings, members, 0),
+    };
+    world::of_views(random, words, vec![older, view.clone()])
+}
+
+/// The held nodes, and those of them that report the older view. Mostly a
+/// majority is held, and of each shard a member that reports the kept view.
+fn held(random: &mut Random, settings: &Settings, view: &View) -> (u32, u32) {
+    let often = random.pick(&[60, 75, 90, 90, 100]);
+    let mut held = 0;
+    for node in 0..settings.nodes {
+        if random.chance(often) {
+            held |= mask::only(node);
+        }
+    }
+    let mut reporters = 0;
+    if random.chance(97) {
+        for &own in &view.masks {
+            reporters |= mask::only(random.pick(&mask::nodes(own)));
+        }
+        let mut members = mask::nodes(view.members);
+        random.shuffle(&mut members);
+        held |= reporters;
+        for node in members {
+            if 2 * mask::count(held & view.members) <= mask::count(view.members) {
+                held |= mask::only(node);
+            }
+        }
+    }
+    let mut stale = held & !view.members;
+    for node in mask::nodes(held & !reporters) {
+        if random.chance(6) {
+            stale |= mask::only(node);
+        }
+    }
+    (held, stale)
+}
+
+/// Settings, state and desk with the held nodes' reports.
+fn table(random: &mut Random, world: &World, view: &View, held: u32, stale: u32) -> Table {
+    let filling = random.pick(&[0, 1, u32::MAX]);
+    let mut desk = vec![filling; DESK_BYTES / 4];
+    let mut terminated = false;
+    for node in mask::nodes(held) {
+        let number = view.number - u32::from(mask::has(stale, node));
+        let report = world.report_of(random, node, number);
+        let report = report.expect("the older view has all nodes");
+        let has = !report.of_kind(reference::message::TERMINATION).is_empty();
+        terminated |= has && number == view.number;
+        let message = generate::message(random, &report);
+        let first = node as usize * SLOT_WORDS;
+        let slot = &mut desk[first..first + SLOT_WORDS];
+        slot.copy_from_slice(&words::padded(&message, SLOT_WORDS));
+    }
+    let position = |&(view, k): &(u32, u32)| Position::new(view, k);
+    let termination = world.last_termination().filter(|_| terminated);
+    let state = State {
+        kept: Some(view.clone()),
+        termination: termination.map(|all| all.iter().map(position).collect()),
+        held,
+        ..state::fresh()
+    };
+    Table {
+        settings: words::to_bytes(&world.words),
+        state: words::to_bytes(&state::encode(&state)),
+        desk: words::to_bytes(&desk),
+    }
+}
+
+/// Puts a fault into what is lent and names it.
+fn put_fault(random: &mut Random, world: &World, held: u32, table: &mut Table) -> &'static str {
+    match random.between(0, 9) {
+        0 => length(random, &mut table.desk, "desk's length"),
+        1 => length(random, &mut table.state, "state's length"),
+        2 => length(random, &mut table.settings, "settings' length"),
+        3 => in_words(&mut table.settings, |words| {
+            damage::settings(random, words);
+            "settings"
+        }),
+        4..=6 => in_words(&mut table.state, |words| {
+            unsound::state(random, &world.settings, words)
+        }),
+        _ => in_words(&mut table.desk, |words| {
+            unsound::desk(random, world, held, words)
+        }),
+    }
+}
+
+/// What the planner left, which is as it must be.
+pub struct Compared {
+    outcome: Outcome,
+    /// Whether the plan was compared over all shards at once, too.
+    whole: bool,
+}
+
+/// Asks the planner and compares all that it leaves. Gives that, or what
+/// differs.
+pub fn compare(planner: &Planner, pages: &mut Pages, case: &Case) -> Result<Compared, String> {
+    let expected = calls::expected_by(case.size.choice(), &case.asked);
+    let outcome = calls::compare_with(&expected, planner, pages, &case.asked, case.places)?;
+    let small = case.size == Size::Small && outcome.answer == PLAN;
+    let whole = small && compare_whole(&case.asked, &outcome)?;
+    Ok(Compared { outcome, whole })
+}
+
+/// Compares a plan with the first over all shards at once, where there are few
+/// placements. Says whether there are.
+fn compare_whole(asked: &Asked, outcome: &Outcome) -> Result<bool, String> {
+    let (settings, state) = planned(asked, outcome);
+    let (layout, masks) = layout(&settings, &state);
+    let all = layout.subgroups().map(|subgroup| subgroup.all().len());
+    if all.product::<usize>() > MOST_WHOLE {
+        return Ok(false);
+    }
+    let first = layout.first_least();
+    if first.as_ref() != Some(masks) {
+        return Err(format!(
+            "the masks are {masks:x?}, over all shards the first are {first:x?}"
+        ));
+    }
+    Ok(true)
+}
+
+/// The settings and the state of a plan that the planner left.
+fn planned(asked: &Asked, outcome: &Outcome) -> (Settings, State) {
+    let settings = settings::parse(&words::whole_words(&asked.table.settings));
+    let settings = settings.expect("a plan has good settings");
+    let state = state::decode(&settings, &words::whole_words(&outcome.state));
+    (settings, state.expect("a plan's state"))
+}
+
+/// What was placed, and how.
+fn layout<'a>(settings: &'a Settings, state: &'a State) -> (Layout<'a>, &'a Vec<u32>) {
+    let kept = state.kept.as_ref().expect("a plan's view");
+    let plan = state.plan.as_ref().expect("a plan");
+    let layout = Layout {
+        settings,
+        held: state.held,
+        old: &kept.masks,
+    };
+    (layout, &plan.masks)
+}
+
+/// Counts of what the cases of a size came to.
+#[derive(Default)]
+pub struct Tally {
+    pub cases: u64,
+    pub plans: u64,
+    counts: BTreeMap<String, u64>,
+}
+
+/// What must be found among a hundred plans at least, and how often.
+const WANTED: [(&str, u64); 6] = [
+    ("plans with moves", 30),
+    ("plans of as many nodes as there can be", 15),
+    ("plans of two subgroups or more", 30),
+    ("plans of four subgroups", 5),
+    (
+        "plans of shards that lie between those of another subgroup",
+        20,
+    ),
+    ("plans with another placement of equal moves", 40),
+];
+/// And of small ones.
+const WANTED_SMALL: (&str, u64) = ("plans compared over all shards at once", 50);
+/// And of all cases, in a thousand.
+const WANTED_CASES: [(&str, u64); 6] = [
+    ("wait 4", 2),
+    ("wait 5", 5),
+    ("refused for a fault", 10),
+    ("a plan in spite of a fault", 1),
+    ("a plan with every node held", 30),
+    ("a plan with a node absent", 100),
+];
+
+impl Tally {
+    fn put(&mut self, holds: bool, name: &str) {
+        if holds {
+            *self.counts.entry(name.into()).or_default() += 1;
+        }
+    }
+
+    pub fn count(&mut self, case: &Case, compared: &Compared) {
+        self.cases += 1;
+        match compared.outcome.answer() {
+            Answer::Plan => {
+                self.put(case.fault.is_some(), "a plan in spite of a fault");
+                self.put(compared.whole, WANTED_SMALL.0);
+                let (settings, state) = planned(&case.asked, &compared.outcome);
+                self.plan(case.size, &settings, &state);
+            }
+            Answer::Wait(reason, _) => self.put(true, &format!("wait {reason}")),
+            _ => self.put(true, "refused for a fault"),
+        }
+    }
+
+    fn plan(&mut self, size: Size, settings: &Settings, state: &State) {
+        let (layout, masks) = layout(settings, state);
+        self.plans += 1;
+        let all = state.held == mask::below(settings.nodes);
+        self.put(all, "a plan with every node held");
+        self.put(!all, "a plan with a node absent");
+        self.put(layout.moves(masks) > 0, "plans with moves");
+        let most = settings.nodes == size.most_nodes();
+        self.put(most, "plans of as many nodes as there can be");
+        let used = |&number: &u32| !settings.shards_of(number).is_empty();
+        let subgroups = (0..SUBGROUPS).filter(used).count();
+        self.put(subgroups > 1, "plans of two subgroups or more");
+        self.put(subgroups == 4, "plans of four subgroups");
+        let between = (0..SUBGROUPS).any(|number| {
+            let own = settings.shards_of(number);
+            own.windows(2).any(|pair| pair[1] > pair[0] + 1)
+        });
+        self.put(
+            between,
+            "plans of shards that lie between those of another subgroup",
+        );
+        let equal = exchangeable(&layout, masks);
+        self.put(equal, "plans with another placement of equal moves");
+    }
+
+    /// Prints all counts.
+    pub fn print(&self, size: Size) {
+        println!(
+            "  {}: {} cases, {} plans",
+            size.name(),
+            self.cases,
+            self.plans
+        );
+        for (name, times) in &self.counts {
+            println!("    {name}: {times}");
+        }
+    }
+
+    /// What is too rare for the cases to show much.
+    pub fn rare(&self, size: Size) -> Vec<&'static str> {
+        let times = |name: &str| self.counts.get(name).copied().unwrap_or(0);
+        let wanted_small = (size == Size::Small).then_some(&WANTED_SMALL);
+        let of_plans = WANTED
+            .iter()
+            .chain(wanted_small)
+            .filter(|(name, least)| times(name) * 100 < self.plans * least);
+        let of_cases = WANTED_CASES
+            .iter()
+            .filter(|(name, least)| times(name) * 1000 < self.cases * least);
+        of_plans.chain(of_cases).map(|&(name, _)| name).collect()
+    }
+}
+
+/// Whether one node for another, or two nodes of two shards for each other, give
+/// a valid placement of equal moves.
+fn exchangeable(layout: &Layout, masks: &[u32]) -> bool {
+    let moves = layout.moves(masks);
+    let equal = |other: &[u32]| layout.moves(other) == moves && layout.valid(other);
+    for shard in 0..layout.settings.shards {
+        let own = masks[shard as usize];
+        for out in mask::nodes(own) {
+            for node in mask::nodes(layout.held & !own) {
+                if equal(&exchanged(layout.settings, masks, shard, [out, node])) {
+                    return true;
+                }
+            }
+        }
+    }
+    false
+}
+
+/// The masks with a shard's node out for another one, which takes its place if
+/// it is in another shard of the subgroup.
+fn exchanged(settings: &Settings, masks: &[u32], shard: u32, nodes: [u32; 2]) -> Vec<u32> {
+    let mut masks = masks.to_vec();
+    let both = mask::only(nodes[0]) | mask::only(nodes[1]);
+    for other in settings.shards_of(settings.subgroup(shard)) {
+        let mask = &mut masks[other as usize];
+        if other == shard || mask::has(*mask, nodes[1]) {
+            *mask ^= both;
+        }
+    }
+    masks
+}
