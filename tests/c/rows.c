@@ -13,9 +13,6 @@ static struct world world;
 static struct piece pieces[MOST_PIECES];
 static uint8_t buffer[RESTART_BUFFER_BYTES];
 
-/* A refusal with the index of a record. */
-#define AT(number, index) ((number) + 256 * (index))
-
 /* A word that is wrong, its right value, and the refusal while it is wrong. */
 struct fault {
     size_t word;
