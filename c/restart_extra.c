@@ -20,12 +20,15 @@ static const char numbers[][WIDTH] = {
     "no such machine",
     "the view or its members are wrong",
     "a next index is wrong",
-    "a record is wrong",
+    "a record's kind or zero word is wrong",
     "a shard's members are wrong",
     "a position, run or holder is wrong",
     "another view has the kept number",
     "another termination of the kept view",
     "the machine is not held, or marked already",
+    "unknown number", /* 15 */
+    "a record names an unknown shard",
+    "a record is out of sequence, missing or surplus",
     "unknown number",
 };
 

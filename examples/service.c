@@ -70,7 +70,10 @@ static void print_nodes(uint32_t mask)
 static void print_refusal(uint32_t answer)
 {
     uint32_t number = restart_number_of(answer);
-    printf("  refused: number %" PRIu32 ", %s\n", number, restart_number_text(number));
+    printf("  refused: number %" PRIu32, number);
+    if (restart_has_index(answer))
+        printf(" at record %" PRIu32, restart_index_of(answer));
+    printf(", %s\n", restart_number_text(number));
 }
 
 static void print_wait(const struct leader *leader, uint32_t answer)

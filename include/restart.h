@@ -13,7 +13,9 @@
  * for node n.
  *
  * Every call answers with a word: see "Answers". A refused call changes no lent byte, and its
- * number says why: the first that applies, in ascending order of those that are named at the call.
+ * number says why: of those that are named at the call the first that applies, in the order of
+ * enum restart_number. That order is 1, 2, 3, 4, 5, 6, 7, 8, 9, 16, 17, 10, 11, 12, 13, 14, not the
+ * order of their size.
  *
  * What is proved: the calls under "Settings and messages" and "Events" are proved functions. For
  * any bytes whatever they end, touch nothing but what was lent, and answer and leave what their
@@ -96,7 +98,10 @@ extern "C" {
 
 #define RESTART_STACK_BYTES 131072 /* stack that is enough for any call */
 
-/* ---- Numbers of refusals, in the order in which they are checked ---- */
+/* ---- Numbers of refusals, in the order in which they are checked ----
+ * Numbers 8, 9, 16 and 17 have an index, that of the record looked at (restart_has_index). Within
+ * one number the first bad record on the chain is told.
+ */
 
 enum restart_number {
     /* desk not 65536 bytes; buffer or contents to be written not 2048 */
@@ -113,10 +118,14 @@ enum restart_number {
     RESTART_WRONG_NODE = 6,
     /* view out of its limits; members with an unknown node or without the head's */
     RESTART_WRONG_VIEW = 7,
-    /* a next index that is not larger than its record's, or not inside the message */
+    /* a next index that is not larger than its record's, or not inside the message; has an index */
     RESTART_WRONG_NEXT = 8,
-    /* kind, shard, sequence, a missing or surplus record, or word 2 not zero */
+    /* a kind that the message cannot have, or a word 2 that is not zero; has an index */
     RESTART_WRONG_RECORD = 9,
+    /* a shard that the settings do not have; has an index */
+    RESTART_UNKNOWN_SHARD = 16,
+    /* wrong sequence, a repeat, a missing or a surplus record; has an index */
+    RESTART_WRONG_SEQUENCE = 17,
     /* a shard empty, outside the members, or sharing a node within its subgroup */
     RESTART_WRONG_SHARD = 10,
     /* a position or run; a holder outside the members */
@@ -207,7 +216,7 @@ enum restart_kind {
 
 /* ---- Answers ----
  * An answer is class * 16777216 + rest:
- *   class 0   0: accepted.  number + 256 * index: refused (index is 0 so far)
+ *   class 0   0: accepted.  number + 256 * index: refused; the index is 0 where the number has none
  *   class 1   accepted; the rest is a length in words
  *   class 2   a plan stands in the state
  *   class 3   a wait: 256 * reason + value
@@ -247,7 +256,19 @@ RESTART_INLINE uint32_t restart_number_of(uint32_t answer)
     return restart_is_refusal(answer) ? answer % 256 : 0;
 }
 
-/* A refusal's index; 0 of another answer. */
+/* Whether a refusal has an index. This is a property of its number (8, 9, 16, 17), not of the
+ * index: an index 0 is that of the head. */
+RESTART_INLINE int restart_has_index(uint32_t answer)
+{
+    uint32_t number = restart_number_of(answer);
+    return number == RESTART_WRONG_NEXT || number == RESTART_WRONG_RECORD ||
+           number == RESTART_UNKNOWN_SHARD || number == RESTART_WRONG_SEQUENCE;
+}
+
+/* A refusal's index; 0 where there is none. It is the index of the record looked at: word 4 * index
+ * is the record's first word. Where a record is missing it is that of the last one on the chain. Of
+ * contents to be written it is the record's index in the message as it would stand: word 3 * index
+ * of the contents is the record's first word. */
 RESTART_INLINE uint32_t restart_index_of(uint32_t answer)
 {
     return restart_is_refusal(answer) ? answer / 256 : 0;
@@ -318,7 +339,7 @@ uint32_t restart_check_settings(const uint8_t *settings,
  * node, view, members, then three words of each record of the chain, in the chain's order, then
  * zeros to 512 words.
  * Answers class 1 with the number of words before the zeros, 3 + 3 * records; or one of the
- * numbers 1 (contents not 2048 bytes), 2, 5 to 11.
+ * numbers 1 (contents not 2048 bytes), 2, 5 to 9, 16, 17, 10, 11.
  * Changes the contents.
  */
 uint32_t restart_read_report(const uint8_t *settings, size_t settings_len, const uint8_t *message,
@@ -334,7 +355,7 @@ uint32_t restart_read_order(const uint8_t *settings, size_t settings_len, const 
  * words. What is written is read back to the same contents.
  * Answers class 1 with the message's length in words, 4 + 4 * records; or one of the numbers 1
  * (buffer not 2048 bytes), 2, 5 (contents of another length, or more than 127 records), 6, 7, 9,
- * 10, 11.
+ * 16, 17, 10, 11.
  * Changes the buffer.
  */
 uint32_t restart_write_report(const uint8_t *settings, size_t settings_len, const uint8_t *contents,
@@ -388,7 +409,7 @@ uint32_t restart_check_state(const uint8_t *settings, size_t settings_len, const
  * Takes a node's report, while gathering. The message is copied to the node's slot and the node is
  * held; an older report of the node is replaced. A greater view than the kept one becomes the kept
  * view, with its termination or none; an equal one adds its termination if none is kept.
- * Answers 0, or one of the numbers 1 to 13.
+ * Answers 0, or one of the numbers 1 to 9, 16, 17, 10 to 13.
  * Changes state and desk.
  */
 uint32_t restart_report(const uint8_t *settings, size_t settings_len, uint8_t *state,

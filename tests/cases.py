@@ -196,7 +196,8 @@ def cures():
 
 
 def refused():
-    """A run for each number that restart can give: 2 and 5 to 13."""
+    """A run for each number that restart can give, in the order of their rows: 2, 5 to 9, 16, 17 and 10 to 13. Numbers 8, 9, 16 and 17
+    have the index of a record."""
     good = of_case_a(0)
     yield "number 2: no nodes", blocks(changed(SETTINGS, 0, 0)), 2
     yield "number 2: no words", blocks([]), 2
@@ -212,16 +213,39 @@ def refused():
     yield "number 7: greatest view", after(report(0, view=LARGEST)), 7
     yield "number 7: member 7 of 7", after(report(0, members=255)), 7
     yield "number 7: without the node", after(report(0, members=126)), 7
-    yield "number 8: record 2 names 2", after(changed(good, 11, 2)), 8
-    yield "number 8: past the end", after(changed(good, 15, 4)), 8
-    yield "number 8 before 9", after(changed(changed(good, 11, 2), 4, 9 * 256)), 8
-    yield "number 9: kind 9", after(changed(good, 4, 9 * 256)), 9
-    yield "number 9: shard 3 of 3", after(report(0, [[256 + 3, 1, 0]])), 9
-    yield "number 9: a mask is missing", after(report(0, masks=MASKS[:2])), 9
-    yield "number 9: word 2", after(changed(good, 6, 1)), 9
-    yield "number 9: one position of three", after(report(0, [[512, 1, 1]])), 9
-    yield "number 9: an order's record", after(report(0, [[1024, 1, 0]])), 9
-    yield "number 9: two runs of one view", after(report(0, runs(1, (5, 1), (5, 2)))), 9
+    yield "number 8: record 2 names 2", after(changed(good, 11, 2)), 8, 2
+    yield "number 8: past the end", after(changed(good, 15, 4)), 8, 3
+    yield "number 8: the head names 200", after(changed(good, 3, 200)), 8, 0
+    yield "number 8: a gap, then a cut", after(with_gap([769, 7, 1], 7)), 8, 5
+    yield "number 8: the head names what is cut off", after(changed(good, 3, 5)), 8, 0
+    yield "number 8 before 9", after(changed(changed(good, 11, 2), 4, 9 * 256)), 8, 2
+    yield "number 9: kind 9", after(changed(good, 4, 9 * 256)), 9, 1
+    yield "number 9: kind 9 after a gap", after(with_gap([9 * 256, 7, 1])), 9, 5
+    yield "number 9: word 2", after(changed(good, 6, 1)), 9, 1
+    yield "number 9: word 2, then kind 9", after(changed(report(0, [[9 * 256, 7, 1]]), 14, 1)), 9, 3
+    yield "number 9: kind 9, then word 2", after(changed(changed(good, 8, 9 * 256), 14, 1)), 9, 2
+    yield "number 9: an order's record", after(report(0, [[1024, 1, 0]])), 9, 4
+    yield "number 9: an order's cut", after(report(0, [[1280, 1, 1]])), 9, 4
+    yield "number 9: the greatest kind", after(changed(good, 4, LARGEST)), 9, 1
+    yield "number 9 before 16", after(changed(report(0, [[9 * 256, 7, 1]]), 4, 256 + 3)), 9, 4
+    yield "number 16: shard 3 of 3", after(report(0, [[256 + 3, 1, 0]])), 16, 4
+    yield "number 16: a run of shard 255", after(report(0, [[768 + 255, 7, 1]])), 16, 4
+    yield "number 16: the first of two", after(report(0, runs(3, (6, 1), (7, 1)))), 16, 4
+    yield "number 16 after a gap", after(with_gap([768 + 3, 7, 1])), 16, 5
+    yield "number 16 before 17", after(changed(report(0, [[768 + 3, 7, 1]]), 4, 257)), 16, 4
+    yield "number 17: a mask is missing", after(report(0, masks=MASKS[:2])), 17, 2
+    yield "number 17: a mask is missing, and a run is the last", after(report(0, runs(1, (7, 1)), masks=MASKS[:2])), 17, 3
+    yield "number 17: the head alone", after([0, 7, 127, 0]), 17, 0
+    yield "number 17: one position of three", after(report(0, [[512, 1, 1]])), 17, 4
+    yield "number 17: one position of three, and a run is the last", after(report(0, [[512, 1, 1]] + runs(1, (7, 1)))), 17, 5
+    yield "number 17: one position after a gap", after(with_gap([512, 1, 1])), 17, 5
+    yield "number 17: two runs of one view", after(report(0, runs(1, (5, 1), (5, 2)))), 17, 5
+    yield "number 17: a run of an earlier view", after(report(0, runs(1, (6, 1), (5, 2), (7, 1)))), 17, 5
+    yield "number 17: a run of an earlier shard", after(report(0, runs(1, (5, 1)) + runs(0, (6, 2)))), 17, 5
+    yield "number 17: a mask twice", after(report(0, masks=MASKS[:2] + [32], more=[[256 + 2, 32, 0]])), 17, 4
+    yield "number 17: masks in another order", after(changed(changed(good, 4, 257), 8, 256)), 17, 2
+    yield "number 17: a mask behind a run", after(message(0, 7, 127, shard_masks(MASKS[:2]) + runs(1, (7, 1)) + [[258, 32, 0]])), 17, 4
+    yield "number 17 before 10", after(report(0, masks=[0, 82])), 17, 2
     yield "number 10: no members", after(changed(good, 5, 0)), 10
     yield "number 10: outside the members", after(report(0, members=123, masks=[5, 82, 32])), 10
     yield "number 10: a node twice", after(report(0, masks=[5, 83, 32])), 10
@@ -239,6 +263,12 @@ def refused():
     yield "what follows a refusal is not read", after(good[:6]) + b"\x07" * 100_000, 5
 
 
+def with_gap(last, following=0):
+    """A report of node 0 whose record 4 is off the chain, and record 5 is this one."""
+    words = changed(of_case_a(0), 15, 5)
+    return words + [LARGEST] * 4 + last + [following]
+
+
 def cut_at(at):
     """What case A cut after so many bytes must print. Blocks start at 0 (15 words), 60, 128, 212, 280, 348 and 432."""
     starts = [0, 60, 128, 212, 280, 348, 432, len(CASE_A)]
@@ -251,8 +281,8 @@ def cut_at(at):
     if block == 0:
         return "number 2\n"
     words = (inside - 4) // 4
-    # no words or no whole records, or a chain that leads out of the message
-    return "number 5\n" if words == 0 or words % 4 != 0 else "number 8\n"
+    # no words or no whole records, or a chain whose last record that is left leads out of the message
+    return "number 5\n" if words == 0 or words % 4 != 0 else "number 8 %d\n" % (words // 4 - 1)
 
 
 def cut():
@@ -413,7 +443,7 @@ def own_input():
 
 def main():
     rows = list(named()) + list(logs_of_cuts()) + list(more_plans()) + list(cures()) + list(cut()) + list(counts()) + list(long_runs())
-    rows += [(name, data, "number %d\n" % number) for name, data, number in refused()]
+    rows += [(name, data, "number %s\n" % " ".join(map(str, told))) for name, data, *told in refused()]
     tried = [(name, data, text, None) for name, data, text in rows]
     tried += [(name + ", byte by byte", data, text, 1) for name, data, text in named()]
     tried += [("%s, %d bytes a read" % (name, piece), data, text, piece) for name, data, text in long_runs() for piece in (1021, 4095, 4096)]

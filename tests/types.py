@@ -23,6 +23,7 @@ OTHERS = {
     "a subgroup": "g group",
     "how many words, records or moves": "len hlen length total",
     "the index of a record": "at i j next",
+    "the number of a row of refusals": "row",
     "a number and its limits": "low high x",
     "the placement sheet, bytes by shard and failure set": "sheet",
 }

@@ -4,7 +4,7 @@
 use crate::desk::DESK_WORDS;
 use crate::events::{self, Decision};
 use crate::mask;
-use crate::number::Number;
+use crate::number::Refusal;
 use crate::quorum::Wait;
 use crate::settings::{self, Settings};
 use crate::state::{self, Plan, State};
@@ -42,9 +42,9 @@ pub fn run(input: &[u8]) -> String {
 }
 
 /// What is printed for this end of a run.
-pub fn printed(ended: &Result<Ended, Number>) -> String {
+pub fn printed(ended: &Result<Ended, Refusal>) -> String {
     match ended {
-        Err(Number(number)) => format!("number {number}\n"),
+        Err(refusal) => format!("{refusal}\n"),
         Ok(ended) => match (ended.decision, &ended.state.plan) {
             (Decision::Wait(wait), _) => wait_line(wait),
             (Decision::Plan, plan) => plan_lines(plan.as_ref().expect("decide leaves a plan")),
@@ -53,7 +53,7 @@ pub fn printed(ended: &Result<Ended, Number>) -> String {
 }
 
 /// Reports all messages from the fresh state and decides after the last block.
-pub fn decide(input: &[u8]) -> Result<Ended, Number> {
+pub fn decide(input: &[u8]) -> Result<Ended, Refusal> {
     let mut blocks = Blocks { left: input };
     let words = blocks.next().unwrap_or_default();
     let mut state = state::encode(&state::fresh());

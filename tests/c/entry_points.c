@@ -26,19 +26,29 @@ struct taken {
     uint32_t answer;
     uint32_t kind; /* its class */
     int refusal, plan, wait;
-    uint32_t number, index, reason, value, length;
+    uint32_t number;
+    int located; /* whether it has an index */
+    uint32_t index, reason, value, length;
 };
 
 static void answers(void)
 {
     static const struct taken rows[] = {
-        {0, 0, 0, 0, 0, 0, 0, 0, 0, 0},
-        {9, 0, 1, 0, 0, 9, 0, 0, 0, 0},
-        {14 + 256 * 127, 0, 1, 0, 0, 14, 127, 0, 0, 0},
-        {16777216 + 512, 1, 0, 0, 0, 0, 0, 0, 0, 512},
-        {33554432, 2, 0, 1, 0, 0, 0, 0, 0, 0},
-        {50331648 + 256, 3, 0, 0, 1, 0, 0, 1, 0, 0},
-        {50331648 + 256 * 4 + 15, 3, 0, 0, 1, 0, 0, 4, 15, 0},
+        {0, 0, 0, 0, 0, 0, 0, 0, 0, 0, 0},
+        {7, 0, 1, 0, 0, 7, 0, 0, 0, 0, 0},
+        {8, 0, 1, 0, 0, 8, 1, 0, 0, 0, 0},
+        {9 + 256 * 127, 0, 1, 0, 0, 9, 1, 127, 0, 0, 0},
+        {10, 0, 1, 0, 0, 10, 0, 0, 0, 0, 0},
+        {14, 0, 1, 0, 0, 14, 0, 0, 0, 0, 0},
+        {15, 0, 1, 0, 0, 15, 0, 0, 0, 0, 0},
+        {16 + 256 * 5, 0, 1, 0, 0, 16, 1, 5, 0, 0, 0},
+        {17, 0, 1, 0, 0, 17, 1, 0, 0, 0, 0},
+        {18, 0, 1, 0, 0, 18, 0, 0, 0, 0, 0},
+        {16777216 + 512, 1, 0, 0, 0, 0, 0, 0, 0, 0, 512},
+        {16777216 + 8, 1, 0, 0, 0, 0, 0, 0, 0, 0, 8},
+        {33554432, 2, 0, 1, 0, 0, 0, 0, 0, 0, 0},
+        {50331648 + 256, 3, 0, 0, 1, 0, 0, 0, 1, 0, 0},
+        {50331648 + 256 * 4 + 15, 3, 0, 0, 1, 0, 0, 0, 4, 15, 0},
     };
     for (size_t i = 0; i < sizeof rows / sizeof rows[0]; i++) {
         uint32_t answer = rows[i].answer;
@@ -47,6 +57,7 @@ static void answers(void)
         check_word("is a plan", (uint32_t)restart_is_plan(answer), (uint32_t)rows[i].plan);
         check_word("is a wait", (uint32_t)restart_is_wait(answer), (uint32_t)rows[i].wait);
         check_word("number", restart_number_of(answer), rows[i].number);
+        check_word("has an index", (uint32_t)restart_has_index(answer), (uint32_t)rows[i].located);
         check_word("index", restart_index_of(answer), rows[i].index);
         check_word("reason", restart_reason_of(answer), rows[i].reason);
         check_word("value", restart_value_of(answer), rows[i].value);
@@ -84,12 +95,15 @@ static void texts(void)
     check_text("reason 1", restart_reason_text(RESTART_NO_VIEW), "no machine has reported");
     check_text("phase 0", restart_phase_text(RESTART_GATHERING), "gathering");
     check_text("phase 3", restart_phase_text(RESTART_COMMITTED), "committed");
-    check_text("number 15", restart_number_text(RESTART_NOT_HELD + 1), "unknown number");
+    check_text("number 17", restart_number_text(RESTART_WRONG_SEQUENCE),
+               "a record is out of sequence, missing or surplus");
+    check_text("number 15", restart_number_text(15), "unknown number");
+    check_text("number 18", restart_number_text(18), "unknown number");
     check_text("reason 6", restart_reason_text(RESTART_NO_PLACEMENT + 1), "unknown reason");
     check_text("phase 4", restart_phase_text(RESTART_COMMITTED + 1), "unknown phase");
     check_text("the last number", restart_number_text(UINT32_MAX), "unknown number");
-    for (uint32_t one = 0; one <= RESTART_NOT_HELD; one++)
-        for (uint32_t other = one + 1; other <= RESTART_NOT_HELD + 1; other++)
+    for (uint32_t one = 0; one <= RESTART_WRONG_SEQUENCE; one++)
+        for (uint32_t other = one + 1; one != 15 && other <= RESTART_WRONG_SEQUENCE + 1; other++)
             check_word("two numbers have two texts",
                        strcmp(restart_number_text(one), restart_number_text(other)) != 0, 1);
 }

@@ -149,4 +149,13 @@ static inline uint32_t faulty(SETTINGS, const uint8_t *state, size_t state_len, 
     return answer;
 }
 #define restart_order faulty
+
+#elif FAULT == 15 /* an index counts the records after the head */
+static inline uint32_t faulty(CONVERSION)
+{
+    uint32_t answer =
+        restart_read_report(settings, settings_len, input, input_len, output, output_len);
+    return restart_has_index(answer) && restart_index_of(answer) != 0 ? answer - 256 : answer;
+}
+#define restart_read_report faulty
 #endif

@@ -34,7 +34,7 @@ def helper(name, *numbers):
 def is_there():
     declared = subprocess.run(["sh", os.path.join(HERE, "..", "..", "c", "names.sh")], stdout=subprocess.PIPE, text=True, check=True)
     names = declared.stdout.split()
-    assert len(names) >= 29
+    assert len(names) >= 30
     for name in names:
         getattr(library, name)
 
@@ -54,12 +54,14 @@ def small_functions():
     assert helper("number_text", 14) == b"the machine is not held, or marked already"
     assert helper("reason_text", 5) == b"a subgroup cannot be laid out"
     assert [helper("phase_text", phase) for phase in range(4)] == [b"gathering", b"ordered", b"preparing", b"committed"]
-    for name, first in (("number", 15), ("reason", 6), ("phase", 4)):
+    assert helper("number_text", 16) == b"a record names an unknown shard"
+    for name, first in (("number", 18), ("reason", 6), ("phase", 4)):
         assert {helper(name + "_text", word) for word in (first, 255, 4294967295)} == {b"unknown " + name.encode()}
     wait = 3 * 16777216 + 256 * 4 + 15
     found = [helper(name, wait) for name in ("class_of", "is_wait", "is_plan", "is_refusal", "reason_of", "value_of", "number_of")]
     assert found == [3, 1, 0, 0, 4, 15, 0]
-    assert [helper(name, 256 * 7 + 9) for name in ("is_refusal", "number_of", "index_of", "length_of")] == [1, 9, 7, 0]
+    assert [helper(name, 256 * 7 + 9) for name in ("is_refusal", "number_of", "has_index", "index_of", "length_of")] == [1, 9, 1, 7, 0]
+    assert [helper("has_index", number) for number in (7, 8, 10, 16, 17, 18)] == [0, 1, 0, 1, 1, 0]
     assert helper("length_of", 16777216 + 512) == 512
     lent = words(1, 2, 3)
     library.restart_put_word(lent, ctypes.c_size_t(1), WORD(4026531841))

@@ -15,6 +15,9 @@ void check_bytes(const char *what, const uint8_t *found, const uint8_t *expected
 /* Prints `N passed, M failed`; what main returns. */
 int summary(void);
 
+/* A refusal with the index of a record. */
+#define AT(number, index) ((number) + 256 * (index))
+
 /* A piece to be lent: bytes and their length. */
 struct piece {
     uint8_t *bytes;

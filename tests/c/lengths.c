@@ -90,21 +90,21 @@ static void message_lengths(unsigned piece)
     static const size_t lengths[] = {0,  1,  2,  3,  4,  8,  12,   15,   17,   24,   76,   77,  78,
                                      79, 81, 82, 83, 84, 88, 2047, 2049, 2052, 2056, 2064, 4096};
     check_lengths(piece, lengths, COUNT(lengths), 5);
-    check_length(piece, 64, 8);
+    check_length(piece, 64, AT(8, 3));
     check_length(piece, 96, right.answer);
     check_length(piece, 2048, right.answer);
 }
 
-/* Contents of 15 words. A head alone, a record less than there must be and 127 records of zeros
- * have a right length and lack records. */
+/* Contents of 15 words. A head alone and a record less than there must be have a right length and
+ * lack records; records of zeros have no kind. */
 static void contents_lengths(void)
 {
     static const size_t lengths[] = {0,  1,  3,  4,  8,  11,   13,   16,   20,   59,
                                      61, 62, 63, 64, 68, 1537, 1540, 1548, 2048, 65536};
     check_lengths(1, lengths, COUNT(lengths), 5);
-    check_length(1, 12, 9);
-    check_length(1, 36, 9);
-    check_length(1, 1536, 9);
+    check_length(1, 12, AT(17, 0));
+    check_length(1, 36, AT(17, 2));
+    check_length(1, 1536, AT(9, 5));
 }
 
 static void messages(void)
@@ -166,7 +166,7 @@ static void orders(void)
     add(buffer, sizeof buffer);
     settings_lengths();
     check_lengths(1, message_wrong, COUNT(message_wrong), 5);
-    check_length(1, 96, 8);
+    check_length(1, 96, AT(8, 5));
     buffer_lengths(2);
 
     take(&write_order, 16777216 + 28);
@@ -175,7 +175,7 @@ static void orders(void)
     add(buffer, sizeof buffer);
     settings_lengths();
     check_lengths(1, contents_wrong, COUNT(contents_wrong), 5);
-    check_length(1, 72, 9);
+    check_length(1, 72, AT(17, 5));
     buffer_lengths(2);
 }
 

@@ -13,11 +13,11 @@ static struct world world;
 static struct piece pieces[MOST_PIECES];
 static uint8_t buffer[RESTART_BUFFER_BYTES];
 
-/* A word that is wrong, its right value, and the number while it is wrong. */
+/* A word that is wrong, its right value, and the refusal while it is wrong. */
 struct fault {
     size_t word;
     uint32_t wrong, right;
-    uint32_t number;
+    uint32_t refusal;
 };
 
 /* Climbs through the faults of the words in a piece. Of two faults of one word the first is mended
@@ -28,7 +28,7 @@ static void climb(const struct entry *entry, struct piece piece, const struct fa
     for (size_t i = count; i-- > 0;)
         restart_put_word(piece.bytes, faults[i].word, faults[i].wrong);
     for (size_t i = 0; i < count; i++) {
-        check_call(entry, pieces, 0, faults[i].number);
+        check_call(entry, pieces, 0, faults[i].refusal);
         restart_put_word(piece.bytes, faults[i].word, faults[i].right);
     }
 }
@@ -62,17 +62,38 @@ static void messages(void)
 {
     static const uint32_t report_words[] = {4, 7, 127, 1,  256, 5, 0,   2, 257, 82,
                                             0, 3, 258, 32, 0,   4, 769, 7, 4,   0};
+    /* Record 4 is of kind 9, then for shard 3 of 3, then the termination of one shard alone; record
+     * 3 is for the shard of record 2. */
     static const struct fault report_faults[] = {
-        {0, 7, 4, 6},          {1, 0, 7, 7},  {11, 2, 3, 8},
-        {16, 9 * 256, 769, 9}, {5, 0, 5, 10}, {18, 0, 4, 11},
+        {0, 7, 4, 6},
+        {1, 0, 7, 7},
+        {3, 200, 1, AT(8, 0)},
+        {11, 2, 3, AT(8, 2)},
+        {16, 9 * 256, 771, AT(9, 4)},
+        {16, 771, 512, AT(16, 4)},
+        {12, 257, 258, AT(17, 3)},
+        {16, 512, 769, AT(17, 4)},
+        {5, 0, 5, 10},
+        {18, 0, 4, 11},
     };
     static const uint32_t order_words[] = {
         4, 8, 63,  1, 256, 5, 0,   2, 257, 50, 0,    3, 258, 8, 0,    4, 512, 0,
         0, 5, 513, 7, 5,   6, 514, 0, 0,   7,  1025, 1, 0,   8, 1281, 7, 4,   0,
     };
+    /* Word 2 of record 3; record 7 for shard 3 of 3, then for a shard that node 4 does not carry;
+     * record 6 for the shard of record 5; no cut, record 7 being the last. */
     static const struct fault order_faults[] = {
-        {0, 7, 4, 6},   {1, 1, 8, 7},   {11, 2, 3, 8},  {14, 1, 0, 9},
-        {5, 69, 5, 10}, {29, 6, 1, 11}, {33, 8, 7, 11},
+        {0, 7, 4, 6},
+        {1, 1, 8, 7},
+        {11, 2, 3, AT(8, 2)},
+        {14, 1, 0, AT(9, 3)},
+        {28, 1027, 1024, AT(16, 7)},
+        {24, 513, 514, AT(17, 6)},
+        {28, 1024, 1025, AT(17, 7)},
+        {31, 0, 8, AT(17, 7)},
+        {5, 69, 5, 10},
+        {29, 6, 1, 11},
+        {33, 8, 7, 11},
     };
     message_call(&read_report, report_words, COUNT(report_words), 6, report_faults,
                  COUNT(report_faults), 16777216 + 15);
@@ -84,20 +105,113 @@ static void contents(void)
 {
     static const uint32_t report_contents[] = {4, 7,   127, 256, 5,   0, 257, 82,
                                                0, 258, 32,  0,   769, 7, 4};
+    /* As above: an index is that of the record in the message as it would stand. */
     static const struct fault report_faults[] = {
-        {0, 7, 4, 6}, {1, 4294967295, 7, 7}, {12, 9 * 256, 769, 9}, {4, 0, 5, 10}, {14, 0, 4, 11},
+        {0, 7, 4, 6},
+        {1, 4294967295, 7, 7},
+        {12, 9 * 256, 771, AT(9, 4)},
+        {12, 771, 512, AT(16, 4)},
+        {9, 257, 258, AT(17, 3)},
+        {12, 512, 769, AT(17, 4)},
+        {4, 0, 5, 10},
+        {14, 0, 4, 11},
     };
     static const uint32_t order_contents[] = {
         4, 8,   63, 256, 5,   0, 257, 50,   0, 258, 8,    0, 512, 0,
         0, 513, 7,  5,   514, 0, 0,   1025, 1, 0,   1281, 7, 4,
     };
     static const struct fault order_faults[] = {
-        {0, 7, 4, 6}, {1, 1, 8, 7}, {11, 1, 0, 9}, {4, 69, 5, 10}, {22, 6, 1, 11}, {25, 8, 7, 11},
+        {0, 7, 4, 6},
+        {1, 1, 8, 7},
+        {11, 1, 0, AT(9, 3)},
+        {21, 1027, 1024, AT(16, 7)},
+        {18, 513, 514, AT(17, 6)},
+        {21, 1024, 1025, AT(17, 7)},
+        {24, 1280, 1281, AT(17, 8)},
+        {4, 69, 5, 10},
+        {22, 6, 1, 11},
+        {25, 8, 7, 11},
     };
     message_call(&write_report, report_contents, COUNT(report_contents), 13, report_faults,
                  COUNT(report_faults), 16777216 + 20);
     message_call(&write_order, order_contents, COUNT(order_contents), 13, order_faults,
                  COUNT(order_faults), 16777216 + 36);
+}
+
+/* ---- Which record is told ---- */
+
+enum { MOST_WORDS = 40 };
+
+/* A message under case A's settings, and the refusal of the reader. */
+struct told {
+    const struct entry *entry;
+    uint32_t count;
+    uint32_t words[MOST_WORDS];
+    uint32_t refusal;
+};
+
+/* The head of node 4's report in case A, and its first two records of members. */
+#define HEAD 4, 7, 127, 1
+#define MASKS_0_1 256, 5, 0, 2, 257, 82, 0, 3
+#define MASKS MASKS_0_1, 258, 32, 0, 4
+
+static const struct told told_rows[] = {
+    /* the masks are missing, and the head is the last */
+    {&read_report, 4, {4, 7, 127, 0}, AT(17, 0)},
+    /* a mask is missing, and a run is the last */
+    {&read_report, 16, {HEAD, MASKS_0_1, 769, 7, 4, 0}, AT(17, 3)},
+    /* the message is cut: where its records stand one after another, and where the head names 5 */
+    {&read_report, 12, {HEAD, MASKS_0_1}, AT(8, 2)},
+    {&read_report, 16, {4, 7, 127, 5, MASKS_0_1, 258, 32, 0, 0}, AT(8, 0)},
+    /* the index is the record's own, not its place on the chain: record 4 is off the chain */
+    {&read_report,
+     24,
+     {HEAD, MASKS_0_1, 258, 32, 0, 5, 9 * 256, 9, 9, 9, 9 * 256, 7, 4, 0},
+     AT(9, 5)},
+    {&read_report, 24, {HEAD, MASKS_0_1, 258, 32, 0, 5, 9 * 256, 9, 9, 9, 771, 7, 4, 0}, AT(16, 5)},
+    {&read_report, 24, {HEAD, MASKS_0_1, 258, 32, 0, 5, 9 * 256, 9, 9, 9, 512, 7, 4, 0}, AT(17, 5)},
+    {&read_report, 24, {HEAD, MASKS_0_1, 258, 32, 0, 5, 9 * 256, 9, 9, 9, 769, 7, 4, 7}, AT(8, 5)},
+    /* between numbers their order decides, wherever the records stand */
+    {&read_report,
+     20,
+     {HEAD, 259, 5, 0, 2, 257, 82, 0, 3, 258, 32, 0, 4, 9 * 256, 7, 4, 0},
+     AT(9, 4)},
+    {&read_report, 20, {HEAD, 257, 5, 0, 2, 257, 82, 0, 3, 258, 32, 0, 4, 771, 7, 4, 0}, AT(16, 4)},
+    /* within one the first record speaks, a wrong kind or a word 2 that is not zero */
+    {&read_report, 20, {HEAD, MASKS_0_1, 258, 32, 1, 4, 9 * 256, 7, 4, 0}, AT(9, 3)},
+    {&read_report,
+     20,
+     {HEAD, 256, 5, 0, 2, 9 * 256, 82, 0, 3, 258, 32, 1, 4, 769, 7, 4, 0},
+     AT(9, 2)},
+    /* the termination of one shard, and a run behind it: the others are missing */
+    {&read_report, 24, {HEAD, MASKS, 512, 7, 4, 5, 769, 7, 4, 0}, AT(17, 5)},
+    /* of two runs of one view, or of a view before, the later record is told */
+    {&read_report, 24, {HEAD, MASKS, 769, 6, 5, 5, 769, 6, 7, 0}, AT(17, 5)},
+    {&read_report, 28, {HEAD, MASKS, 769, 6, 5, 5, 769, 5, 7, 6, 769, 7, 1, 0}, AT(17, 5)},
+    /* what only an order has is no wrong sequence in a report, and the other way round */
+    {&read_report, 20, {HEAD, MASKS, 1025, 1, 0, 0}, AT(9, 4)},
+    {&read_report, 20, {HEAD, MASKS, 1281, 7, 4, 0}, AT(9, 4)},
+    {&read_order, 20, {4, 8, 127, 1, MASKS, 769, 7, 4, 0}, AT(9, 4)},
+    /* a holder before all masks is surplus, whoever carries its shard */
+    {&read_order,
+     20,
+     {4, 8, 127, 1, 1025, 1, 0, 2, 256, 5, 0, 3, 257, 82, 0, 4, 258, 32, 0, 0},
+     AT(17, 1)},
+    /* an order without targets */
+    {&read_order, 16, {4, 8, 127, 1, MASKS_0_1, 258, 32, 0, 0}, AT(17, 3)},
+};
+
+static void told_records(void)
+{
+    uint8_t input[4 * MOST_WORDS];
+    world_fresh(&world);
+    memset(buffer, 0xEE, sizeof buffer);
+    pieces[0] = (struct piece){world.settings, sizeof world.settings};
+    pieces[2] = (struct piece){buffer, sizeof buffer};
+    for (size_t i = 0; i < COUNT(told_rows); i++) {
+        pieces[1] = (struct piece){input, put_words(input, told_rows[i].words, told_rows[i].count)};
+        check_call(told_rows[i].entry, pieces, 0, told_rows[i].refusal);
+    }
 }
 
 /* ---- Events ---- */
@@ -161,9 +275,21 @@ static void reports(void)
         3,   7, 127, 1, 256, 5, 0, 2, 257, 82, 0, 3, 258, 32, 0, 4,
         512, 0, 0,   5, 513, 7, 5, 6, 514, 0,  0, 7, 769, 7,  1, 0,
     };
+    /* Record 7 of kind 9, then for shard 3 of 3; record 5 for the shard of record 4; the
+     * termination of shard 2 missing, record 7 being the last. */
     static const struct fault faults[] = {
-        {0, 7, 3, 6},   {1, 0, 7, 7},   {11, 2, 3, 8},  {28, 9 * 256, 769, 9},
-        {5, 0, 13, 10}, {30, 0, 1, 11}, {5, 13, 5, 12}, {22, 4, 5, 13},
+        {0, 7, 3, 6},
+        {1, 0, 7, 7},
+        {3, 200, 1, AT(8, 0)},
+        {11, 2, 3, AT(8, 2)},
+        {28, 9 * 256, 771, AT(9, 7)},
+        {28, 771, 769, AT(16, 7)},
+        {20, 512, 513, AT(17, 5)},
+        {24, 768, 514, AT(17, 7)},
+        {5, 0, 13, 10},
+        {30, 0, 1, 11},
+        {5, 13, 5, 12},
+        {22, 4, 5, 13},
     };
     uint8_t message[sizeof words];
     put_words(message, words, COUNT(words));
@@ -272,6 +398,7 @@ int main(void)
 {
     messages();
     contents();
+    told_records();
     states();
     reports();
     drops();

@@ -98,6 +98,13 @@ other_folders() {
     sed '$d' examples/events.txt >$out/short/events.txt && cat examples/settings.bin examples/settings.bin >$out/long/settings.bin
 }
 
+# Of a report that was cut off after two records the example tells the second.
+cut_report() {
+    rm -rf $out/cut && cp -R examples $out/cut && head -c 32 examples/reports/1-machine-0.bin >$out/cut/reports/1-machine-0.bin || return
+    $out/service $out/cut >$out/printed
+    grep -qx '  refused: number 8 at record 1, a next index is wrong' $out/printed
+}
+
 # The example's files are those that its text makes.
 files_made() {
     rm -rf $out/made && python3 examples/make_reports.py $out/made && cmp examples/settings.bin $out/made/settings.bin &&
@@ -217,10 +224,11 @@ check "a desk that is not saved" kill_finds '/memcpy(bytes + DESK_AT/d'
 check "other folders" other_folders
 check "the example cut short" service_ends 1 $out/short
 check "the example with wrong settings" service_ends 2 $out/long
+check "the example with a report that was cut off" cut_report
 check "the example without files" service_ends 2 $out/none
 
 fault=0
-for name in lengths entry_points entry_points entry_points guards rows guards rows entry_points guards rows lengths rows cuts; do
+for name in lengths entry_points entry_points entry_points guards rows guards rows entry_points guards rows lengths rows cuts rows; do
     fault=$((fault + 1))
     check "fault $fault is found by $name" found $fault $name
 done

@@ -7,7 +7,9 @@
 //! - `mock`: a stand-in for the library, made of the reference
 //! - `generate`: settings and valid messages of all shapes
 //! - `damage`: faults put into them
+//! - `records`: what a refusal with a record's index was about
 //! - `messages`: the inputs of the `messages` program and their comparison
+//! - `stored`: stored calls of the readers and writers
 //! - `world`: groups whose nodes report
 //! - `sequences`: events that a state's phase takes
 //! - `calls`: one call of an event, what the reference says of it, and their
@@ -39,10 +41,12 @@ pub mod moves;
 pub mod plans;
 pub mod random;
 pub mod recorder;
+pub mod records;
 pub mod regressions;
 pub mod runs;
 pub mod sequences;
 pub mod situations;
+pub mod stored;
 pub mod tally;
 pub mod unsound;
 pub mod world;

@@ -4,6 +4,7 @@ import subprocess
 from dataclasses import dataclass
 
 from . import words
+from .model import LOCATED, number_line
 
 
 class BadAnswer(Exception):
@@ -35,6 +36,7 @@ class Wait:
 @dataclass(frozen=True)
 class Number:
     number: int
+    index: int | None = None  # of the record looked at, for the numbers that name one
 
 
 SHARD = re.compile(r"shard (\d+) holder (\d+) target (\d+) (\d+) members((?: \d+)+)")
@@ -55,12 +57,13 @@ def parse(text):
 
 def one_line(line):
     wait = re.fullmatch(r"wait ([1-3])|wait ([45]) (\d+)", line)
-    number = re.fullmatch(r"number (\d+)", line)
-    if number:
-        return Number(int(number[1]))
+    number = re.fullmatch(r"number (\d+)(?: (\d+))?", line)
+    if number and (int(number[1]) in LOCATED) == (number[2] is not None):
+        return Number(int(number[1]), int(number[2]) if number[2] else None)
     if wait:
         return Wait(int(wait[1]), None) if wait[1] else Wait(int(wait[2]), int(wait[3]))
-    raise BadAnswer("expected a plan, 'wait REASON' or 'number NUMBER', found '%s'" % line)
+    raise BadAnswer("expected a plan, 'wait REASON' or 'number NUMBER' (with a record after %s), found '%s'"
+                    % (", ".join(map(str, LOCATED)), line))
 
 
 def placed(number, line):
@@ -88,4 +91,4 @@ def printed(answer):
         return "a plan, new view %d, %d move%s" % (answer.view, answer.moves, "s" * (answer.moves != 1))
     if isinstance(answer, Wait):
         return "wait %d" % answer.reason + (" %d" % answer.value if answer.value is not None else "")
-    return "number %d" % answer.number
+    return number_line(answer.number, answer.index)

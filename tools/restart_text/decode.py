@@ -1,14 +1,17 @@
-"""From words to values: settings, reports and orders, or the first number of restart(7) that applies (2, 5 to 11) and
-what is wrong. Each row is checked over the whole message before the next."""
+"""From words to values: settings, reports and orders, or the first number of restart(7) that applies (2, 5 to 11, with 16 and 17 after 9)
+and what is wrong. Each row is checked over the whole message before the next."""
 from collections import namedtuple
 
 from .encode import CUT, HOLDER, MEMBERS, RUN, TERMINATION
 from .model import GREATEST, MOST_NODES, MOST_RECORDS, MOST_SETS, MOST_SHARDS, START, SUBGROUPS
 from .model import Order, Refused, Report, Settings, Shard, View
+from .sentences import listed
 from .words import nodes_of
 
 Record = namedtuple("Record", "index kind shard first second")
 KIND_NAMES = {MEMBERS: "members", TERMINATION: "termination", RUN: "run", HOLDER: "holder", CUT: "cut"}
+WHAT = {MEMBERS: "the members", TERMINATION: "the termination", RUN: "a run", HOLDER: "the holder", CUT: "the cut"}
+REPORT_KINDS, ORDER_KINDS = (MEMBERS, TERMINATION, RUN), (MEMBERS, TERMINATION, HOLDER, CUT)
 
 
 def settings_from(words):
@@ -63,7 +66,7 @@ def message_from(words, settings, is_order):
     length(words)
     head(words, settings, is_order)
     records = chain(words)
-    sequence(records, words, settings, is_order)
+    records_pass(records, words, settings, is_order)
     shards_members(records, words, settings)
     positions(records, words, is_order)
     return value_of(records, words, settings, is_order)
@@ -96,49 +99,105 @@ def chain(words):
     while words[4 * index + 3]:
         following = words[4 * index + 3]
         if not index < following < len(words) // 4:
-            raise Refused(8, "record %d names %d as the next one; that is no later record of the %d that the message has"
-                          % (index, following, len(words) // 4))
+            raise Refused(8, broken(words, index, following), index)
         index = following
         kind, shard = divmod(words[4 * index], 256)
         records.append(Record(index, kind, shard, words[4 * index + 1], words[4 * index + 2]))
     return records
 
 
-def sequence(records, words, settings, is_order):
-    """Row 9: each record may stand where it stands, and none is missing."""
-    kinds = (MEMBERS, TERMINATION, HOLDER, CUT) if is_order else (MEMBERS, TERMINATION, RUN)
-    for record in records:
-        if record.kind not in kinds:
-            raise Refused(9, "record %d has kind %d, %s has kinds %s"
-                          % (record.index, record.kind, "an order" if is_order else "a report", " ".join(map(str, kinds))))
-        if record.kind in (MEMBERS, HOLDER) and record.second:
-            raise Refused(9, "word 2 of record %d is %d and should be 0" % (record.index, record.second))
-    for record in records:
-        if record.shard >= len(settings.shards):
-            raise Refused(9, "record %d is for shard %d, the settings have shards 0 to %d"
-                          % (record.index, record.shard, len(settings.shards) - 1))
-    keys = [(record.kind, record.shard, record.first if record.kind == RUN else 0) for record in records]
-    for place in range(1, len(records)):
-        if keys[place - 1] >= keys[place]:
-            raise Refused(9, "record %d is out of sequence or a repeat" % records[place].index)
+def shown(words, index):
+    """A record as an operator finds it."""
+    return "record %d (words %s)" % (index, " ".join(map(str, words[4 * index : 4 * index + 4])))
+
+
+def broken(words, index, following):
+    last = len(words) // 4 - 1
+    if following > last:
+        why = "the message ends after record %d: it was cut off, or this word is wrong" % last
+    else:
+        why = "a later one was expected"
+    return "%s names %d as the next record, and %s" % (shown(words, index), following, why)
+
+
+def records_pass(records, words, settings, is_order):
+    """Rows 9, 16 and 17: of each the first bad record on the chain."""
+    kinds(records, words, is_order)
+    shards(records, words, settings)
+    sequence(records, words, settings)
     complete(records, words, settings, is_order)
 
 
+def kinds(records, words, is_order):
+    """Row 9."""
+    message, allowed = ("an order", ORDER_KINDS) if is_order else ("a report", REPORT_KINDS)
+    for record in records:
+        if record.kind not in allowed:
+            name = " (%s)" % KIND_NAMES[record.kind] if record.kind in KIND_NAMES else ""
+            raise Refused(9, "%s has kind %d%s, %s has kinds %s"
+                          % (shown(words, record.index), record.kind, name, message, " ".join(map(str, allowed))), record.index)
+        if record.kind in (MEMBERS, HOLDER) and record.second:
+            raise Refused(9, "%s: word 2 is %d, and 0 was expected there" % (shown(words, record.index), record.second), record.index)
+
+
+def shards(records, words, settings):
+    """Row 16."""
+    count = len(settings.shards)
+    for record in records:
+        if record.shard >= count:
+            raise Refused(16, "%s names shard %d, there %s" % (shown(words, record.index), record.shard,
+                                                              "is 1 shard" if count == 1 else "are %d shards" % count), record.index)
+
+
+def sequence(records, words, settings):
+    """Row 17 but for what is missing: a record that does not follow the one before it, or is surplus."""
+    before, carried = None, set()
+    for record in records:
+        if before and key(before) >= key(record):
+            raise Refused(17, "%s: %s" % (shown(words, record.index), unordered(before, record)), record.index)
+        if record.kind in (HOLDER, CUT) and record.shard not in carried:
+            raise Refused(17, "%s: %s, but no record before it gives machine %s that shard"
+                          % (shown(words, record.index), what(record), settings.name(words[0])), record.index)
+        if record.kind == MEMBERS and words[0] in nodes_of(record.first):
+            carried.add(record.shard)
+        before = record
+
+
+def key(record):
+    """What rises along the chain."""
+    return record.kind, record.shard, record.first if record.kind == RUN else 0
+
+
+def what(record):
+    text = "%s of shard %d" % (WHAT[record.kind], record.shard)
+    return "%s in view %d" % (text, record.first) if record.kind == RUN else text
+
+
+def unordered(before, record):
+    """How a record does not follow the one before it."""
+    if (before.kind, before.shard) == (record.kind, record.shard):
+        if record.kind == RUN:
+            return "%s after one in view %d (record %d), but views must rise" % (what(record), before.first, before.index)
+        return "%s once more, after record %d" % (what(record), before.index)
+    rising = "shards" if before.kind == record.kind else "kinds"
+    return "%s after %s (record %d), but %s must rise" % (what(record), what(before), before.index, rising)
+
+
 def complete(records, words, settings, is_order):
-    """The rest of row 9: the shards of each kind are those that there must be."""
+    """The rest of row 17: no record is missing. The last one on the chain is told."""
     every = set(range(len(settings.shards)))
     carried = {record.shard for record in records if record.kind == MEMBERS and words[0] in nodes_of(record.first)}
-    needed = {MEMBERS: every, TERMINATION: every}
+    there = {kind: {record.shard for record in records if record.kind == kind} for kind in KIND_NAMES}
+    needed = {MEMBERS: every, TERMINATION: every if is_order or there[TERMINATION] else set()}
     if is_order:
         needed.update({HOLDER: carried, CUT: carried})
-    for kind, shards in needed.items():
-        there = {record.shard for record in records if record.kind == kind}
-        if kind == TERMINATION and not there and not is_order:
-            continue
-        for shard in sorted(shards ^ there):
-            surplus = "is there, though node %s does not carry the shard" % settings.name(words[0])
-            fault = "is missing" if shard in shards else surplus
-            raise Refused(9, "the %s record (kind %d) of shard %d %s" % (KIND_NAMES[kind], kind, shard, fault))
+    last = records[-1].index if records else 0
+    for kind, wanted in needed.items():
+        missing = sorted(wanted - there[kind])
+        if missing:
+            several = len(missing) > 1
+            raise Refused(17, "%s (kind %d) of shard%s %s %s missing; %s is the last on the chain" % (
+                WHAT[kind], kind, "s" * several, listed(missing), "are" if several or kind == MEMBERS else "is", shown(words, last)), last)
 
 
 def shards_members(records, words, settings):

@@ -6,7 +6,7 @@ from .answers import Number, Plan, Wait, printed
 from .gathering import Gathered, gather, waits
 from .ordering import First, first_placement
 from .planning import faults, plan_lines
-from .refusing import ADVICE, block_name, refusal_lines
+from .refusing import ADVICE, block_name, refusal_lines, to_do
 from .sentences import machines
 from .telling import plan_advice, refusal_advice, wait_advice
 from .waiting import wait_lines
@@ -40,9 +40,9 @@ def explain(given, answer, fault=None, program=None, gone=frozenset()):
         told.advice = advise(given, gathered, answer, told.fault, program, gone)
         told.differing = supposed_differences(gathered.settings, told.advice.found)
     if isinstance(answer, Number):
-        told.lines = refusal_lines(answer.number, told.fault, given, gathered)
+        told.lines = refusal_lines(answer, told.fault, given, gathered)
         told.lines += refusal_advice(given, gathered, told.advice, block_name)
-        told.lines += ["To do: %s" % ADVICE[answer.number]] if answer.number in ADVICE else []
+        told.lines += ["To do: %s" % to_do(answer, told.fault, given)] if answer.number in ADVICE else []
     elif told.agrees and isinstance(answer, Wait):
         told.lines = parts(wait_advice(gathered, answer, told.advice, program), summary(gathered), waiting(gathered, answer))
     elif told.agrees:
@@ -100,8 +100,9 @@ def differences(gathered, given, answer, fault=None, first=None):
     """Where this tool's own counting comes to something else than the answer. `first` is the placement that a plan must have."""
     refused = gathered.refused
     if refused:
-        same = answer == Number(refused.number) and fault in (None, gathered.fault)
-        return [] if same else ["number %d for %s: %s" % (refused.number, block_name(gathered.fault, given), refused.why)]
+        own = Number(refused.number, refused.index)
+        same = answer == own and fault in (None, gathered.fault)
+        return [] if same else ["%s for %s: %s" % (printed(own), block_name(gathered.fault, given), refused.why)]
     failing = waits(gathered)
     if failing:
         return [] if answer == Wait(*failing[0]) else [printed(Wait(*failing[0]))]

@@ -82,7 +82,7 @@ def to_text(given):
                 parts.append(message_text(block, settings))
         except Refused as refused:
             name = "message" if number else "settings"
-            parts.append(["# number %d: %s" % (refused.number, refused.why)] + printing.raw_text(name, block))
+            parts.append(["# %s" % refused] + printing.raw_text(name, block))
     return "\n\n".join("\n".join(part) for part in parts) + "\n"
 
 

@@ -28,7 +28,7 @@ def answer_value(answer):
         return {"kind": "plan", "view": answer.view, "moves": answer.moves}
     if isinstance(answer, Wait):
         return {"kind": "wait", "reason": answer.reason, "value": answer.value}
-    return {"kind": "refusal", "number": answer.number}
+    return {"kind": "refusal", "number": answer.number, "record": answer.index}
 
 
 def settings_value(settings):
@@ -92,6 +92,7 @@ def without_value(without):
 
 def refusal_value(given, told):
     refused, fault = told.gathered.refused, told.fault
-    return {"block": fault, "file": given.files[fault] if fault is not None and fault < len(given.files) else None,
+    record = None if refused.index is None else given.blocks[fault][4 * refused.index : 4 * refused.index + 4]
+    return {"block": fault, "words": record, "file": given.files[fault] if fault is not None and fault < len(given.files) else None,
             "line": given.lines[fault] if fault is not None and fault < len(given.lines) else None, "why": refused.why,
             "without": [without_value(one) for one in told.advice.without]}

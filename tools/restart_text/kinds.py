@@ -43,8 +43,8 @@ def input_text(data, _):
         try:
             decode.report_from(block, settings)
         except Refused as refused:
-            raise Refused(refused.number, "report %d of %d is refused with number %d: %s; --damaged prints it word by word"
-                          % (number, len(blocks) - 1, refused.number, refused.why)) from None
+            raise Refused(refused.number, "report %d of %d is refused with %s; --damaged prints it word by word"
+                          % (number, len(blocks) - 1, refused)) from None
     return inputs.to_text(inputs.Input(blocks, [])).splitlines()
 
 

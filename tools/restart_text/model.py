@@ -8,6 +8,7 @@ MOST_NODES, MOST_SETS, MOST_SHARDS, SUBGROUPS = 32, 16, 16, 4
 MOST_RECORDS = 128
 GREATEST = 2**32 - 1
 START = (0, 0)
+LOCATED = (8, 9, 16, 17)  # the numbers of refusals that name a record by its index
 
 
 @dataclass(frozen=True)
@@ -80,9 +81,16 @@ class Order:
 
 
 class Refused(Exception):
-    """Words that the planner refuses: the number as in restart(7), and what is wrong, in words."""
+    """Words that the planner refuses: the number as in restart(7), for some numbers the index of the record looked at, and what is
+    wrong, in words."""
 
-    def __init__(self, number, why):
-        super().__init__("number %d: %s" % (number, why))
+    def __init__(self, number, why, index=None):
+        super().__init__("%s: %s" % (number_line(number, index), why))
         self.number = number
+        self.index = index
         self.why = why
+
+
+def number_line(number, index):
+    """As `restart` prints it; an index 0 is an index."""
+    return "number %d" % number if index is None else "number %d %d" % (number, index)

@@ -2,7 +2,7 @@
 import re
 from html import escape
 
-from .answers import Number, Plan
+from .answers import Number, Plan, printed
 from .drawing import draw
 from .planning import shard_rows
 from .telling import reason
@@ -41,7 +41,7 @@ def headline(answer):
     if isinstance(answer, Plan):
         return "Restart plan: new view %d, %d move%s" % (answer.view, answer.moves, "s" * (answer.moves != 1))
     if isinstance(answer, Number):
-        return "Refused: number %d" % answer.number
+        return "Refused: %s" % printed(answer)
     return "Waiting, reason %d: %s" % (answer.reason, reason(answer))
 
 

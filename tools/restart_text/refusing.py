@@ -1,4 +1,7 @@
 """A refusal in words: when its number is given, what is wrong in the block at fault, and what to do."""
+from .answers import Number
+
+# In the order in which they are checked.
 TABLE = {
     1: "desk not 16,384 words, buffer to be written not 512",
     2: "settings",
@@ -8,7 +11,9 @@ TABLE = {
     6: "node not below N",
     7: "view outside its limits, mask with a bit from N up or without the head's node",
     8: "next index",
-    9: "kind, shard, order, missing or surplus record, or word 2 not zero",
+    9: "a kind that the message cannot have, or a word 2 that should be zero",
+    16: "a shard that the settings do not have",
+    17: "wrong sequence, a repeat, a missing or a surplus record",
     10: "shard empty, outside members, or sharing a node within its subgroup",
     11: "position or run; holder outside the members",
     12: "kept number, other masks",
@@ -17,6 +22,10 @@ TABLE = {
 }
 OTHER_GROUP = "Check that this report belongs to this group and that the settings are those the group ran with."
 DAMAGED = "The report is damaged or cut. Have the machine write it again, or copy it again from its disk."
+CUT_OFF = ("The report's end is missing, as of a file that was cut off. Copy it again from the machine's disk, whole; if it is the same"
+           " there, have the machine write it again.")
+TYPED = ("A word was mistyped or damaged; a file that was only cut off does not have this. Compare the record with what the machine has on"
+         " its disk, or have the machine write the report again.")
 TWO_STORIES = ("Two machines tell different stories of one view. Find out which report comes from another group or from a damaged"
                " disk, and leave only that one out. Do not guess: a wrong choice can lose stored updates.")
 ADVICE = {
@@ -24,8 +33,10 @@ ADVICE = {
     5: DAMAGED,
     6: OTHER_GROUP,
     7: OTHER_GROUP,
-    8: DAMAGED,
-    9: DAMAGED,
+    8: TYPED,  # or CUT_OFF: see to_do
+    9: TYPED,
+    16: TYPED + " " + OTHER_GROUP,
+    17: TYPED + " " + OTHER_GROUP,
     10: DAMAGED + " " + OTHER_GROUP,
     11: DAMAGED,
     12: TWO_STORIES,
@@ -33,17 +44,28 @@ ADVICE = {
 }
 
 
-def refusal_lines(number, fault, given, gathered):
-    """What number the planner gave, for which block (by its place in the input), and why."""
+def refusal_lines(answer, fault, given, gathered):
+    """What number the planner gave, for which block (by its place in the input) and record, and why."""
+    number, refused = answer.number, gathered.refused
     if number not in ADVICE:
         table = "is given when: %s" % TABLE[number] if number in TABLE else "is not among those of restart(7)"
         return ["Number %d %s. The program restart never gives it." % (number, table)]
-    lines = ["Refused with number %d, given when: %s." % (number, TABLE[number])]
+    record = " at record %d" % answer.index if answer.index is not None else ""
+    lines = ["Refused with number %d%s, given when: %s." % (number, record, TABLE[number])]
     if fault is not None:
         lines.append("At fault: %s." % block_name(fault, given))
-    if gathered.refused and (gathered.refused.number, gathered.fault) == (number, fault):
-        lines.append("What is wrong: %s." % gathered.refused.why)
+    if refused and (Number(refused.number, refused.index), gathered.fault) == (answer, fault):
+        lines.append("What is wrong: %s." % refused.why)
     return lines
+
+
+def to_do(answer, fault, given):
+    """What to do about a refusal. A next index past the message's end is that of a cut file."""
+    if answer.number == 8 and fault is not None:
+        block = given.blocks[fault]
+        if block[4 * answer.index + 3 : 4 * answer.index + 4] >= [len(block) // 4]:
+            return CUT_OFF
+    return ADVICE[answer.number]
 
 
 def block_name(fault, given):

@@ -56,7 +56,7 @@ class Command(unittest.TestCase):
              "no-such-program does not run: No such file or directory"),
             (["explain", "-", "--program", "/bin/false"], support.bytes_a(), 3, "/bin/false ended with status 1"),
             (["explain", "-", "--program", "/bin/echo"], support.bytes_a(), 3,
-             "expected a plan, 'wait REASON' or 'number NUMBER', found ''"),
+             "expected a plan, 'wait REASON' or 'number NUMBER' (with a record after 8, 9, 16, 17), found ''"),
             (["explain", "-", "--gone", "3-40", "--program", support.program()], support.bytes_a(), 3,
              "--gone: expected nodes from 0 to 31 or a range such as 0-6, found '3-40'"),
             (["draw", "-", "--program", support.program()], support.bytes_a()[:-4], 2,

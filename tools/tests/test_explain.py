@@ -195,8 +195,8 @@ class Refusals(unittest.TestCase):
     HEAD = [0, 7, 127, 1]
     REST = [256, 5, 0, 2, 257, 82, 0, 3, 258, 32, 0, 0]
 
-    def says(self, given, number, *pieces):
-        told = explained(given, "number %d\n" % number)
+    def says(self, given, number, *pieces, index=None):
+        told = explained(given, "number %d\n" % number if index is None else "number %d %d\n" % (number, index))
         for piece in pieces:
             self.assertIn(piece, told)
 
@@ -206,30 +206,66 @@ class Refusals(unittest.TestCase):
                   "What is wrong: the least group size is 8, allowed are 1 to 7.\n")
         self.says(inputs.Input([], []), 2, "At fault: the settings, which are missing.")
 
+    def of_a_report(self, *rows):
+        """Each row has a report of case A, the number and record with which it is refused, and what is said of it."""
+        for number, index, block, why, *to_do in rows:
+            with self.subTest(why):
+                record = "" if index is None else " at record %d" % index
+                self.says(support.with_block(3, block), number, "Refused with number %d%s, given when: " % (number, record),
+                          "At fault: report 3 of 6, which names machine %d.\nWhat is wrong: %s" % (block[0], why),
+                          "\nTo do: " + "".join(to_do), index=index)
+
     def test_each_row_of_a_report(self):
         rest = self.REST
-        for number, block, why in (
-            (5, [2, 7, 127, 0, 256, 5], "the message has 6 words"),
-            (6, [7, 7, 127, 1] + rest, "the message names node 7, the settings have nodes 0 to 6"),
-            (7, [2, 0, 127, 1] + rest, "the view number is 0"),
-            (7, [2, 7, 255, 1] + rest, "node 7 is among the members"),
-            (7, [2, 7, 123, 1] + rest, "node 2 is not among the members"),
-            (8, [2, 7, 127, 1, 256, 5, 0, 1] + rest[4:], "record 1 names 1 as the next one; that is no later record of the 4"),
-            (9, [2, 7, 127, 1, 2304, 5, 0, 2] + rest[4:], "record 1 has kind 9, a report has kinds 1 2 3"),
-            (9, [2, 7, 127, 1, 256, 5, 1, 2] + rest[4:], "word 2 of record 1 is 1 and should be 0"),
-            (9, [2, 7, 127, 1, 259, 5, 0, 2] + rest[4:], "record 1 is for shard 3, the settings have shards 0 to 2"),
-            (9, [2, 7, 127, 2] + rest, "the members record (kind 1) of shard 0 is missing"),
-            (9, [2, 7, 127, 1, 256, 5, 0, 2, 256, 5, 0, 3] + rest[8:], "record 2 is out of sequence or a repeat"),
-            (10, [2, 7, 127, 1, 256, 0, 0, 2] + rest[4:], "shard 0 has no members"),
-            (10, [2, 7, 63, 1] + rest, "node 6 of shard 1 is not among the view's members"),
-            (10, [2, 7, 127, 1, 256, 7, 0, 2] + rest[4:], "node 1 is in shards 0 and 1 of one subgroup"),
-            (11, [2, 7, 127, 1] + rest[:-1] + [4, 768, 7, 0, 0], "record 4, the run of shard 0, is (7, 0), both should be from 1"),
-            (11, [2, 7, 127, 1] + rest[:-1] + [4, 768, 8, 1, 0], "record 4, the run of shard 0, is of view 8, at most 7 is allowed"),
-        ):
-            with self.subTest(why):
-                machine = block[0]
-                self.says(support.with_block(3, block), number, "Refused with number %d, given when: " % number,
-                          "At fault: report 3 of 6, which names machine %d.\nWhat is wrong: %s" % (machine, why), "\nTo do: ")
+        self.of_a_report(
+            (5, None, [2, 7, 127, 0, 256, 5], "the message has 6 words"),
+            (6, None, [7, 7, 127, 1] + rest, "the message names node 7, the settings have nodes 0 to 6"),
+            (7, None, [2, 0, 127, 1] + rest, "the view number is 0"),
+            (7, None, [2, 7, 255, 1] + rest, "node 7 is among the members"),
+            (7, None, [2, 7, 123, 1] + rest, "node 2 is not among the members"),
+            (10, None, [2, 7, 127, 1, 256, 0, 0, 2] + rest[4:], "shard 0 has no members"),
+            (10, None, [2, 7, 63, 1] + rest, "node 6 of shard 1 is not among the view's members"),
+            (10, None, [2, 7, 127, 1, 256, 7, 0, 2] + rest[4:], "node 1 is in shards 0 and 1 of one subgroup"),
+            (11, None, [2, 7, 127, 1] + rest[:-1] + [4, 768, 7, 0, 0],
+             "record 4, the run of shard 0, is (7, 0), both should be from 1"),
+            (11, None, [2, 7, 127, 1] + rest[:-1] + [4, 768, 8, 1, 0],
+             "record 4, the run of shard 0, is of view 8, at most 7 is allowed"),
+        )
+
+    def test_a_next_index(self):
+        """A cut file and a wrong word are told apart."""
+        rest = self.REST
+        self.of_a_report(
+            (8, 1, [2, 7, 127, 1, 256, 5, 0, 1] + rest[4:],
+             "record 1 (words 256 5 0 1) names 1 as the next record, and a later one was expected.\n", "A word was mistyped or damaged"),
+            (8, 2, [2, 7, 127, 1] + rest[:8],
+             "record 2 (words 257 82 0 3) names 3 as the next record, and the message ends after record 2: it was cut off, or this"
+             " word is wrong.\n", "The report's end is missing, as of a file that was cut off."),
+            (8, 0, [2, 7, 127, 5] + rest, "record 0 (words 2 7 127 5) names 5 as the next record", "The report's end is missing"),
+        )
+
+    def test_the_record_that_is_told(self):
+        head, rest = [2, 7, 127, 1], self.REST
+        self.of_a_report(
+            (9, 1, head + [2304, 5, 0, 2] + rest[4:], "record 1 (words 2304 5 0 2) has kind 9, a report has kinds 1 2 3.\n"),
+            (9, 4, head + rest[:-1] + [4, 1025, 1, 0, 0], "record 4 (words 1025 1 0 0) has kind 4 (holder), a report has kinds 1 2 3.\n"),
+            (9, 1, head + [256, 5, 1, 2] + rest[4:], "record 1 (words 256 5 1 2): word 2 is 1, and 0 was expected there.\n"),
+            (9, 5, head + rest[:-1] + [5, 9, 9, 9, 9, 2304, 7, 1, 0], "record 5 (words 2304 7 1 0) has kind 9"),
+            (16, 1, head + [259, 5, 0, 2] + rest[4:], "record 1 (words 259 5 0 2) names shard 3, there are 3 shards.\n"),
+            (17, 3, [2, 7, 127, 2] + rest, "the members (kind 1) of shard 0 are missing; record 3 (words 258 32 0 0) is the last on the chain.\n"),
+            (17, 0, [2, 7, 127, 0],
+             "the members (kind 1) of shards 0, 1 and 2 are missing; record 0 (words 2 7 127 0) is the last on the chain.\n"),
+            (17, 5, head + rest[:-1] + [4, 513, 7, 4, 5, 769, 7, 4, 0],
+             "the termination (kind 2) of shards 0 and 2 are missing; record 5 (words 769 7 4 0) is the last on the chain.\n"),
+            (17, 2, head + [256, 5, 0, 2, 256, 5, 0, 3] + rest[8:],
+             "record 2 (words 256 5 0 3): the members of shard 0 once more, after record 1.\n"),
+            (17, 2, head + [257, 5, 0, 2, 256, 5, 0, 3] + rest[8:],
+             "record 2 (words 256 5 0 3): the members of shard 0 after the members of shard 1 (record 1), but shards must rise.\n"),
+            (17, 5, head + rest[:-1] + [4, 768, 6, 2, 5, 768, 6, 3, 0],
+             "record 5 (words 768 6 3 0): a run of shard 0 in view 6 after one in view 6 (record 4), but views must rise.\n"),
+            (17, 5, head + rest[:-1] + [4, 768, 6, 2, 5, 258, 32, 0, 0],
+             "record 5 (words 258 32 0 0): the members of shard 2 after a run of shard 0 in view 6 (record 4), but kinds must rise.\n"),
+        )
 
     def test_two_views_of_one_number(self):
         start = "report node 4 view 7\nmembers 0-6\nshard 0 members 0 "
@@ -245,7 +281,7 @@ class Refusals(unittest.TestCase):
                   "machine 3 ends shard 2 at view 7 update 5; machine 1 ended it at view 7 update 4")
 
     def test_a_number_that_restart_does_not_give(self):
-        for number, piece in ((14, "node not held"), (99, "is not among those of restart(7)")):
+        for number, piece in ((14, "node not held"), (15, "is not among those"), (99, "is not among those of restart(7)")):
             told = explain(support.given(A), answers.Number(number))
             self.assertIn(piece, told.lines[0])
             self.assertFalse(told.agrees)
@@ -260,7 +296,7 @@ class AnswersThatDoNotFit(unittest.TestCase):
 
     def test_waits_and_numbers(self):
         self.warned(A, "wait 2\n", "a plan")
-        self.warned(A, "number 9\n", "a plan")
+        self.warned(A, "number 9 4\n", "a plan")
         self.warned(support.example("f"), "wait 4 1\n", "wait 4 2")
         self.warned(support.example("b"), support.ANSWER_A, "wait 2")
 
@@ -268,7 +304,16 @@ class AnswersThatDoNotFit(unittest.TestCase):
         given = support.with_block(3, [2, 0, 127, 0])
         self.assertTrue(explain(given, answers.Number(7), 3).agrees)
         self.assertFalse(explain(given, answers.Number(7), 2).agrees)
-        self.assertFalse(explain(given, answers.Number(8), 3).agrees)
+        self.assertFalse(explain(given, answers.Number(8, 0), 3).agrees)
+
+    def test_another_record_at_fault(self):
+        given = support.with_block(3, [2, 7, 127, 0])
+        self.assertTrue(explain(given, answers.Number(17, 0), 3).agrees)
+        for other in (answers.Number(17, 1), answers.Number(16, 0), answers.Number(9, 0)):
+            told = explain(given, other, 3)
+            self.assertFalse(told.agrees)
+            self.assertIn("  number 17 0 for report 3 of 6, which names machine 2: the members (kind 1) of shards 0, 1 and 2 are missing;"
+                          " record 0 (words 2 7 127 0) is the last on the chain", told.lines)
 
     def test_plans(self):
         for old, new, piece in (
@@ -286,6 +331,12 @@ class AnswersThatDoNotFit(unittest.TestCase):
 
     def test_lines_that_are_no_answer(self):
         mixed = support.ANSWER_A.replace("shard 1", "shard 2")
-        for text in ("", "wait 4\n", "wait 2 1\n", "wait 6\n", "number\n", "view 8\nmoves x\n", mixed):
+        unlike = ("number\n", "number 8\n", "number 9\n", "number 16\n", "number 17\n", "number 7 0\n", "number 10 4\n", "number 17 5 1\n")
+        for text in ("", "wait 4\n", "wait 2 1\n", "wait 6\n", "view 8\nmoves x\n", mixed, *unlike):
             with self.subTest(text):
                 self.assertRaises(answers.BadAnswer, answers.parse, text)
+
+    def test_an_index_0_is_an_index(self):
+        self.assertEqual(answers.parse("number 17 0\n"), answers.Number(17, 0))
+        self.assertEqual(answers.printed(answers.Number(8, 0)), "number 8 0")
+        self.assertEqual(answers.printed(answers.parse("number 7\n")), "number 7")

@@ -94,8 +94,15 @@ class Values(unittest.TestCase):
 
     def test_a_refusal(self):
         value = value_of(support.with_block(3, [2, 0, 127, 0]))
-        self.assertEqual((value["answer"]["number"], value["refusal"]["block"]), (7, 3))
-        self.assertEqual(value["refusal"]["without"][0]["blocks"], [3])
+        self.assertEqual((value["answer"]["number"], value["answer"]["record"], value["refusal"]["block"]), (7, None, 3))
+        self.assertEqual((value["refusal"]["words"], value["refusal"]["without"][0]["blocks"]), (None, [3]))
+
+    def test_a_refusal_that_names_a_record(self):
+        for block, number, words in (([2, 7, 127, 0], 17, [2, 7, 127, 0]), ([2, 7, 127, 9, 256, 5, 0, 0], 8, [2, 7, 127, 9])):
+            value = value_of(support.with_block(3, block))
+            self.assertEqual(value["answer"], {"kind": "refusal", "number": number, "record": 0})
+            self.assertEqual(value["refusal"]["words"], words)
+            self.assertEqual(faults(value, SCHEMA), [])
 
 
 class TheSchema(unittest.TestCase):

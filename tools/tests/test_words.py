@@ -99,12 +99,28 @@ class Orders(unittest.TestCase):
         self.assertEqual(encode.order_words(texts.order_of(sections(support.ORDER_TEXT)[0])), support.ORDER_A)
 
     def test_an_order_that_is_none(self):
-        for place, word, number in ((0, 6, 7), (1, 1, 7), (3, 9, 8), (4, 2304, 9), (5, 64, 10), (21, 8, 11), (29, 6, 11)):
+        for place, word, number, index, why in (
+            (0, 6, 7, None, "node 6 is not among the members"),
+            (1, 1, 7, None, "the view number is 1"),
+            (3, 9, 8, 0, "record 0 (words 4 8 63 9) names 9 as the next record, and the message ends after record 8"),
+            (4, 2304, 9, 1, "record 1 (words 2304 5 0 2) has kind 9, an order has kinds 1 2 4 5"),
+            (16, 768, 9, 4, "record 4 (words 768 0 0 5) has kind 3 (run), an order has kinds 1 2 4 5"),
+            (30, 1, 9, 7, "record 7 (words 1025 1 1 8): word 2 is 1, and 0 was expected there"),
+            (28, 1027, 16, 7, "record 7 (words 1027 1 0 8) names shard 3, there are 3 shards"),
+            (28, 1024, 17, 7, "record 7 (words 1024 1 0 8): the holder of shard 0, but no record before it gives machine 4 that shard"),
+            (32, 1282, 17, 8, "record 8 (words 1282 7 4 0): the cut of shard 2, but no record before it gives machine 4 that shard"),
+            (31, 0, 17, 7, "the cut (kind 5) of shard 1 is missing; record 7 (words 1025 1 0 0) is the last on the chain"),
+            (19, 6, 17, 8, "the termination (kind 2) of shard 1 is missing; record 8 (words 1281 7 4 0) is the last on the chain"),
+            (5, 64, 10, None, "node 6 of shard 0 is not among the view's members"),
+            (21, 8, 11, None, "record 5, the termination of shard 1, is of view 8"),
+            (29, 6, 11, None, "record 7, the holder of shard 1, names node 6"),
+        ):
             order = list(support.ORDER_A)
             order[place] = word
             with self.assertRaises(Refused) as caught:
                 decode.order_from(order, decode.settings_from(support.CASE_A[0]))
-            self.assertEqual(caught.exception.number, number, "word %d" % place)
+            self.assertEqual((caught.exception.number, caught.exception.index), (number, index), "word %d" % place)
+            self.assertIn(why, str(caught.exception))
 
 
 class States(unittest.TestCase):

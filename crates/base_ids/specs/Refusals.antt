@@ -1,7 +1,8 @@
--- A refusal is the first row of a list of (condition, number) whose condition fails, in the order of the list.
--- Laws: a list gives none just where every condition of it holds.
-use Prim.Native.Nat.{ℕ, suc}
-use mathlib.Core.Bool.{Bool, true, false, cond, _&&_}
+-- A refusal is the first row of a list of (condition, number) whose condition fails, in the order of the list. It is one
+-- word: the row's number and, 256 times, the index of the record that the row looked at, where the row tells one.
+-- Laws: a list gives none just where every condition of it holds; a word gives its number and its index back.
+use Prim.Native.Nat.{ℕ, suc, _+_, _*_, _/_, _%_, _<_}
+use mathlib.Core.Bool.{Bool, true, false, cond, _&&_, _||_}
 use mathlib.Core.Path.{_≡_, refl, sym, ap, _∙_}
 use lib.Dec.{eqb}
 use borrow.Author.Tests.{eqb-true}
@@ -10,7 +11,11 @@ use Rattle.base_ids.specs.declared.Refusal.{Refusal}
 
 -- the refusal with a number; 0 is none
 abbrev pub refused : ℕ → Refusal
-refused k = record { number = k }
+refused k = record { code = k }
+
+-- the refusal with a number and the index of a record
+abbrev pub refusedAt : ℕ → ℕ → Refusal
+refusedAt k i = record { code = k + 256 * i }
 
 -- no refusal
 abbrev pub none : Refusal
@@ -18,11 +23,26 @@ none = refused 0
 
 -- nothing is refused
 abbrev pub accepted : Refusal → Bool
-accepted r = eqb (r .number) 0
+accepted r = eqb (r .code) 0
+
+-- the number of a refusal, and the index beside it
+abbrev pub numberIn : Refusal → ℕ
+numberIn r = r .code % 256
+
+abbrev pub indexIn : Refusal → ℕ
+indexIn r = r .code / 256
+
+-- the numbers that tell the index of a record: next index, kind, shard and sequence
+unfoldable pub located : ℕ → Bool
+located k = eqb k 8 || eqb k 9 || eqb k 16 || eqb k 17
 
 -- number k unless the condition holds, and then what the rest of the list gives
 unfoldable pub unless : Bool → ℕ → Refusal → Refusal
 unless ok k rest = cond ok rest (refused k)
+
+-- the same with number k at record i
+unfoldable pub unlessAt : Bool → ℕ → ℕ → Refusal → Refusal
+unlessAt ok k i rest = cond ok rest (refusedAt k i)
 
 -- the refusal of a list that is followed by another
 unfoldable pub firstOf : Refusal → Refusal → Refusal
@@ -32,18 +52,18 @@ firstOf r rest = cond (accepted r) rest r
 
 -- an accepted refusal is none
 pub accepted-none : (r : Refusal) → accepted r ≡ true → r ≡ none
-accepted-none r h = ap refused (eqb-true (r .number) 0 h)
+accepted-none r h = ap refused (eqb-true (r .code) 0 h)
 
 -- the condition of a list that gives none, and what follows it. Every number of a row is above 0.
 pub unless-ok : (ok : Bool) (k : ℕ) (rest : Refusal) → unless ok (suc k) rest ≡ none → ok ≡ true
 unfolding unless
 unless-ok true k rest h = refl
-unless-ok false k rest h = absurd (let z : suc k ≡ 0 = ap (λ (r : Refusal). r .number) h in omega arith)
+unless-ok false k rest h = absurd (let z : suc k ≡ 0 = ap (λ (r : Refusal). r .code) h in omega arith)
 
 pub unless-rest : (ok : Bool) (k : ℕ) (rest : Refusal) → unless ok (suc k) rest ≡ none → rest ≡ none
 unfolding unless
 unless-rest true k rest h = h
-unless-rest false k rest h = absurd (let z : suc k ≡ 0 = ap (λ (r : Refusal). r .number) h in omega arith)
+unless-rest false k rest h = absurd (let z : suc k ≡ 0 = ap (λ (r : Refusal). r .code) h in omega arith)
 
 -- and back
 pub unless-none : (ok : Bool) (k : ℕ) (rest : Refusal) → ok ≡ true → rest ≡ none → unless ok k rest ≡ none
@@ -59,11 +79,35 @@ pub unless-false : (ok : Bool) (k : ℕ) (rest : Refusal) → ok ≡ false → u
 unfolding unless
 unless-false ok k rest h = rw h
 
--- two conditions of one number are one condition
-pub unless-and : (p q : Bool) (k : ℕ) (rest : Refusal) → unless p k (unless q k rest) ≡ unless (p && q) k rest
-unfolding unless
-unless-and true q k rest = refl
-unless-and false q k rest = refl
+-- the same laws where an index is told
+pub unless-at-ok : (ok : Bool) (k i : ℕ) (rest : Refusal) → unlessAt ok (suc k) i rest ≡ none → ok ≡ true
+unfolding unlessAt
+unless-at-ok true k i rest h = refl
+unless-at-ok false k i rest h = absurd (let z : suc k + 256 * i ≡ 0 = ap (λ (r : Refusal). r .code) h in omega arith)
+
+pub unless-at-rest : (ok : Bool) (k i : ℕ) (rest : Refusal) → unlessAt ok (suc k) i rest ≡ none → rest ≡ none
+unfolding unlessAt
+unless-at-rest true k i rest h = h
+unless-at-rest false k i rest h = absurd (let z : suc k + 256 * i ≡ 0 = ap (λ (r : Refusal). r .code) h in omega arith)
+
+pub unless-at-none : (ok : Bool) (k i : ℕ) (rest : Refusal) → ok ≡ true → rest ≡ none → unlessAt ok k i rest ≡ none
+unfolding unlessAt
+unless-at-none ok k i rest h e = rw (h, e)
+
+pub unless-at-true : (ok : Bool) (k i : ℕ) (rest : Refusal) → ok ≡ true → unlessAt ok k i rest ≡ rest
+unfolding unlessAt
+unless-at-true ok k i rest h = rw h
+
+pub unless-at-false : (ok : Bool) (k i : ℕ) (rest : Refusal) → ok ≡ false → unlessAt ok k i rest ≡ refusedAt k i
+unfolding unlessAt
+unless-at-false ok k i rest h = rw h
+
+-- a word has its number and its index, if the number is below 256
+pub number-at : (k i : ℕ) → k < 256 → (k + 256 * i) % 256 ≡ k
+number-at k i l = omega arith
+
+pub index-at : (k i : ℕ) → k < 256 → (k + 256 * i) / 256 ≡ i
+index-at k i l = omega arith
 
 -- both of two lists that together give none
 pub first-left : (r rest : Refusal) → firstOf r rest ≡ none → r ≡ none

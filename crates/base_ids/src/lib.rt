@@ -17,9 +17,9 @@ pub struct Position {
     pub k: u32,
 }
 
-// A refusal by its number in document 01's table; number 0 is none.
+// A refusal in one word: its number in document 01's table and 256 times the index of the record it tells; 0 is none.
 pub struct Refusal {
-    pub number: u32,
+    pub code: u32,
 }
 
 // Positions are ordered by view, then k: p is q or before it.

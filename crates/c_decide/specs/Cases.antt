@@ -100,20 +100,20 @@ module _ (settings state desk : List ℕ) (e : Entry) (given : e ≡ entry (eqb 
   unfolding entry decideEntry
   refusal-is = ap (λ (x : Entry). x .refusal) (desk-entry settings state desk e given)
 
-  pub decide-refused : (e .refusal .number ≡ 0 → ⊥) → DecideCall settings state desk (e .refusal .number) state
+  pub decide-refused : (e .refusal .code ≡ 0 → ⊥) → DecideCall settings state desk (e .refusal .code) state
   decide-refused h =
       record {
-        refused = λ n. (ap (λ (r : Refusal). r .number) refusal-is, refl);
-        decided = λ a. absurd (h (ap (λ (r : Refusal). r .number) refusal-is ∙ eqb-true (decideEntry settings state desk .number) 0 a));
+        refused = λ n. (ap (λ (r : Refusal). r .code) refusal-is, refl);
+        decided = λ a. absurd (h (ap (λ (r : Refusal). r .code) refusal-is ∙ eqb-true (decideEntry settings state desk .code) 0 a));
       }
 
-  pub decide-done : e .refusal .number ≡ 0 → (o : Decided) → Decides (wordsIn settings) (e .state) (wordsIn desk) o
+  pub decide-done : e .refusal .code ≡ 0 → (o : Decided) → Decides (wordsIn settings) (e .state) (wordsIn desk) o
       → (answer : ℕ) (left : List ℕ) → answer ≡ decisionWord (o .decision) → left ≡ decisionLeaves (o .decision) (o .state) state
       → DecideCall settings state desk answer left
   decide-done h o decides answer left f g =
       record {
         refused =
-            λ n. clash (eq-eqb (decideEntry settings state desk .number) 0 (sym (ap (λ (r : Refusal). r .number) refusal-is) ∙ h)) n;
+            λ n. clash (eq-eqb (decideEntry settings state desk .code) 0 (sym (ap (λ (r : Refusal). r .code) refusal-is) ∙ h)) n;
         decided =
             λ a. record {
               outcome = o;

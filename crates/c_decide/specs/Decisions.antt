@@ -22,7 +22,7 @@ use Rattle.c_state.specs.Calls.{stateLent, entryRefused}
 abbrev pub decisionWord : Decision → ℕ
 decisionWord Planned = plannedWord
 decisionWord (Wait reason) = waitWord (numberOf reason) (valueOf reason)
-decisionWord (Refused r) = r .number
+decisionWord (Refused r) = r .code
 
 -- the shard or subgroup that a decision names, or 0
 abbrev pub decisionValue : Decision → ℕ
@@ -48,5 +48,5 @@ pub record ByOutcome (settings state desk : List ℕ) (answer : ℕ) (left : Lis
   pub leaves : left ≡ decisionLeaves (outcome .decision) (outcome .state) state
 
 pub record DecideCall (settings state desk : List ℕ) (answer : ℕ) (left : List ℕ) : Type 0 where
-  pub refused : accepted (decideEntry settings state desk) ≡ false → (answer ≡ decideEntry settings state desk .number) × (left ≡ state)
+  pub refused : accepted (decideEntry settings state desk) ≡ false → (answer ≡ decideEntry settings state desk .code) × (left ≡ state)
   pub decided : accepted (decideEntry settings state desk) ≡ true → ByOutcome settings state desk answer left

@@ -61,7 +61,7 @@ fn keep(o: Decided, state: &mut [u8]) -> u32
             33554432
         }
         Decision::Wait(reason) => reason_word(reason),
-        Decision::Refused(refusal) => refusal.number,
+        Decision::Refused(refusal) => refusal.code,
     }
 }
 
@@ -71,8 +71,8 @@ pub fn decide(settings: &[u8], state: &mut [u8], desk: &[u8]) -> u32
 {
     let entry = c_state::enter(desk.len() == 65536, settings, state);
     let refusal = entry.refusal;
-    if refusal.number != 0 {
-        return refusal.number;
+    if refusal.code != 0 {
+        return refusal.code;
     }
     let o = decided(entry.state, settings, desk);
     keep(o, state)

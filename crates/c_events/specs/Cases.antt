@@ -48,21 +48,21 @@ pub check-whole : (x : State) (settings desk : List ℕ) (s d : List ℕ) → se
 check-whole x settings desk s d h e f = ap₂ (λ (a : List ℕ) (b : List ℕ). checkRefusal a x b) (e ∙ settings-whole settings h) f
 
 module _ (settings state desk : List ℕ) (e : Entry) (given : e ≡ entry (eqb (length desk) 65536) settings state) where
-  pub check-refused : (e .refusal .number ≡ 0 → ⊥) → e .refusal .number ≡ checkStateAnswer settings state desk
+  pub check-refused : (e .refusal .code ≡ 0 → ⊥) → e .refusal .code ≡ checkStateAnswer settings state desk
   unfolding checkStateAnswer called entry
   check-refused h =
       let first : e .refusal ≡ entryRefused (deskOk (wordsIn desk)) settings (isState (wordsIn state)) =
       ap (λ (x : Entry). x .refusal) (desk-entry settings state desk e given) in
-      ap (λ (r : Refusal). r .number)
+      ap (λ (r : Refusal). r .code)
       (first
-      ∙ sym (first-refused (entryRefused (deskOk (wordsIn desk)) settings (isState (wordsIn state))) (checkRefusal (wordsIn settings) (stateLent state) (wordsIn desk)) (ap accepted (sym first) ∙ ne-eqb (e .refusal .number) 0 h)))
+      ∙ sym (first-refused (entryRefused (deskOk (wordsIn desk)) settings (isState (wordsIn state))) (checkRefusal (wordsIn settings) (stateLent state) (wordsIn desk)) (ap accepted (sym first) ∙ ne-eqb (e .refusal .code) 0 h)))
 
-  pub check-done : e .refusal .number ≡ 0 → (r : Refusal) → r ≡ checkRefusal (wordsIn settings) (e .state) (wordsIn desk)
-      → r .number ≡ checkStateAnswer settings state desk
+  pub check-done : e .refusal .code ≡ 0 → (r : Refusal) → r ≡ checkRefusal (wordsIn settings) (e .state) (wordsIn desk)
+      → r .code ≡ checkStateAnswer settings state desk
   unfolding checkStateAnswer
   check-done h r f =
       let p = desk-passes settings state desk e given h in
-      ap (λ (r : Refusal). r .number)
+      ap (λ (r : Refusal). r .code)
       (f ∙ ap (λ (x : State). checkRefusal (wordsIn settings) x (wordsIn desk)) (p .state-is)
       ∙ sym (p .event (checkRefusal (wordsIn settings) (stateLent state) (wordsIn desk))))
 
@@ -77,11 +77,11 @@ module _ (event : Event) (settings state desk : List ℕ) (node : ℕ) where
   ToldTake answer left = (answer ≡ takeAnswer event settings state desk node) × (left ≡ takeLeaves event settings state desk node)
 
   module _ (e : Entry) (given : e ≡ entry (eqb (length desk) 65536) settings state) where
-    pub take-refused : (e .refusal .number ≡ 0 → ⊥) → ToldTake (e .refusal .number) state
+    pub take-refused : (e .refusal .code ≡ 0 → ⊥) → ToldTake (e .refusal .code) state
     unfolding takeAnswer takeLeaves
     take-refused h = event-refused settings state desk (taken event settings state desk node) e given h
 
-    pub take-done : e .refusal .number ≡ 0 → (o : Outcome) → o ≡ happened event (wordsIn settings) (e .state) (wordsIn desk) node
+    pub take-done : e .refusal .code ≡ 0 → (o : Outcome) → o ≡ happened event (wordsIn settings) (e .state) (wordsIn desk) node
         → {answer : ℕ} {left : List ℕ} → Told (refusalOf (o .answer)) 0 (bytesOf (stateWords (o .state))) state answer left → ToldTake answer left
     unfolding takeAnswer takeLeaves taken
     take-done h o f {answer} {left} t =

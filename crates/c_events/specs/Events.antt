@@ -31,7 +31,7 @@ freshLeaves state = bytesLeft (freshRefused state) (bytesOf (stateWords States.f
 -- rows 1 to 3: 0 where the bytes are a state that is sound with the desk, in whatever phase it is
 unfoldable pub checkStateAnswer : List ℕ → List ℕ → List ℕ → ℕ
 checkStateAnswer settings state desk =
-    called (deskOk (wordsIn desk)) settings state (checkRefusal (wordsIn settings) (stateLent state) (wordsIn desk)) .number
+    called (deskOk (wordsIn desk)) settings state (checkRefusal (wordsIn settings) (stateLent state) (wordsIn desk)) .code
 
 -- the outcome of an event that names a node
 abbrev pub happened : Event → List ℕ → State → List ℕ → ℕ → Outcome

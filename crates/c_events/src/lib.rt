@@ -61,8 +61,8 @@ pub fn take(event: Event, settings: &[u8], state: &mut [u8], desk: &[u8], node: 
 {
     let entry = c_state::enter(desk.len() == 65536, settings, state);
     let refusal = entry.refusal;
-    if refusal.number != 0 {
-        return refusal.number;
+    if refusal.code != 0 {
+        return refusal.code;
     }
     let o = outcome_lent(event, entry.state, settings, desk, node);
     c_state::keep(o, state)
@@ -87,9 +87,9 @@ pub fn check_state(settings: &[u8], state: &[u8], desk: &[u8]) -> u32
 {
     let lent = c_state::enter(desk.len() == 65536, settings, state);
     let refusal = lent.refusal;
-    if refusal.number != 0 {
-        return refusal.number;
+    if refusal.code != 0 {
+        return refusal.code;
     }
     let check = check_lent(lent.state, settings, desk);
-    check.number
+    check.code
 }

@@ -41,20 +41,20 @@ module _ (form : Form) (s m b : List ℕ) where
     unfolding readRefused readingOf
     refusal-is = unless-true (eqb (length b) 2048) 1 _ (eq-eqb (length b) 2048 whole) ∙ sym (ap (λ (x : Reading). x .refusal) e)
 
-    contents-are : r .refusal .number ≡ 0 → r .contents ≡ contentsOf (wordsIn m)
+    contents-are : r .refusal .code ≡ 0 → r .contents ≡ contentsOf (wordsIn m)
     unfolding readingOf
     contents-are h =
         let ok : accepted (readRefusal form (wordsIn s) (wordsIn m)) ≡ true =
-        eq-eqb (readRefusal form (wordsIn s) (wordsIn m) .number) 0 (sym (ap (λ (x : Reading). x .refusal .number) e) ∙ h) in
+        eq-eqb (readRefusal form (wordsIn s) (wordsIn m) .code) 0 (sym (ap (λ (x : Reading). x .refusal .code) e) ∙ h) in
         ap (λ (x : Reading). x .contents) e ∙ rw ok
 
-    pub read-refused : (r .refusal .number ≡ 0 → ⊥) → ToldRead (r .refusal .number) b
-    read-refused h = told (told-refused (r .refusal) _ refusal-is _ _ b (ne-eqb (r .refusal .number) 0 h))
+    pub read-refused : (r .refusal .code ≡ 0 → ⊥) → ToldRead (r .refusal .code) b
+    read-refused h = told (told-refused (r .refusal) _ refusal-is _ _ b (ne-eqb (r .refusal .code) 0 h))
 
-    pub read-taken : r .refusal .number ≡ 0 → ToldRead (withLength (contentsLength (r .contents))) (bytesOf (contentsWords (r .contents)))
-    read-taken h = rw (contents-are h) (told (told-accepted (r .refusal) _ refusal-is _ _ b (eq-eqb (r .refusal .number) 0 h)))
+    pub read-taken : r .refusal .code ≡ 0 → ToldRead (withLength (contentsLength (r .contents))) (bytesOf (contentsWords (r .contents)))
+    read-taken h = rw (contents-are h) (told (told-accepted (r .refusal) _ refusal-is _ _ b (eq-eqb (r .refusal .code) 0 h)))
 
-    pub read-few : r .refusal .number ≡ 0 → r .contents .len ≤ 127
+    pub read-few : r .refusal .code ≡ 0 → r .contents .len ≤ 127
     unfolding contentsOf following
     read-few h =
         let len : r .contents .len ≡ following (wordsIn m) = ap (λ (c : Contents). c .len) (contents-are h) in

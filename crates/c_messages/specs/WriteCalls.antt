@@ -114,10 +114,10 @@ module _ (form : Form) (s k b : List ℕ) where
         ∙ sym (unless-true (eqb (length z) 512) 1 _ (eq-eqb (length z) 512 long))
         ∙ sym (ap (λ (x : Writing). x .refusal) e)
 
-    pub write-refused : (w .refusal .number ≡ 0 → ⊥) → ToldWrite (w .refusal .number) b
-    write-refused h = told (told-refused (w .refusal) _ refusal-is _ _ b (ne-eqb (w .refusal .number) 0 h))
+    pub write-refused : (w .refusal .code ≡ 0 → ⊥) → ToldWrite (w .refusal .code) b
+    write-refused h = told (told-refused (w .refusal) _ refusal-is _ _ b (ne-eqb (w .refusal .code) 0 h))
 
-    module _ (h : w .refusal .number ≡ 0) where
+    module _ (h : w .refusal .code ≡ 0) where
       written : writeRefusal form (wordsIn s) (contentsWithin k) z ≡ none
       unfolding writingOf
       written = sym (ap (λ (x : Writing). x .refusal) e) ∙ ap refused h
@@ -129,7 +129,7 @@ module _ (form : Form) (s k b : List ℕ) where
       same-contents : contentsWithin k ≡ contentsLent k
       same-contents =
           ⊎-elim (λ p. p)
-          (λ l. absurd (let five : 5 ≡ 0 = ap (λ (r : Refusal). r .number) (sym (too-many form (wordsIn s) (contentsWithin k) (l .0)) ∙ taken) in omega arith))
+          (λ l. absurd (let five : 5 ≡ 0 = ap (λ (r : Refusal). r .code) (sym (too-many form (wordsIn s) (contentsWithin k) (l .0)) ∙ taken) in omega arith))
           (contents-within k)
 
       length-is : w .length ≡ messageLength (contentsWithin k)
@@ -147,4 +147,4 @@ module _ (form : Form) (s k b : List ℕ) where
       write-taken out g =
           let made : out ≡ messageOf (contentsLent k) 512 = g ∙ rw (q, written, same-contents) in
           let counted : w .length ≡ messageLength (contentsLent k) = length-is ∙ ap messageLength same-contents in
-          rw (made, counted) (told (told-accepted (w .refusal) _ refusal-is _ _ b (eq-eqb (w .refusal .number) 0 h)))
+          rw (made, counted) (told (told-accepted (w .refusal) _ refusal-is _ _ b (eq-eqb (w .refusal .code) 0 h)))

@@ -78,8 +78,8 @@ pub fn read_into(form: Form, settings: &[u8], message: &[u8], contents: &mut [u8
     }
     let reading = read_lent(form, settings, message);
     let refusal = reading.refusal;
-    if refusal.number != 0 {
-        return refusal.number;
+    if refusal.code != 0 {
+        return refusal.code;
     }
     give(reading.contents, contents)
 }
@@ -149,8 +149,8 @@ pub fn write_into(form: Form, settings: &[u8], contents: &[u8], buffer: &mut [u8
     let mut words = [0u32; 512];
     let writing = write_under(form, settings, c, &mut words);
     let refusal = writing.refusal;
-    if refusal.number != 0 {
-        return refusal.number;
+    if refusal.code != 0 {
+        return refusal.code;
     }
     word_bytes::encode(&words, buffer);
     word_lent::with_length(writing.length)

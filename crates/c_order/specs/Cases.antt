@@ -78,11 +78,11 @@ module _ (settings state desk : List ℕ) (node : ℕ) (buffer : List ℕ) where
     from : e ≡ entry (lengthsOk desk buffer) settings state
     from = given ∙ ap (λ (b : Bool). entry b settings state) (ok ∙ ap₂ _&&_ (length-test desk 16383) (length-test buffer 511))
 
-    pub order-not-entered : (e .refusal .number ≡ 0 → ⊥) → ToldOrder (e .refusal .number) buffer
+    pub order-not-entered : (e .refusal .code ≡ 0 → ⊥) → ToldOrder (e .refusal .code) buffer
     unfolding orderRefused
     order-not-entered h = told (entry-refuses (lengthsOk desk buffer) settings state e from h _ _ _ buffer)
 
-    module _ (h : e .refusal .number ≡ 0) where
+    module _ (h : e .refusal .code ≡ 0) where
       pub order-passes : CallEntered (lengthsOk desk buffer) settings state (e .state)
       order-passes = entry-passes (lengthsOk desk buffer) settings state e from h
 
@@ -113,13 +113,13 @@ module _ (settings state desk : List ℕ) (node : ℕ) (buffer : List ℕ) where
             ∙ refusal-same (wordsIn settings) (stateLent state) (wordsIn desk) node (wordsIn buffer) z same-length
             ∙ sym (ap (λ (y : Writing). y .refusal) writing-is)
 
-        pub order-refused : (w .refusal .number ≡ 0 → ⊥) → ToldOrder (w .refusal .number) buffer
-        order-refused n = told (told-refused (w .refusal) _ refusal-is _ _ buffer (ne-eqb (w .refusal .number) 0 n))
+        pub order-refused : (w .refusal .code ≡ 0 → ⊥) → ToldOrder (w .refusal .code) buffer
+        order-refused n = told (told-refused (w .refusal) _ refusal-is _ _ buffer (ne-eqb (w .refusal .code) 0 n))
 
-        module _ (n : w .refusal .number ≡ 0) where
+        module _ (n : w .refusal .code ≡ 0) where
           none-is : orderRefusal (wordsIn settings) (stateLent state) (wordsIn desk) node z ≡ none
           unfolding ordered
-          none-is = sym (ap (λ (y : Writing). y .refusal) writing-is) ∙ accepted-none (w .refusal) (eq-eqb (w .refusal .number) 0 n)
+          none-is = sym (ap (λ (y : Writing). y .refusal) writing-is) ∙ accepted-none (w .refusal) (eq-eqb (w .refusal .code) 0 n)
 
           pub order-few : w .length ≤ 512
           order-few =
@@ -139,4 +139,4 @@ module _ (settings state desk : List ℕ) (node : ℕ) (buffer : List ℕ) where
               ∙ ap (λ (x : State). orderBuffer (wordsIn settings) x (wordsIn desk) node z) (order-passes .state-is)
               ∙ sym (buffer-same (wordsIn settings) (stateLent state) (wordsIn desk) node (wordsIn buffer) z same-length none-is) in
               rw (length-is, out-is)
-              (told (told-accepted (w .refusal) _ refusal-is _ _ buffer (eq-eqb (w .refusal .number) 0 n)))
+              (told (told-accepted (w .refusal) _ refusal-is _ _ buffer (eq-eqb (w .refusal .code) 0 n)))

@@ -43,14 +43,14 @@ pub fn order(settings: &[u8], state: &[u8], desk: &[u8], node: u32, buffer: &mut
     let lengths = lengths_ok(desk.len(), buffer.len());
     let entry = c_state::enter(lengths, settings, state);
     let first = entry.refusal;
-    if first.number != 0 {
-        return first.number;
+    if first.code != 0 {
+        return first.code;
     }
     let mut words = [0u32; 512];
     let written = order_words(entry.state, settings, desk, node, &mut words);
     let refusal = written.refusal;
-    if refusal.number != 0 {
-        return refusal.number;
+    if refusal.code != 0 {
+        return refusal.code;
     }
     word_bytes::encode(&words, buffer);
     word_lent::with_length(written.length)

@@ -102,14 +102,14 @@ module _ (settings state desk message : List ℕ) where
   told t p = (t .0, (t .1, p))
 
   module _ (e : Entry) (given : e ≡ entry (eqb (length desk) 65536) settings state) where
-    pub report-not-entered : (e .refusal .number ≡ 0 → ⊥) → ToldReport (e .refusal .number) state desk
+    pub report-not-entered : (e .refusal .code ≡ 0 → ⊥) → ToldReport (e .refusal .code) state desk
     unfolding eventRefused
     report-not-entered h =
         told (event-refused settings state desk (reportTaken settings state desk message) e given h)
         (entry-refuses (deskOk (wordsIn desk)) settings state e (desk-entry settings state desk e given) h
         (refusalOf (reportTaken settings state desk message .answer)) 0 made desk .leaves)
 
-    module _ (h : e .refusal .number ≡ 0) (o : Outcome) (d : List ℕ) (words : d ≡ wordsIn desk)
+    module _ (h : e .refusal .code ≡ 0) (o : Outcome) (d : List ℕ) (words : d ≡ wordsIn desk)
         (f : o ≡ reported (wordsIn settings) (e .state) d (wordsIn message)) (r : Refusal) (g : r ≡ refusalOf (o .answer)) where
       outcome-is : o ≡ reportTaken settings state desk message
       unfolding reportTaken
@@ -126,18 +126,18 @@ module _ (settings state desk message : List ℕ) where
       answer-is : refusalOf (reportTaken settings state desk message .answer) ≡ r
       answer-is = sym (g ∙ ap (λ (y : Outcome). refusalOf (y .answer)) outcome-is)
 
-      pub report-refused : (r .number ≡ 0 → ⊥) → ToldReport (r .number) state desk
+      pub report-refused : (r .code ≡ 0 → ⊥) → ToldReport (r .code) state desk
       report-refused n =
-          let no : accepted r ≡ false = ne-eqb (r .number) 0 n in
+          let no : accepted r ≡ false = ne-eqb (r .code) 0 n in
           told
           (event-done settings state desk (reportTaken settings state desk message) e given h (told-refused r _ answer-is 0 _ state no))
           (told-refused r _ refusal-is 0 made desk no .leaves)
 
-      pub report-taken : r .number ≡ 0 → (left placed out : List ℕ) → left ≡ bytesOf (stateWords (o .state)) → placed ≡ bytesOf out
+      pub report-taken : r .code ≡ 0 → (left placed out : List ℕ) → left ≡ bytesOf (stateWords (o .state)) → placed ≡ bytesOf out
           → out ≡ deskAfter (wordsIn settings) (e .state) d (wordsIn message) → ToldReport 0 left placed
       unfolding made
       report-taken n left placed out a b k =
-          let yes : accepted r ≡ true = eq-eqb (r .number) 0 n in
+          let yes : accepted r ≡ true = eq-eqb (r .code) 0 n in
           let t = told-accepted r _ answer-is 0 (bytesOf (stateWords (reportTaken settings state desk message .state))) state yes in
           told
           (event-done settings state desk (reportTaken settings state desk message) e given h

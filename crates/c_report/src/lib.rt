@@ -31,15 +31,15 @@ pub fn report(settings: &[u8], state: &mut [u8], desk: &mut [u8], message: &[u8]
 {
     let entry = c_state::enter(desk.len() == 65536, settings, state);
     let first = entry.refusal;
-    if first.number != 0 {
-        return first.number;
+    if first.code != 0 {
+        return first.code;
     }
     let mut words = c_state::desk_words(desk);
     let o = report_words(entry.state, settings, &mut words, message);
     let answer = o.answer;
     let refusal = c_state::refusal_of(answer);
-    if refusal.number != 0 {
-        return refusal.number;
+    if refusal.code != 0 {
+        return refusal.code;
     }
     word_bytes::encode(&words, desk);
     c_state::store(o.state, state);

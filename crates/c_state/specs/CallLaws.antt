@@ -117,20 +117,20 @@ module _ (lengths : Bool) (settings state : List ℕ) where
     refusal-is = ap (λ (x : Entry). x .refusal) given
 
     -- the entry refuses: so does the call, whatever its event
-    pub entry-refuses : (e .refusal .number ≡ 0 → ⊥) → (event : Refusal) (word : ℕ) (made bytes : List ℕ)
-        → Told (called lengths settings state event) word made bytes (e .refusal .number) bytes
+    pub entry-refuses : (e .refusal .code ≡ 0 → ⊥) → (event : Refusal) (word : ℕ) (made bytes : List ℕ)
+        → Told (called lengths settings state event) word made bytes (e .refusal .code) bytes
     unfolding called
     entry-refuses h event word made bytes =
-        let no : accepted (e .refusal) ≡ false = ne-eqb (e .refusal .number) 0 h in
+        let no : accepted (e .refusal) ≡ false = ne-eqb (e .refusal .code) 0 h in
         told-refused (e .refusal) (called lengths settings state event)
         (first-refused (entryRefused lengths settings (isState (wordsIn state))) event (ap accepted (sym refusal-is) ∙ no) ∙ sym refusal-is)
         word made bytes no
 
-    pub entry-passes : e .refusal .number ≡ 0 → CallEntered (e .state)
+    pub entry-passes : e .refusal .code ≡ 0 → CallEntered (e .state)
     unfolding entry entryRefused called decoded stateLent
     entry-passes h =
         let none-is : entryRefused lengths settings (isState (wordsIn state)) ≡ none =
-        sym refusal-is ∙ accepted-none (e .refusal) (eq-eqb (e .refusal .number) 0 h) in
+        sym refusal-is ∙ accepted-none (e .refusal) (eq-eqb (e .refusal .code) 0 h) in
         let h1 = unless-rest lengths 0 _ none-is in
         let h2 = unless-rest (settingsOk (wordsIn settings)) 1 _ h1 in
         let ok : isState (wordsIn state) ≡ true = unless-ok (isState (wordsIn state)) 2 none h2 in
@@ -147,10 +147,10 @@ module _ (settings state desk : List ℕ) (e : Entry) (given : e ≡ entry (eqb 
   pub desk-entry : e ≡ entry (deskOk (wordsIn desk)) settings state
   desk-entry = given ∙ ap (λ (b : Bool). entry b settings state) (length-test desk 16383)
 
-  pub desk-passes : e .refusal .number ≡ 0 → CallEntered (deskOk (wordsIn desk)) settings state (e .state)
+  pub desk-passes : e .refusal .code ≡ 0 → CallEntered (deskOk (wordsIn desk)) settings state (e .state)
   desk-passes h = entry-passes (deskOk (wordsIn desk)) settings state e desk-entry h
 
-  pub desk-long : e .refusal .number ≡ 0 → length desk ≡ 65536
+  pub desk-long : e .refusal .code ≡ 0 → length desk ≡ 65536
   desk-long h = bytes-of-words desk 16383 (eqb-true (length (wordsIn desk)) 16384 (desk-passes h .lengths-ok))
 
 module _ (settings state desk : List ℕ) (o : Outcome) where
@@ -164,13 +164,13 @@ module _ (settings state desk : List ℕ) (o : Outcome) where
   told-event t = (t .answers, t .leaves)
 
   module _ (e : Entry) (given : e ≡ entry (eqb (length desk) 65536) settings state) where
-    pub event-refused : (e .refusal .number ≡ 0 → ⊥) → ToldEvent (e .refusal .number) state
+    pub event-refused : (e .refusal .code ≡ 0 → ⊥) → ToldEvent (e .refusal .code) state
     unfolding eventRefused
     event-refused h =
         told-event
         (entry-refuses (deskOk (wordsIn desk)) settings state e (desk-entry settings state desk e given) h (refusalOf (o .answer)) 0 _ state)
 
-    pub event-done : e .refusal .number ≡ 0 → {answer : ℕ} {left : List ℕ}
+    pub event-done : e .refusal .code ≡ 0 → {answer : ℕ} {left : List ℕ}
         → Told (refusalOf (o .answer)) 0 (bytesOf (stateWords (o .state))) state answer left → ToldEvent answer left
     unfolding eventRefused
     event-done h t =

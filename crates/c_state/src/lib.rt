@@ -33,15 +33,15 @@ fn entry_refusal(lengths: bool, settings: &[u8], ok: bool) -> Refusal
     ensures { λ r. ⌜ r ≡ entryRefused lengths (now (settings .entry)) ok ⌝ }
 {
     if !lengths {
-        return Refusal { number: 1 };
+        return Refusal { code: 1 };
     }
     if c_messages::check_settings(settings) != 0 {
-        return Refusal { number: 2 };
+        return Refusal { code: 2 };
     }
     if !ok {
-        return Refusal { number: 3 };
+        return Refusal { code: 3 };
     }
-    Refusal { number: 0 }
+    Refusal { code: 0 }
 }
 
 // What a call does first, given whether desk and buffer have their lengths.
@@ -78,7 +78,7 @@ pub fn refusal_of(answer: Answer) -> Refusal
     ensures { λ r. ⌜ r ≡ refusalOf answer ⌝ }
 {
     match answer {
-        Answer::Accepted => Refusal { number: 0 },
+        Answer::Accepted => Refusal { code: 0 },
         Answer::Refused(refusal) => refusal,
     }
 }
@@ -90,8 +90,8 @@ pub fn keep(o: Outcome, state: &mut [u8]) -> u32
 {
     let answer = o.answer;
     let refusal = refusal_of(answer);
-    if refusal.number != 0 {
-        return refusal.number;
+    if refusal.code != 0 {
+        return refusal.code;
     }
     store(o.state, state);
     0

@@ -13,7 +13,7 @@ use Rattle.base_laws.specs.Masks.{has}
 use Rattle.base_laws.specs.Positions.{pairNotAfter}
 use Rattle.base_laws.specs.Tables.{tabulate}
 use Rattle.base_ids.specs.Order.{notAfter}
-use Rattle.base_ids.specs.Refusals.{unless, firstOf}
+use Rattle.base_ids.specs.Refusals.{unless, unlessAt, firstOf}
 use Rattle.message_format.specs.Chain.{place, following, row5, row8}
 use Rattle.message_format.specs.Records.{precedes, shardsWhere}
 use Rattle.message_format.specs.Rows.{row6, viewOk, row7, kindOk, plain, kindAt, shardAt, surplus, sequenceAt, complete, shardApart, row10At, row10, position, viewFits, legal, row11At}
@@ -117,7 +117,7 @@ older-supposed =
     }
 
 pub older-needed : OlderNeeded
-unfolding deskOfTwo ones onesIn allBelow anyBelow lowest tabulate pairNotAfter unless firstOf place following row5 row8 precedes shardsWhere row6 viewOk row7 kindOk plain kindAt shardAt surplus sequenceAt complete shardApart row10At row10 position viewFits legal row11At bodyWord bodyOf contentsOf recordsRefusal headRefusal messageRefusal slot reportOf sameView row12 sameTermination row13 termKept slotOk slotsOk endOf reaches holds hasUpdate candidate greatest best target able holder majority firstUnheld quorumOf
+unfolding deskOfTwo ones onesIn allBelow anyBelow lowest tabulate pairNotAfter unless unlessAt firstOf place following row5 row8 precedes shardsWhere row6 viewOk row7 kindOk plain kindAt shardAt surplus sequenceAt complete shardApart row10At row10 position viewFits legal row11At bodyWord bodyOf contentsOf recordsRefusal headRefusal messageRefusal slot reportOf sameView row12 sameTermination row13 termKept slotOk slotsOk endOf reaches holds hasUpdate candidate greatest best target able holder majority firstUnheld quorumOf
 older-needed =
     record {
       supposed = older-supposed;
@@ -141,7 +141,7 @@ pub record TerminationNeeded : Type 0 where
   pub past : notAfter (pos 6 3) (target (viewOfAll 6 14) endedEarly 6 deskOfThree 0) ≡ false
 
 pub termination-needed : TerminationNeeded
-unfolding deskOfThree ones onesIn allBelow anyBelow lowest tabulate pairNotAfter unless firstOf place following row5 row8 precedes shardsWhere row6 viewOk row7 kindOk plain kindAt shardAt surplus sequenceAt complete shardApart row10At row10 position viewFits legal row11At bodyWord bodyOf contentsOf recordsRefusal headRefusal messageRefusal slot reportOf sameView row12 sameTermination row13 termKept slotOk slotsOk endOf reaches holds hasUpdate candidate greatest best target able holder majority firstUnheld quorumOf
+unfolding deskOfThree ones onesIn allBelow anyBelow lowest tabulate pairNotAfter unless unlessAt firstOf place following row5 row8 precedes shardsWhere row6 viewOk row7 kindOk plain kindAt shardAt surplus sequenceAt complete shardApart row10At row10 position viewFits legal row11At bodyWord bodyOf contentsOf recordsRefusal headRefusal messageRefusal slot reportOf sameView row12 sameTermination row13 termKept slotOk slotsOk endOf reaches holds hasUpdate candidate greatest best target able holder majority firstUnheld quorumOf
 termination-needed =
     record {
       supposed = supposedThree;

@@ -14,7 +14,7 @@ use Rattle.base_laws.specs.Masks.{has}
 use Rattle.base_laws.specs.Positions.{pairNotAfter}
 use Rattle.base_laws.specs.Tables.{tabulate}
 use Rattle.base_ids.specs.Order.{notAfter}
-use Rattle.base_ids.specs.Refusals.{unless, firstOf}
+use Rattle.base_ids.specs.Refusals.{unless, unlessAt, firstOf}
 use Rattle.message_format.specs.Chain.{place, following, row5, row8}
 use Rattle.message_format.specs.Records.{precedes, shardsWhere}
 use Rattle.message_format.specs.Rows.{row6, viewOk, row7, kindOk, plain, kindAt, shardAt, surplus, sequenceAt, complete, shardApart, row10At, row10, position, viewFits, legal, row11At}
@@ -107,7 +107,7 @@ supposedThree =
 
 -- their slots are sound and the quorum is met
 pub slots-three : slotsOk oneShardSettings (viewOfAll 6 14) noTermination 6 deskOfThree ≡ true
-unfolding deskOfThree allBelow anyBelow lowest tabulate unless firstOf place following row5 row8 precedes shardsWhere row6 viewOk row7 kindOk plain kindAt shardAt surplus sequenceAt complete shardApart row10At row10 position viewFits legal row11At bodyWord bodyOf contentsOf recordsRefusal headRefusal messageRefusal slot reportOf sameView row12 sameTermination row13 termKept slotOk slotsOk
+unfolding deskOfThree allBelow anyBelow lowest tabulate unless unlessAt firstOf place following row5 row8 precedes shardsWhere row6 viewOk row7 kindOk plain kindAt shardAt surplus sequenceAt complete shardApart row10At row10 position viewFits legal row11At bodyWord bodyOf contentsOf recordsRefusal headRefusal messageRefusal slot reportOf sameView row12 sameTermination row13 termKept slotOk slotsOk
 slots-three = refl
 
 pub met-three : quorumOf oneShardSettings (viewOfAll 6 14) noTermination 6 deskOfThree ≡ Met

@@ -1,3 +1,3 @@
--- Row 9 as a whole, and the refusal by its first list.
-pub mod Row9
+-- Rows 9, 16 and 17 as one list, and the refusal by its first list.
+pub mod Structure
 pub mod Whole

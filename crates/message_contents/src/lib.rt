@@ -1,15 +1,16 @@
-// Rows 6, 7 and 9 to 11 of document 01's table over the contents of a report or an order, for the reader, the writer and
-// the slots of the desk.
+// Rows 6, 7, 9, 16, 17, 10 and 11 over the contents of a report or an order, for the reader, the writer and the slots of
+// the desk.
 use base_ids::Node;
 use base_ids::Refusal;
 use base_ids::View;
 use message_format::Contents;
 use message_format::Form;
 ghost use mathlib.Core.Path.{_≡_};
-ghost use Prim.Native.Nat.{_≤_};
+ghost use Prim.Native.Nat.{_<_, _≤_};
+ghost use Rattle.base_ids.specs.Refusals.{refusedAt};
 ghost use Rattle.settings_values.specs.Settings.{Settings};
-ghost use Rattle.message_format.specs.Messages.{headRefusal, recordsRefusal, contentsRefusal};
-ghost use Rattle.message_contents.specs.Row9.{row9};
+ghost use Rattle.message_format.specs.Messages.{headRefusal, inOrder, recordsRefusal, contentsRefusal};
+ghost use Rattle.message_contents.specs.Structure.{structureRefusal};
 
 // Rows 6 and 7 over the contents' head.
 pub fn head_refusal(form: Form, settings: &[u32], node: Node, view: View, members: u32) -> Refusal
@@ -17,33 +18,57 @@ pub fn head_refusal(form: Form, settings: &[u32], node: Node, view: View, member
     ensures { λ r. ⌜ r ≡ headRefusal form (now (settings .entry)) (node .0) (view .0) members ⌝ }
 {
     if settings_values::nodes(settings) <= node.0 {
-        return Refusal { number: 6 };
+        return Refusal { code: 6 };
     }
     if !message_rows::row7(form, settings, node, view, members) {
-        return Refusal { number: 7 };
+        return Refusal { code: 7 };
     }
-    Refusal { number: 0 }
+    Refusal { code: 0 }
 }
 
-// Row 9: kinds, shards, sequence, and whether the records are complete.
-fn row9(form: Form, settings: &[u32], node: Node, body: &[u32; 381], len: usize) -> bool
+// The refusal by the number of a row, told at record i.
+pub fn told_at(row: u32, i: usize) -> Refusal
+    requires { ⌜ row < 256 ⌝ }
+    requires { ⌜ i ≤ 127 ⌝ }
+    ensures { λ r. ⌜ r ≡ refusedAt row i ⌝ }
+{
+    Refusal {
+        code: row + 256 * i as u32,
+    }
+}
+
+// Rows 9, 16 and 17: the first record with a wrong kind or word 2, with an unknown shard, out of sequence; then a missing
+// one, told at the last.
+fn structure_refusal(
+    form: Form,
+    settings: &[u32],
+    node: Node,
+    body: &[u32; 381],
+    len: usize,
+) -> Refusal
     requires { ⌜ Settings (now settings) ⌝ }
     requires { ⌜ len ≤ 127 ⌝ }
-    ensures { λ r. ⌜ r ≡ row9 form (now (settings .entry)) (node .0) (now (body .entry)) len ⌝ }
+    ensures { λ r. ⌜ r ≡ structureRefusal form (now (settings .entry)) (node .0) (now (body .entry)) len ⌝ }
 {
-    if message_passes::kinds(form, body, len) < len {
-        return false;
+    let kind = message_passes::kinds(form, body, len);
+    if kind < len {
+        return told_at(9, kind + 1);
     }
-    if message_passes::shards(settings, body, len) < len {
-        return false;
+    let shard = message_passes::shards(settings, body, len);
+    if shard < len {
+        return told_at(16, shard + 1);
     }
-    if message_passes::sequence(node, body, len) < len {
-        return false;
+    let place = message_passes::sequence(node, body, len);
+    if place < len {
+        return told_at(17, place + 1);
     }
-    message_records::complete(form, settings, node, body, len)
+    if !message_records::complete(form, settings, node, body, len) {
+        return told_at(17, len);
+    }
+    Refusal { code: 0 }
 }
 
-// Rows 9 to 11 over the contents' records.
+// Rows 9, 16, 17, 10 and 11 over the contents' records, told at their steps along the chain.
 pub fn records_refusal(
     form: Form,
     settings: &[u32],
@@ -55,32 +80,33 @@ pub fn records_refusal(
 ) -> Refusal
     requires { ⌜ Settings (now settings) ⌝ }
     requires { ⌜ len ≤ 127 ⌝ }
-    ensures { λ r. ⌜ r ≡ recordsRefusal form (now (settings .entry)) (node .0) (view .0) members (now (body .entry)) len ⌝ }
+    ensures { λ r. ⌜ r ≡ recordsRefusal inOrder form (now (settings .entry)) (node .0) (view .0) members (now (body .entry)) len ⌝ }
 {
-    if !row9(form, settings, node, body, len) {
-        return Refusal { number: 9 };
+    let structure = structure_refusal(form, settings, node, body, len);
+    if structure.code != 0 {
+        return structure;
     }
     let masks = message_records::masks_of(settings, body);
     if !message_shards::row10(settings, members, &masks) {
-        return Refusal { number: 10 };
+        return Refusal { code: 10 };
     }
     if message_passes::positions(form, view, members, body, len) < len {
-        return Refusal { number: 11 };
+        return Refusal { code: 11 };
     }
-    Refusal { number: 0 }
+    Refusal { code: 0 }
 }
 
-// The refusal of contents under right settings: rows 5 (by the words needed), 6, 7 and 9 to 11.
+// The refusal of contents under right settings: row 5 (by the words needed), then the rows above.
 pub fn contents_refusal(form: Form, settings: &[u32], c: Contents) -> Refusal
     requires { ⌜ Settings (now settings) ⌝ }
     ensures { λ r. ⌜ r ≡ contentsRefusal form (now (settings .entry)) c ⌝ }
 {
     let len = c.len;
     if 127 < len {
-        return Refusal { number: 5 };
+        return Refusal { code: 5 };
     }
     let head = head_refusal(form, settings, c.node, c.view, c.members);
-    if head.number != 0 {
+    if head.code != 0 {
         return head;
     }
     records_refusal(form, settings, c.node, c.view, c.members, &c.body, len)

@@ -10,13 +10,13 @@ use Rattle.base_laws.specs.Below.{allBelow, anyBelow, lowest}
 use Rattle.base_laws.specs.Tables.{tabulate}
 use Rattle.settings_values.specs.Settings.{sizesOk, nodesOk, shardOk, shardsOk, settingsOk}
 use Rattle.base_ids.specs.declared.Refusal.{Refusal}
-use Rattle.base_ids.specs.Refusals.{none, refused, unless, firstOf}
+use Rattle.base_ids.specs.Refusals.{none, refused, refusedAt, unless, unlessAt, firstOf}
 use Rattle.message_format.specs.declared.Contents.{Contents}
 use Rattle.message_format.specs.declared.Form.the-variants.{Report, Order}
 use Rattle.message_format.specs.Chain.{place, following, row5, row8}
 use Rattle.message_format.specs.Records.{precedes, shardsWhere}
 use Rattle.message_format.specs.Rows.{row6, viewOk, row7, kindOk, plain, kindAt, shardAt, surplus, sequenceAt, complete, shardApart, row10At, row10, position, viewFits, legal, row11At}
-use Rattle.message_format.specs.Messages.{bodyWord, bodyOf, contentsOf, recordsRefusal, headRefusal, messageRefusal, contentsRefusal, readRefusal, blank, readingOf, writeRefusal, tidy, headWord, recordWord, messageWord, messageOf, bufferAfter, writingOf}
+use Rattle.message_format.specs.Messages.{bodyWord, bodyOf, contentsOf, recordsRefusal, brokenAt, headRefusal, messageRefusal, contentsRefusal, readRefusal, blank, readingOf, writeRefusal, tidy, headWord, recordWord, messageWord, messageOf, bufferAfter, writingOf}
 use Rattle.message_examples.specs.Examples.{exampleSettings, message, maskRecords, exampleReport}
 
 -- settings of one node, one failure set and one shard, with words changed
@@ -108,29 +108,29 @@ pub record ReportClauses : Type 0 where
   pub members-past : reads (headedBy 1 7 255) ≡ refused 7
   pub not-a-member : reads (message 1 7 125 (256 ∷ 5 ∷ 0 ∷ 2 ∷ 257 ∷ 80 ∷ 0 ∷ 3 ∷ 258 ∷ 32 ∷ 0 ∷ 0 ∷ [])) ≡ refused 7
   -- row 8: a next index is larger than its own record's and inside the message; row 7 comes before it
-  pub next-outside : reads (followedBy (4 ∷ [])) ≡ refused 8
-  pub next-back : reads (followedBy (1 ∷ [])) ≡ refused 8
+  pub next-outside : reads (followedBy (4 ∷ [])) ≡ refusedAt 8 3
+  pub next-back : reads (followedBy (1 ∷ [])) ≡ refusedAt 8 3
   pub row-7-first : reads (message 1 0 127 (maskRecords ++ (1 ∷ []))) ≡ refused 7
-  pub row-8-first : reads (message 1 7 127 (256 ∷ 5 ∷ 1 ∷ 2 ∷ 257 ∷ 82 ∷ 0 ∷ 3 ∷ 258 ∷ 32 ∷ 0 ∷ 3 ∷ [])) ≡ refused 8
-  -- row 9: a kind of reports, word 2 of kind 1 zero, a shard below S
-  pub kind-zero : reads (message 1 7 127 (0 ∷ 5 ∷ 0 ∷ 2 ∷ 256 ∷ 5 ∷ 0 ∷ 3 ∷ 257 ∷ 82 ∷ 0 ∷ 4 ∷ 258 ∷ 32 ∷ 0 ∷ 0 ∷ [])) ≡ refused 9
-  pub kind-of-orders : reads (followedBy (4 ∷ 1025 ∷ 1 ∷ 0 ∷ 0 ∷ [])) ≡ refused 9
-  pub cut-in-report : reads (followedBy (4 ∷ 1281 ∷ 1 ∷ 1 ∷ 0 ∷ [])) ≡ refused 9
-  pub word-2 : reads (message 1 7 127 (256 ∷ 5 ∷ 1 ∷ 2 ∷ 257 ∷ 82 ∷ 0 ∷ 3 ∷ 258 ∷ 32 ∷ 0 ∷ 0 ∷ [])) ≡ refused 9
-  pub shard-past : reads (followedBy (4 ∷ 771 ∷ 7 ∷ 5 ∷ 0 ∷ [])) ≡ refused 9
-  -- the chain ascends by kind, shard and view; a kind 1 for each shard
-  pub shards-descend : reads (message 1 7 127 (257 ∷ 82 ∷ 0 ∷ 2 ∷ 256 ∷ 5 ∷ 0 ∷ 3 ∷ 258 ∷ 32 ∷ 0 ∷ 0 ∷ [])) ≡ refused 9
-  pub views-descend : reads (followedBy (4 ∷ 769 ∷ 7 ∷ 5 ∷ 5 ∷ 769 ∷ 6 ∷ 5 ∷ 0 ∷ [])) ≡ refused 9
+  pub row-8-first : reads (message 1 7 127 (256 ∷ 5 ∷ 1 ∷ 2 ∷ 257 ∷ 82 ∷ 0 ∷ 3 ∷ 258 ∷ 32 ∷ 0 ∷ 3 ∷ [])) ≡ refusedAt 8 3
+  -- row 9: a kind of reports, word 2 of kind 1 zero; row 16: a shard below S
+  pub kind-zero : reads (message 1 7 127 (0 ∷ 5 ∷ 0 ∷ 2 ∷ 256 ∷ 5 ∷ 0 ∷ 3 ∷ 257 ∷ 82 ∷ 0 ∷ 4 ∷ 258 ∷ 32 ∷ 0 ∷ 0 ∷ [])) ≡ refusedAt 9 1
+  pub kind-of-orders : reads (followedBy (4 ∷ 1025 ∷ 1 ∷ 0 ∷ 0 ∷ [])) ≡ refusedAt 9 4
+  pub cut-in-report : reads (followedBy (4 ∷ 1281 ∷ 1 ∷ 1 ∷ 0 ∷ [])) ≡ refusedAt 9 4
+  pub word-2 : reads (message 1 7 127 (256 ∷ 5 ∷ 1 ∷ 2 ∷ 257 ∷ 82 ∷ 0 ∷ 3 ∷ 258 ∷ 32 ∷ 0 ∷ 0 ∷ [])) ≡ refusedAt 9 1
+  pub shard-past : reads (followedBy (4 ∷ 771 ∷ 7 ∷ 5 ∷ 0 ∷ [])) ≡ refusedAt 16 4
+  -- row 17: the chain ascends by kind, shard and view; a kind 1 for each shard
+  pub shards-descend : reads (message 1 7 127 (257 ∷ 82 ∷ 0 ∷ 2 ∷ 256 ∷ 5 ∷ 0 ∷ 3 ∷ 258 ∷ 32 ∷ 0 ∷ 0 ∷ [])) ≡ refusedAt 17 2
+  pub views-descend : reads (followedBy (4 ∷ 769 ∷ 7 ∷ 5 ∷ 5 ∷ 769 ∷ 6 ∷ 5 ∷ 0 ∷ [])) ≡ refusedAt 17 5
   pub views-ascend : reads (followedBy (4 ∷ 769 ∷ 6 ∷ 5 ∷ 5 ∷ 769 ∷ 7 ∷ 5 ∷ 0 ∷ [])) ≡ none
-  pub mask-twice : reads (message 1 7 127 (256 ∷ 1 ∷ 0 ∷ 2 ∷ 256 ∷ 5 ∷ 0 ∷ 3 ∷ 257 ∷ 82 ∷ 0 ∷ 4 ∷ 258 ∷ 32 ∷ 0 ∷ 0 ∷ [])) ≡ refused 9
-  pub position-twice : reads (followedBy (4 ∷ 512 ∷ 0 ∷ 0 ∷ 5 ∷ 513 ∷ 6 ∷ 1 ∷ 6 ∷ 513 ∷ 7 ∷ 1 ∷ 7 ∷ 514 ∷ 0 ∷ 0 ∷ 0 ∷ [])) ≡ refused 9
-  pub mask-missing : reads (message 1 7 127 (256 ∷ 5 ∷ 0 ∷ 2 ∷ 257 ∷ 82 ∷ 0 ∷ 0 ∷ [])) ≡ refused 9
-  pub head-alone : reads (1 ∷ 7 ∷ 127 ∷ 0 ∷ []) ≡ refused 9
-  -- row 10: a shard is not empty, lies inside the members and shares no node within its subgroup; row 9 comes before it
+  pub mask-twice : reads (message 1 7 127 (256 ∷ 1 ∷ 0 ∷ 2 ∷ 256 ∷ 5 ∷ 0 ∷ 3 ∷ 257 ∷ 82 ∷ 0 ∷ 4 ∷ 258 ∷ 32 ∷ 0 ∷ 0 ∷ [])) ≡ refusedAt 17 2
+  pub position-twice : reads (followedBy (4 ∷ 512 ∷ 0 ∷ 0 ∷ 5 ∷ 513 ∷ 6 ∷ 1 ∷ 6 ∷ 513 ∷ 7 ∷ 1 ∷ 7 ∷ 514 ∷ 0 ∷ 0 ∷ 0 ∷ [])) ≡ refusedAt 17 6
+  pub mask-missing : reads (message 1 7 127 (256 ∷ 5 ∷ 0 ∷ 2 ∷ 257 ∷ 82 ∷ 0 ∷ 0 ∷ [])) ≡ refusedAt 17 2
+  pub head-alone : reads (1 ∷ 7 ∷ 127 ∷ 0 ∷ []) ≡ refusedAt 17 0
+  -- row 10: a shard is not empty, lies inside the members and shares no node within its subgroup; rows 9 and 17 come before it
   pub shard-outside : reads (maskedBy 63 5 82 32) ≡ refused 10
   pub shard-shared : reads (maskedBy 127 5 82 36) ≡ refused 10
   pub shard-between : readRefusal Report twoSubgroups (maskedBy 127 5 82 36) ≡ none
-  pub row-9-first : reads (message 1 7 127 (256 ∷ 0 ∷ 0 ∷ 2 ∷ 257 ∷ 82 ∷ 1 ∷ 3 ∷ 258 ∷ 32 ∷ 0 ∷ 0 ∷ [])) ≡ refused 9
+  pub row-9-first : reads (message 1 7 127 (256 ∷ 0 ∷ 0 ∷ 2 ∷ 257 ∷ 82 ∷ 1 ∷ 3 ∷ 258 ∷ 32 ∷ 0 ∷ 0 ∷ [])) ≡ refusedAt 9 2
   -- row 11: a run's view and count from 1, its view not above the head's; row 10 comes before it
   pub run-view : reads (followedBy (4 ∷ 769 ∷ 0 ∷ 5 ∷ 0 ∷ [])) ≡ refused 11
   pub run-above : reads (followedBy (4 ∷ 769 ∷ 8 ∷ 5 ∷ 0 ∷ [])) ≡ refused 11
@@ -141,7 +141,7 @@ pub record ReportClauses : Type 0 where
   pub position-above : reads (followedBy (4 ∷ 512 ∷ 0 ∷ 0 ∷ 5 ∷ 513 ∷ 8 ∷ 1 ∷ 6 ∷ 514 ∷ 0 ∷ 0 ∷ 0 ∷ [])) ≡ refused 11
 
 pub report-clauses : ReportClauses
-unfolding allBelow anyBelow lowest tabulate sizesOk nodesOk shardOk shardsOk settingsOk unless firstOf place following row5 row8 precedes shardsWhere viewOk row6 row7 kindOk plain kindAt shardAt surplus sequenceAt complete shardApart row10At row10 position viewFits legal row11At bodyWord bodyOf contentsOf recordsRefusal headRefusal messageRefusal readRefusal
+unfolding allBelow anyBelow lowest tabulate sizesOk nodesOk shardOk shardsOk settingsOk unless unlessAt firstOf place following brokenAt row5 row8 precedes shardsWhere viewOk row6 row7 kindOk plain kindAt shardAt surplus sequenceAt complete shardApart row10At row10 position viewFits legal row11At bodyWord bodyOf contentsOf recordsRefusal headRefusal messageRefusal readRefusal
 report-clauses =
     record {
       no-words = refl;
@@ -192,29 +192,29 @@ pub record OrderClauses : Type 0 where
   pub view-last : readsOrder (orderUnder 4294967295 (orderEnds 7 (7 ∷ 1025 ∷ 1 ∷ 0 ∷ 8 ∷ 1281 ∷ 7 ∷ 5 ∷ 0 ∷ []))) ≡ none
   pub view-one : readsOrder (orderUnder 1 (512 ∷ 0 ∷ 0 ∷ 5 ∷ 513 ∷ 0 ∷ 0 ∷ 6 ∷ 514 ∷ 0 ∷ 0 ∷ 7 ∷ 1025 ∷ 1 ∷ 0 ∷ 8 ∷ 1281 ∷ 0 ∷ 0 ∷ 0 ∷ [])) ≡ refused 7
   pub view-two : readsOrder (orderUnder 2 (orderEnds 1 (7 ∷ 1025 ∷ 1 ∷ 0 ∷ 8 ∷ 1281 ∷ 1 ∷ 5 ∷ 0 ∷ []))) ≡ none
-  -- row 9: no kind 0 and no run, word 2 of kind 4 zero, kind 2 for every shard
+  -- row 9: no kind 0 and no run, word 2 of kind 4 zero; row 17: kind 2 for every shard
   pub kind-zero :
       readsOrder (1 ∷ 8 ∷ 63 ∷ 1 ∷ 0 ∷ 0 ∷ 0 ∷ 2 ∷ 256 ∷ 5 ∷ 0 ∷ 3 ∷ 257 ∷ 50 ∷ 0 ∷ 4 ∷ 258 ∷ 8 ∷ 0 ∷ 5 ∷ 512 ∷ 0 ∷ 0 ∷ 6 ∷ 513 ∷ 7 ∷ 5 ∷ 7 ∷ 514 ∷ 0 ∷ 0 ∷ 8 ∷ 1025 ∷ 1 ∷ 0 ∷ 9 ∷ 1281 ∷ 7 ∷ 5 ∷ 0 ∷ [])
-      ≡ refused 9
-  pub run-in-order : readsOrder (orderUnder 8 (orderEnds 7 (7 ∷ 769 ∷ 7 ∷ 5 ∷ 8 ∷ 1025 ∷ 1 ∷ 0 ∷ 9 ∷ 1281 ∷ 7 ∷ 5 ∷ 0 ∷ []))) ≡ refused 9
-  pub kind-past : readsOrder (orderUnder 8 (orderEnds 7 (7 ∷ 1025 ∷ 1 ∷ 0 ∷ 8 ∷ 1281 ∷ 7 ∷ 5 ∷ 9 ∷ 1537 ∷ 7 ∷ 5 ∷ 0 ∷ []))) ≡ refused 9
-  pub word-2 : readsOrder (orderUnder 8 (orderEnds 7 (7 ∷ 1025 ∷ 1 ∷ 1 ∷ 8 ∷ 1281 ∷ 7 ∷ 5 ∷ 0 ∷ []))) ≡ refused 9
+      ≡ refusedAt 9 1
+  pub run-in-order : readsOrder (orderUnder 8 (orderEnds 7 (7 ∷ 769 ∷ 7 ∷ 5 ∷ 8 ∷ 1025 ∷ 1 ∷ 0 ∷ 9 ∷ 1281 ∷ 7 ∷ 5 ∷ 0 ∷ []))) ≡ refusedAt 9 7
+  pub kind-past : readsOrder (orderUnder 8 (orderEnds 7 (7 ∷ 1025 ∷ 1 ∷ 0 ∷ 8 ∷ 1281 ∷ 7 ∷ 5 ∷ 9 ∷ 1537 ∷ 7 ∷ 5 ∷ 0 ∷ []))) ≡ refusedAt 9 9
+  pub word-2 : readsOrder (orderUnder 8 (orderEnds 7 (7 ∷ 1025 ∷ 1 ∷ 1 ∷ 8 ∷ 1281 ∷ 7 ∷ 5 ∷ 0 ∷ []))) ≡ refusedAt 9 7
   pub mask-missing :
       readsOrder (1 ∷ 8 ∷ 63 ∷ 1 ∷ 257 ∷ 50 ∷ 0 ∷ 2 ∷ 258 ∷ 8 ∷ 0 ∷ 3 ∷ 512 ∷ 0 ∷ 0 ∷ 4 ∷ 513 ∷ 7 ∷ 5 ∷ 5 ∷ 514 ∷ 0 ∷ 0 ∷ 6 ∷ 1025 ∷ 1 ∷ 0 ∷ 7 ∷ 1281 ∷ 7 ∷ 5 ∷ 0 ∷ [])
-      ≡ refused 9
-  pub no-ends : readsOrder (orderUnder 8 (1025 ∷ 1 ∷ 0 ∷ 5 ∷ 1281 ∷ 7 ∷ 5 ∷ 0 ∷ [])) ≡ refused 9
-  -- kinds 4 and 5 for exactly the shards that its recipient carries
-  pub holder-missing : readsOrder (orderUnder 8 (orderEnds 7 (7 ∷ 1281 ∷ 7 ∷ 5 ∷ 0 ∷ []))) ≡ refused 9
-  pub cut-missing : readsOrder (orderUnder 8 (orderEnds 7 (7 ∷ 1025 ∷ 1 ∷ 0 ∷ 0 ∷ []))) ≡ refused 9
-  pub holder-surplus : readsOrder (orderUnder 8 (orderEnds 7 (7 ∷ 1025 ∷ 1 ∷ 0 ∷ 8 ∷ 1026 ∷ 5 ∷ 0 ∷ 9 ∷ 1281 ∷ 7 ∷ 5 ∷ 0 ∷ []))) ≡ refused 9
-  pub cut-surplus : readsOrder (orderUnder 8 (orderEnds 7 (7 ∷ 1025 ∷ 1 ∷ 0 ∷ 8 ∷ 1281 ∷ 7 ∷ 5 ∷ 9 ∷ 1282 ∷ 0 ∷ 0 ∷ 0 ∷ []))) ≡ refused 9
+      ≡ refusedAt 17 7
+  pub no-ends : readsOrder (orderUnder 8 (1025 ∷ 1 ∷ 0 ∷ 5 ∷ 1281 ∷ 7 ∷ 5 ∷ 0 ∷ [])) ≡ refusedAt 17 5
+  -- row 17: kinds 4 and 5 for exactly the shards that its recipient carries
+  pub holder-missing : readsOrder (orderUnder 8 (orderEnds 7 (7 ∷ 1281 ∷ 7 ∷ 5 ∷ 0 ∷ []))) ≡ refusedAt 17 7
+  pub cut-missing : readsOrder (orderUnder 8 (orderEnds 7 (7 ∷ 1025 ∷ 1 ∷ 0 ∷ 0 ∷ []))) ≡ refusedAt 17 7
+  pub holder-surplus : readsOrder (orderUnder 8 (orderEnds 7 (7 ∷ 1025 ∷ 1 ∷ 0 ∷ 8 ∷ 1026 ∷ 5 ∷ 0 ∷ 9 ∷ 1281 ∷ 7 ∷ 5 ∷ 0 ∷ []))) ≡ refusedAt 17 8
+  pub cut-surplus : readsOrder (orderUnder 8 (orderEnds 7 (7 ∷ 1025 ∷ 1 ∷ 0 ∷ 8 ∷ 1281 ∷ 7 ∷ 5 ∷ 9 ∷ 1282 ∷ 0 ∷ 0 ∷ 0 ∷ []))) ≡ refusedAt 17 9
   -- row 11: a holder is a member of the new view; targets and cuts are positions below the head's view
   pub holder-past : readsOrder (orderUnder 8 (orderEnds 7 (7 ∷ 1025 ∷ 32 ∷ 0 ∷ 8 ∷ 1281 ∷ 7 ∷ 5 ∷ 0 ∷ []))) ≡ refused 11
   pub end-above : readsOrder (orderUnder 8 (orderEnds 8 (7 ∷ 1025 ∷ 1 ∷ 0 ∷ 8 ∷ 1281 ∷ 7 ∷ 5 ∷ 0 ∷ []))) ≡ refused 11
   pub cut-position : readsOrder (orderUnder 8 (orderEnds 7 (7 ∷ 1025 ∷ 1 ∷ 0 ∷ 8 ∷ 1281 ∷ 0 ∷ 5 ∷ 0 ∷ []))) ≡ refused 11
 
 pub order-clauses : OrderClauses
-unfolding allBelow anyBelow lowest tabulate sizesOk nodesOk shardOk shardsOk settingsOk unless firstOf place following row5 row8 precedes shardsWhere viewOk row6 row7 kindOk plain kindAt shardAt surplus sequenceAt complete shardApart row10At row10 position viewFits legal row11At bodyWord bodyOf contentsOf recordsRefusal headRefusal messageRefusal readRefusal
+unfolding allBelow anyBelow lowest tabulate sizesOk nodesOk shardOk shardsOk settingsOk unless unlessAt firstOf place following brokenAt row5 row8 precedes shardsWhere viewOk row6 row7 kindOk plain kindAt shardAt surplus sequenceAt complete shardApart row10At row10 position viewFits legal row11At bodyWord bodyOf contentsOf recordsRefusal headRefusal messageRefusal readRefusal
 order-clauses =
     record {
       view-last = refl;
@@ -286,7 +286,7 @@ pub record WriterClauses : Type 0 where
   pub too-long : writeRefusal Report exampleSettings (exampleContents 7 128) (replicate 512 0) ≡ refused 5
 
 pub writer-clauses : WriterClauses
-unfolding allBelow anyBelow lowest tabulate sizesOk nodesOk shardOk shardsOk settingsOk unless firstOf place following row5 row8 precedes shardsWhere viewOk row6 row7 kindOk plain kindAt shardAt surplus sequenceAt complete shardApart row10At row10 position viewFits legal row11At bodyWord bodyOf contentsOf recordsRefusal headRefusal messageRefusal readRefusal readingOf contentsRefusal writeRefusal tidy headWord recordWord messageWord messageOf bufferAfter writingOf
+unfolding allBelow anyBelow lowest tabulate sizesOk nodesOk shardOk shardsOk settingsOk unless unlessAt firstOf place following brokenAt row5 row8 precedes shardsWhere viewOk row6 row7 kindOk plain kindAt shardAt surplus sequenceAt complete shardApart row10At row10 position viewFits legal row11At bodyWord bodyOf contentsOf recordsRefusal headRefusal messageRefusal readRefusal readingOf contentsRefusal writeRefusal tidy headWord recordWord messageWord messageOf bufferAfter writingOf
 writer-clauses =
     record {
       says = refl;
@@ -303,4 +303,58 @@ writer-clauses =
       settings = refl;
       most-records = refl;
       too-long = refl;
+    }
+
+-- a report of the masks of shards 0 and 1 and what follows them
+abbrev pub maskShort : List ℕ → List ℕ
+maskShort rest = message 1 7 127 (256 ∷ 5 ∷ 0 ∷ 2 ∷ 257 ∷ 82 ∷ 0 ∷ rest)
+
+-- which record a refusal tells: the order of the numbers decides between them, the chain within one
+pub record LocatedClauses : Type 0 where
+  -- row 8 tells the record whose next index is wrong, the head too
+  pub head-names : reads (1 ∷ 7 ∷ 127 ∷ 200 ∷ []) ≡ refusedAt 8 0
+  pub first-broken : reads (message 1 7 127 (256 ∷ 5 ∷ 0 ∷ 3 ∷ 9 ∷ 9 ∷ 9 ∷ 9 ∷ 258 ∷ 32 ∷ 0 ∷ 2 ∷ [])) ≡ refusedAt 8 3
+  -- an index is that of the message, not the step along the chain
+  pub after-gap : reads (followedBy (5 ∷ 9 ∷ 9 ∷ 9 ∷ 9 ∷ 2305 ∷ 7 ∷ 5 ∷ 0 ∷ [])) ≡ refusedAt 9 5
+  pub shard-after-gap : reads (followedBy (5 ∷ 9 ∷ 9 ∷ 9 ∷ 9 ∷ 771 ∷ 7 ∷ 5 ∷ 0 ∷ [])) ≡ refusedAt 16 5
+  pub missing-after-gap : reads (maskShort (4 ∷ 9 ∷ 9 ∷ 9 ∷ 9 ∷ 769 ∷ 7 ∷ 5 ∷ 0 ∷ [])) ≡ refusedAt 17 4
+  -- 9 before 16 before 17 before 10, wherever on the chain
+  pub kind-before-shard : reads (message 1 7 127 (259 ∷ 5 ∷ 0 ∷ 2 ∷ 257 ∷ 82 ∷ 0 ∷ 3 ∷ 258 ∷ 32 ∷ 0 ∷ 4 ∷ 2305 ∷ 7 ∷ 5 ∷ 0 ∷ [])) ≡ refusedAt 9 4
+  pub shard-before-sequence : reads (message 1 7 127 (257 ∷ 82 ∷ 0 ∷ 2 ∷ 256 ∷ 5 ∷ 0 ∷ 3 ∷ 258 ∷ 32 ∷ 0 ∷ 4 ∷ 771 ∷ 7 ∷ 5 ∷ 0 ∷ [])) ≡ refusedAt 16 4
+  pub sequence-before-masks : reads (message 1 7 127 (256 ∷ 0 ∷ 0 ∷ 2 ∷ 257 ∷ 82 ∷ 0 ∷ 0 ∷ [])) ≡ refusedAt 17 2
+  -- kind and word 2 are one number: the first of them
+  pub word-then-kind : reads (message 1 7 127 (256 ∷ 5 ∷ 0 ∷ 2 ∷ 257 ∷ 82 ∷ 0 ∷ 3 ∷ 258 ∷ 32 ∷ 1 ∷ 4 ∷ 2305 ∷ 7 ∷ 5 ∷ 0 ∷ [])) ≡ refusedAt 9 3
+  pub kind-then-word : reads (message 1 7 127 (256 ∷ 5 ∷ 0 ∷ 2 ∷ 2305 ∷ 7 ∷ 5 ∷ 3 ∷ 258 ∷ 32 ∷ 1 ∷ 0 ∷ [])) ≡ refusedAt 9 2
+  -- a missing record is told at the last one on the chain, a wrong sequence before it at its own
+  pub some-then-run : reads (followedBy (4 ∷ 512 ∷ 0 ∷ 0 ∷ 5 ∷ 769 ∷ 7 ∷ 5 ∷ 0 ∷ [])) ≡ refusedAt 17 5
+  pub mask-then-run : reads (maskShort (3 ∷ 769 ∷ 7 ∷ 5 ∷ 0 ∷ [])) ≡ refusedAt 17 3
+  pub repeat-then-missing : reads (maskShort (3 ∷ 769 ∷ 6 ∷ 5 ∷ 4 ∷ 769 ∷ 6 ∷ 7 ∷ 5 ∷ 769 ∷ 7 ∷ 5 ∷ 0 ∷ [])) ≡ refusedAt 17 4
+  -- a holder is surplus unless a mask before it gives the recipient that shard
+  pub holder-first : readsOrder (1 ∷ 8 ∷ 63 ∷ 1 ∷ 1025 ∷ 1 ∷ 0 ∷ 2 ∷ 257 ∷ 50 ∷ 0 ∷ 3 ∷ 258 ∷ 8 ∷ 0 ∷ 0 ∷ []) ≡ refusedAt 17 1
+  -- a message to be written: as it would stand
+  pub written-head : contentsRefusal Report exampleSettings (exampleContents 1 0) ≡ refusedAt 17 0
+  pub written-missing : contentsRefusal Report exampleSettings (exampleContents 1 2) ≡ refusedAt 17 2
+  pub written-kind : contentsRefusal Order exampleSettings (exampleContents 1 4) ≡ refusedAt 9 4
+
+pub located-clauses : LocatedClauses
+unfolding allBelow anyBelow lowest tabulate sizesOk nodesOk shardOk shardsOk settingsOk unless unlessAt firstOf place following brokenAt row5 row8 precedes shardsWhere viewOk row6 row7 kindOk plain kindAt shardAt surplus sequenceAt complete shardApart row10At row10 position viewFits legal row11At bodyWord bodyOf contentsOf recordsRefusal headRefusal messageRefusal readRefusal contentsRefusal
+located-clauses =
+    record {
+      head-names = refl;
+      first-broken = refl;
+      after-gap = refl;
+      shard-after-gap = refl;
+      missing-after-gap = refl;
+      kind-before-shard = refl;
+      shard-before-sequence = refl;
+      sequence-before-masks = refl;
+      word-then-kind = refl;
+      kind-then-word = refl;
+      some-then-run = refl;
+      mask-then-run = refl;
+      repeat-then-missing = refl;
+      holder-first = refl;
+      written-head = refl;
+      written-missing = refl;
+      written-kind = refl;
     }

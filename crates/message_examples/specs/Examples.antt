@@ -5,12 +5,12 @@ use mathlib.Core.Path.{_≡_, refl}
 use Rattle.base_laws.specs.Below.{allBelow, anyBelow, lowest}
 use Rattle.base_laws.specs.Tables.{tabulate}
 use Rattle.settings_values.specs.Settings.{sizesOk, nodesOk, shardOk, shardsOk, settingsOk}
-use Rattle.base_ids.specs.Refusals.{none, refused, unless, firstOf}
+use Rattle.base_ids.specs.Refusals.{none, refused, refusedAt, unless, unlessAt, firstOf}
 use Rattle.message_format.specs.declared.Form.the-variants.{Report, Order}
 use Rattle.message_format.specs.Chain.{place, following, row5, row8}
 use Rattle.message_format.specs.Records.{precedes, shardsWhere}
 use Rattle.message_format.specs.Rows.{row6, viewOk, row7, kindOk, plain, kindAt, shardAt, surplus, sequenceAt, complete, shardApart, row10At, row10, position, viewFits, legal, row11At}
-use Rattle.message_format.specs.Messages.{bodyWord, bodyOf, contentsOf, recordsRefusal, headRefusal, messageRefusal, readRefusal}
+use Rattle.message_format.specs.Messages.{bodyWord, bodyOf, contentsOf, recordsRefusal, brokenAt, headRefusal, messageRefusal, readRefusal}
 
 -- the settings of document 01's runs
 abbrev pub exampleSettings : List ℕ
@@ -51,23 +51,23 @@ pub record Examples : Type 0 where
   pub number-6 : readRefusal Report exampleSettings (message 7 7 127 (maskRecords ++ (0 ∷ []))) ≡ refused 6
   pub number-7 : readRefusal Report exampleSettings (message 1 0 127 (maskRecords ++ (0 ∷ []))) ≡ refused 7
   pub number-8 :
-      readRefusal Report exampleSettings (message 1 7 127 (256 ∷ 5 ∷ 0 ∷ 2 ∷ 257 ∷ 82 ∷ 0 ∷ 2 ∷ [])) ≡ refused 8
-  pub number-9 : readRefusal Report exampleSettings (message 1 7 127 (maskRecords ++ (4 ∷ 2305 ∷ 7 ∷ 5 ∷ 0 ∷ []))) ≡ refused 9
+      readRefusal Report exampleSettings (message 1 7 127 (256 ∷ 5 ∷ 0 ∷ 2 ∷ 257 ∷ 82 ∷ 0 ∷ 2 ∷ [])) ≡ refusedAt 8 2
+  pub number-9 : readRefusal Report exampleSettings (message 1 7 127 (maskRecords ++ (4 ∷ 2305 ∷ 7 ∷ 5 ∷ 0 ∷ []))) ≡ refusedAt 9 4
   pub number-10 :
       readRefusal Report exampleSettings (message 1 7 127 (256 ∷ 0 ∷ 0 ∷ 2 ∷ 257 ∷ 82 ∷ 0 ∷ 3 ∷ 258 ∷ 32 ∷ 0 ∷ 0 ∷ []))
       ≡ refused 10
   pub number-11 : readRefusal Report exampleSettings (message 1 7 127 (maskRecords ++ (4 ∷ 769 ∷ 7 ∷ 0 ∷ 0 ∷ []))) ≡ refused 11
   pub zero-position : readRefusal Report exampleSettings (message 1 7 127 (maskRecords ++ (4 ∷ 512 ∷ 0 ∷ 3 ∷ 5 ∷ 513 ∷ 0 ∷ 0 ∷ 6 ∷ 514 ∷ 0 ∷ 0 ∷ 0 ∷ []))) ≡ refused 11
-  pub some-terminated : readRefusal Report exampleSettings (message 1 7 127 (maskRecords ++ (4 ∷ 512 ∷ 0 ∷ 3 ∷ 0 ∷ []))) ≡ refused 9
+  pub some-terminated : readRefusal Report exampleSettings (message 1 7 127 (maskRecords ++ (4 ∷ 512 ∷ 0 ∷ 3 ∷ 0 ∷ []))) ≡ refusedAt 17 4
   pub off-chain : readRefusal Report exampleSettings (message 1 7 127 (maskRecords ++ (5 ∷ 9 ∷ 9 ∷ 9 ∷ 9 ∷ 769 ∷ 7 ∷ 5 ∷ 0 ∷ []))) ≡ none
-  pub equal-runs : readRefusal Report exampleSettings (message 1 7 127 (maskRecords ++ (4 ∷ 769 ∷ 6 ∷ 5 ∷ 5 ∷ 769 ∷ 6 ∷ 7 ∷ 0 ∷ []))) ≡ refused 9
+  pub equal-runs : readRefusal Report exampleSettings (message 1 7 127 (maskRecords ++ (4 ∷ 769 ∷ 6 ∷ 5 ∷ 5 ∷ 769 ∷ 6 ∷ 7 ∷ 0 ∷ []))) ≡ refusedAt 17 5
   pub order-right : readRefusal Order exampleSettings (order 1 7) ≡ none
   pub order-holder : readRefusal Order exampleSettings (order 6 7) ≡ refused 11
   pub order-view : readRefusal Order exampleSettings (order 1 8) ≡ refused 11
-  pub order-as-report : readRefusal Report exampleSettings (order 1 7) ≡ refused 9
+  pub order-as-report : readRefusal Report exampleSettings (order 1 7) ≡ refusedAt 9 7
 
 pub examples : Examples
-unfolding allBelow anyBelow lowest tabulate sizesOk nodesOk shardOk shardsOk settingsOk unless firstOf place following row5 row8 precedes shardsWhere viewOk row6 row7 kindOk plain kindAt shardAt surplus sequenceAt complete shardApart row10At row10 position viewFits legal row11At bodyWord bodyOf contentsOf recordsRefusal headRefusal messageRefusal readRefusal
+unfolding allBelow anyBelow lowest tabulate sizesOk nodesOk shardOk shardsOk settingsOk unless unlessAt firstOf place following brokenAt row5 row8 precedes shardsWhere viewOk row6 row7 kindOk plain kindAt shardAt surplus sequenceAt complete shardApart row10At row10 position viewFits legal row11At bodyWord bodyOf contentsOf recordsRefusal headRefusal messageRefusal readRefusal
 examples =
     record {
       right = refl;

@@ -1,4 +1,4 @@
--- Where the records of a message stand that passes row 9: record s gives the members of shard s, and in a message with a
+-- Where the records of a message stand that passes rows 9, 16 and 17: record s gives the members of shard s, and in a message with a
 -- termination record S + s gives its position. Tags rise strictly up to kind 2, so the records of a kind that every shard has
 -- fill a block of S places.
 use mathlib.Core.Bool.{Bool, true, false, cond, _&&_, _||_}
@@ -64,7 +64,7 @@ every-has σ b k len h s l =
     (subset-has (everyShard σ) (shardsOf k b len) h s (has-full (shards σ) s l)) in
     (w .0, w .1, eqb-true (kind b (w .0)) k (w .2), w .3)
 
--- ---- what the parts of row 9 give
+-- ---- what rows 9, 16 and 17 give
 
 pub kind-from : (form : Form) (k : ℕ) → kindOk form k ≡ true → 1 ≤ k
 unfolding kindOk
@@ -135,7 +135,7 @@ module _ (b : List ℕ) (len : ℕ) (strict : (i j : ℕ) → i < j → j < len 
         let same : w .0 ≡ from + s = omega (arith, w .2) in
         (omega (arith, w .1), subst (λ (x : ℕ). tag b x ≡ base + s) same (w .2))
 
--- ---- the records of a message that passes row 9
+-- ---- the records of a message that passes rows 9, 16 and 17
 
 module _ (form : Form) (σ : List ℕ) (node : ℕ) (b : List ℕ) (len : ℕ)
     (kinds : allBelow len (kindAt form b) ≡ true) (within : allBelow len (shardAt σ b) ≡ true)

@@ -1,10 +1,11 @@
 -- The message format: the chain of records, the contents, the rows of document 01's table, the words of a
--- message, what no refusal means, and where the records stand.
+-- message, what no refusal means, where a refusal is told, and where the records stand.
 pub mod Chain
 pub mod Records
 pub mod Rows
 pub mod Rising
 pub mod Messages
 pub mod Passed
+pub mod Placing
 pub mod Alike
 pub mod Laws

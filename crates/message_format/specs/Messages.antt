@@ -1,19 +1,19 @@
 -- What a message says, when reader and writer refuse, and the words that the writer makes.
-use Prim.Native.Nat.{ℕ, _+_, _*_, _-_, _/_, _%_}
-use mathlib.Core.Bool.{cond}
+use Prim.Native.Nat.{ℕ, suc, _+_, _*_, _-_, _/_, _%_}
+use mathlib.Core.Bool.{Bool, cond, not}
 use mathlib.Core.List.{List}
 use lib.Dec.{eqb, leb, ltb}
 use lib.ListN.{length, getD, replicate}
-use Rattle.base_laws.specs.Below.{allBelow}
+use Rattle.base_laws.specs.Below.{allBelow, lowest}
 use Rattle.base_laws.specs.Tables.{tabulate}
 use Rattle.settings_values.specs.Settings.{settingsOk}
-use Rattle.base_ids.specs.Refusals.{none, accepted, unless, firstOf}
+use Rattle.base_ids.specs.Refusals.{none, accepted, unless, unlessAt, firstOf}
 use Rattle.base_ids.specs.declared.Refusal.{Refusal}
 use Rattle.message_format.specs.declared.Form.{Form}
 use Rattle.message_format.specs.declared.Contents.{Contents}
 use Rattle.message_format.specs.declared.Reading.{Reading}
 use Rattle.message_format.specs.declared.Writing.{Writing}
-use Rattle.message_format.specs.Chain.{place, following, row5, row8}
+use Rattle.message_format.specs.Chain.{place, following, linked, row5, row8}
 use Rattle.message_format.specs.Records.{membersOf}
 use Rattle.message_format.specs.Rows.{row6, row7, kindAt, shardAt, sequenceAt, complete, row10, row11At}
 
@@ -47,37 +47,50 @@ blank =
       body = replicate 381 0;
     }
 
--- rows 9 to 11 over the contents' records
-unfoldable pub recordsRefusal : Form → List ℕ → ℕ → ℕ → ℕ → List ℕ → ℕ → Refusal
-recordsRefusal form σ node view members b len =
-    unless (allBelow len (kindAt form b)) 9
-    (unless (allBelow len (shardAt σ b)) 9
-    (unless (allBelow len (sequenceAt node b)) 9
-    (unless (complete form σ node b len) 9
+-- number k for the first record of the contents that fails a test. `at` gives the index of the record so many steps along
+-- the chain; record j of the contents is j + 1 steps along.
+abbrev pub firstAt : (ℕ → ℕ) → ℕ → (ℕ → Bool) → ℕ → Refusal → Refusal
+firstAt at len f k rest = unlessAt (allBelow len f) k (at (suc (lowest len (λ j. not (f j))))) rest
+
+-- where the writer's records stand: one after another
+abbrev pub inOrder : ℕ → ℕ
+inOrder k = k
+
+-- rows 9, 16, 17, 10 and 11 over the contents' records; a missing record is told at the last one on the chain
+unfoldable pub recordsRefusal : (ℕ → ℕ) → Form → List ℕ → ℕ → ℕ → ℕ → List ℕ → ℕ → Refusal
+recordsRefusal at form σ node view members b len =
+    firstAt at len (kindAt form b) 9
+    (firstAt at len (shardAt σ b) 16
+    (firstAt at len (sequenceAt node b) 17
+    (unlessAt (complete form σ node b len) 17 (at len)
     (unless (row10 σ members (membersOf b)) 10
     (unless (allBelow len (row11At form view members b)) 11 none)))))
+
+-- the index of the first record on the chain whose next index is wrong
+unfoldable pub brokenAt : List ℕ → ℕ
+brokenAt w = place w (lowest (suc (following w)) (λ j. not (linked w (place w j))))
 
 -- rows 6 and 7 over the contents' head
 unfoldable pub headRefusal : Form → List ℕ → ℕ → ℕ → ℕ → Refusal
 headRefusal form σ node view members =
     unless (row6 σ node) 6 (unless (row7 form σ node view members) 7 none)
 
--- the refusal of a message under right settings: rows 5 to 11
+-- the refusal of a message under right settings: rows 5 to 8, 9, 16, 17, 10 and 11
 unfoldable pub messageRefusal : Form → List ℕ → List ℕ → Refusal
 messageRefusal form σ w =
     unless (row5 w) 5
     (firstOf (headRefusal form σ (getD w 0 0) (getD w 1 0) (getD w 2 0))
-    (unless (row8 w) 8
-    (recordsRefusal form σ (getD w 0 0) (getD w 1 0) (getD w 2 0) (bodyOf w) (following w))))
+    (unlessAt (row8 w) 8 (brokenAt w)
+    (recordsRefusal (place w) form σ (getD w 0 0) (getD w 1 0) (getD w 2 0) (bodyOf w) (following w))))
 
--- the refusal of contents under right settings: rows 5 (by the words needed), 6, 7 and 9 to 11
+-- the refusal of contents under right settings: rows 5 (by the words needed), 6, 7, 9, 16, 17, 10 and 11
 unfoldable pub contentsRefusal : Form → List ℕ → Contents → Refusal
 contentsRefusal form σ c =
     unless (leb (c .len) 127) 5
     (firstOf (headRefusal form σ (c .node .0) (c .view .0) (c .members))
-    (recordsRefusal form σ (c .node .0) (c .view .0) (c .members) (c .body) (c .len)))
+    (recordsRefusal inOrder form σ (c .node .0) (c .view .0) (c .members) (c .body) (c .len)))
 
--- the reader: rows 2 and 5 to 11
+-- the reader: row 2 and those of a message
 unfoldable pub readRefusal : Form → List ℕ → List ℕ → Refusal
 readRefusal form σ w = unless (settingsOk σ) 2 (messageRefusal form σ w)
 

@@ -42,6 +42,6 @@ shardsOf k b n = shardsWhere (λ j. eqb (kind b j) k) b n
 abbrev pub carriedBy : ℕ → List ℕ → ℕ → ℕ
 carriedBy node b n = shardsWhere (λ j. eqb (kind b j) 1 && has (word1 b j) node) b n
 
--- the members of shard s. In a message that passes row 9 record s is that of kind 1 and shard s (Laws.members-record).
+-- the members of shard s. In a message that passes rows 9, 16 and 17 record s is that of kind 1 and shard s (Laws.members-record).
 abbrev pub membersOf : List ℕ → ℕ → ℕ
 membersOf b s = word1 b s

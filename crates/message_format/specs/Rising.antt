@@ -1,4 +1,4 @@
--- In contents that pass row 9's third pass every record precedes all later ones, so tags never fall and the runs of a shard
+-- In contents that pass row 17's pass every record precedes all later ones, so tags never fall and the runs of a shard
 -- rise by view.
 use Prim.Native.Nat.{ℕ, zero, suc, _-_, _<_, _≤_}
 use mathlib.Core.Bool.{true, not, _&&_, _||_}

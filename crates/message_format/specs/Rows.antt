@@ -1,4 +1,4 @@
--- Rows 6, 7, 9, 10 and 11 of document 01's table over the settings σ and the contents of a report or an order: each says
+-- Rows 6, 7, 9, 16, 17, 10 and 11 over the settings σ and the contents of a report or an order: each says
 -- that the row finds nothing wrong.
 use Prim.Native.Nat.{ℕ, _-_, _^_}
 use mathlib.Core.Bool.{Bool, true, cond, not, _&&_, _||_}
@@ -33,11 +33,11 @@ kindOk Order k = from-to 1 2 k || from-to 4 5 k
 unfoldable pub plain : ℕ → ℕ → Bool
 plain k w = not (eqb k 1 || eqb k 4) || eqb w 0
 
--- row 9, first pass, at record j: its kind and its word 2
+-- row 9 at record j: its kind and its word 2
 unfoldable pub kindAt : Form → List ℕ → ℕ → Bool
 kindAt form b j = kindOk form (kind b j) && plain (kind b j) (word2 b j)
 
--- row 9, second pass, at record j: its shard
+-- row 16 at record j: its shard
 unfoldable pub shardAt : List ℕ → List ℕ → ℕ → Bool
 shardAt σ b j = ltb (shard b j) (shards σ)
 
@@ -45,7 +45,7 @@ shardAt σ b j = ltb (shard b j) (shards σ)
 unfoldable pub surplus : ℕ → List ℕ → ℕ → Bool
 surplus node b j = leb 4 (kind b j) && not (has (carriedBy node b j) (shard b j))
 
--- row 9, third pass, at record j: it follows the record before it, and is not surplus
+-- row 17 at record j: it follows the record before it, and is not surplus
 unfoldable pub sequenceAt : ℕ → List ℕ → ℕ → Bool
 sequenceAt node b j = (eqb j 0 || precedes b (j - 1) j) && not (surplus node b j)
 
@@ -53,7 +53,7 @@ sequenceAt node b j = (eqb j 0 || precedes b (j - 1) j) && not (surplus node b j
 abbrev pub everyShard : List ℕ → ℕ
 everyShard σ = 2 ^ shards σ - 1
 
--- row 9: no record is missing. Kind 1 for each shard; kind 2 for every shard or, in a report, for none; in an order kinds 4
+-- row 17: no record is missing. Kind 1 for each shard; kind 2 for every shard or, in a report, for none; in an order kinds 4
 -- and 5 for the shards that its recipient carries.
 unfoldable pub complete : Form → List ℕ → ℕ → List ℕ → ℕ → Bool
 complete Report σ node b len =

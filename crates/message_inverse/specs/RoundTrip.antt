@@ -44,7 +44,7 @@ alike-passes form σ node view members b c n h p =
           ∙ p .positions-pass;
     }
 
-tidy-alike : (c : Contents) → c .len ≤ 127 → SameRecords (c .body) (tidy c .body) (c .len)
+pub tidy-alike : (c : Contents) → c .len ≤ 127 → SameRecords (c .body) (tidy c .body) (c .len)
 unfolding tidy
 tidy-alike c few k l =
     sym (getD-tabulate 381 (λ j. cond (ltb j (3 * c .len)) (getD (c .body) j 0) 0) k 0 (omega arith) ∙ rw (lt-ltb k (3 * c .len) l))

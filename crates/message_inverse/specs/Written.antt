@@ -115,7 +115,7 @@ module _ (c : Contents) (r : ℕ) (enough : c .len + 1 ≤ r) where
   written-end : next (messageOf c (4 * r)) (c .len) ≡ 0
   written-end = written-word (4 * c .len + 3) ∙ word-last c (c .len) (le-refl (c .len))
 
-  written-place : (j : ℕ) → j ≤ c .len → place (messageOf c (4 * r)) j ≡ j
+  pub written-place : (j : ℕ) → j ≤ c .len → place (messageOf c (4 * r)) j ≡ j
   written-place = straight-place (messageOf c (4 * r)) (c .len) written-on written-end
 
   module _ (few : c .len ≤ 127) where

@@ -1,4 +1,4 @@
--- The two parts of row 9's third pass at a record, with the shards carried given.
+-- The two parts of row 17's pass at a record, with the shards carried given.
 use mathlib.Core.Bool.{Bool, not, _&&_, _||_}
 use mathlib.Core.List.{List}
 use Prim.Native.Nat.{ℕ, _-_}

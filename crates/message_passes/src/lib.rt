@@ -1,4 +1,4 @@
-// The passes of rows 9 and 11 over the contents' records. Each gives the index of the first record that fails it, or the
+// The passes of rows 9, 16, 17 and 11 over the contents' records. Each gives the index of the first record that fails it, or the
 // number of records where none does.
 use base_ids::Node;
 use base_ids::View;
@@ -12,7 +12,7 @@ ghost use Rattle.base_laws.specs.Loops.{firstBad};
 ghost use Rattle.message_records.specs.Gathered.{SmallShards};
 ghost use Rattle.message_passes.specs.Sequence.{followsAt, strayAt};
 
-// Row 9, first pass, at record j: its kind and its word 2.
+// Row 9 at record j: its kind and its word 2.
 fn kind_at(form: Form, body: &[u32; 381], j: usize) -> bool
     requires { ⌜ j < 127 ⌝ }
     ensures { λ r. ⌜ r ≡ Rows.kindAt form (now (body .entry)) j ⌝ }
@@ -24,7 +24,7 @@ fn kind_at(form: Form, body: &[u32; 381], j: usize) -> bool
     message_rows::plain(kind, message_fields::word2(body, j))
 }
 
-// Row 9, first pass.
+// Row 9: kinds and word 2.
 pub fn kinds(form: Form, body: &[u32; 381], len: usize) -> usize
     requires { ⌜ len ≤ 127 ⌝ }
     ensures { λ r. ⌜ r ≡ firstBad len (Rows.kindAt form (now (body .entry))) ⌝ }
@@ -39,7 +39,7 @@ pub fn kinds(form: Form, body: &[u32; 381], len: usize) -> usize
     len
 }
 
-// Row 9, second pass.
+// Row 16: shards.
 pub fn shards(settings: &[u32], body: &[u32; 381], len: usize) -> usize
     requires { ⌜ Settings (now settings) ⌝ }
     requires { ⌜ len ≤ 127 ⌝ }
@@ -80,7 +80,7 @@ fn stray(carried: u32, body: &[u32; 381], j: usize) -> bool
     !base_masks::has(carried, shard.0 as usize)
 }
 
-// Row 9, third pass, at record j, with the shards that the node carries by the records before it.
+// Row 17 at record j, with the shards that the node carries by the records before it.
 fn sequence_at(node: Node, carried: u32, body: &[u32; 381], j: usize) -> bool
     requires { ⌜ j < 127 ⌝ }
     requires { ⌜ carried ≡ carriedBy (node .0) (now body) j ⌝ }
@@ -92,7 +92,7 @@ fn sequence_at(node: Node, carried: u32, body: &[u32; 381], j: usize) -> bool
     !stray(carried, body, j)
 }
 
-// Row 9, third pass.
+// Row 17: sequence and surplus.
 pub fn sequence(node: Node, body: &[u32; 381], len: usize) -> usize
     requires { ⌜ len ≤ 127 ⌝ }
     requires { ⌜ SmallShards (now body) len ⌝ }

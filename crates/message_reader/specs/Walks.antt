@@ -11,7 +11,11 @@ use lib.ListN.{length}
 use borrow.Author.Tests.{eq-eqb, ne-eqb, eqb-true, lt-ltb, le-ltb, ltb-true, leb-true}
 use Rattle.base_laws.specs.Bools.{clash, no-false, and-both, and-left, and-right, and-fails-left, and-fails-right, or-left, or-right, or-neither, lt-or-le}
 use Rattle.base_laws.specs.Below.{allBelow, anyBelow, lowest, all-none, all-more, all-at, all-fails, any-none, any-more, any-fails, lowest-at, lowest-none, lowest-first, lowest-holds, lowest-some}
+use Rattle.base_laws.specs.Loops.{bad-at}
+use Rattle.base_ids.specs.declared.Refusal.{Refusal}
+use Rattle.base_ids.specs.Refusals.{none, refusedAt, unlessAt, unless-at-true, unless-at-false}
 use Rattle.message_format.specs.Chain.{records, next, place, ends, following, linked, row5, row8}
+use Rattle.message_format.specs.Messages.{brokenAt}
 
 -- record j steps along the chain ends it
 abbrev pub endsAt : List ℕ → ℕ → Bool
@@ -20,6 +24,10 @@ endsAt w j = ends w (place w j)
 -- record j steps along the chain is linked
 abbrev pub linkedAt : List ℕ → ℕ → Bool
 linkedAt w j = linked w (place w j)
+
+-- row 8 alone: the refusal of a message's chain, told at the first record whose next index is wrong
+unfoldable pub chainRefusal : List ℕ → Refusal
+chainRefusal w = unlessAt (row8 w) 8 (brokenAt w) none
 
 -- ---- row 5
 
@@ -38,6 +46,10 @@ row5-gives w h =
     record { some = omega arith; few = omega arith; whole = omega arith }
 
 -- ---- the chain
+
+pub place-none : (w : List ℕ) → place w 0 ≡ 0
+unfolding place
+place-none w = refl
 
 pub place-next : (w : List ℕ) (j : ℕ) → place w (j + 1) ≡ next w (place w j)
 unfolding place
@@ -119,29 +131,50 @@ module _ (w : List ℕ) (at n : ℕ) (s : SizedMessage w) (k : Walk w at) (e : n
         sound = all-more (k .steps) (linkedAt w) (k .sound) (at-step (linked w) true link);
       }
 
+  -- a record's index has its place in a refusal
+  pub walk-few : at ≤ 127
+  walk-few = let a = k .inside in let c = s .few in omega arith
+
   -- the chain ends here
-  pub walk-end : n ≡ 0 → row8 w ≡ true
+  row8-holds : n ≡ 0 → row8 w ≡ true
   unfolding row8
-  walk-end z =
+  row8-holds z =
       let ended : endsAt w (k .steps) ≡ true = at-step (ends w) true (eq-eqb (next w at) 0 (sym e ∙ z)) in
       let link : linkedAt w (k .steps) ≡ true = or-left _ ended in
       subst⁻¹ (λ (n : ℕ). allBelow n (linkedAt w) ≡ true)
       (ap suc (following-at w (k .steps) steps-le (k .unended) ended) ∙ sym (add-one (k .steps)))
       (all-more (k .steps) (linkedAt w) (k .sound) link)
 
-  -- the next index is wrong
-  pub walk-broken : (n ≡ 0 → ⊥) → (n ≤ at) ⊎ (records w ≤ n) → row8 w ≡ false
-  unfolding row8
-  walk-broken goes bad =
-      let unlinked : (ltb at (next w at) && ltb (next w at) (records w)) ≡ false =
-      ⊎-elim
-      (λ l. and-fails-left (ltb (next w at) (records w)) (le-ltb at (next w at) (omega arith)))
-      (λ l. and-fails-right (ltb at (next w at)) (le-ltb (next w at) (records w) (omega arith)))
-      bad in
-      let broken : linkedAt w (k .steps) ≡ false =
-      at-step (linked w) false (or-neither (ne-eqb (next w at) 0 (λ z. goes (e ∙ z))) unlinked) in
-      let reached : k .steps ≤ following w = following-from w (k .steps) steps-le (k .unended) in
-      all-fails (suc (following w)) (linkedAt w) (k .steps) (omega arith) broken
+  pub walk-end : n ≡ 0 → none ≡ chainRefusal w
+  unfolding chainRefusal
+  walk-end z = sym (unless-at-true (row8 w) 8 (brokenAt w) none (row8-holds z))
+
+  -- the next index is wrong: row 8 fails, first at this record
+  module _ (goes : n ≡ 0 → ⊥) (bad : (n ≤ at) ⊎ (records w ≤ n)) where
+    unlinked : (ltb at (next w at) && ltb (next w at) (records w)) ≡ false
+    unlinked =
+        ⊎-elim
+        (λ l. and-fails-left (ltb (next w at) (records w)) (le-ltb at (next w at) (omega arith)))
+        (λ l. and-fails-right (ltb at (next w at)) (le-ltb (next w at) (records w) (omega arith)))
+        bad
+
+    broken : linkedAt w (k .steps) ≡ false
+    broken = at-step (linked w) false (or-neither (ne-eqb (next w at) 0 (λ z. goes (e ∙ z))) unlinked)
+
+    reached : k .steps < suc (following w)
+    reached = suc-le-suc (following-from w (k .steps) steps-le (k .unended))
+
+    row8-fails : row8 w ≡ false
+    unfolding row8
+    row8-fails = all-fails (suc (following w)) (linkedAt w) (k .steps) reached broken
+
+    first-broken : brokenAt w ≡ at
+    unfolding brokenAt
+    first-broken = ap (place w) (bad-at (suc (following w)) (linkedAt w) (k .steps) reached (k .sound) broken) ∙ sym (k .here)
+
+    pub walk-broken : refusedAt 8 at ≡ chainRefusal w
+    unfolding chainRefusal
+    walk-broken = ap (refusedAt 8) (sym first-broken) ∙ sym (unless-at-false (row8 w) 8 (brokenAt w) none row8-fails)
 
 -- ---- a chain that passes row 8
 

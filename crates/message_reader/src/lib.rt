@@ -9,9 +9,11 @@ use message_format::Reading;
 ghost use mathlib.Core.Bool.{true};
 ghost use mathlib.Core.Path.{_≡_};
 ghost use Prim.Native.Nat.{_<_, _≤_};
-ghost use Rattle.message_format.specs.Chain.{row5, row8};
-ghost use Rattle.message_format.specs.Messages.{contentsOf, messageRefusal, readingOf, recordsRefusal};
-ghost use Rattle.message_reader.specs.Walks.{SizedMessage};
+ghost use Rattle.base_ids.specs.Refusals.{indexIn};
+ghost use Rattle.message_format.specs.Chain.{place, following, row5, row8};
+ghost use Rattle.message_format.specs.Messages.{contentsOf, inOrder, messageRefusal, readingOf, recordsRefusal};
+ghost use Rattle.message_format.specs.Placing.{placedBy};
+ghost use Rattle.message_reader.specs.Walks.{SizedMessage, chainRefusal};
 ghost use Rattle.message_reader.specs.Bodies.{recordPut};
 ghost use Rattle.message_reader.specs.Readings.{answer, nothing, headOf, readingUnder};
 ghost use Rattle.settings_values.specs.Settings.{Settings};
@@ -29,26 +31,55 @@ pub fn length_ok(words: &[u32]) -> bool
     words.len() % 4 == 0
 }
 
-// Row 8: each next index on the chain is larger than its own record's and lies inside the message, or is 0.
-pub fn chain_ok(words: &[u32]) -> bool
+// Row 8: each next index on the chain is larger than its own record's and lies inside the message, or is 0. A refusal
+// tells the first record of which this fails.
+pub fn chain_refusal(words: &[u32]) -> Refusal
     requires { ⌜ SizedMessage (now words) ⌝ }
-    ensures { λ r. ⌜ r ≡ row8 (now (words .entry)) ⌝ }
+    ensures { λ r. ⌜ r ≡ chainRefusal (now (words .entry)) ⌝ }
 {
     let mut at: usize = 0;
     loop {
         let step = message_chain::step_from(words, at);
         let next = step.next;
         if next == 0 {
-            return true;
+            return Refusal { code: 0 };
         }
         if next <= at {
-            return false;
+            return message_contents::told_at(8, at);
         }
         if words.len() / 4 <= next {
-            return false;
+            return message_contents::told_at(8, at);
         }
         at = next;
     }
+}
+
+// The index of the record so many steps along the chain.
+fn place_of(words: &[u32], steps: usize) -> usize
+    ensures { λ r. ⌜ r ≡ place (now (words .entry)) steps ⌝ }
+{
+    let mut at: usize = 0;
+    let mut j: usize = 0;
+    while j < steps {
+        let step = message_chain::step_from(words, at);
+        at = step.next;
+        j += 1;
+    }
+    at
+}
+
+// A refusal of the records on the chain, told at the index of its record instead of its step along the chain.
+fn placed(words: &[u32], refusal: Refusal) -> Refusal
+    requires { ⌜ SizedMessage (now words) ⌝ }
+    requires { ⌜ row8 (now words) ≡ true ⌝ }
+    requires { ⌜ indexIn refusal ≤ following (now words) ⌝ }
+    ensures { λ r. ⌜ r ≡ placedBy (place (now (words .entry))) refusal ⌝ }
+{
+    if refusal.code == 0 {
+        return refusal;
+    }
+    let at = place_of(words, base_ids::wide(refusal.code / 256));
+    message_contents::told_at(refusal.code % 256, at)
 }
 
 // Stores a record as record j of the body.
@@ -107,7 +138,7 @@ fn refuse(refusal: Refusal) -> Reading
 fn answer_with(refusal: Refusal, c: Contents) -> Reading
     ensures { λ r. ⌜ r ≡ answer refusal c ⌝ }
 {
-    if refusal.number != 0 {
+    if refusal.code != 0 {
         return refuse(refusal);
     }
     Reading {
@@ -133,11 +164,11 @@ fn head_of(form: Form, settings: &[u32], words: &[u32]) -> Refusal
     )
 }
 
-// Rows 9 to 11 of what a message says.
+// The rows of a message's records, told at their steps along the chain.
 fn records_of(form: Form, settings: &[u32], c: Contents) -> Refusal
     requires { ⌜ Settings (now settings) ⌝ }
     requires { ⌜ c .len ≤ 127 ⌝ }
-    ensures { λ r. ⌜ r ≡ recordsRefusal form (now (settings .entry)) (c .node .0) (c .view .0) (c .members) (c .body) (c .len) ⌝ }
+    ensures { λ r. ⌜ r ≡ recordsRefusal inOrder form (now (settings .entry)) (c .node .0) (c .view .0) (c .members) (c .body) (c .len) ⌝ }
 {
     let node = c.node;
     let view = c.view;
@@ -146,27 +177,28 @@ fn records_of(form: Form, settings: &[u32], c: Contents) -> Refusal
     message_contents::records_refusal(form, settings, node, view, members, &c.body, len)
 }
 
-// Rows 5 to 11, and what the message says where they pass.
+// The rows of a message, and what it says where they pass.
 pub fn read_under(form: Form, settings: &[u32], words: &[u32]) -> Reading
     requires { ⌜ Settings (now settings) ⌝ }
     ensures { λ r. ⌜ r ≡ readingUnder form (now (settings .entry)) (now (words .entry)) ⌝ }
 {
     if !length_ok(words) {
-        return refuse(Refusal { number: 5 });
+        return refuse(Refusal { code: 5 });
     }
     let head = head_of(form, settings, words);
-    if head.number != 0 {
+    if head.code != 0 {
         return refuse(head);
     }
-    if !chain_ok(words) {
-        return refuse(Refusal { number: 8 });
+    let chain = chain_refusal(words);
+    if chain.code != 0 {
+        return refuse(chain);
     }
     let c = contents_of(words);
     let records = records_of(form, settings, c);
-    answer_with(records, c)
+    answer_with(placed(words, records), c)
 }
 
-// The refusal of a message under right settings: rows 5 to 11.
+// The refusal of a message under right settings.
 pub fn message_refusal(form: Form, settings: &[u32], words: &[u32]) -> Refusal
     requires { ⌜ Settings (now settings) ⌝ }
     ensures { λ r. ⌜ r ≡ messageRefusal form (now (settings .entry)) (now (words .entry)) ⌝ }
@@ -175,12 +207,12 @@ pub fn message_refusal(form: Form, settings: &[u32], words: &[u32]) -> Refusal
     r.refusal
 }
 
-// Reads a report or an order: rows 2 and 5 to 11.
+// Reads a report or an order: row 2 and those of a message.
 pub fn read(form: Form, settings: &[u32], words: &[u32]) -> Reading
     ensures { λ r. ⌜ r ≡ readingOf form (now (settings .entry)) (now (words .entry)) ⌝ }
 {
     if !settings_check::check(settings) {
-        return refuse(Refusal { number: 2 });
+        return refuse(Refusal { code: 2 });
     }
     read_under(form, settings, words)
 }

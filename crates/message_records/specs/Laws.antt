@@ -29,7 +29,7 @@ pub where-step : (f : ℕ → Bool) (b : List ℕ) (n : ℕ)
 unfolding shardsWhere
 where-step f b n = ap (λ (k : ℕ). shardsWhere f b k) (add-one n)
 
--- the second pass of row 9 makes the shards fit a mask
+-- row 16 makes the shards fit a mask
 pub shards-small : (σ b : List ℕ) (n : ℕ) → Settings σ → allBelow n (shardAt σ b) ≡ true → SmallShards b n
 unfolding shardAt
 shards-small σ b n g h j l =

@@ -125,7 +125,7 @@ fn complete_order(settings: &[u32], node: Node, body: &[u32; 381], len: usize) -
     covered(carried, 5, body, len)
 }
 
-// Row 9: no record is missing.
+// Row 17: no record is missing.
 pub fn complete(form: Form, settings: &[u32], node: Node, body: &[u32; 381], len: usize) -> bool
     requires { ⌜ Settings (now settings) ⌝ }
     requires { ⌜ len ≤ 127 ⌝ }

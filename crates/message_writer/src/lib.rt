@@ -66,10 +66,10 @@ fn write_refusal(form: Form, settings: &[u32], c: Contents, buffer: &[u32]) -> R
     ensures { λ r. ⌜ r ≡ writeRefusal form (now (settings .entry)) c (now (buffer .entry)) ⌝ }
 {
     if buffer.len() != 512 {
-        return Refusal { number: 1 };
+        return Refusal { code: 1 };
     }
     if !settings_check::check(settings) {
-        return Refusal { number: 2 };
+        return Refusal { code: 2 };
     }
     message_contents::contents_refusal(form, settings, c)
 }
@@ -80,7 +80,7 @@ pub fn write(form: Form, settings: &[u32], c: Contents, buffer: &mut [u32]) -> W
     ensures words { λ r. ⌜ now (buffer .exit) ≡ bufferAfter form (now (settings .entry)) c (now (buffer .entry)) ⌝ }
 {
     let refusal = write_refusal(form, settings, c, buffer);
-    if refusal.number != 0 {
+    if refusal.code != 0 {
         return Writing { refusal, length: 0 };
     }
     fill(buffer, c);

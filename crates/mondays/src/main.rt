@@ -111,7 +111,7 @@ fn print_all(block: &mut [u8; 32768], out: &mut [u8; 98304]) -> Tally
             return tally;
         }
         let refusal = tally.refusal;
-        if filled.len < 32768 || refusal.number != 0 {
+        if filled.len < 32768 || refusal.code != 0 {
             return tally;
         }
         turns -= 1;

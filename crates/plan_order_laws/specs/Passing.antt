@@ -1,5 +1,5 @@
--- An order passes rows 9 to 11 where its masks pass row 10, targets and cuts are positions before its view, and holders are
--- among its members. Row 9 goes by the parts of the order, rows 10 and 11 by what each part says.
+-- An order passes rows 9, 16, 17, 10 and 11 where its masks pass row 10, targets and cuts are positions before its view, and holders are
+-- among its members. Rows 9, 16 and 17 go by the parts of the order, rows 10 and 11 by what each part says.
 use Prim.Native.Nat.{ℕ, zero, suc, _+_, _*_, _-_, _<_, _≤_}
 use native.Mathlib.Omega.{arith}
 use mathlib.Core.Bool.{true, false, not, _&&_, _||_}
@@ -48,7 +48,7 @@ module _ (σ : List ℕ) (node : ℕ) (a : Saying) (b : List ℕ) (len : ℕ) (o
   shard-is : {j : ℕ} (q : Part (shards σ) node a j) → shard b j ≡ shardOf q
   shard-is q = says-shard (small q) (says q)
 
-  -- row 9, first pass
+  -- row 9: kinds and word 2
   kind-passes : {j : ℕ} (q : Part (shards σ) node a j) → (kindOk Order (kindOf q) && plain (kindOf q) (secondOf q)) ≡ true
   unfolding kindOk plain kindOf secondOf
   kind-passes (a-members s l e) = refl
@@ -63,7 +63,7 @@ module _ (σ : List ℕ) (node : ℕ) (a : Saying) (b : List ℕ) (len : ℕ) (o
       let q = in-part j l in
       rw (kind-is q, says q .second) (kind-passes q))
 
-  -- row 9, second pass
+  -- row 16: the shards
   shards-pass : allBelow len (shardAt σ b) ≡ true
   unfolding shardAt
   shards-pass =
@@ -71,7 +71,7 @@ module _ (σ : List ℕ) (node : ℕ) (a : Saying) (b : List ℕ) (len : ℕ) (o
       let q = in-part j l in
       rw (shard-is q) (lt-ltb (shardOf q) (shards σ) (shard-below (shards σ) node a q)))
 
-  -- row 9, third pass: the sequence
+  -- row 17: the sequence
   in-order : (i j : ℕ) → i < j → j < len → precedes b i j ≡ true
   unfolding precedes tagOf
   in-order i j l m =
@@ -109,7 +109,7 @@ module _ (σ : List ℕ) (node : ℕ) (a : Saying) (b : List ℕ) (len : ℕ) (o
       let none : surplus node b j ≡ false = rw (kind-is q, shard-is q) (not-surplus q) in
       and-both (after-last j l) (not-of-false none))
 
-  -- row 9: nothing is missing
+  -- row 17: nothing is missing
   named-of : (k j : ℕ) (q : Part (shards σ) node a j) → j < len → kindOf q ≡ k → has (shardsOf k b len) (shardOf q) ≡ true
   named-of k j q l e =
       subst (λ (x : ℕ). has (shardsOf k b len) x ≡ true) (shard-is q)

@@ -13,14 +13,11 @@ use Rattle.report_views.specs.declared.Reason.{Reason}
 use Rattle.report_views.specs.declared.Reason.the-variants.{NoView, NoMajority, TooFew, NoHolder, NoPlacement}
 use Rattle.report_views.specs.Reports.{holderAt, targetAt}
 use Rattle.report_views.specs.Quorums.{numberOf, valueOf}
-use Rattle.program_text.specs.Text.{field, line, numberLabel, numberLine, field-length, line-length}
+use Rattle.program_text.specs.Text.{field, line, space, numberLine, field-length, line-length, number-line-length}
 use Rattle.program_lines.specs.Members.{membersBelow, members-length}
 
 abbrev pub newline : List ℕ
 newline = 10 ∷ []
-
-abbrev pub space : List ℕ
-space = 32 ∷ []
 
 -- "wait "
 abbrev pub waitLabel : List ℕ
@@ -103,8 +100,7 @@ unfolding shardLines
 shards-step p n = ap (shardLines p) (add-one n)
 
 pub number-length : (r : Refusal) → length (numberLine r) ≤ 8192
-unfolding numberLine
-number-length r = omega (arith, line-length numberLabel (r .number))
+number-length r = omega (arith, number-line-length r)
 
 wait-for-length : (reason value : ℕ) → length (waitFor reason value) ≤ 8192
 unfolding waitFor

@@ -126,7 +126,7 @@ pub fn plan_lines(out: &mut [u8], plan: Plan, n: usize) -> usize
 pub fn number_line(out: &mut [u8], refusal: Refusal) -> usize
     ensures { λ r. ⌜ Puts (now (out .entry)) 0 (numberLine refusal) (now (out .exit)) r ⌝ }
 {
-    program_text::put_line(out, 0, b"number ", refusal.number)
+    program_text::put_number(out, 0, refusal)
 }
 
 // The line of a wait that names nothing, and of one that names a shard or a subgroup.

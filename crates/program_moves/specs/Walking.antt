@@ -16,7 +16,7 @@ use Rattle.base_ids.specs.declared.Refusal.{Refusal}
 use Rattle.base_ids.specs.Refusals.{refused, none, accepted, unless, firstOf, unless-ok, unless-rest, unless-true, unless-false, first-none, first-refused}
 use Rattle.word_bytes.specs.Words.{wordAt}
 use Rattle.program_text.specs.Puts.{Puts, puts-as, puts-none, puts-first, then-puts}
-use Rattle.program_text.specs.Text.{numberLine, line, numberLabel}
+use Rattle.program_text.specs.Text.{numberLine}
 use Rattle.program_windows.specs.Windows.{allWindows, lastMoves}
 use Rattle.program_moves.specs.declared.Tally.{Tally}
 use Rattle.program_moves.specs.declared.Taken.{Taken}
@@ -151,19 +151,19 @@ pub line-told : (bytes : List ℕ) (least i n m : ℕ) (r : Refusal) → n ≡ w
     → r ≡ lineRefusal least (record { number = n; moves = m }) → r ≡ lineRefusal least (lineAt bytes i)
 line-told bytes least i n m r d e h = h ∙ ap₂ (λ (a b : ℕ). lineRefusal least (record { number = a; moves = b })) d e
 
-pub few-told : (least : ℕ) (l : Line) (r : Refusal) → r ≡ lineRefusal least l → r .number ≡ 0 → l .moves < 256
+pub few-told : (least : ℕ) (l : Line) (r : Refusal) → r ≡ lineRefusal least l → r .code ≡ 0 → l .moves < 256
 few-told least l r e h = let few : l .moves ≤ 128 = few-moves least l (sym e ∙ ap refused h) in omega arith
 
 pub walks-next : (bytes : List ℕ) (least₀ i least n : ℕ) (r : Refusal) → i < length bytes / 8 → Walks bytes least₀ i least
-    → r ≡ lineRefusal least (lineAt bytes i) → r .number ≡ 0 → n ≡ wordAt bytes (2 * i) → Walks bytes least₀ (i + 1) (n + 1)
+    → r ≡ lineRefusal least (lineAt bytes i) → r .code ≡ 0 → n ≡ wordAt bytes (2 * i) → Walks bytes least₀ (i + 1) (n + 1)
 walks-next bytes least₀ i least n r h w e z d =
     subst (λ (k : ℕ). Walks bytes least₀ (i + 1) (k + 1)) (sym d) (walks-more bytes least₀ i least h w (sym e ∙ ap refused z))
 
 module _ (bytes : List ℕ) (least₀ i least : ℕ) (out : List ℕ) (at : ℕ) (after : List ℕ) (place : ℕ) (w : Walks bytes least₀ i least) (p : Puts out at (movesBelow bytes i) after place) where
-  pub gathers-bad : (r : Refusal) → i < length bytes / 8 → r ≡ lineRefusal least (lineAt bytes i) → (r .number ≡ 0 → ⊥)
+  pub gathers-bad : (r : Refusal) → i < length bytes / 8 → r ≡ lineRefusal least (lineAt bytes i) → (r .code ≡ 0 → ⊥)
       → GathersMoves bytes least₀ out at after place least r
   gathers-bad r h e bad =
-      let z : accepted (lineRefusal least (lineAt bytes i)) ≡ false = ap accepted (sym e) ∙ ne-eqb (r .number) 0 bad in
+      let z : accepted (lineRefusal least (lineAt bytes i)) ≡ false = ap accepted (sym e) ∙ ne-eqb (r .code) 0 bad in
       gathers bytes least₀ out at after place least r (movesBelow bytes i)
       (walks-bad bytes least₀ i least h w z ∙ ap (λ (x : Refusal). record { moves = movesBelow bytes i; least = least; refusal = x }) (sym e)) p
 
@@ -172,24 +172,24 @@ module _ (bytes : List ℕ) (least₀ i least : ℕ) (out : List ℕ) (at : ℕ)
 
 -- ---- the end of a block
 
-pub ended-first : (r : Refusal) (n : ℕ) → (r .number ≡ 0 → ⊥) → r ≡ firstOf r (cutRefusal n)
-ended-first r n h = sym (first-refused r (cutRefusal n) (ne-eqb (r .number) 0 h))
+pub ended-first : (r : Refusal) (n : ℕ) → (r .code ≡ 0 → ⊥) → r ≡ firstOf r (cutRefusal n)
+ended-first r n h = sym (first-refused r (cutRefusal n) (ne-eqb (r .code) 0 h))
 
-pub ended-cut : (r : Refusal) (n : ℕ) → r .number ≡ 0 → (n % 8 ≡ 0 → ⊥) → refused 24 ≡ firstOf r (cutRefusal n)
+pub ended-cut : (r : Refusal) (n : ℕ) → r .code ≡ 0 → (n % 8 ≡ 0 → ⊥) → refused 24 ≡ firstOf r (cutRefusal n)
 unfolding cutRefusal
 ended-cut r n z h = sym (first-none r (cutRefusal n) (ap refused z) ∙ unless-false (eqb (n % 8) 0) 24 none (ne-eqb (n % 8) 0 h))
 
-pub ended-whole : (r : Refusal) (n : ℕ) → r .number ≡ 0 → n % 8 ≡ 0 → none ≡ firstOf r (cutRefusal n)
+pub ended-whole : (r : Refusal) (n : ℕ) → r .code ≡ 0 → n % 8 ≡ 0 → none ≡ firstOf r (cutRefusal n)
 unfolding cutRefusal
 ended-whole r n z h = sym (first-none r (cutRefusal n) (ap refused z) ∙ unless-true (eqb (n % 8) 0) 24 none (eq-eqb (n % 8) 0 h))
 
-pub refusal-none : (r : Refusal) → r .number ≡ 0 → refusalLine r ≡ []
+pub refusal-none : (r : Refusal) → r .code ≡ 0 → refusalLine r ≡ []
 unfolding refusalLine
-refusal-none r h = rw (eq-eqb (r .number) 0 h)
+refusal-none r h = rw (eq-eqb (r .code) 0 h)
 
-pub refusal-some : (r : Refusal) → (r .number ≡ 0 → ⊥) → refusalLine r ≡ line numberLabel (r .number)
-unfolding refusalLine numberLine
-refusal-some r h = rw (ne-eqb (r .number) 0 h)
+pub refusal-some : (r : Refusal) → (r .code ≡ 0 → ⊥) → refusalLine r ≡ numberLine r
+unfolding refusalLine
+refusal-some r h = rw (ne-eqb (r .code) 0 h)
 
 -- ---- what is kept
 
@@ -228,7 +228,7 @@ walk-length least (l ∷ ls) =
     (λ _. omega (arith, walk-length (l .number + 1) ls)) (λ _. omega arith)
 
 pub taken-open : (t : Tally) (bytes out : List ℕ) (first second : List ℕ) (at place least : ℕ) (ended refusal : Refusal) (one two : List ℕ) (w len : ℕ) (after : Tally)
-    → length (t .kept) ≡ 63 → t .refusal .number ≡ 0 → length bytes ≤ 32768
+    → length (t .kept) ≡ 63 → t .refusal .code ≡ 0 → length bytes ≤ 32768
     → Puts (replicate 4159 0) 0 (take (t .count) (t .kept)) first at → GathersMoves bytes (t .least) first at second place least ended
     → refusal ≡ firstOf ended (cutRefusal (length bytes))
     → Puts out 0 (allWindows (take (place - 0) (drop 0 second))) one w → Puts one w (refusalLine refusal) two len
@@ -247,7 +247,7 @@ taken-open t bytes out first second at place least ended refusal one two w len a
     ms = take (t .count) (t .kept) ++ lines .moves
 
     going : accepted (t .refusal) ≡ true
-    going = eq-eqb (t .refusal .number) 0 z
+    going = eq-eqb (t .refusal .code) 0 z
 
     room : length ms ≤ length (replicate {A = ℕ} 4159 0)
     room =
@@ -268,10 +268,10 @@ taken-open t bytes out first second at place least ended refusal one two w len a
         ∙ ap (tallyOf ms (lines .least)) refusal-is
 
 -- nothing is taken after a refusal
-pub taken-closed : (t : Tally) (bytes out : List ℕ) → (t .refusal .number ≡ 0 → ⊥) → TakesBlock t bytes out (record { tally = t; len = 0 }) out
+pub taken-closed : (t : Tally) (bytes out : List ℕ) → (t .refusal .code ≡ 0 → ⊥) → TakesBlock t bytes out (record { tally = t; len = 0 }) out
 unfolding blockText tallyAfter
 taken-closed t bytes out h =
-    let z : accepted (t .refusal) ≡ false = ne-eqb (t .refusal .number) 0 h in
+    let z : accepted (t .refusal) ≡ false = ne-eqb (t .refusal .code) 0 h in
     record { tally = rw z; puts = puts-as (rw z) (puts-none out 0 (omega arith)) }
 
 -- the same bytes

@@ -56,12 +56,12 @@ fn line_refusal(least: u64, number: u32, moves: u32) -> Refusal
     ensures { λ r. ⌜ r ≡ lineRefusal least (record { number = number; moves = moves }) ⌝ }
 {
     if long(number) < least {
-        return Refusal { number: 24 };
+        return Refusal { code: 24 };
     }
     if moves > 128 {
-        return Refusal { number: 25 };
+        return Refusal { code: 25 };
     }
-    Refusal { number: 0 }
+    Refusal { code: 0 }
 }
 
 // Puts the moves of the lines before the first bad one.
@@ -77,7 +77,7 @@ fn gather(bytes: &[u8], least: u64, moves: &mut [u8], at: usize) -> Gathered
         let number = word_bytes::word_at(bytes, 2 * i);
         let many = word_bytes::word_at(bytes, 2 * i + 1);
         let refusal = line_refusal(next, number, many);
-        if refusal.number != 0 {
+        if refusal.code != 0 {
             return Gathered {
                 place,
                 least: next,
@@ -91,7 +91,7 @@ fn gather(bytes: &[u8], least: u64, moves: &mut [u8], at: usize) -> Gathered
     Gathered {
         place,
         least: next,
-        refusal: Refusal { number: 0 },
+        refusal: Refusal { code: 0 },
     }
 }
 
@@ -99,13 +99,13 @@ fn gather(bytes: &[u8], least: u64, moves: &mut [u8], at: usize) -> Gathered
 fn ended(refusal: Refusal, len: usize) -> Refusal
     ensures { λ r. ⌜ r ≡ firstOf refusal (cutRefusal len) ⌝ }
 {
-    if refusal.number != 0 {
+    if refusal.code != 0 {
         return refusal;
     }
     if len % 8 != 0 {
-        return Refusal { number: 24 };
+        return Refusal { code: 24 };
     }
-    Refusal { number: 0 }
+    Refusal { code: 0 }
 }
 
 // Puts the line of a refusal, if there is one.
@@ -113,10 +113,10 @@ fn put_refusal(out: &mut [u8], at: usize, refusal: Refusal) -> usize
     requires { ⌜ at ≤ length (now out) ⌝ }
     ensures { λ r. ⌜ Puts (now (out .entry)) at (refusalLine refusal) (now (out .exit)) r ⌝ }
 {
-    if refusal.number == 0 {
+    if refusal.code == 0 {
         return at;
     }
-    program_text::put_line(out, at, b"number ", refusal.number)
+    program_text::put_number(out, at, refusal)
 }
 
 // Puts the moves that are kept.
@@ -158,7 +158,7 @@ fn tally_of(moves: &[u8], least: u64, refusal: Refusal) -> Tally
 
 // Takes bytes where nothing was refused before.
 fn take_bytes(tally: Tally, bytes: &[u8], out: &mut [u8]) -> Taken
-    requires { ⌜ (tally .refusal .number ≡ 0) × (length (now bytes) ≤ 32768) ⌝ }
+    requires { ⌜ (tally .refusal .code ≡ 0) × (length (now bytes) ≤ 32768) ⌝ }
     ensures { λ r. ⌜ TakesBlock tally (now (bytes .entry)) (now (out .entry)) r (now (out .exit)) ⌝ }
 {
     let mut moves = [0u8; 4159];
@@ -179,7 +179,7 @@ impl Tally {
         ensures { λ r. ⌜ r ≡ freshTally ⌝ }
     {
         Tally {
-            refusal: Refusal { number: 0 },
+            refusal: Refusal { code: 0 },
             least: 0,
             count: 0,
             kept: [0; 63],
@@ -191,7 +191,7 @@ impl Tally {
         ensures { λ r. ⌜ TakesBlock self (take len (now (block .entry))) (now (out .entry)) r (now (out .exit)) ⌝ }
     {
         let refusal = self.refusal;
-        if refusal.number != 0 {
+        if refusal.code != 0 {
             return Taken {
                 tally: self,
                 len: 0,

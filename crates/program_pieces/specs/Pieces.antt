@@ -16,7 +16,7 @@ use Rattle.base_laws.specs.Tables.{tabulate, padded, tabulate-add, tabulate-con
 use Rattle.base_ids.specs.declared.Refusal.{Refusal}
 use Rattle.base_ids.specs.Refusals.{none, accepted, unless, firstOf, accepted-none, unless-true, first-none, first-refused, first-left}
 use Rattle.word_bytes.specs.Words.{wordAt}
-use Rattle.program_text.specs.Text.{numberLine, line, numberLabel, line-length}
+use Rattle.program_text.specs.Text.{numberLine, number-line-length}
 use Rattle.program_windows.specs.Windows.{windowOf, windowLine, windowLines, allWindows, lastMoves}
 use Rattle.program_windows.specs.Sliding.{windows-more, last-more, windows-length}
 use Rattle.program_moves.specs.declared.Tally.{Tally}
@@ -207,7 +207,7 @@ module _ (a p : List ℕ) (w : wholeLines a ≡ true) where
         let whole : allWindows (walk 0 (linesOf (a ++ p)) .moves) ≡ front ++ windows =
         ap (λ (x : LineWalk). allWindows (x .moves)) both ∙ windows-more (was .moves) (new .moves) in
         let quiet : mondaysText a ≡ front =
-        ap (λ (t : List ℕ). front ++ t) (refusal-none (fileRefusal a) (ap (λ (r : Refusal). r .number) (accepted-none (fileRefusal a) (ap accepted (file-whole a w) ∙ h)))) ∙ append-nil front in
+        ap (λ (t : List ℕ). front ++ t) (refusal-none (fileRefusal a) (ap (λ (r : Refusal). r .code) (accepted-none (fileRefusal a) (ap accepted (file-whole a w) ∙ h)))) ∙ append-nil front in
         let put : blockText (standing a) p ≡ windows ++ end =
         ap (λ (b : Bool). cond b (allWindows (blockWalk (standing a) p .moves) ++ end) []) going
         ∙ ap (λ (x : LineWalk). allWindows (x .moves) ++ end) block in
@@ -326,13 +326,13 @@ window-law bytes h =
 -- ---- room for the text of a block
 
 pub text-length : (t : Tally) (bytes : List ℕ) → length (t .kept) ≡ 63 → length bytes ≤ 32768 → length (blockText t bytes) ≤ 98304
-unfolding blockText blockWalk keptMoves refusalLine numberLine
+unfolding blockText blockWalk keptMoves refusalLine
 text-length t bytes k h =
     let ms : List ℕ = take (t .count) (t .kept) ++ walk (t .least) (linesOf bytes) .moves in
     let r : Refusal = blockRefusal t bytes in
     let many : length ms ≤ 4159 =
     omega (arith, length-append (take (t .count) (t .kept)) (walk (t .least) (linesOf bytes) .moves), length-take (t .count) (t .kept), walk-length (t .least) (linesOf bytes), length-lines bytes) in
-    let end : length (refusalLine r) ≤ 18 =
-    cond-of (λ (l : List ℕ). length l ≤ 18) (accepted r) {y = []} {z = line numberLabel (r .number)} (λ _. omega arith) (λ _. line-length numberLabel (r .number)) in
+    let end : length (refusalLine r) ≤ 29 =
+    cond-of (λ (l : List ℕ). length l ≤ 29) (accepted r) {y = []} {z = numberLine r} (λ _. omega arith) (λ _. number-line-length r) in
     cond-of (λ (l : List ℕ). length l ≤ 98304) (accepted (t .refusal)) {y = allWindows ms ++ refusalLine r} {z = []}
     (λ _. omega (arith, length-append (allWindows ms) (refusalLine r), windows-length ms)) (λ _. omega arith)

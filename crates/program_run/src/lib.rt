@@ -46,7 +46,7 @@ fn begin(run: Run, block: &[u32]) -> Run
     ensures { λ r. ⌜ Machine.Opens run (now (block .entry)) r ⌝ }
 {
     if !settings_check::check(block) {
-        return closed(run, Refusal { number: 2 });
+        return closed(run, Refusal { code: 2 });
     }
     Run {
         stage: Stage::Open,
@@ -189,7 +189,7 @@ impl Run {
     {
         let stage = self.stage;
         match stage {
-            Stage::Opening => program_lines::number_line(out, Refusal { number: 2 }),
+            Stage::Opening => program_lines::number_line(out, Refusal { code: 2 }),
             Stage::Open => print_decision(self, desk, out),
             Stage::Closed(refusal) => program_lines::number_line(out, refusal),
         }

@@ -1,22 +1,26 @@
--- The numbers that a report can be refused by beside what is kept: 5 to 13.
-use Prim.Native.Nat.{ℕ, _≤_}
-use mathlib.Core.Bool.{Bool}
+-- The numbers that a report can be refused by beside what is kept: 5 to 7 and 10 to 13 alone, and 8, 9, 16 and 17 with a record.
+use Prim.Native.Nat.{ℕ, _≤_, _<_}
+use mathlib.Core.Bool.{Bool, true}
 use mathlib.Core.Logic.{_⊎_, inl, inr, ⊎-elim}
 use mathlib.Core.List.{List}
-use mathlib.Core.Path.{_≡_, refl, subst⁻¹}
+use mathlib.Core.Path.{_≡_, refl, ap, _∙_, subst⁻¹}
 use native.Mathlib.Omega.{arith}
 use Rattle.base_laws.specs.Bools.{either}
 use Rattle.base_ids.specs.declared.Refusal.{Refusal}
-use Rattle.base_ids.specs.Refusals.{none, accepted, unless, firstOf, unless-true, unless-false, first-none, first-refused, accepted-none}
+use Rattle.base_ids.specs.Refusals.{none, accepted, numberIn, located, unless, unlessAt, firstOf, unless-true, unless-false, unless-at-true, unless-at-false, number-at, first-none, first-refused, accepted-none}
 use Rattle.message_format.specs.declared.Form.the-variants.{Report}
 use Rattle.message_format.specs.Messages.{recordsRefusal, headRefusal, messageRefusal}
 use Rattle.report_views.specs.declared.Layout.{Layout}
 use Rattle.report_views.specs.declared.Termination.{Termination}
 use Rattle.report_kept.specs.Reports.{keptRefusal, refusalBeside}
 
--- no refusal, or a number from 5 to 13
-abbrev pub InRows : Refusal → Type 0
-InRows r = (r .number ≡ 0) ⊎ ((5 ≤ r .number) × (r .number ≤ 13))
+-- a number that tells a record, with its index, or one from 5 to 13 alone
+abbrev pub OfReport : Refusal → Type 0
+OfReport r = (located (numberIn r) ≡ true) ⊎ ((5 ≤ r .code) × (r .code ≤ 13))
+
+-- no refusal, or one of these
+abbrev InRows : Refusal → Type 0
+InRows r = (r .code ≡ 0) ⊎ OfReport r
 
 in-none : InRows none
 in-none = inl refl
@@ -24,7 +28,13 @@ in-none = inl refl
 in-unless : (ok : Bool) (k : ℕ) (rest : Refusal) → 5 ≤ k → k ≤ 13 → InRows rest → InRows (unless ok k rest)
 in-unless ok k rest l h r =
     ⊎-elim (λ e. subst⁻¹ (λ (x : Refusal). InRows x) (unless-true ok k rest e) r)
-    (λ e. subst⁻¹ (λ (x : Refusal). InRows x) (unless-false ok k rest e) (inr (l, h)))
+    (λ e. subst⁻¹ (λ (x : Refusal). InRows x) (unless-false ok k rest e) (inr (inr (l, h))))
+    (either ok)
+
+in-unless-at : (ok : Bool) (k i : ℕ) (rest : Refusal) → k < 256 → located k ≡ true → InRows rest → InRows (unlessAt ok k i rest)
+in-unless-at ok k i rest l h r =
+    ⊎-elim (λ e. subst⁻¹ (λ (x : Refusal). InRows x) (unless-at-true ok k i rest e) r)
+    (λ e. subst⁻¹ (λ (x : Refusal). InRows x) (unless-at-false ok k i rest e) (inr (inl (ap located (number-at k i l) ∙ h))))
     (either ok)
 
 in-first : (a b : Refusal) → InRows a → InRows b → InRows (firstOf a b)
@@ -34,15 +44,15 @@ in-first a b p q =
     (either (accepted a))
 
 in-message : (σ w : List ℕ) → InRows (messageRefusal Report σ w)
-unfolding messageRefusal headRefusal recordsRefusal
+unfolding messageRefusal headRefusal recordsRefusal located
 in-message σ w =
     in-unless _ 5 _ (omega arith) (omega arith)
     (in-first _ _ (in-unless _ 6 _ (omega arith) (omega arith) (in-unless _ 7 _ (omega arith) (omega arith) in-none))
-    (in-unless _ 8 _ (omega arith) (omega arith)
-    (in-unless _ 9 _ (omega arith) (omega arith)
-    (in-unless _ 9 _ (omega arith) (omega arith)
-    (in-unless _ 9 _ (omega arith) (omega arith)
-    (in-unless _ 9 _ (omega arith) (omega arith)
+    (in-unless-at _ 8 _ _ (omega arith) refl
+    (in-unless-at _ 9 _ _ (omega arith) refl
+    (in-unless-at _ 16 _ _ (omega arith) refl
+    (in-unless-at _ 17 _ _ (omega arith) refl
+    (in-unless-at _ 17 _ _ (omega arith) refl
     (in-unless _ 10 _ (omega arith) (omega arith) (in-unless _ 11 _ (omega arith) (omega arith) in-none))))))))
 
 pub in-beside : (σ : List ℕ) (v : Layout) (t : Termination) (w : List ℕ) → InRows (refusalBeside σ v t w)

@@ -1,3 +1,4 @@
 -- Numbers as text, and text put into lent bytes.
 pub mod Text
 pub mod Puts
+pub mod NumberLines

@@ -13,6 +13,7 @@ use borrow.Author.Tests.{lt-ltb, le-ltb, eq-eqb, ne-eqb}
 use Rattle.base_laws.specs.Tables.{drop-set}
 use Rattle.base_laws.specs.Bools.{lt-or-le}
 use Rattle.base_ids.specs.declared.Refusal.{Refusal}
+use Rattle.base_ids.specs.Refusals.{numberIn, indexIn, located}
 
 -- the decimal digits of n, which has at most k + 1 of them
 unfoldable pub digitsBy : ℕ → ℕ → List ℕ
@@ -35,9 +36,12 @@ line label n = field label n ++ (10 ∷ [])
 abbrev pub numberLabel : List ℕ
 numberLabel = 110 ∷ 117 ∷ 109 ∷ 98 ∷ 101 ∷ 114 ∷ 32 ∷ []
 
--- number n
+abbrev pub space : List ℕ
+space = 32 ∷ []
+
+-- number n, and after it the index of the record that number n tells, if it tells one
 unfoldable pub numberLine : Refusal → List ℕ
-numberLine r = line numberLabel (r .number)
+numberLine r = cond (located (numberIn r)) (field numberLabel (numberIn r) ++ line space (indexIn r)) (line numberLabel (numberIn r))
 
 -- ---- laws
 
@@ -167,3 +171,21 @@ field-length label n = omega (arith, length-append label (decimal n), decimal-le
 pub line-length : (label : List ℕ) (n : ℕ) → length (line label n) ≤ length label + 11
 unfolding line
 line-length label n = omega (arith, length-append (field label n) (10 ∷ []), field-length label n)
+
+pub number-line-length : (r : Refusal) → length (numberLine r) ≤ 29
+unfolding numberLine
+number-line-length r =
+    short (located (numberIn r)) _ _ 29
+    (omega (arith, length-append (field numberLabel (numberIn r)) (line space (indexIn r)), field-length numberLabel (numberIn r), line-length space (indexIn r)))
+    (omega (arith, line-length numberLabel (numberIn r)))
+
+-- ---- the line of a refusal, by whether its number tells a record
+
+module _ (r : Refusal) (b : Bool) (e : b ≡ located (numberIn r)) where
+  pub number-with-index : b ≡ true → field numberLabel (numberIn r) ++ line space (indexIn r) ≡ numberLine r
+  unfolding numberLine
+  number-with-index h = rw (sym e ∙ h)
+
+  pub number-alone : b ≡ false → line numberLabel (numberIn r) ≡ numberLine r
+  unfolding numberLine
+  number-alone h = rw (sym e ∙ h)

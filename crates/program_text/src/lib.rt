@@ -1,10 +1,12 @@
 // Text in lent bytes. Each function puts its text from a place on and answers the place after it; what would lie past the end of
 // the bytes is left out.
+use base_ids::Refusal;
 ghost use mathlib.Core.List.{[], _∷_};
 ghost use mathlib.Core.Path.{_≡_};
 ghost use Prim.Native.Nat.{_+_, _≤_, _<_};
 ghost use lib.ListN.{length};
-ghost use Rattle.program_text.specs.Text.{decimal};
+ghost use Rattle.base_ids.specs.Refusals.{located};
+ghost use Rattle.program_text.specs.Text.{decimal, numberLine};
 ghost use Rattle.program_text.specs.Text.{field as Text·field, line as Text·line};
 ghost use Rattle.program_text.specs.Puts.{Puts};
 
@@ -75,4 +77,33 @@ pub fn put_line(out: &mut [u8], at: usize, label: &[u8], n: u32) -> usize
 {
     let next = put_field(out, at, label, n);
     put_byte(out, next, b'\n')
+}
+
+// A refusal's number tells the index of a record.
+fn tells_record(number: u32) -> bool
+    ensures { λ r. ⌜ r ≡ located number ⌝ }
+{
+    if number == 8 {
+        return true;
+    }
+    if number == 9 {
+        return true;
+    }
+    if number == 16 {
+        return true;
+    }
+    number == 17
+}
+
+// The line of a refusal: its number, then the index of the record that it tells, if it tells one.
+pub fn put_number(out: &mut [u8], at: usize, refusal: Refusal) -> usize
+    requires { ⌜ at ≤ length (now out) ⌝ }
+    ensures { λ r. ⌜ Puts (now (out .entry)) at (numberLine refusal) (now (out .exit)) r ⌝ }
+{
+    let number = refusal.code % 256;
+    if tells_record(number) {
+        let next = put_field(out, at, b"number ", number);
+        return put_line(out, next, b" ", refusal.code / 256);
+    }
+    put_line(out, at, b"number ", number)
 }

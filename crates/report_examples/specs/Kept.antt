@@ -7,7 +7,7 @@ use mathlib.Core.Path.{_≡_, refl}
 use lib.ListN.{replicate}
 use Rattle.base_laws.specs.Below.{allBelow, anyBelow, lowest}
 use Rattle.base_laws.specs.Tables.{tabulate}
-use Rattle.base_ids.specs.Refusals.{none, refused, unless, firstOf}
+use Rattle.base_ids.specs.Refusals.{none, refused, unless, unlessAt, firstOf}
 use Rattle.message_format.specs.declared.Contents.{Contents}
 use Rattle.message_format.specs.Chain.{place, following, row5, row8}
 use Rattle.message_format.specs.Records.{precedes, shardsWhere}
@@ -81,7 +81,7 @@ pub record RowClauses : Type 0 where
   pub then-kept : refusalBeside caseSettings view7 noTermination (reportWith 1 7 127 1 82 32 (0 ∷ [])) ≡ refused 12
 
 pub row-clauses : RowClauses
-unfolding allBelow anyBelow lowest tabulate unless firstOf place following row5 row8 precedes shardsWhere row6 viewOk row7 kindOk plain kindAt shardAt surplus sequenceAt complete shardApart row10At row10 position viewFits legal row11At bodyWord bodyOf contentsOf recordsRefusal headRefusal messageRefusal sameView row12 sameTermination row13 termKept keptRefusal refusalBeside
+unfolding allBelow anyBelow lowest tabulate unless unlessAt firstOf place following row5 row8 precedes shardsWhere row6 viewOk row7 kindOk plain kindAt shardAt surplus sequenceAt complete shardApart row10At row10 position viewFits legal row11At bodyWord bodyOf contentsOf recordsRefusal headRefusal messageRefusal sameView row12 sameTermination row13 termKept keptRefusal refusalBeside
 row-clauses =
     record {
       same-masks = refl;
@@ -131,7 +131,7 @@ pub record SlotClauses : Type 0 where
   pub held-last : slotsOk caseSettings view7 noTermination (2 ^ 31) [] ≡ false
 
 pub slot-clauses : SlotClauses
-unfolding allBelow anyBelow lowest tabulate unless firstOf place following row5 row8 precedes shardsWhere row6 viewOk row7 kindOk plain kindAt shardAt surplus sequenceAt complete shardApart row10At row10 position viewFits legal row11At bodyWord bodyOf contentsOf recordsRefusal headRefusal messageRefusal slot reportOf sameView row12 sameTermination row13 termKept slotOk slotsOk
+unfolding allBelow anyBelow lowest tabulate unless unlessAt firstOf place following row5 row8 precedes shardsWhere row6 viewOk row7 kindOk plain kindAt shardAt surplus sequenceAt complete shardApart row10At row10 position viewFits legal row11At bodyWord bodyOf contentsOf recordsRefusal headRefusal messageRefusal slot reportOf sameView row12 sameTermination row13 termKept slotOk slotsOk
 slot-clauses =
     record {
       right = refl;

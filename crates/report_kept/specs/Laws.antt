@@ -35,19 +35,19 @@ module _ (σ : List ℕ) (v : Layout) (t : Termination) (w : List ℕ) (r : Read
   unfolding readingUnder
   refusal-is = ap (λ (x : Reading). x .refusal) e
 
-  pub beside-refused : (r .refusal .number ≡ 0 → ⊥) → r ≡ readingBeside σ v t w
+  pub beside-refused : (r .refusal .code ≡ 0 → ⊥) → r ≡ readingBeside σ v t w
   unfolding readingBeside refusalBeside readingUnder
   beside-refused h =
-      let bad : accepted (messageRefusal Report σ w) ≡ false = rw refusal-is at (ne-eqb (r .refusal .number) 0 h) in
+      let bad : accepted (messageRefusal Report σ w) ≡ false = rw refusal-is at (ne-eqb (r .refusal .code) 0 h) in
       e
       ∙ ap (λ (k : Refusal). record { refusal = k; contents = readingUnder Report σ w .contents })
       (sym (first-refused (messageRefusal Report σ w) (keptRefusal σ v t (contentsOf w)) bad))
 
-  pub beside-read : r .refusal .number ≡ 0 → (k : Refusal) → k ≡ keptRefusal σ v t (r .contents)
+  pub beside-read : r .refusal .code ≡ 0 → (k : Refusal) → k ≡ keptRefusal σ v t (r .contents)
       → record { refusal = k; contents = r .contents } ≡ readingBeside σ v t w
   unfolding readingBeside refusalBeside readingUnder
   beside-read h k f =
-      let good : accepted (messageRefusal Report σ w) ≡ true = rw refusal-is at (eq-eqb (r .refusal .number) 0 h) in
+      let good : accepted (messageRefusal Report σ w) ≡ true = rw refusal-is at (eq-eqb (r .refusal .code) 0 h) in
       let same : r .contents ≡ contentsOf w = ap (λ (x : Reading). x .contents) e ∙ rw good in
       rw (f, same, good, first-none (messageRefusal Report σ w) (keptRefusal σ v t (contentsOf w)) (accepted-none (messageRefusal Report σ w) good))
 

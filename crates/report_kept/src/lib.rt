@@ -25,12 +25,12 @@ fn kept_refusal(settings: &[u32], v: Layout, t: Termination, c: Contents) -> Ref
     ensures { λ r. ⌜ r ≡ Reports.keptRefusal (now (settings .entry)) v t c ⌝ }
 {
     if !report_rows::row12(settings, v, c) {
-        return Refusal { number: 12 };
+        return Refusal { code: 12 };
     }
     if !report_rows::row13(settings, v, t, c) {
-        return Refusal { number: 13 };
+        return Refusal { code: 13 };
     }
-    Refusal { number: 0 }
+    Refusal { code: 0 }
 }
 
 // Reads a report beside what is kept: rows 5 to 13, and what it says.
@@ -40,7 +40,7 @@ pub fn read_beside(settings: &[u32], v: Layout, t: Termination, message: &[u32])
 {
     let r = message_reader::read_under(Form::Report, settings, message);
     let refusal = r.refusal;
-    if refusal.number != 0 {
+    if refusal.code != 0 {
         return r;
     }
     let refusal = kept_refusal(settings, v, t, r.contents);

@@ -58,7 +58,7 @@ pub fn row12(settings: &[u32], v: Layout, c: Contents) -> bool
     same_view(settings, v, c)
 }
 
-// A report that passes row 9 has a termination.
+// A report that passes rows 9, 16 and 17 has a termination.
 pub fn terminated(settings: &[u32], c: Contents) -> bool
     requires { ⌜ Settings (now settings) ⌝ }
     ensures { λ r. ⌜ r ≡ Reports.terminated (now (settings .entry)) c ⌝ }

@@ -45,16 +45,16 @@ module _ (σ : List ℕ) (v : Layout) (t : Termination) (d : List ℕ) (n : ℕ)
   unfolding readingUnder
   refusal-is = ap (λ (x : Reading). x .refusal) e
 
-  pub slot-refused : (r .refusal .number ≡ 0 → ⊥) → false ≡ slotOk σ v t d n
+  pub slot-refused : (r .refusal .code ≡ 0 → ⊥) → false ≡ slotOk σ v t d n
   unfolding slotOk
   slot-refused h =
-      let bad : accepted (messageRefusal Report σ (slot d n)) ≡ false = rw refusal-is at (ne-eqb (r .refusal .number) 0 h) in
+      let bad : accepted (messageRefusal Report σ (slot d n)) ≡ false = rw refusal-is at (ne-eqb (r .refusal .code) 0 h) in
       rw bad
 
-  pub slot-read : r .refusal .number ≡ 0 → reportFits σ v t (r .contents) n ≡ slotOk σ v t d n
+  pub slot-read : r .refusal .code ≡ 0 → reportFits σ v t (r .contents) n ≡ slotOk σ v t d n
   unfolding slotOk reportFits reportOf readingUnder
   slot-read h =
-      let good : accepted (messageRefusal Report σ (slot d n)) ≡ true = rw refusal-is at (eq-eqb (r .refusal .number) 0 h) in
+      let good : accepted (messageRefusal Report σ (slot d n)) ≡ true = rw refusal-is at (eq-eqb (r .refusal .code) 0 h) in
       let same : r .contents ≡ contentsOf (slot d n) = ap (λ (x : Reading). x .contents) e ∙ rw good in
       rw (good, same)
 

@@ -56,7 +56,7 @@ fn slot_ok(settings: &[u32], v: Layout, t: Termination, desk: &[u32], node: Node
     let at = 512 * (node.0 as usize);
     let r = message_reader::read_under(Form::Report, settings, &desk[at..at + 512]);
     let refusal = r.refusal;
-    if refusal.number != 0 {
+    if refusal.code != 0 {
         return false;
     }
     report_fits(settings, v, t, r.contents, node)

@@ -51,7 +51,7 @@ at-run b p n (inr e) =
 abbrev pub RunsRise : List ℕ → ℕ → ℕ → Type 0
 RunsRise b len s = (i j : ℕ) → i < j → j < len → run b s i ≡ true → run b s j ≡ true → word1 b i < word1 b j
 
--- so they do where row 9's third pass finds nothing wrong
+-- so they do where row 17's pass finds nothing wrong
 pub runs-rise : (node : ℕ) (b : List ℕ) (len : ℕ) → allBelow len (sequenceAt node b) ≡ true → (s : ℕ) → RunsRise b len s
 runs-rise node b len h s i j l m p q =
     views-rise node b len h i j l m (eqb-true (tag b i) (768 + s) p ∙ sym (eqb-true (tag b j) (768 + s) q))

@@ -116,7 +116,7 @@ module _ (σ : List ℕ) (v : Layout) (t : Termination) (held : ℕ) (d : List �
       ⊎-elim (λ e. clash p (of-not-true (has held n) e)) (λ e. slot-sound n e)
       (or-holds (not (has held n)) (slotOk σ v t d n) (all-at 32 (λ m. not (has held m) || slotOk σ v t d m) h n l))
 
--- the records of a sound slot's report pass rows 9 to 11
+-- the records of a sound slot's report pass rows 9, 16, 17, 10 and 11
 pub report-records : (σ : List ℕ) (v : Layout) (t : Termination) (d : List ℕ) (n : ℕ) → SlotSound σ v t d n →
     RecordsPass Report σ (reportOf d n .node .0) (viewOf d n) (reportOf d n .members) (reportOf d n .body) (reportOf d n .len)
 unfolding reportOf contentsOf

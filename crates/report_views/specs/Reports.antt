@@ -41,7 +41,7 @@ holdsAt d s p n = holds (reportOf d n .body) (reportOf d n .len) s p
 abbrev pub hasAt : List ℕ → ℕ → Position → ℕ → Bool
 hasAt d s p n = hasUpdate (reportOf d n .body) (reportOf d n .len) s p
 
--- a report has a termination: in one that passes row 9 the record after those of kind 1 is then of kind 2
+-- a report has a termination: in one that passes rows 9, 16 and 17 the record after those of kind 1 is then of kind 2
 abbrev pub terminated : List ℕ → Contents → Bool
 terminated σ c = ltb (shards σ) (c .len) && eqb (kind (c .body) (shards σ)) 2
 

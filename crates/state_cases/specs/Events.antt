@@ -12,7 +12,7 @@ use Rattle.base_laws.specs.Positions.{pairNotAfter}
 use Rattle.base_laws.specs.Tables.{tabulate}
 use Rattle.base_sums.specs.Sums.{sumBelow}
 use Rattle.settings_values.specs.Settings.{sizesOk, nodesOk, shardOk, shardsOk, settingsOk}
-use Rattle.base_ids.specs.Refusals.{none, refused, unless, firstOf}
+use Rattle.base_ids.specs.Refusals.{none, refused, unless, unlessAt, firstOf}
 use Rattle.message_format.specs.Chain.{place, following, row5, row8}
 use Rattle.message_format.specs.Records.{precedes, shardsWhere}
 use Rattle.message_format.specs.Rows.{row6, viewOk, row7, kindOk, plain, kindAt, shardAt, surplus, sequenceAt, complete, shardApart, row10At, row10, position, viewFits, legal, row11At}
@@ -169,7 +169,7 @@ pub record RefusalClauses : Type 0 where
   pub prepared-twice : preparedRefusal caseSettings preparingA desk 0 ≡ refused 14
 
 parts-sound : slotsOk caseSettings view7 noTermination 63 desk ≡ true
-unfolding desk allBelow anyBelow lowest tabulate unless firstOf place following row5 row8 precedes shardsWhere row6 viewOk row7 kindOk plain kindAt shardAt surplus sequenceAt complete shardApart row10At row10 position viewFits legal row11At bodyWord bodyOf contentsOf recordsRefusal headRefusal messageRefusal slot reportOf sameView row12 sameTermination row13 termKept slotOk slotsOk
+unfolding desk allBelow anyBelow lowest tabulate unless unlessAt firstOf place following row5 row8 precedes shardsWhere row6 viewOk row7 kindOk plain kindAt shardAt surplus sequenceAt complete shardApart row10At row10 position viewFits legal row11At bodyWord bodyOf contentsOf recordsRefusal headRefusal messageRefusal slot reportOf sameView row12 sameTermination row13 termKept slotOk slotsOk
 parts-sound = refl
 
 kept-is-sound : keptSound caseSettings view7 noTermination 63 ≡ true
@@ -197,7 +197,7 @@ unfolding marksSound planFits sound
 committed-sound = and-both (and-both (and-both kept-is-sound parts-sound) refl) plan-is-sound
 
 pub refusal-clauses : RefusalClauses
-unfolding desk allBelow anyBelow lowest tabulate sizesOk nodesOk shardOk shardsOk settingsOk unless firstOf place following row5 row8 precedes shardsWhere row6 viewOk row7 kindOk plain kindAt shardAt surplus sequenceAt complete shardApart row10At row10 position viewFits legal row11At bodyWord bodyOf contentsOf recordsRefusal headRefusal messageRefusal sameView row12 sameTermination row13 keptRefusal refusalBeside entryRefusal eventRefusal nodeRefusal reportRefusal dropRefusal decideRefusal orderRefusal fetchedRefusal preparedRefusal deskAfter
+unfolding desk allBelow anyBelow lowest tabulate sizesOk nodesOk shardOk shardsOk settingsOk unless unlessAt firstOf place following row5 row8 precedes shardsWhere row6 viewOk row7 kindOk plain kindAt shardAt surplus sequenceAt complete shardApart row10At row10 position viewFits legal row11At bodyWord bodyOf contentsOf recordsRefusal headRefusal messageRefusal sameView row12 sameTermination row13 keptRefusal refusalBeside entryRefusal eventRefusal nodeRefusal reportRefusal dropRefusal decideRefusal orderRefusal fetchedRefusal preparedRefusal deskAfter
 refusal-clauses =
     record {
       report-desk = refl;

@@ -9,7 +9,7 @@ use Rattle.base_laws.specs.Below.{allBelow, anyBelow, lowest, all-at, all-of}
 use Rattle.base_laws.specs.Masks.{has, has-below, lt-within}
 use Rattle.base_laws.specs.Tables.{tabulate}
 use Rattle.settings_values.specs.Settings.{sizesOk, nodesOk, shardOk, shardsOk, settingsOk}
-use Rattle.base_ids.specs.Refusals.{accepted, unless, firstOf}
+use Rattle.base_ids.specs.Refusals.{accepted, unless, unlessAt, firstOf}
 use Rattle.message_format.specs.Chain.{place, following, row5, row8}
 use Rattle.message_format.specs.Records.{precedes, shardsWhere}
 use Rattle.message_format.specs.Rows.{row6, viewOk, row7, kindOk, plain, kindAt, shardAt, surplus, sequenceAt, complete, shardApart, row10At, row10, position, viewFits, legal, row11At}
@@ -36,7 +36,7 @@ pub record StatesTaken : Type 0 where
 -- ---- B: the seven slots are sound, so those of any held nodes are
 
 seven : allBelow 7 (slotOk caseSettings view7 noTermination deskOfSeven) ≡ true
-unfolding deskOfSeven allBelow anyBelow lowest tabulate unless firstOf place following row5 row8 precedes shardsWhere row6 viewOk row7 kindOk plain kindAt shardAt surplus sequenceAt complete shardApart row10At row10 position viewFits legal row11At bodyWord bodyOf contentsOf recordsRefusal headRefusal messageRefusal slot reportOf sameView row12 sameTermination row13 termKept slotOk
+unfolding deskOfSeven allBelow anyBelow lowest tabulate unless unlessAt firstOf place following row5 row8 precedes shardsWhere row6 viewOk row7 kindOk plain kindAt shardAt surplus sequenceAt complete shardApart row10At row10 position viewFits legal row11At bodyWord bodyOf contentsOf recordsRefusal headRefusal messageRefusal slot reportOf sameView row12 sameTermination row13 termKept slotOk
 seven = refl
 
 held-slots : (held : ℕ) → held < 128 → slotsOk caseSettings view7 noTermination held deskOfSeven ≡ true
@@ -67,7 +67,7 @@ unfolding deskOfSeven allBelow sizesOk nodesOk shardOk shardsOk settingsOk entry
 b-taken held l = entered _ _ _ refl refl (held-sound held l)
 
 pub taken : StatesTaken
-unfolding desk deskOfSix fresh allBelow anyBelow lowest tabulate sizesOk nodesOk shardOk shardsOk settingsOk unless firstOf place following row5 row8 precedes shardsWhere row6 viewOk row7 kindOk plain kindAt shardAt surplus sequenceAt complete shardApart row10At row10 position viewFits legal row11At bodyWord bodyOf contentsOf recordsRefusal headRefusal messageRefusal slot reportOf sameView row12 sameTermination row13 termKept slotOk slotsOk layoutTidy layoutBlank viewSound positionSound termSoundAt termSound nothingKept keptSound marksSound planBlank planFits sound entryRefusal decideRefusal
+unfolding desk deskOfSix fresh allBelow anyBelow lowest tabulate sizesOk nodesOk shardOk shardsOk settingsOk unless unlessAt firstOf place following row5 row8 precedes shardsWhere row6 viewOk row7 kindOk plain kindAt shardAt surplus sequenceAt complete shardApart row10At row10 position viewFits legal row11At bodyWord bodyOf contentsOf recordsRefusal headRefusal messageRefusal slot reportOf sameView row12 sameTermination row13 termKept slotOk slotsOk layoutTidy layoutBlank viewSound positionSound termSoundAt termSound nothingKept keptSound marksSound planBlank planFits sound entryRefusal decideRefusal
 taken =
     record {
       a = refl;

@@ -37,7 +37,7 @@ module _ (σ : List ℕ) (x : State) (d : List ℕ) (n : ℕ) (buffer : List ℕ
   unfolding orderRefusal eventRefusal entryRefusal
   buffer-wrong h =
       let e = unless-false (deskOk d && eqb (length buffer) 512) 1 _ (and-fails-right (deskOk d) h) in
-      first-refused _ _ (ap (λ r. eqb (r .number) 0) e) ∙ e
+      first-refused _ _ (ap (λ r. eqb (r .code) 0) e) ∙ e
 
   pub buffer-right : eqb (length buffer) 512 ≡ true
       → orderRefusal σ x d n buffer ≡ eventRefusal (deskOk d) σ x d (isOrdered (x .phase)) n (has (x .held) n)

@@ -15,7 +15,7 @@ fn order_refusal(settings: &[u32], x: State, desk: &[u32], node: Node, buffer: &
     ensures { λ r. ⌜ r ≡ orderRefusal (now (settings .entry)) x (now (desk .entry)) (node .0) (now (buffer .entry)) ⌝ }
 {
     if buffer.len() != 512 {
-        return Refusal { number: 1 };
+        return Refusal { code: 1 };
     }
     let phase = x.phase;
     let in_phase = state_rows::is_ordered(phase);
@@ -29,7 +29,7 @@ pub fn order(settings: &[u32], x: State, desk: &[u32], node: Node, buffer: &mut 
     ensures words { λ r. ⌜ now (buffer .exit) ≡ orderBuffer (now (settings .entry)) x (now (desk .entry)) (node .0) (now (buffer .entry)) ⌝ }
 {
     let refusal = order_refusal(settings, x, desk, node, buffer);
-    if refusal.number != 0 {
+    if refusal.code != 0 {
         return Writing { refusal, length: 0 };
     }
     let c = plan_order::order_contents(settings, x.plan, desk, node);

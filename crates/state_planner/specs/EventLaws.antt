@@ -33,11 +33,11 @@ module _ (r : Refusal) (x next : State) where
 
 -- r is what the code found of the refusal s
 module _ {r s : Refusal} (e : r ≡ s) (x next : State) where
-  pub settles-refused : (r .number ≡ 0 → ⊥) → record { state = x; answer = Answer.Refused r } ≡ outcome s x next
-  settles-refused h = sym (outcome-refused r x next (ne-eqb (r .number) 0 h)) ∙ ap (λ (k : Refusal). outcome k x next) e
+  pub settles-refused : (r .code ≡ 0 → ⊥) → record { state = x; answer = Answer.Refused r } ≡ outcome s x next
+  settles-refused h = sym (outcome-refused r x next (ne-eqb (r .code) 0 h)) ∙ ap (λ (k : Refusal). outcome k x next) e
 
-  pub settles-accepted : r .number ≡ 0 → record { state = next; answer = Answer.Accepted } ≡ outcome s x next
-  settles-accepted h = sym (outcome-accepted r x next (eq-eqb (r .number) 0 h)) ∙ ap (λ (k : Refusal). outcome k x next) e
+  pub settles-accepted : r .code ≡ 0 → record { state = next; answer = Answer.Accepted } ≡ outcome s x next
+  settles-accepted h = sym (outcome-accepted r x next (eq-eqb (r .code) 0 h)) ∙ ap (λ (k : Refusal). outcome k x next) e
 
 -- an event that names node n: p and q are what its code found of the phase and of the node, y of the next state
 module _ (σ : List ℕ) (x : State) (d : List ℕ) (p : Bool) (n : ℕ) (q : Bool) {inPhase ok : Bool} (f : p ≡ inPhase) (g : q ≡ ok) where

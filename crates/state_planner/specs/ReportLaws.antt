@@ -28,11 +28,11 @@ pub record HandsBack (σ : List ℕ) (x : State) (d w : List ℕ) (o : Outcome) 
   pub outcome-is : o ≡ reported σ x d w
   pub desk-is : b ≡ deskAfter σ x d w
 
-refuses : (σ : List ℕ) (x : State) (d w : List ℕ) (r : Refusal) → r ≡ reportRefusal σ x d w → (r .number ≡ 0 → ⊥)
+refuses : (σ : List ℕ) (x : State) (d w : List ℕ) (r : Refusal) → r ≡ reportRefusal σ x d w → (r .code ≡ 0 → ⊥)
     → HandsBack σ x d w (record { state = x; answer = Answer.Refused r }) d
 unfolding reported deskAfter
 refuses σ x d w r e h =
-    let no : accepted r ≡ false = ne-eqb (r .number) 0 h in
+    let no : accepted r ≡ false = ne-eqb (r .code) 0 h in
     record {
       outcome-is =
           sym (outcome-refused r x (afterReport σ x (contentsOf w)) no) ∙ ap (λ (s : Refusal). outcome s x (afterReport σ x (contentsOf w))) e;
@@ -44,15 +44,15 @@ module _ (σ : List ℕ) (x : State) (d w : List ℕ) (g : Bool) (phase : g ≡ 
   entry-is : e ≡ entryRefusal (deskOk d) σ x d (isGathering (x .phase))
   entry-is = entry ∙ ap (entryRefusal (deskOk d) σ x d) phase
 
-  pub entry-refuses : (e .number ≡ 0 → ⊥) → HandsBack σ x d w (record { state = x; answer = Answer.Refused e }) d
+  pub entry-refuses : (e .code ≡ 0 → ⊥) → HandsBack σ x d w (record { state = x; answer = Answer.Refused e }) d
   unfolding reportRefusal
   entry-refuses h =
       refuses σ x d w e
       (entry-is
       ∙ sym (first-refused (entryRefusal (deskOk d) σ x d (isGathering (x .phase))) (refusalBeside σ (x .kept) (x .termination) w)
-      (ap accepted (sym entry-is) ∙ ne-eqb (e .number) 0 h))) h
+      (ap accepted (sym entry-is) ∙ ne-eqb (e .code) 0 h))) h
 
-  module _ (h : e .number ≡ 0) where
+  module _ (h : e .code ≡ 0) where
     entered : Entered (deskOk d) σ x d g
     entered = entry-given (deskOk d) σ x d g (sym entry ∙ ap refused h)
 
@@ -74,10 +74,10 @@ module _ (σ : List ℕ) (x : State) (d w : List ℕ) (g : Bool) (phase : g ≡ 
       unfolding readingBeside
       refusal-is = ap (λ (y : Reading). y .refusal) reading
 
-      pub beside-refuses : (r .refusal .number ≡ 0 → ⊥) → HandsBack σ x d w (record { state = x; answer = Answer.Refused (r .refusal) }) d
+      pub beside-refuses : (r .refusal .code ≡ 0 → ⊥) → HandsBack σ x d w (record { state = x; answer = Answer.Refused (r .refusal) }) d
       beside-refuses = refuses σ x d w (r .refusal) (refusal-is ∙ sym beside-is)
 
-      module _ (k : r .refusal .number ≡ 0) where
+      module _ (k : r .refusal .code ≡ 0) where
         taken : accepted (refusalBeside σ (x .kept) (x .termination) w) ≡ true
         taken = ap accepted (sym refusal-is ∙ ap refused k)
 

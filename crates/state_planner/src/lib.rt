@@ -138,7 +138,7 @@ fn settled(
     ensures { λ r. ⌜ r ≡ Events.outcome (Refusing.eventRefusal (Refusing.deskOk (now (desk .entry))) (now (settings .entry)) x (now (desk .entry)) in_phase (node .0) ok) x next ⌝ }
 {
     let refusal = event_refusal(settings, x, desk, in_phase, node, ok);
-    if refusal.number != 0 {
+    if refusal.code != 0 {
         return Outcome {
             state: x,
             answer: Answer::Refused(refusal),
@@ -310,7 +310,7 @@ impl State {
         let phase = self.phase;
         let in_phase = state_rows::is_gathering(phase);
         let entry = entry_refusal(settings, self, desk, in_phase);
-        if entry.number != 0 {
+        if entry.code != 0 {
             return Outcome {
                 state: self,
                 answer: Answer::Refused(entry),
@@ -318,7 +318,7 @@ impl State {
         }
         let reading = report_kept::read_beside(settings, self.kept, self.termination, message);
         let refusal = reading.refusal;
-        if refusal.number != 0 {
+        if refusal.code != 0 {
             return Outcome {
                 state: self,
                 answer: Answer::Refused(refusal),
@@ -394,7 +394,7 @@ impl State {
         let phase = self.phase;
         let in_phase = state_rows::is_gathering(phase);
         let refusal = entry_refusal(settings, self, desk, in_phase);
-        if refusal.number != 0 {
+        if refusal.code != 0 {
             return Decided {
                 state: self,
                 decision: Decision::Refused(refusal),

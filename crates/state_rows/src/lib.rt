@@ -105,10 +105,10 @@ pub fn entry_refusal(
     ensures { λ r. ⌜ r ≡ Rows.entryRows (eqb (length (now (desk .entry))) 16384) (settingsOk (now (settings .entry))) (Rows.partsSound (now (settings .entry)) (now (desk .entry)) phase kept termination held fetched prepared plan) in_phase ⌝ }
 {
     if desk.len() != 16384 {
-        return Refusal { number: 1 };
+        return Refusal { code: 1 };
     }
     if !settings_check::check(settings) {
-        return Refusal { number: 2 };
+        return Refusal { code: 2 };
     }
     if !is_sound(
         settings,
@@ -121,12 +121,12 @@ pub fn entry_refusal(
         prepared,
         plan,
     ) {
-        return Refusal { number: 3 };
+        return Refusal { code: 3 };
     }
     if !in_phase {
-        return Refusal { number: 4 };
+        return Refusal { code: 4 };
     }
-    Refusal { number: 0 }
+    Refusal { code: 0 }
 }
 
 // Rows 6 and 14, for a node that an event names.
@@ -135,12 +135,12 @@ fn node_refusal(settings: &[u32], node: Node, ok: bool) -> Refusal
     ensures { λ r. ⌜ r ≡ Rows.nodeRefusal (now (settings .entry)) (node .0) ok ⌝ }
 {
     if settings_values::nodes(settings) <= node.0 {
-        return Refusal { number: 6 };
+        return Refusal { code: 6 };
     }
     if !ok {
-        return Refusal { number: 14 };
+        return Refusal { code: 14 };
     }
-    Refusal { number: 0 }
+    Refusal { code: 0 }
 }
 
 // The refusal of an event that names a node.
@@ -172,7 +172,7 @@ pub fn event_refusal(
         prepared,
         plan,
     );
-    if refusal.number != 0 {
+    if refusal.code != 0 {
         return refusal;
     }
     node_refusal(settings, node, ok)

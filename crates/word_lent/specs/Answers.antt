@@ -8,7 +8,7 @@ use Rattle.base_ids.specs.Refusals.{accepted}
 
 -- the number of the refusal, or the word that the call gives where it is accepted
 unfoldable pub answerWord : Refusal → ℕ → ℕ
-answerWord r given = cond (accepted r) given (r .number)
+answerWord r given = cond (accepted r) given (r .code)
 
 -- the word given by a call that is accepted with a length in words; one without a length gives 0
 abbrev pub withLength : ℕ → ℕ
@@ -33,7 +33,7 @@ pub record Told (r : Refusal) (given : ℕ) (made bytes : List ℕ) (answer : �
 
 -- the refusal s is r, found otherwise
 module _ (r s : Refusal) (e : s ≡ r) (given : ℕ) (made bytes : List ℕ) where
-  pub told-refused : accepted r ≡ false → Told s given made bytes (r .number) bytes
+  pub told-refused : accepted r ≡ false → Told s given made bytes (r .code) bytes
   unfolding answerWord bytesLeft
   told-refused h = record { answers = rw (e, h); leaves = rw (e, h) }
 

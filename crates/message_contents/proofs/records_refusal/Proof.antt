@@ -1,4 +1,4 @@
--- `message_contents::records_refusal` meets its contract: row 9, then row 10 over the table of masks, then row 11.
+-- `message_contents::records_refusal` meets its contract: rows 9, 16 and 17, then row 10 over the table of masks, then row 11.
 use mathlib.Core.Path.{_≡_, sym, ap, _∙_}
 use mathlib.Core.Bool.{Bool}
 use mathlib.Core.List.{List}
@@ -12,7 +12,7 @@ use Rattle.message_format.specs.Rows.{row10, row11At}
 use Rattle.message_records.specs.Gathered.{shardMasks}
 use Rattle.message_records.specs.Laws.{masks-row10}
 use Rattle.base_laws.specs.Loops.{bad-fails, bad-holds}
-use Rattle.message_contents.specs.Row9.{records-9, records-10, records-11, records-pass}
+use Rattle.message_contents.specs.Structure.{records-structure, records-10, records-11, records-pass}
 use Rattle.message_contents.proofs.records_refusal.Statement.{statement}
 use Rattle.message_contents.proofs.records_refusal.Tie as tie
 
@@ -23,41 +23,39 @@ masks-by σ members b table r g e f =
     sym (f ∙ ap (λ (t : List ℕ). row10 σ members (λ i. getD t i 0)) e ∙ masks-row10 σ members b g)
 
 returns : tie.Need-returns
-returns c = let a = c .before .before .before .args in
-    records-9 (a .form) (a .settings .now) (a .node .0) (a .view .0) (a .members) (a .body .now) (a .len)
-    (sym (c .before .row9 .ensures) ∙ not-true (c .before .row9 .result) (c .if1 .taken))
+returns c = let s = c .before .before .before .before in
+    let a = s .args in
+    let list = c .before .before .structure-refusal in
+    records-structure (a .form) (a .settings .now) (a .node .0) (a .view .0) (a .members) (a .body .now) (a .len) (list .result) (list .ensures) (c .if1 .taken)
 
 returns-2 : tie.Need-returns-2
-returns-2 c = let s = c .before .before .before .before .before .before .before in
+returns-2 c = let s = c .before .before .before .before .before .before .before .before in
     let a = s .args in
-    let nine = c .before .before .before .before .before .row9 in
-    let ten = c .before .row10 in
+    let list = c .before .before .before .before .before .before .structure-refusal in
     let table = c .before .before .before .masks-of in
-    records-10 (a .form) (a .settings .now) (a .node .0) (a .view .0) (a .members) (a .body .now) (a .len)
-    (sym (nine .ensures) ∙ not-false (nine .result) (c .before .before .before .before .if1 .left))
+    let ten = c .before .row10 in
+    records-10 (a .form) (a .settings .now) (a .node .0) (a .view .0) (a .members) (a .body .now) (a .len) (list .result) (list .ensures) (c .before .before .before .before .if1 .left)
     (masks-by (a .settings .now) (a .members) (a .body .now) (table .result) (ten .result) (s .pre .0) (table .ensures) (ten .ensures)
     ∙ not-true (ten .result) (c .if2 .taken))
 
 returns-3 : tie.Need-returns-3
-returns-3 c = let s = c .before .before .before .before .before .before .before .before .before in
+returns-3 c = let s = c .before .before .before .before .before .before .before .before .before .before in
     let a = s .args in
-    let nine = c .before .before .before .before .before .before .before .row9 in
-    let ten = c .before .before .before .row10 in
+    let list = c .before .before .before .before .before .before .before .before .structure-refusal in
     let table = c .before .before .before .before .before .masks-of in
-    records-11 (a .form) (a .settings .now) (a .node .0) (a .view .0) (a .members) (a .body .now) (a .len)
-    (sym (nine .ensures) ∙ not-false (nine .result) (c .before .before .before .before .before .before .if1 .left))
+    let ten = c .before .before .before .row10 in
+    records-11 (a .form) (a .settings .now) (a .node .0) (a .view .0) (a .members) (a .body .now) (a .len) (list .result) (list .ensures) (c .before .before .before .before .before .before .if1 .left)
     (masks-by (a .settings .now) (a .members) (a .body .now) (table .result) (ten .result) (s .pre .0) (table .ensures) (ten .ensures)
     ∙ not-false (ten .result) (c .before .before .if2 .left))
     (bad-fails (a .len) (row11At (a .form) (a .view .0) (a .members) (a .body .now)) (c .before .positions .result) (c .before .positions .ensures) (c .if3 .taken))
 
 returns-4 : tie.Need-returns-4
-returns-4 c = let s = c .before .before .before .before .before .before .before .before .before in
+returns-4 c = let s = c .before .before .before .before .before .before .before .before .before .before in
     let a = s .args in
-    let nine = c .before .before .before .before .before .before .before .row9 in
-    let ten = c .before .before .before .row10 in
+    let list = c .before .before .before .before .before .before .before .before .structure-refusal in
     let table = c .before .before .before .before .before .masks-of in
-    records-pass (a .form) (a .settings .now) (a .node .0) (a .view .0) (a .members) (a .body .now) (a .len)
-    (sym (nine .ensures) ∙ not-false (nine .result) (c .before .before .before .before .before .before .if1 .left))
+    let ten = c .before .before .before .row10 in
+    records-pass (a .form) (a .settings .now) (a .node .0) (a .view .0) (a .members) (a .body .now) (a .len) (list .result) (list .ensures) (c .before .before .before .before .before .before .if1 .left)
     (masks-by (a .settings .now) (a .members) (a .body .now) (table .result) (ten .result) (s .pre .0) (table .ensures) (ten .ensures)
     ∙ not-false (ten .result) (c .before .before .if2 .left))
     (bad-holds (a .len) (row11At (a .form) (a .view .0) (a .members) (a .body .now)) (c .before .positions .result) (c .before .positions .ensures) (c .if3 .left))

@@ -1,12 +1,13 @@
 -- Each return is a row of the list: what was found on the way there is what the law for that row asks.
 use mathlib.Core.Bool.{true}
-use mathlib.Core.Path.{_≡_, sym, _∙_}
+use mathlib.Core.Path.{_≡_, sym, ap, _∙_}
 use borrow.Author.Needs.{needs}
 use borrow.Author.Tests.{not-true, not-false}
 use Rattle.base_ids.specs.Refusals.{none}
-use Rattle.message_format.specs.Chain.{row5, row8}
+use Rattle.message_format.specs.Chain.{place, row5, row8}
+use Rattle.message_format.specs.Placing.{placedBy}
 use Rattle.message_reader.specs.Walks.{row5-gives}
-use Rattle.message_reader.specs.Readings.{headOf, number-zero, reading-length, reading-head, reading-chain, reading-records, contents-few}
+use Rattle.message_reader.specs.Readings.{headOf, number-zero, chain-linked, records-few, reading-length, reading-head, reading-chain, reading-records, contents-few}
 use Rattle.message_reader.proofs.read_under.Statement.{statement}
 use Rattle.message_reader.proofs.read_under.Tie as tie
 
@@ -23,8 +24,8 @@ head-passes : (c : tie.Else2)
 head-passes c = number-zero _ _ (c .before .before .head-of .ensures) (c .if2 .left)
 
 -- past the third the chain is linked
-linked : (c : tie.Else3) → row8 (c .before .before .before .before .before .before .before .before .before .args .words .now) ≡ true
-linked c = sym (c .before .chain-ok .ensures) ∙ not-false _ (c .if3 .left)
+linked : (c : tie.Else3) → row8 (c .before .before .before .before .before .before .before .before .before .before .args .words .now) ≡ true
+linked c = chain-linked _ _ (c .before .before .chain-refusal .ensures) (c .if3 .left)
 
 returns : tie.Need-returns
 returns c =
@@ -38,29 +39,36 @@ returns-2 c =
     c .refuse2 .ensures
     ∙ reading-head _ _ _ (sized (c .before .before .before .before)) _ (c .before .before .before .head-of .ensures) (c .before .if2 .taken)
 
-chain-ok-requires : tie.Need-chain-ok-requires
-chain-ok-requires c κs = row5-gives _ (sized (c .before .before .before))
+chain-refusal-requires : tie.Need-chain-refusal-requires
+chain-refusal-requires c κs = row5-gives _ (sized (c .before .before .before))
 
 returns-3 : tie.Need-returns-3
 returns-3 c =
     c .refuse3 .ensures
-    ∙ reading-chain _ _ _ (sized (c .before .before .before .before .before .before)) (head-passes (c .before .before .before))
-    (sym (c .before .before .chain-ok .ensures) ∙ not-true _ (c .before .if3 .taken))
+    ∙ reading-chain _ _ _ (sized (c .before .before .before .before .before .before .before)) (head-passes (c .before .before .before .before)) _
+    (c .before .before .before .chain-refusal .ensures) (c .before .if3 .taken)
 
 contents-of-requires : tie.Need-contents-of-requires
-contents-of-requires c κs = (row5-gives _ (sized (c .before .before .before .before .before)), linked c)
+contents-of-requires c κs = (row5-gives _ (sized (c .before .before .before .before .before .before)), linked c)
 
 records-of-requires : tie.Need-records-of-requires
-records-of-requires c κs = (c .before .before .before .before .before .before .before .before .before .before .pre, contents-few _ _ (c .contents-of .ensures))
+records-of-requires c κs = (c .before .before .before .before .before .before .before .before .before .before .before .pre, contents-few _ _ (c .contents-of .ensures))
+
+placed-requires : tie.Need-placed-requires
+placed-requires c κs = (
+  row5-gives _ (sized (c .before .before .before .before .before .before .before .before)),
+  (linked (c .before .before), records-few _ _ _ _ _ (c .before .contents-of .ensures) (c .records-of .ensures)),
+)
 
 returns-4 : tie.Need-returns-4
 returns-4 c =
     c .answer-with .ensures
-    ∙ reading-records _ _ _ (sized (c .before .before .before .before .before .before .before .before)) (head-passes (c .before .before .before .before .before)) (linked (c .before .before .before)) _ _
-    (c .before .before .contents-of .ensures) (c .before .records-of .ensures)
+    ∙ reading-records _ _ _ (sized (c .before .before .before .before .before .before .before .before .before .before)) (head-passes (c .before .before .before .before .before .before .before)) (linked (c .before .before .before .before)) _ _
+    (c .before .before .before .contents-of .ensures)
+    (c .before .placed .ensures ∙ ap (placedBy (place (c .before .before .before .before .before .before .before .before .before .before .before .before .before .before .args .words .now))) (c .before .before .records-of .ensures))
 
 pub read-under-spec : {M : Type 1} → statement M
 read-under-spec =
     tie.close
-    (tie.spec (λ c κs. search needs) (λ c κs. search needs) returns head-of-requires (λ c κs. search needs) returns-2 chain-ok-requires
-    (λ c κs. search needs) returns-3 contents-of-requires records-of-requires (λ c κs. search needs) returns-4)
+    (tie.spec (λ c κs. search needs) (λ c κs. search needs) returns head-of-requires (λ c κs. search needs) returns-2 chain-refusal-requires
+    (λ c κs. search needs) returns-3 contents-of-requires records-of-requires placed-requires (λ c κs. search needs) returns-4)

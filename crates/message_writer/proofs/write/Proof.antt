@@ -23,15 +23,15 @@ abbrev writing : Refusal → ℕ → Writing
 writing r n = record { refusal = r; length = n }
 
 module _ (form : Form) (σ : List ℕ) (c : Contents) (buffer : List ℕ) (r : Refusal) (e : r ≡ writeRefusal form σ c buffer) where
-  refused-answer : (r .number ≡ 0 → ⊥) → writing r 0 ≡ writingOf form σ c buffer
+  refused-answer : (r .code ≡ 0 → ⊥) → writing r 0 ≡ writingOf form σ c buffer
   unfolding writingOf
-  refused-answer h = rw (sym e, ne-eqb (r .number) 0 h)
+  refused-answer h = rw (sym e, ne-eqb (r .code) 0 h)
 
-  refused-words : (r .number ≡ 0 → ⊥) → buffer ≡ bufferAfter form σ c buffer
+  refused-words : (r .code ≡ 0 → ⊥) → buffer ≡ bufferAfter form σ c buffer
   unfolding bufferAfter
-  refused-words h = rw (sym e, ne-eqb (r .number) 0 h)
+  refused-words h = rw (sym e, ne-eqb (r .code) 0 h)
 
-  module _ (h : r .number ≡ 0) where
+  module _ (h : r .code ≡ 0) where
     taken : writeRefusal form σ c buffer ≡ none
     taken = sym e ∙ ap refused h
 

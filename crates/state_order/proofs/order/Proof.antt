@@ -23,15 +23,15 @@ abbrev writing : Refusal → ℕ → Writing
 writing r n = record { refusal = r; length = n }
 
 module _ (σ : List ℕ) (x : State) (d : List ℕ) (n : ℕ) (buffer : List ℕ) (r : Refusal) (e : r ≡ orderRefusal σ x d n buffer) where
-  refused-answer : (r .number ≡ 0 → ⊥) → writing r 0 ≡ ordered σ x d n buffer
+  refused-answer : (r .code ≡ 0 → ⊥) → writing r 0 ≡ ordered σ x d n buffer
   unfolding ordered
-  refused-answer h = rw (sym e, ne-eqb (r .number) 0 h)
+  refused-answer h = rw (sym e, ne-eqb (r .code) 0 h)
 
-  refused-words : (r .number ≡ 0 → ⊥) → buffer ≡ orderBuffer σ x d n buffer
+  refused-words : (r .code ≡ 0 → ⊥) → buffer ≡ orderBuffer σ x d n buffer
   unfolding orderBuffer
-  refused-words h = rw (sym e, ne-eqb (r .number) 0 h)
+  refused-words h = rw (sym e, ne-eqb (r .code) 0 h)
 
-  taken : r .number ≡ 0 → orderRefusal σ x d n buffer ≡ none
+  taken : r .code ≡ 0 → orderRefusal σ x d n buffer ≡ none
   taken h = sym e ∙ ap refused h
 
 returns : tie.Need-returns
