@@ -22,7 +22,7 @@ use Rattle.report_latest.specs.Remembered.{noLatest, latestAt, notedAt, 
 -- ---- after a report
 
 module _ (m : Latest) (n v : ℕ) where
-  noted-at : (i : ℕ) → i < 32 → latestAt (noted m n v) i ≡ cond (eqb i n) (max (latestAt m i) v) (latestAt m i)
+  pub noted-at : (i : ℕ) → i < 32 → latestAt (noted m n v) i ≡ cond (eqb i n) (max (latestAt m i) v) (latestAt m i)
   unfolding noted
   noted-at i l = ap (λ (w : View). w .0) (getD-tabulate 32 (notedAt m n v) i (record { 0 = 0 }) l)
 
