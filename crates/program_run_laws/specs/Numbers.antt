@@ -1,4 +1,4 @@
--- The numbers that a report can be refused by beside what is kept: 5 to 13.
+-- The numbers that a report can be refused by beside what is kept and remembered: 5 to 13 and 18.
 use Prim.Native.Nat.{ℕ, _≤_}
 use mathlib.Core.Bool.{Bool}
 use mathlib.Core.Logic.{_⊎_, inl, inr, ⊎-elim}
@@ -12,20 +12,28 @@ use Rattle.message_format.specs.declared.Form.the-variants.{Report}
 use Rattle.message_format.specs.Messages.{recordsRefusal, headRefusal, messageRefusal}
 use Rattle.report_views.specs.declared.Layout.{Layout}
 use Rattle.report_views.specs.declared.Termination.{Termination}
+use Rattle.report_latest.specs.declared.Latest.{Latest}
 use Rattle.report_kept.specs.Reports.{keptRefusal, refusalBeside}
 
--- no refusal, or a number from 5 to 13
+-- a number of a report's own rows: 5 to 13 or 18
+abbrev pub OfReport : ℕ → Type 0
+OfReport k = ((5 ≤ k) × (k ≤ 13)) ⊎ (k ≡ 18)
+
+-- no refusal, or one of these numbers
 abbrev pub InRows : Refusal → Type 0
-InRows r = (r .number ≡ 0) ⊎ ((5 ≤ r .number) × (r .number ≤ 13))
+InRows r = (r .number ≡ 0) ⊎ OfReport (r .number)
 
 in-none : InRows none
 in-none = inl refl
 
-in-unless : (ok : Bool) (k : ℕ) (rest : Refusal) → 5 ≤ k → k ≤ 13 → InRows rest → InRows (unless ok k rest)
-in-unless ok k rest l h r =
+in-row : (ok : Bool) (k : ℕ) (rest : Refusal) → OfReport k → InRows rest → InRows (unless ok k rest)
+in-row ok k rest h r =
     ⊎-elim (λ e. subst⁻¹ (λ (x : Refusal). InRows x) (unless-true ok k rest e) r)
-    (λ e. subst⁻¹ (λ (x : Refusal). InRows x) (unless-false ok k rest e) (inr (l, h)))
+    (λ e. subst⁻¹ (λ (x : Refusal). InRows x) (unless-false ok k rest e) (inr h))
     (either ok)
+
+in-unless : (ok : Bool) (k : ℕ) (rest : Refusal) → 5 ≤ k → k ≤ 13 → InRows rest → InRows (unless ok k rest)
+in-unless ok k rest l h = in-row ok k rest (inl (l, h))
 
 in-first : (a b : Refusal) → InRows a → InRows b → InRows (firstOf a b)
 in-first a b p q =
@@ -45,8 +53,8 @@ in-message σ w =
     (in-unless _ 9 _ (omega arith) (omega arith)
     (in-unless _ 10 _ (omega arith) (omega arith) (in-unless _ 11 _ (omega arith) (omega arith) in-none))))))))
 
-pub in-beside : (σ : List ℕ) (v : Layout) (t : Termination) (w : List ℕ) → InRows (refusalBeside σ v t w)
+pub in-beside : (σ : List ℕ) (v : Layout) (t : Termination) (m : Latest) (w : List ℕ) → InRows (refusalBeside σ v t m w)
 unfolding refusalBeside keptRefusal
-in-beside σ v t w =
+in-beside σ v t m w =
     in-first _ _ (in-message σ w)
-    (in-unless _ 12 _ (omega arith) (omega arith) (in-unless _ 13 _ (omega arith) (omega arith) in-none))
+    (in-row _ 18 _ (inr refl) (in-unless _ 12 _ (omega arith) (omega arith) (in-unless _ 13 _ (omega arith) (omega arith) in-none)))

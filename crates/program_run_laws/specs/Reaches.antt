@@ -1,5 +1,5 @@
 -- Every run comes to a sound state, so that decide refuses nothing after its last block; and a run is ended by number 2 or by one
--- of 5 to 13 only.
+-- of 5 to 13 and 18 only.
 use Prim.Native.Nat.{ℕ, _≤_}
 use mathlib.Core.Bool.{Bool, true, false, cond}
 use mathlib.Core.Logic.{_⊎_, inl, inr, ⊎-elim}
@@ -24,7 +24,7 @@ use Rattle.state_planner.specs.EventLaws.{outcome-accepted}
 use Rattle.state_invariant.specs.Reached.{Reached, starting, reporting, reached-entry}
 use Rattle.program_blocks.specs.Blocks.{blocks}
 use Rattle.program_run.specs.Runs.{Progress, Started, Underway, Ended, opened, told, taking, after, atStart}
-use Rattle.program_run_laws.specs.Numbers.{in-beside}
+use Rattle.program_run_laws.specs.Numbers.{OfReport, in-beside}
 
 -- a state of a run: reached by accepted reports, and gathering
 pub record Gathers (σ : List ℕ) (x : State) (d : List ℕ) : Type 0 where
@@ -35,7 +35,7 @@ pub record Gathers (σ : List ℕ) (x : State) (d : List ℕ) : Type 0 where
 unfoldable pub Reaches : Progress → Type 0
 Reaches (Started d) = deskOk d ≡ true
 Reaches (Underway σ x d) = Gathers σ x d
-Reaches (Ended r d) = (r .number ≡ 2) ⊎ ((5 ≤ r .number) × (r .number ≤ 13))
+Reaches (Ended r d) = (r .number ≡ 2) ⊎ OfReport (r .number)
 
 -- while a run gathers, rows 1 to 4 refuse nothing
 entry-none : (σ : List ℕ) (x : State) (d : List ℕ) → Gathers σ x d → entryRefusal (deskOk d) σ x d (isGathering (x .phase)) ≡ none
@@ -43,7 +43,7 @@ entry-none σ x d g =
     reached-entry σ x d (g .reached) (isGathering (x .phase))
     ∙ unless-true (isGathering (x .phase)) 4 none (ap isGathering (g .phase))
 
-pub report-none : (σ : List ℕ) (x : State) (d w : List ℕ) → Gathers σ x d → reportRefusal σ x d w ≡ refusalBeside σ (x .kept) (x .termination) w
+pub report-none : (σ : List ℕ) (x : State) (d w : List ℕ) → Gathers σ x d → reportRefusal σ x d w ≡ refusalBeside σ (x .kept) (x .termination) (x .latest) w
 unfolding reportRefusal
 report-none σ x d w g = first-none _ _ (entry-none σ x d g)
 
@@ -75,10 +75,10 @@ module _ (σ : List ℕ) (x : State) (d w : List ℕ) (g : Gathers σ x d) where
   ended-number : accepted (reportRefusal σ x d w) ≡ false → Reaches (Ended (reportRefusal σ x d w) d)
   unfolding Reaches
   ended-number e =
-      let r : reportRefusal σ x d w ≡ refusalBeside σ (x .kept) (x .termination) w = report-none σ x d w g in
+      let r : reportRefusal σ x d w ≡ refusalBeside σ (x .kept) (x .termination) (x .latest) w = report-none σ x d w g in
       ⊎-elim (λ z. clash (eq-eqb (reportRefusal σ x d w .number) 0 (ap (λ (q : Refusal). q .number) r ∙ z)) e)
-      (λ z. inr (subst⁻¹ (λ (q : Refusal). (5 ≤ q .number) × (q .number ≤ 13)) r z))
-      (in-beside σ (x .kept) (x .termination) w)
+      (λ z. inr (subst⁻¹ (λ (q : Refusal). OfReport (q .number)) r z))
+      (in-beside σ (x .kept) (x .termination) (x .latest) w)
 
   reaches-told : Reaches (told σ x d w)
   unfolding Reaches told
@@ -118,6 +118,6 @@ pub decide-taken : (input σ : List ℕ) (x : State) (d : List ℕ) → after at
 decide-taken input σ x d e = decide-none (blocks input) σ x d e
 
 -- the numbers that end a run
-pub ended-by : (input : List ℕ) (r : Refusal) (d : List ℕ) → after atStart (blocks input) ≡ Ended r d → (r .number ≡ 2) ⊎ ((5 ≤ r .number) × (r .number ≤ 13))
+pub ended-by : (input : List ℕ) (r : Refusal) (d : List ℕ) → after atStart (blocks input) ≡ Ended r d → (r .number ≡ 2) ⊎ OfReport (r .number)
 unfolding Reaches
 ended-by input r d e = subst (λ (p : Progress). Reaches p) e (run-reaches input)
