@@ -28,8 +28,8 @@ RecallsReports held d m = (n : ℕ) → n < 32 → has held n ≡ true → lates
 -- the node of the message w reports
 module _ (held : ℕ) (d w : List ℕ) (m : Latest) (words : length d ≡ 16384) (few : length w ≤ 512) (below : getD w 0 0 < 32)
     (passed : row18 m (contentsOf w) ≡ true) where
-  abbrev after : Latest
-  after = noted m (getD w 0 0) (getD w 1 0)
+  abbrev latestNow : Latest
+  latestNow = noted m (getD w 0 0) (getD w 1 0)
 
   -- its slot has the message's view, and the others what they had
   own-view : viewOf (deskWith d (getD w 0 0) w) (getD w 0 0) ≡ getD w 1 0
@@ -43,7 +43,7 @@ module _ (held : ℕ) (d w : List ℕ) (m : Latest) (words : length d ≡ 16384)
   other-view n l o = ap (λ (s : List ℕ). contentsOf s .view .0) (slot-other d w (getD w 0 0) words below n l o)
 
   -- its view is the greatest that it has reported
-  own-latest : latestAt after (getD w 0 0) ≡ getD w 1 0
+  own-latest : latestAt latestNow (getD w 0 0) ≡ getD w 1 0
   unfolding row18 contentsOf
   own-latest =
       let l : latestAt m (getD w 0 0) ≤ getD w 1 0 = leb-true _ _ passed in
@@ -60,19 +60,19 @@ module _ (held : ℕ) (d w : List ℕ) (m : Latest) (words : length d ≡ 16384)
   by-node P n own other = ⊎-elim (λ e. subst⁻¹ P e own) other (eq-or-ne n (getD w 0 0))
 
   pub report-recalls : (σ : List ℕ) (old new : ℕ) → getD w 0 0 < nodes σ → old ≤ new → getD w 1 0 ≤ new → Recalls σ old held d m
-      → Recalls σ new (with held (getD w 0 0)) (deskWith d (getD w 0 0) w) after
+      → Recalls σ new (with held (getD w 0 0)) (deskWith d (getD w 0 0) w) latestNow
   report-recalls σ old new node up own r =
       record {
         from-report = λ n l h.
-            by-node (λ i. viewOf (deskWith d (getD w 0 0) w) i ≤ latestAt after i) n (omega (arith, own-view, own-latest))
+            by-node (λ i. viewOf (deskWith d (getD w 0 0) w) i ≤ latestAt latestNow i) n (omega (arith, own-view, own-latest))
             (λ o. omega (arith, other-view n l o, noted-other m (getD w 0 0) (getD w 1 0) n l o, r .from-report n l (held-other n o h)));
         to-kept = λ n l h.
-            by-node (λ i. latestAt after i ≤ new) n (omega (arith, own-latest))
+            by-node (λ i. latestAt latestNow i ≤ new) n (omega (arith, own-latest))
             (λ o. omega (arith, noted-other m (getD w 0 0) (getD w 1 0) n l o, r .to-kept n l (held-other n o h)));
         none-past = λ n l h. noted-other m (getD w 0 0) (getD w 1 0) n l (λ e. omega arith) ∙ r .none-past n l h;
       }
 
-  pub report-exact : RecallsReports held d m → RecallsReports (with held (getD w 0 0)) (deskWith d (getD w 0 0) w) after
+  pub report-exact : RecallsReports held d m → RecallsReports (with held (getD w 0 0)) (deskWith d (getD w 0 0) w) latestNow
   report-exact r n l h =
-      by-node (λ i. latestAt after i ≡ viewOf (deskWith d (getD w 0 0) w) i) n (own-latest ∙ sym own-view)
+      by-node (λ i. latestAt latestNow i ≡ viewOf (deskWith d (getD w 0 0) w) i) n (own-latest ∙ sym own-view)
       (λ o. noted-other m (getD w 0 0) (getD w 1 0) n l o ∙ r n l (held-other n o h) ∙ sym (other-view n l o))
