@@ -7,7 +7,7 @@ use mathlib.Core.Path.{_≡_, refl, subst⁻¹}
 use native.Mathlib.Omega.{arith}
 use Rattle.base_laws.specs.Bools.{either}
 use Rattle.base_ids.specs.declared.Refusal.{Refusal}
-use Rattle.base_ids.specs.Refusals.{none, accepted, unless, firstOf, unless-true, unless-false, first-none, first-refused, accepted-none}
+use Rattle.base_ids.specs.Refusals.{none, refused, accepted, unless, firstOf, unless-true, unless-false, first-none, first-refused, accepted-none}
 use Rattle.message_format.specs.declared.Form.the-variants.{Report}
 use Rattle.message_format.specs.Messages.{recordsRefusal, headRefusal, messageRefusal}
 use Rattle.report_views.specs.declared.Layout.{Layout}
@@ -16,17 +16,17 @@ use Rattle.report_latest.specs.declared.Latest.{Latest}
 use Rattle.report_kept.specs.Reports.{keptRefusal, refusalBeside}
 
 -- a number of a report's own rows: 5 to 13 or 18
-abbrev pub OfReport : ℕ → Type 0
-OfReport k = ((5 ≤ k) × (k ≤ 13)) ⊎ (k ≡ 18)
+abbrev pub OfReport : Refusal → Type 0
+OfReport r = ((5 ≤ r .number) × (r .number ≤ 13)) ⊎ (r .number ≡ 18)
 
--- no refusal, or one of these numbers
+-- no refusal, or one of these
 abbrev pub InRows : Refusal → Type 0
-InRows r = (r .number ≡ 0) ⊎ OfReport (r .number)
+InRows r = (r .number ≡ 0) ⊎ OfReport r
 
 in-none : InRows none
 in-none = inl refl
 
-in-row : (ok : Bool) (k : ℕ) (rest : Refusal) → OfReport k → InRows rest → InRows (unless ok k rest)
+in-row : (ok : Bool) (k : ℕ) (rest : Refusal) → OfReport (refused k) → InRows rest → InRows (unless ok k rest)
 in-row ok k rest h r =
     ⊎-elim (λ e. subst⁻¹ (λ (x : Refusal). InRows x) (unless-true ok k rest e) r)
     (λ e. subst⁻¹ (λ (x : Refusal). InRows x) (unless-false ok k rest e) (inr h))

@@ -35,7 +35,7 @@ pub record Gathers (σ : List ℕ) (x : State) (d : List ℕ) : Type 0 where
 unfoldable pub Reaches : Progress → Type 0
 Reaches (Started d) = deskOk d ≡ true
 Reaches (Underway σ x d) = Gathers σ x d
-Reaches (Ended r d) = (r .number ≡ 2) ⊎ OfReport (r .number)
+Reaches (Ended r d) = (r .number ≡ 2) ⊎ OfReport r
 
 -- while a run gathers, rows 1 to 4 refuse nothing
 entry-none : (σ : List ℕ) (x : State) (d : List ℕ) → Gathers σ x d → entryRefusal (deskOk d) σ x d (isGathering (x .phase)) ≡ none
@@ -77,7 +77,7 @@ module _ (σ : List ℕ) (x : State) (d w : List ℕ) (g : Gathers σ x d) where
   ended-number e =
       let r : reportRefusal σ x d w ≡ refusalBeside σ (x .kept) (x .termination) (x .latest) w = report-none σ x d w g in
       ⊎-elim (λ z. clash (eq-eqb (reportRefusal σ x d w .number) 0 (ap (λ (q : Refusal). q .number) r ∙ z)) e)
-      (λ z. inr (subst⁻¹ (λ (q : Refusal). OfReport (q .number)) r z))
+      (λ z. inr (subst⁻¹ (λ (q : Refusal). OfReport q) r z))
       (in-beside σ (x .kept) (x .termination) (x .latest) w)
 
   reaches-told : Reaches (told σ x d w)
@@ -118,6 +118,6 @@ pub decide-taken : (input σ : List ℕ) (x : State) (d : List ℕ) → after at
 decide-taken input σ x d e = decide-none (blocks input) σ x d e
 
 -- the numbers that end a run
-pub ended-by : (input : List ℕ) (r : Refusal) (d : List ℕ) → after atStart (blocks input) ≡ Ended r d → (r .number ≡ 2) ⊎ OfReport (r .number)
+pub ended-by : (input : List ℕ) (r : Refusal) (d : List ℕ) → after atStart (blocks input) ≡ Ended r d → (r .number ≡ 2) ⊎ OfReport r
 unfolding Reaches
 ended-by input r d e = subst (λ (p : Progress). Reaches p) e (run-reaches input)
