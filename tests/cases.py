@@ -98,23 +98,6 @@ def named():
     yield "I", case(ALL, changed(SETTINGS, 11, 3)), "wait 5 0\n"
 
 
-def first_plans():
-    """Of the placements of least moves the first, in whatever order the machines report."""
-    # 0 3 comes before 1 3 and 2 3; where 2 and 3 stay without a move, 0 and 1 are not taken.
-    sets = [4, 4, 1, 1, 0, 1, 2, 3, 2]
-    for nodes in (range(4), (3, 1, 0, 2)):
-        told = [[report(node, view=5, members=15, masks=[mask]) for node in nodes] for mask in (8, 12)]
-        name = "first, from %s" % list(nodes)
-        yield name, blocks(sets, *told[0]), "view 6\nmoves 1\nshard 0 holder 3 target 0 0 members 0 3\n"
-        yield "least " + name, blocks(sets, *told[1]), "view 6\nmoves 0\nshard 0 holder 2 target 0 0 members 2 3\n"
-    # Shards 0 and 2 of one subgroup around shard 1 of another: the lower shard has the lower node.
-    around = [6, 2, 1, 3, 1, 1, 1, 1, 0, 0, 258, 2, 258]
-    lines = "".join("shard %d holder %d target 0 0 members %s\n" % row for row in ((0, 4, "0 4"), (1, 4, "0 4"), (2, 5, "1 5")))
-    for nodes in (range(6), (5, 0, 4, 1, 3, 2)):
-        told = [report(node, view=5, members=63, masks=[16, 16, 32]) for node in nodes]
-        yield "first by shards, from %s" % list(nodes), blocks(around, *told), "view 6\nmoves 3\n" + lines
-
-
 def more_plans():
     """What else a plan's lines and a wait can show."""
     # A stale machine's longer log is no target, and its member is kept without a move.
@@ -147,6 +130,23 @@ def more_plans():
         "shard 2 holder 2 target 0 0 members 0\n"
     )
     yield "subgroup 3 without a placement", blocks(changed(narrow, 9, 3 * 256 + 2), *parts), "wait 5 3\n"
+
+
+def first_plans():
+    """Of the placements of least moves the first, in whatever order the machines report."""
+    # 0 3 comes before 1 3 and 2 3; where 2 and 3 stay without a move, 0 and 1 are not taken.
+    sets = [4, 4, 1, 1, 0, 1, 2, 3, 2]
+    for nodes in (range(4), (3, 1, 0, 2)):
+        told = [[report(node, view=5, members=15, masks=[mask]) for node in nodes] for mask in (8, 12)]
+        name = "first, from %s" % list(nodes)
+        yield name, blocks(sets, *told[0]), "view 6\nmoves 1\nshard 0 holder 3 target 0 0 members 0 3\n"
+        yield "least " + name, blocks(sets, *told[1]), "view 6\nmoves 0\nshard 0 holder 2 target 0 0 members 2 3\n"
+    # Shards 0 and 2 of one subgroup around shard 1 of another: the lower shard has the lower node.
+    around = [6, 2, 1, 3, 1, 1, 1, 1, 0, 0, 258, 2, 258]
+    lines = "".join("shard %d holder %d target 0 0 members %s\n" % row for row in ((0, 4, "0 4"), (1, 4, "0 4"), (2, 5, "1 5")))
+    for nodes in (range(6), (5, 0, 4, 1, 3, 2)):
+        told = [report(node, view=5, members=63, masks=[16, 16, 32]) for node in nodes]
+        yield "first by shards, from %s" % list(nodes), blocks(around, *told), "view 6\nmoves 3\n" + lines
 
 
 def cures():

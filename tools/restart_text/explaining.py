@@ -17,11 +17,11 @@ class Explanation:
     answer: object
     gathered: Gathered
     fault: int | None = None  # the block that is refused
-    first: First | None = None  # of a plan: which placement it must have
     differing: list = field(default_factory=list)  # where this tool's own counting comes to something else than the answer
     advice: Advice = field(default_factory=Advice)
     lines: list = field(default_factory=list)
     asked: int = 0  # how often the program was started
+    first: First | None = None  # for a plan: the placement that it must have
 
     @property
     def agrees(self):
@@ -32,10 +32,8 @@ def explain(given, answer, fault=None, program=None, gone=frozenset()):
     """`fault` is the block that the program refuses, where the program was asked; else it is found by reading. Where there is a
     program, it is asked about other inputs as well, for advice."""
     gathered = gather(given.blocks, given.names)
-    told = Explanation(answer, gathered, fault)
-    if isinstance(answer, Plan) and not gathered.refused and not waits(gathered):
-        told.first = first_placement(gathered)
-    told.differing = differences(told, given)
+    first = first_placement(gathered) if isinstance(answer, Plan) and not gathered.refused and not waits(gathered) else None
+    told = Explanation(answer, gathered, fault, differences(gathered, given, answer, fault, first), first=first)
     if isinstance(answer, Number) and fault is None and gathered.refused:
         told.fault = gathered.fault
     if told.agrees:
@@ -98,16 +96,16 @@ def waiting(gathered, answer):
     return lines
 
 
-def differences(told, given):
-    """Where this tool's own counting comes to something else than the answer."""
-    gathered, refused, answer = told.gathered, told.gathered.refused, told.answer
+def differences(gathered, given, answer, fault=None, first=None):
+    """Where this tool's own counting comes to something else than the answer. `first` is the placement that a plan must have."""
+    refused = gathered.refused
     if refused:
-        same = answer == Number(refused.number) and told.fault in (None, gathered.fault)
+        same = answer == Number(refused.number) and fault in (None, gathered.fault)
         return [] if same else ["number %d for %s: %s" % (refused.number, block_name(gathered.fault, given), refused.why)]
     failing = waits(gathered)
     if failing:
         return [] if answer == Wait(*failing[0]) else [printed(Wait(*failing[0]))]
-    return faults(gathered, answer, told.first) if isinstance(answer, Plan) else ["a plan"]
+    return faults(gathered, answer, first) if isinstance(answer, Plan) else ["a plan"]
 
 
 def supposed_differences(settings, found):
