@@ -273,6 +273,25 @@ class Refusals(unittest.TestCase):
         self.says(support.given(text), 12, "At fault: report 5 of 6, which names machine 4 (line 42).\n",
                   "machine 4 gives view 7 the members of shard 0 0 3; machine 0 gave it 0 2")
 
+    def test_a_machine_that_went_back(self):
+        """Machine 2 comes with an older disk: both disks are told, and what to do."""
+        old = A.split("\n\n")[4].replace("report node 2 view 7", "report node 2 view 6")
+        self.says(support.given(A + "\n" + old + "\n"), 18,
+                  "Refused with number 18, given when: a smaller view than the node has reported before.\n"
+                  "At fault: report 7 of 7, which names machine 2 (line 55).\n"
+                  "What is wrong: machine 2 reports view 6, and has reported view 7 before, in report 3.\n"
+                  "Without report 7 of 7, which names machine 2 (line 55): a plan, new view 8, 2 moves.\n"
+                  "Without report 3 of 7, which names machine 2 (line 30) instead: a plan, new view 8, 2 moves.\n"
+                  "To do: The machine's disk went back: another disk is in it, or an older image of its own.")
+
+    def test_a_view_that_does_not_fall(self):
+        """The same view again, and a later one, are no step back; nor is an older view of another machine."""
+        again = "\n" + A.split("\n\n")[4]
+        self.assertTrue(explained(support.given(A + again), support.ANSWER_A).startswith("Plan: "))
+        first = again.replace("view 7", "view 6")
+        text = A.replace("\n\nreport node 2", first + "\n\nreport node 2")
+        self.assertTrue(explained(support.given(text), support.ANSWER_A).startswith("Plan: "))
+
     def test_two_terminations(self):
         parts, ending = A.split("\n\n"), "\n".join("termination shard %d view 7 update 4" % shard for shard in range(3))
         parts[3] += "\n" + ending
