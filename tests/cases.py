@@ -220,6 +220,7 @@ def refused():
     yield "number 16 before 17", after(changed(report(0, [[768 + 3, 7, 1]]), 4, 257)), 16, 4
     yield "number 17: a mask is missing", after(report(0, masks=MASKS[:2])), 17, 2
     yield "number 17: a mask is missing, and a run is the last", after(report(0, runs(1, (7, 1)), masks=MASKS[:2])), 17, 3
+    yield "number 17: a mask is missing, and a run behind a gap is the last", after(changed(with_gap([769, 7, 1]), 11, 5)), 17, 5
     yield "number 17: the head alone", after([0, 7, 127, 0]), 17, 0
     yield "number 17: one position of three", after(report(0, [[512, 1, 1]])), 17, 4
     yield "number 17: one position of three, and a run is the last", after(report(0, [[512, 1, 1]] + runs(1, (7, 1)))), 17, 5
@@ -231,6 +232,7 @@ def refused():
     yield "number 17: masks in another order", after(changed(changed(good, 4, 257), 8, 256)), 17, 2
     yield "number 17: a mask behind a run", after(message(0, 7, 127, shard_masks(MASKS[:2]) + runs(1, (7, 1)) + [[258, 32, 0]])), 17, 4
     yield "number 17 before 10", after(report(0, masks=[0, 82])), 17, 2
+    yield "number 17 before 10, by a run", after(report(0, runs(1, (5, 1), (5, 2)), masks=[0, 82, 32])), 17, 5
     yield "number 10: no members", after(changed(good, 5, 0)), 10
     yield "number 10: outside the members", after(report(0, members=123, masks=[5, 82, 32])), 10
     yield "number 10: a node twice", after(report(0, masks=[5, 83, 32])), 10

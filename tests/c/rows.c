@@ -1,7 +1,7 @@
 /*
  * The numbers in their places. Each call starts with everything wrong at once and is mended row by
- * row, so that its number climbs through the rows of document 01 that concern it; then it is
- * accepted. All memory lies between pages without access.
+ * row, so that its number climbs through the rows that concern it, in their order, with the index
+ * of a record where it has one; then it is accepted. All memory lies between pages without access.
  */
 #include "world.h"
 

@@ -206,14 +206,22 @@ class Refusals(unittest.TestCase):
                   "What is wrong: the least group size is 8, allowed are 1 to 7.\n")
         self.says(inputs.Input([], []), 2, "At fault: the settings, which are missing.")
 
+    def recorded(self, given, answer, *pieces):
+        """Of an answer that was printed before the same is said, and no program is asked."""
+        told = explain(given, answers.parse(answers.printed(answer) + "\n"))
+        self.assertEqual((told.agrees, told.asked), (True, 0), told.lines)
+        for piece in pieces:
+            self.assertIn(piece, "\n".join(told.lines))
+
     def of_a_report(self, *rows):
         """Each row has a report of case A, the number and record with which it is refused, and what is said of it."""
         for number, index, block, why, *to_do in rows:
             with self.subTest(why):
                 record = "" if index is None else " at record %d" % index
-                self.says(support.with_block(3, block), number, "Refused with number %d%s, given when: " % (number, record),
-                          "At fault: report 3 of 6, which names machine %d.\nWhat is wrong: %s" % (block[0], why),
-                          "\nTo do: " + "".join(to_do), index=index)
+                given, fault = support.with_block(3, block), "At fault: report 3 of 6, which names machine %d.\n" % block[0]
+                pieces = "Refused with number %d%s, given when: " % (number, record), fault + "What is wrong: " + why
+                self.recorded(given, answers.Number(number, index), *pieces)
+                self.says(given, number, *pieces, "\nTo do: " + "".join(to_do), index=index)
 
     def test_each_row_of_a_report(self):
         rest = self.REST
