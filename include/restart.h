@@ -156,7 +156,8 @@ enum restart_reason {
 };
 
 /* ---- The state's words ----
- * What is not there is zero, and so are the places of shards that the settings do not have.
+ * What is not there is zero, and so are the places of shards and nodes that the settings do not
+ * have.
  */
 
 enum restart_state_word {
