@@ -146,14 +146,14 @@ class Diff(Folder):
             self.assertEqual(causes, ["The inputs differ: %s." % one for one in parts])
 
     def test_a_report_that_was_replaced(self):
-        """The kept view stays that of a report which the same machine has replaced since."""
+        """The kept termination stays that of a report which the same machine has replaced since."""
         case = support.example("a")
         report = next(section for section in case.split("\n\n") if section.startswith("report node 0 "))
-        before = report.replace("view 7", "view 8")
+        before = report + "".join("\ntermination shard %d view %d update %d" % at for at in ((0, 0, 0), (1, 7, 4), (2, 0, 0)))
         path = self.put("other.txt", case.replace(report, before + "\n\n" + report).encode())
         status, printed, _ = command("diff", CASE, path, "--program", support.program())
         self.assertEqual(status, 1)
-        self.assertIn("The inputs differ: an earlier report, which was replaced, had another view or termination.", printed.decode())
+        self.assertIn("The inputs differ: an earlier report, which was replaced, had a termination.", printed.decode())
 
     def test_inputs_and_answers(self):
         one = self.put("one", support.ANSWER_A.encode())
