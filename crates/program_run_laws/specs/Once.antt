@@ -42,10 +42,10 @@ said-same σ r q s =
     text-same σ (r .decision) (r .state .plan) (q .state .plan) (s .plan) ∙ ap (λ (c : Decision). decisionText σ c (q .state .plan)) (s .decision)
 
 -- two inputs
-pub inputs-agree : {first second a b σ : List ℕ} {x y : State} {d e : List ℕ} → after atStart (blocks first) ≡ Underway σ x d
+pub inputs-agree : (first second a b : List ℕ) {σ : List ℕ} {x y : State} {d e : List ℕ} → after atStart (blocks first) ≡ Underway σ x d
     → after atStart (blocks second) ≡ Underway σ y e → SameAsked x y d e → Printed first a → Printed second b → a ≡ b
 unfolding Printed Prints
-inputs-agree {first} {second} {a} {b} {σ} {x} {y} {d} {e} f g same h k =
+inputs-agree first second a b {σ} {x} {y} {d} {e} f g same h k =
     let u : DecisionPrinted σ x d a = subst (λ (p : Progress). Prints p a) f h in
     let w : DecisionPrinted σ y e b = subst (λ (p : Progress). Prints p b) g k in
     u .says
