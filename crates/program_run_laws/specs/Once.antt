@@ -52,4 +52,4 @@ inputs-agree first second a b {σ} {x} {y} {d} {e} f g same h k =
     ∙ (said-same σ (u .decided) (w .decided) (same-said (u .decides) (w .decides) (taken first σ x d f) (taken second σ y e g) same) ∙ sym (w .says))
   where
     taken : (input σ : List ℕ) (x : State) (d : List ℕ) → after atStart (blocks input) ≡ Underway σ x d → accepted (decideRefusal σ x d) ≡ true
-    taken input σ x d q = eq-eqb (decideRefusal σ x d .number) 0 (ap (λ (r : Refusal). r .number) (decide-taken input σ x d q))
+    taken input σ x d q = eq-eqb (decideRefusal σ x d .code) 0 (ap (λ (r : Refusal). r .code) (decide-taken input σ x d q))
