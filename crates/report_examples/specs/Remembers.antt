@@ -7,7 +7,7 @@ use mathlib.Core.Path.{_≡_, refl}
 use lib.Dec.{eqb}
 use Rattle.base_laws.specs.Below.{allBelow, anyBelow, lowest}
 use Rattle.base_laws.specs.Tables.{tabulate}
-use Rattle.base_ids.specs.Refusals.{none, refused, unless, firstOf}
+use Rattle.base_ids.specs.Refusals.{none, refused, unless, unlessAt, firstOf}
 use Rattle.message_format.specs.Chain.{place, following, row5, row8}
 use Rattle.message_format.specs.Records.{precedes, shardsWhere}
 use Rattle.message_format.specs.Rows.{row6, viewOk, row7, kindOk, plain, kindAt, shardAt, surplus, sequenceAt, complete, shardApart, row10At, row10, position, viewFits, legal, row11At}
@@ -50,7 +50,7 @@ pub record LatestClauses : Type 0 where
   pub noted-last : noted (oneAt 7) 31 12 ≡ twoLatest 1 7 31 12
 
 pub latest-clauses : LatestClauses
-unfolding allBelow anyBelow lowest tabulate unless firstOf place following row5 row8 precedes shardsWhere row6 viewOk row7 kindOk plain kindAt shardAt surplus sequenceAt complete shardApart row10At row10 position viewFits legal row11At bodyWord bodyOf contentsOf recordsRefusal headRefusal messageRefusal sameView row12 sameTermination row13 noLatest row18 noted keptRefusal refusalBeside
+unfolding allBelow anyBelow lowest tabulate unless unlessAt firstOf place following row5 row8 precedes shardsWhere row6 viewOk row7 kindOk plain kindAt shardAt surplus sequenceAt complete shardApart row10At row10 position viewFits legal row11At bodyWord bodyOf contentsOf recordsRefusal headRefusal messageRefusal sameView row12 sameTermination row13 noLatest row18 noted keptRefusal refusalBeside
 latest-clauses =
     record {
       first = refl;

@@ -205,7 +205,7 @@ gathered-sound = and-both (and-both (and-both (and-both kept-is-sound parts-soun
 
 -- node 1 was dropped; nobody is held, with and without what is remembered; and the fresh state
 dropped-sound : sound caseSettings (afterDrop (gathered view7 63) 1) desk ≡ true
-unfolding desk allBelow anyBelow lowest tabulate unless firstOf place following row5 row8 precedes shardsWhere row6 viewOk row7 kindOk plain kindAt shardAt surplus sequenceAt complete shardApart row10At row10 position viewFits legal row11At bodyWord bodyOf contentsOf recordsRefusal headRefusal messageRefusal slot reportOf sameView row12 sameTermination row13 termKept slotOk slotsOk layoutTidy layoutBlank viewSound termSoundAt termSound nothingKept keptSound marksSound planBlank planFits recalled latestSound holding droppedIn sound
+unfolding desk allBelow anyBelow lowest tabulate unless unlessAt firstOf place following row5 row8 precedes shardsWhere row6 viewOk row7 kindOk plain kindAt shardAt surplus sequenceAt complete shardApart row10At row10 position viewFits legal row11At bodyWord bodyOf contentsOf recordsRefusal headRefusal messageRefusal slot reportOf sameView row12 sameTermination row13 termKept slotOk slotsOk layoutTidy layoutBlank viewSound termSoundAt termSound nothingKept keptSound marksSound planBlank planFits recalled latestSound holding droppedIn sound
 dropped-sound = refl
 
 restarted-is-sound : sound caseSettings (afterDrop orderedA 5) desk ≡ true
