@@ -29,6 +29,7 @@ static const char numbers[][WIDTH] = {
     "unknown number", /* 15 */
     "a record names an unknown shard",
     "a record is out of sequence, missing or surplus",
+    "the machine has reported a later view before",
     "unknown number",
 };
 

@@ -248,9 +248,9 @@ static void save(const struct leader *leader)
     replace_file(leader->saved, "leader.bin", bytes, sizeof bytes);
 }
 
-/* Takes up what was saved; 0 if nothing was. What was saved in another format, under other
- * settings, has been damaged or does not belong together is not used: somebody has to look, and may
- * remove it to start fresh. */
+/* Takes up what was saved; 0 if nothing was. What was saved in another format (by an earlier
+ * release), under other settings, has been damaged or does not belong together is not used:
+ * somebody has to look, and may remove it to start fresh, so that every machine reports again. */
 static int load(struct leader *leader)
 {
     static uint8_t bytes[SAVED_BYTES + 1];

@@ -14,8 +14,8 @@
  *
  * Every call answers with a word: see "Answers". A refused call changes no lent byte, and its
  * number says why: of those that are named at the call the first that applies, in the order of
- * enum restart_number. That order is 1, 2, 3, 4, 5, 6, 7, 8, 9, 16, 17, 10, 11, 12, 13, 14, not the
- * order of their size.
+ * enum restart_number. That order is 1, 2, 3, 4, 5, 6, 7, 8, 9, 16, 17, 10, 11, 18, 12, 13, 14, not
+ * the order of their size.
  *
  * What is proved: the calls under "Settings and messages" and "Events" are proved functions. For
  * any bytes whatever they end, touch nothing but what was lent, and answer and leave what their
@@ -52,7 +52,7 @@ extern "C" {
 
 /* Of the settings, the messages and the state. It is raised when any of their words changes its
  * meaning; save it beside a state, and start fresh where it differs. */
-#define RESTART_FORMAT 1
+#define RESTART_FORMAT 2
 
 /* ---- What the compiler can check ----
  * No pointer is null, and every answer is looked at; restart_fresh alone cannot be refused where
@@ -130,6 +130,8 @@ enum restart_number {
     RESTART_WRONG_SHARD = 10,
     /* a position or run; a holder outside the members */
     RESTART_WRONG_POSITION = 11,
+    /* a smaller view than the node has reported before, since the fresh state */
+    RESTART_EARLIER_VIEW = 18,
     /* the kept view's number with other masks */
     RESTART_OTHER_MASKS = 12,
     /* another termination of the kept view */
@@ -154,7 +156,8 @@ enum restart_reason {
 };
 
 /* ---- The state's words ----
- * What is not there is zero, and so are the places of shards that the settings do not have.
+ * What is not there is zero, and so are the places of shards and nodes that the settings do not
+ * have.
  */
 
 enum restart_state_word {
@@ -188,8 +191,11 @@ enum restart_state_word {
     RESTART_PLAN_HOLDERS = 74,
     /* 32 words: for each shard the target, up to which that log is taken, view and k */
     RESTART_PLAN_TARGETS = 90,
+    /* 32 words: for each node the greatest view that it has reported since the fresh state; 0: none.
+     * Drops leave them */
+    RESTART_LATEST_VIEWS = 122,
     /* zeros from here on */
-    RESTART_STATE_ZEROS = 122
+    RESTART_STATE_ZEROS = 154
 };
 
 enum restart_phase {
@@ -373,7 +379,8 @@ uint32_t restart_write_order(const uint8_t *settings, size_t settings_len, const
  * What the caller must do, in short; restart(3) has the reasons and what happens otherwise:
  *    1  one restart at a time; a committed view is on the disk of all its members before one serves
  *    2  take acknowledgements of the present attempt only: tag each attempt
- *    3  take a machine's reports in the order in which it made them
+ *    3  take a machine's reports in the order in which it made them; the library refuses an earlier
+ *       view (number 18), not an earlier report of the same view
  *    4  a machine says "prepared" once the new view and all that it fetched are on its disk
  *    5  targets of a plan that was given up are no termination, and are not reported as one
  *    6  reports are true: the latest view that the machine logged, and exactly the updates it has
@@ -388,7 +395,7 @@ uint32_t restart_write_order(const uint8_t *settings, size_t settings_len, const
  */
 
 /*
- * Stores the fresh state: gathering, nothing held, no view kept.
+ * Stores the fresh state: gathering, nothing held, no view kept, none remembered of any node.
  * Answers 0, or number 3 (state not 640 bytes).
  * Changes the state.
  */
@@ -408,8 +415,10 @@ uint32_t restart_check_state(const uint8_t *settings, size_t settings_len, const
 /*
  * Takes a node's report, while gathering. The message is copied to the node's slot and the node is
  * held; an older report of the node is replaced. A greater view than the kept one becomes the kept
- * view, with its termination or none; an equal one adds its termination if none is kept.
- * Answers 0, or one of the numbers 1 to 9, 16, 17, 10 to 13.
+ * view, with its termination or none; an equal one adds its termination if none is kept. The
+ * greatest view that the node has reported is remembered, and a report of a smaller one is refused
+ * with number 18.
+ * Answers 0, or one of the numbers 1 to 9, 16, 17, 10, 11, 18, 12, 13.
  * Changes state and desk.
  */
 uint32_t restart_report(const uint8_t *settings, size_t settings_len, uint8_t *state,
@@ -419,7 +428,7 @@ uint32_t restart_report(const uint8_t *settings, size_t settings_len, uint8_t *s
 /*
  * Gives up a held node. While gathering the node is no longer held. While ordered or preparing
  * nothing is held any more, the plan and all marks go and gathering starts again: every machine
- * has to report anew. Kept view and termination remain.
+ * has to report anew. Kept view and termination remain, and so do the views that are remembered.
  * Answers 0, or one of the numbers 1 to 4, 6, 14.
  * Changes the state.
  */

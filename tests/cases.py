@@ -126,6 +126,9 @@ def more_plans():
     yield "kept termination", after(*kept), PLAN.replace("holder 1 target 7 5", "holder 4 target 7 4")
     # An older report of a node is replaced: node 1's log is empty now.
     yield "replaced", case(ALL + [1]) + blocks(report(1)), PLAN.replace("holder 1 target 7 5", "holder 4 target 7 4")
+    # A report of the same view is no step back, and another machine's later view plays no part.
+    yield "replaced in the same view", case(ALL + ALL), PLAN
+    yield "each its own view", after(*[of_case_a(n) for n in ALL[:4]], report(4, view=6), report(4, runs(1, (7, 4))), of_case_a(5)), PLAN
     # Moves are counted by node: shard {0, 2}, node 0 down, node 1 of its failure set up.
     by_node = [3, 2, 1, 1, 0, 0, 1, 2]
     up = [report(node, view=5, members=7, masks=[5]) for node in (1, 2)]
@@ -196,8 +199,8 @@ def cures():
 
 
 def refused():
-    """A run for each number that restart can give, in the order of their rows: 2, 5 to 9, 16, 17 and 10 to 13. Numbers 8, 9, 16 and 17
-    have the index of a record."""
+    """A run for each number that restart can give, in the order of their rows: 2, 5 to 9, 16, 17, 10, 11, 18, 12 and 13. Numbers 8, 9,
+    16 and 17 have the index of a record."""
     good = of_case_a(0)
     yield "number 2: no nodes", blocks(changed(SETTINGS, 0, 0)), 2
     yield "number 2: no words", blocks([]), 2
@@ -235,6 +238,7 @@ def refused():
     yield "number 16 before 17", after(changed(report(0, [[768 + 3, 7, 1]]), 4, 257)), 16, 4
     yield "number 17: a mask is missing", after(report(0, masks=MASKS[:2])), 17, 2
     yield "number 17: a mask is missing, and a run is the last", after(report(0, runs(1, (7, 1)), masks=MASKS[:2])), 17, 3
+    yield "number 17: a mask is missing, and a run behind a gap is the last", after(changed(with_gap([769, 7, 1]), 11, 5)), 17, 5
     yield "number 17: the head alone", after([0, 7, 127, 0]), 17, 0
     yield "number 17: one position of three", after(report(0, [[512, 1, 1]])), 17, 4
     yield "number 17: one position of three, and a run is the last", after(report(0, [[512, 1, 1]] + runs(1, (7, 1)))), 17, 5
@@ -246,6 +250,7 @@ def refused():
     yield "number 17: masks in another order", after(changed(changed(good, 4, 257), 8, 256)), 17, 2
     yield "number 17: a mask behind a run", after(message(0, 7, 127, shard_masks(MASKS[:2]) + runs(1, (7, 1)) + [[258, 32, 0]])), 17, 4
     yield "number 17 before 10", after(report(0, masks=[0, 82])), 17, 2
+    yield "number 17 before 10, by a run", after(report(0, runs(1, (5, 1), (5, 2)), masks=[0, 82, 32])), 17, 5
     yield "number 10: no members", after(changed(good, 5, 0)), 10
     yield "number 10: outside the members", after(report(0, members=123, masks=[5, 82, 32])), 10
     yield "number 10: a node twice", after(report(0, masks=[5, 83, 32])), 10
@@ -253,6 +258,11 @@ def refused():
     yield "number 11: a run of count 0", after(report(0, runs(1, (7, 0)))), 11
     yield "number 11: position (0, 3)", after(report(0, termination([(0, 3), (0, 0), (0, 0)]))), 11
     yield "number 11: a run above the view", after(report(0, runs(1, (8, 1)))), 11
+    yield "number 18: view 6 after view 7", after(good, report(0, view=6)), 18
+    yield "number 18: view 1 after the greatest", after(report(0, view=LARGEST - 1), report(0, view=1)), 18
+    yield "number 18: views 6, 7 and 6", after(report(0, view=6), good, report(0, view=6)), 18
+    yield "number 18: others have reported since", after(good, of_case_a(1), report(2, view=8), report(1, view=6)), 18
+    yield "number 11 before 18", after(good, report(0, runs(1, (6, 0)), view=6)), 11
     yield "number 12: other members", after(good, report(1, members=119)), 12
     yield "number 12: other shard", after(good, report(1, masks=[1, 82, 32])), 12
     at_five = termination([(0, 0), (7, 5), (0, 0)])

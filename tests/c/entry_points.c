@@ -10,6 +10,7 @@
 
 static void sizes(void)
 {
+    check_word("the views of the state", RESTART_STATE_ZEROS, RESTART_LATEST_VIEWS + RESTART_NODES);
     check_word("settings bytes", RESTART_SETTINGS_BYTES, 4 * RESTART_SETTINGS_WORDS);
     check_word("settings words", RESTART_SETTINGS_WORDS, 4 + RESTART_NODES + RESTART_SHARDS);
     check_word("state bytes", RESTART_STATE_BYTES, 4 * RESTART_STATE_WORDS);
@@ -98,12 +99,14 @@ static void texts(void)
     check_text("number 17", restart_number_text(RESTART_WRONG_SEQUENCE),
                "a record is out of sequence, missing or surplus");
     check_text("number 15", restart_number_text(15), "unknown number");
-    check_text("number 18", restart_number_text(18), "unknown number");
+    check_text("number 18", restart_number_text(RESTART_EARLIER_VIEW),
+               "the machine has reported a later view before");
+    check_text("number 19", restart_number_text(19), "unknown number");
     check_text("reason 6", restart_reason_text(RESTART_NO_PLACEMENT + 1), "unknown reason");
     check_text("phase 4", restart_phase_text(RESTART_COMMITTED + 1), "unknown phase");
     check_text("the last number", restart_number_text(UINT32_MAX), "unknown number");
-    for (uint32_t one = 0; one <= RESTART_WRONG_SEQUENCE; one++)
-        for (uint32_t other = one + 1; one != 15 && other <= RESTART_WRONG_SEQUENCE + 1; other++)
+    for (uint32_t one = 0; one <= RESTART_EARLIER_VIEW; one++)
+        for (uint32_t other = one + 1; one != 15 && other <= RESTART_EARLIER_VIEW + 1; other++)
             check_word("two numbers have two texts",
                        strcmp(restart_number_text(one), restart_number_text(other)) != 0, 1);
 }
@@ -198,9 +201,11 @@ static void put_plan(uint8_t *state)
     put_words(state + 4 * RESTART_PLAN_TARGETS, targets, 6);
 }
 
-/* Checks all words of a state after a report of case A; outside gathering it has the plan. */
+/* Checks all words of a state after a report of case A; outside gathering it has the plan. These
+ * nodes have reported, whether they are held or not. */
 static void expect_state(const char *what, const struct world *world, enum restart_phase phase,
-                         uint32_t held, uint32_t fetched_mask, uint32_t prepared_mask)
+                         uint32_t reported, uint32_t held, uint32_t fetched_mask,
+                         uint32_t prepared_mask)
 {
     uint8_t expected[RESTART_STATE_BYTES];
     memset(expected, 0, sizeof expected);
@@ -211,6 +216,9 @@ static void expect_state(const char *what, const struct world *world, enum resta
     restart_put_word(expected, RESTART_HELD, held);
     restart_put_word(expected, RESTART_FETCHED, fetched_mask);
     restart_put_word(expected, RESTART_PREPARED, prepared_mask);
+    for (size_t node = 0; node < RESTART_NODES; node++)
+        if (reported >> node & 1)
+            restart_put_word(expected, RESTART_LATEST_VIEWS + node, 7);
     check_bytes(what, world->state, expected, sizeof expected);
 }
 
@@ -233,14 +241,14 @@ static void reporting(struct world *world)
     size_t length = put_words(message, report_words, 20);
     memcpy(desk + 4 * RESTART_SLOT_BYTES, message, length);
     check_word("a report", restart_report(LENT, message, length), RESTART_ACCEPTED);
-    expect_state("the state after a report", world, RESTART_GATHERING, 16, 0, 0);
+    expect_state("the state after a report", world, RESTART_GATHERING, 16, 16, 0, 0);
     check_bytes("the desk after a report", world->desk, desk, sizeof desk);
     check_word("one of seven: wait 2", restart_decide(LENT), 50331648 + 256 * 2);
 
     world_gathered(world);
-    expect_state("the state after six reports", world, RESTART_GATHERING, 63, 0, 0);
+    expect_state("the state after six reports", world, RESTART_GATHERING, 63, 63, 0, 0);
     check_word("a drop", restart_drop(LENT, 4), RESTART_ACCEPTED);
-    expect_state("the state after a drop", world, RESTART_GATHERING, 47, 0, 0);
+    expect_state("the state after a drop", world, RESTART_GATHERING, 63, 47, 0, 0);
     check_word("a drop of what is not held", restart_drop(LENT, 4), RESTART_NOT_HELD);
     check_word("the holder of shard 2", restart_drop(LENT, 5), RESTART_ACCEPTED);
     check_word("shard 2 without holder: wait 4", restart_decide(LENT), 50331648 + 256 * 4 + 2);
@@ -251,25 +259,25 @@ static void carrying_out(struct world *world)
     uint8_t buffer[RESTART_BUFFER_BYTES];
 
     world_ordered(world);
-    expect_state("the state with a plan", world, RESTART_ORDERED, 63, 0, 0);
+    expect_state("the state with a plan", world, RESTART_ORDERED, 63, 63, 0, 0);
     check_word("it is sound", restart_check_state(LENT), RESTART_ACCEPTED);
     check_word("an order", restart_order(LENT, 4, buffer, sizeof buffer), 16777216 + 36);
     check_buffer("node 4's order", buffer, order_words, 36);
     check_word("fetched", restart_fetched(LENT, 3), RESTART_ACCEPTED);
-    expect_state("the state with a mark", world, RESTART_ORDERED, 63, 8, 0);
+    expect_state("the state with a mark", world, RESTART_ORDERED, 63, 63, 8, 0);
     check_word("fetched twice", restart_fetched(LENT, 3), RESTART_NOT_HELD);
     check_word("a drop while ordered", restart_drop(LENT, 3), RESTART_ACCEPTED);
-    expect_state("the state after it", world, RESTART_GATHERING, 0, 0, 0);
+    expect_state("the state after it", world, RESTART_GATHERING, 63, 0, 0, 0);
 
     world_preparing(world);
-    expect_state("the state with all fetched", world, RESTART_PREPARING, 63, 63, 0);
+    expect_state("the state with all fetched", world, RESTART_PREPARING, 63, 63, 63, 0);
     check_word("prepared", restart_prepared(LENT, 2), RESTART_ACCEPTED);
-    expect_state("the state with a mark", world, RESTART_PREPARING, 63, 63, 4);
+    expect_state("the state with a mark", world, RESTART_PREPARING, 63, 63, 63, 4);
     check_word("a drop while preparing", restart_drop(LENT, 0), RESTART_ACCEPTED);
-    expect_state("the state after it", world, RESTART_GATHERING, 0, 0, 0);
+    expect_state("the state after it", world, RESTART_GATHERING, 63, 0, 0, 0);
 
     world_committed(world);
-    expect_state("the state with all prepared", world, RESTART_COMMITTED, 63, 63, 63);
+    expect_state("the state with all prepared", world, RESTART_COMMITTED, 63, 63, 63, 63);
     check_word("it is sound", restart_check_state(LENT), RESTART_ACCEPTED);
     check_word("prepared after commit", restart_prepared(LENT, 0), RESTART_WRONG_PHASE);
     check_word("a drop after commit", restart_drop(LENT, 0), RESTART_WRONG_PHASE);

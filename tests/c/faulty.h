@@ -158,4 +158,28 @@ static inline uint32_t faulty(CONVERSION)
     return restart_has_index(answer) && restart_index_of(answer) != 0 ? answer - 256 : answer;
 }
 #define restart_read_report faulty
+
+#elif FAULT == 16 /* a drop forgets what the node has reported */
+static inline uint32_t faulty(EVENT, uint32_t node)
+{
+    uint32_t answer = restart_drop(PASSED_ON, node);
+    if (answer == RESTART_ACCEPTED)
+        restart_put_word(state, RESTART_LATEST_VIEWS + node, 0);
+    return answer;
+}
+#define restart_drop faulty
+
+#elif FAULT == 17 /* a report of the same view is refused as well */
+static inline uint32_t faulty(SETTINGS, STATE, uint8_t *desk, size_t desk_len,
+                              const uint8_t *message, size_t message_len)
+{
+    if (message_len >= 8 && state_len == RESTART_STATE_BYTES) {
+        size_t node = restart_get_word(message, 0) % RESTART_NODES;
+        uint32_t view = restart_get_word(state, RESTART_LATEST_VIEWS + node);
+        if (view != 0 && view == restart_get_word(message, 1))
+            return RESTART_EARLIER_VIEW;
+    }
+    return restart_report(PASSED_ON, message, message_len);
+}
+#define restart_report faulty
 #endif

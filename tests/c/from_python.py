@@ -45,7 +45,7 @@ def versions():
     parts = [int(macros["RESTART_VERSION_" + part]) for part in ("MAJOR", "MINOR", "PATCH")]
     assert library.restart_version_text().decode() == macros["RESTART_VERSION"] == ".".join(map(str, parts))
     assert library.restart_version() == int(macros["RESTART_VERSION_NUMBER"]) == 10000 * parts[0] + 100 * parts[1] + parts[2]
-    assert library.restart_format() == int(macros["RESTART_FORMAT"]) == 1
+    assert library.restart_format() == int(macros["RESTART_FORMAT"]) == 2
 
 
 def small_functions():
@@ -55,7 +55,8 @@ def small_functions():
     assert helper("reason_text", 5) == b"a subgroup cannot be laid out"
     assert [helper("phase_text", phase) for phase in range(4)] == [b"gathering", b"ordered", b"preparing", b"committed"]
     assert helper("number_text", 16) == b"a record names an unknown shard"
-    for name, first in (("number", 18), ("reason", 6), ("phase", 4)):
+    assert helper("number_text", 18) == b"the machine has reported a later view before"
+    for name, first in (("number", 19), ("reason", 6), ("phase", 4)):
         assert {helper(name + "_text", word) for word in (first, 255, 4294967295)} == {b"unknown " + name.encode()}
     wait = 3 * 16777216 + 256 * 4 + 15
     found = [helper(name, wait) for name in ("class_of", "is_wait", "is_plan", "is_refusal", "reason_of", "value_of", "number_of")]

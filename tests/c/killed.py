@@ -22,6 +22,7 @@ ORDER = re.compile(r"  order to machine (\d+), attempt (\d+), .*\n((?:    .*\n)*
 COUNTS = {True: 0, False: 0}
 # of the saved file: five words, the settings and the state stand before the desk
 DESK_AT = 20 + 208 + 640
+LATEST_AT = 20 + 208 + 4 * 122
 
 
 class Many(Exception):
@@ -143,12 +144,27 @@ class Test:
         with open(os.path.join(bad, "leader.bin"), "wb") as file:
             file.write(data)
         check("not used: a state that its desk contradicts", run(EXAMPLE, bad)[0] == 2)
+        self.earlier_release(folder)
         other = os.path.join(self.room, "settings")
         shutil.copytree(EXAMPLE, other)
         with open(os.path.join(other, "settings.bin"), "r+b") as file:
             file.seek(8)
             file.write(bytes([4, 0, 0, 0]))
         check("not used: other settings", run(other, folder)[0] == 2)
+
+    def earlier_release(self, folder):
+        """A file of format 1, whose state remembers no views: not used, nor is its state under the present format."""
+        for word, what in ((1, "of another format"), (2, "no sound state")):
+            bad, data = self.fresh(), bytearray(saved_in(folder))
+            data[4:8] = word.to_bytes(4, "little")
+            data[LATEST_AT : LATEST_AT + 128] = bytes(128)
+            data[-4:] = sum_of(data[:-4]).to_bytes(4, "little")
+            with open(os.path.join(bad, "leader.bin"), "wb") as file:
+                file.write(data)
+            done = subprocess.run([SERVICE, EXAMPLE, bad], capture_output=True, text=True)
+            check("an earlier release's file: %s" % what, done.returncode == 2 and done.stderr.startswith("service: " + what))
+            os.remove(os.path.join(bad, "leader.bin"))
+            check("started fresh after it", run(EXAMPLE, bad)[0] == 0 and saved_in(bad) == self.saved)
 
 
 def main():

@@ -221,8 +221,10 @@ fn table(random: &mut Random, world: &World, view: &View, held: u32, stale: u32)
     let filling = random.pick(&[0, 1, u32::MAX]);
     let mut desk = vec![filling; DESK_BYTES / 4];
     let mut terminated = false;
+    let mut remembered = [0; 32];
     for node in mask::nodes(held) {
         let number = view.number - u32::from(mask::has(stale, node));
+        remembered[node as usize] = number;
         let report = world.report_of(random, node, number);
         let report = report.expect("the older view has all nodes");
         let has = !report.of_kind(reference::message::TERMINATION).is_empty();
@@ -238,6 +240,7 @@ fn table(random: &mut Random, world: &World, view: &View, held: u32, stale: u32)
         kept: Some(view.clone()),
         termination: termination.map(|all| all.iter().map(position).collect()),
         held,
+        remembered,
         ..state::fresh()
     };
     Table {

@@ -85,8 +85,9 @@ def without(given, blocks, program, gone):
 
 
 def others(given, gathered, fault, program, gone):
-    """Where two reports tell different stories of a view, the answer with either story; else without all that are refused."""
-    if gathered.refused and gathered.refused.number in (12, 13) and gathered.fault == fault:
+    """Where two reports tell different stories of a view or a machine, the answer with either story; else without all that are
+    refused."""
+    if gathered.refused and gathered.refused.number in (12, 13, 18) and gathered.fault == fault:
         told = reports(given, gathered.settings)
         return [without(given, blocks, program, gone) for blocks in stories(gathered, told, fault)]
     refused = [fault]
@@ -110,6 +111,9 @@ def reports(given, settings):
 def stories(gathered, told, fault):
     """The blocks that contradict the kept story, and those that contradict the story of the block at fault."""
     kept, other = gathered.kept, told[fault]
+    if gathered.refused.number == 18:
+        return [fault], [number for number, report in told.items()
+                         if number < fault and report.node == other.node and report.view.number > other.view.number]
 
     def against(view, termination):
         return [number for number, report in told.items() if report.view.number == view.number

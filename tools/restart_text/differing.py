@@ -82,7 +82,7 @@ def input_parts(one, other, settings):
             found.setdefault(what, []).append(node)
     parts += ["%s on %s" % (what, machines(settings, nodes)) for what, nodes in found.items()]
     if not parts and (one.kept, one.termination) != (other.kept, other.termination):
-        parts.append("an earlier report, which was replaced, had another view or termination")
+        parts.append("an earlier report, which was replaced, had a termination")
     return parts
 
 

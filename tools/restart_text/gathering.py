@@ -15,6 +15,7 @@ class Gathered:
     termination: tuple | None = None
     termination_from: int = 0
     reports: dict = field(default_factory=dict)  # of the held nodes, by node
+    latest: dict = field(default_factory=dict)  # of each node the greatest view that it reported, and in which block
     refused: Refused | None = None
     fault: int = 0  # the number of the block that was refused
 
@@ -51,7 +52,8 @@ def named(settings, names):
 
 
 def add(gathered, report):
-    """Takes a report, or refuses it with 12 or 13."""
+    """Takes a report, or refuses it with 18, 12 or 13."""
+    no_step_back(gathered, report)
     number = gathered.kept.number if gathered.kept else 0
     if report.view.number == number:
         compare(gathered, report)
@@ -60,6 +62,15 @@ def add(gathered, report):
     if report.view.number >= number and report.termination and gathered.termination is None:
         gathered.termination, gathered.termination_from = report.termination, report.node
     gathered.reports[report.node] = report
+    gathered.latest[report.node] = report.view.number, gathered.fault
+
+
+def no_step_back(gathered, report):
+    """Row 18: a machine never reports a smaller view than it has reported before."""
+    view, block = gathered.latest.get(report.node, (0, 0))
+    if report.view.number < view:
+        raise Refused(18, "%s reports view %d, and has reported view %d before, in report %d"
+                      % (machine(gathered.settings, report.node), report.view.number, view, block))
 
 
 def compare(gathered, report):

@@ -92,7 +92,8 @@ def order_text(data, settings):
 
 
 def state_text(data, _):
-    return printing.state_text(state.from_words(whole_words(data)))
+    found = state.from_words(whole_words(data))
+    return state.remarks(found) + printing.state_text(found)
 
 
 READERS = {

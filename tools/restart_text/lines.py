@@ -48,6 +48,7 @@ STATE = [
     "held NODES",
     "fetched NODES",
     "prepared NODES",
+    "remembered node NODE view VIEW",
     "plan view VIEW moves COUNT",
     "plan members NODES",
     "plan shard SHARD holder NODE target VIEW UPDATE members NODES",

@@ -41,6 +41,7 @@ def state_text(state):
     lines += ["kept termination shard %d view %d update %d" % (shard, *at) for shard, at in enumerate(state.termination or ())]
     for name in ("held", "fetched", "prepared"):
         lines.append("%s %s" % (name, numbers(getattr(state, name))))
+    lines += ["remembered node %d view %d" % (node, view) for node, view in enumerate(state.latest) if view]
     if state.plan:
         view = state.plan.view
         lines += ["plan view %d moves %d" % (view.number, state.plan.moves), "plan members " + numbers(view.members)]

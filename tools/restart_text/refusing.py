@@ -16,6 +16,7 @@ TABLE = {
     17: "wrong sequence, a repeat, a missing or a surplus record",
     10: "shard empty, outside members, or sharing a node within its subgroup",
     11: "position or run; holder outside the members",
+    18: "a smaller view than the node has reported before",
     12: "kept number, other masks",
     13: "kept view's termination differs",
     14: "node not held; in fetched or prepared, marked already",
@@ -28,6 +29,10 @@ TYPED = ("A word was mistyped or damaged; a file that was only cut off does not 
          " its disk, or have the machine write the report again.")
 TWO_STORIES = ("Two machines tell different stories of one view. Find out which report comes from another group or from a damaged"
                " disk, and leave only that one out. Do not guess: a wrong choice can lose stored updates.")
+STEP_BACK = ("The machine's disk went back: another disk is in it, or an older image of its own. Put the newer disk back and have the machine"
+             " report again. Only if that disk is lost, or the earlier report was damaged and names a view that never was, leave the earlier"
+             " report out; a service starts from a fresh state then, and every machine reports again. Do not go on with the earlier report"
+             " alone: its log may be expected from a disk that is gone.")
 ADVICE = {
     2: "Correct the settings. No report was looked at.",
     5: DAMAGED,
@@ -39,6 +44,7 @@ ADVICE = {
     17: TYPED + " " + OTHER_GROUP,
     10: DAMAGED + " " + OTHER_GROUP,
     11: DAMAGED,
+    18: STEP_BACK,
     12: TWO_STORIES,
     13: TWO_STORIES,
 }

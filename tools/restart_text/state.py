@@ -5,13 +5,14 @@ and is the planner's to say."""
 from dataclasses import dataclass
 
 from .lines import STATE, BadText, by_key, each, only, within
-from .model import GREATEST, MOST_SHARDS, Refused, View
+from .model import GREATEST, MOST_NODES, MOST_SHARDS, Refused, View
+from .printing import numbers
 from .texts import numbered
 from .words import mask_of, nodes_of
 
 WORDS = 160
 PHASES = ["gathering", "ordered", "preparing", "committed"]
-KEPT_SHARDS, TERMINATION, MARKS, PLAN, PLAN_SHARDS, HOLDERS, TARGETS = 4, 20, 52, 55, 58, 74, 90
+KEPT_SHARDS, TERMINATION, MARKS, PLAN, PLAN_SHARDS, HOLDERS, TARGETS, LATEST = 4, 20, 52, 55, 58, 74, 90, 122
 
 
 @dataclass(frozen=True)
@@ -33,6 +34,7 @@ class State:
     fetched: frozenset
     prepared: frozenset
     plan: Plan | None
+    latest: tuple = (0,) * MOST_NODES  # for each node the greatest view that it has reported, 0: none
 
 
 def to_words(state):
@@ -50,6 +52,7 @@ def to_words(state):
         put(words, PLAN_SHARDS, map(mask_of, state.plan.view.shards))
         put(words, HOLDERS, state.plan.holders)
         put(words, TARGETS, sum(state.plan.targets, ()))
+    put(words, LATEST, state.latest)
     return words
 
 
@@ -75,11 +78,25 @@ def from_words(words):
         pairs(words, TERMINATION, shards) if words[3] else None,
         *(nodes_of(mask) for mask in words[MARKS:PLAN]),
         plan_from(words, shards) if words[0] else None,
+        tuple(words[LATEST : LATEST + MOST_NODES]),
     )
     for place, (there, wanted) in enumerate(zip(words, to_words(state))):
         if there != wanted:
             raise Refused(3, "word %d is %d and should be %d, for nothing is kept in this place" % (place, there, wanted))
     return state
+
+
+def remarks(state):
+    """Why the planner refuses this state, as far as its remembered views alone tell it."""
+    unknown = [node for node in state.held if not state.latest[node]]
+    above = [node for node in state.held if state.kept and state.latest[node] > state.kept.number]
+    lines = []
+    if unknown:
+        lines.append("# held, and no view remembered: %s. A release before 0.3.0 has saved this state, and it is refused with number 3:"
+                     " start fresh, and let every machine report again" % numbers(unknown))
+    if above:
+        lines.append("# held, and a view above the kept one remembered: %s. This state is refused with number 3" % numbers(above))
+    return lines
 
 
 def masks(words, place, shards):
@@ -97,12 +114,23 @@ def plan_from(words, shards):
 
 def from_section(section):
     """The state that a section of a text tells of."""
-    *_, termination, held, fetched, prepared, _, _, _ = STATE
+    *_, termination, held, fetched, prepared, _, _, _, _ = STATE
     kept, positions = kept_of(section), None
     if by_key(section, termination):
         positions = tuple(tuple(item.values[1:]) for item in each(section, termination, len(kept.shards)))
     marks = (only(section, form).values[0] for form in (held, fetched, prepared))
-    return State(section.head.form.split()[1], kept, positions, *marks, plan_of(section, len(kept.shards) if kept else 0))
+    plan = plan_of(section, len(kept.shards) if kept else 0)
+    return State(section.head.form.split()[1], kept, positions, *marks, plan, latest_of(section))
+
+
+def latest_of(section):
+    """The views that are remembered; 0 where no line tells one."""
+    *_, remembered, _, _, _ = STATE
+    views = [0] * MOST_NODES
+    for node, item in by_key(section, remembered).items():
+        within(item, "a node", node, 0, MOST_NODES - 1)
+        views[node] = within(item, "a view", item.values[1], 1, GREATEST)
+    return tuple(views)
 
 
 def kept_of(section):

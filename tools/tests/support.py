@@ -97,6 +97,7 @@ def state_a():
     state[58:61] = [5, 50, 8]
     state[74:77] = [0, 1, 5]
     state[92:94] = [7, 5]
+    state[122:128] = [7] * 6
     return state
 
 
@@ -109,6 +110,12 @@ kept shard 2 members 5
 held 0 1 2 3 4 5
 fetched 0
 prepared none
+remembered node 0 view 7
+remembered node 1 view 7
+remembered node 2 view 7
+remembered node 3 view 7
+remembered node 4 view 7
+remembered node 5 view 7
 plan view 8 moves 2
 plan members 0 1 2 3 4 5
 plan shard 0 holder 0 target 0 0 members 0 2

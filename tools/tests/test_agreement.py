@@ -9,8 +9,8 @@ from restart_text.asking import Program
 from restart_text.explaining import explain
 from worlds import damaged, world
 
-INPUTS = 400
-NUMBERS = [2, *range(5, 14), 16, 17]
+INPUTS = 600
+NUMBERS = [2, *range(5, 14), 16, 17, 18]
 EXPECTED = {"plan"} | {"wait %d" % reason for reason in range(1, 6)} | {"number %d" % number for number in NUMBERS}
 
 

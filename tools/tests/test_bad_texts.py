@@ -132,7 +132,11 @@ class OrdersAndStates(unittest.TestCase):
     def test_states(self):
         self.refused(state.from_section, support.STATE_TEXT, [
             ("state ordered", "state lost", 1, "expected 'state gathering' or 'state ordered' or"),
-            ("state ordered", "state gathering", 10, "expected no plan while gathering"),
+            ("state ordered", "state gathering", 16, "expected no plan while gathering"),
+            ("remembered node 5 view 7", "remembered node 32 view 7", 15, "expected a node from 0 to 31, found 32"),
+            ("remembered node 5 view 7", "remembered node 5 view 0", 15, "expected a view from 1 to 4294967295, found 0"),
+            ("remembered node 5 view 7", "remembered node 4 view 7", 15, "once for 4, found it in line 14 already"),
+            ("remembered node 5 view 7", "remembered node 5", 15, "expected 'remembered node NODE view VIEW', found 'remembered node 5'"),
             ("held 0 1 2 3 4 5\n", "", 1, "expected a line 'held NODES'"),
             ("kept view 7\n", "", 1, "expected a line 'kept view VIEW'"),
             ("kept view 7\n", "kept view 0\n", 2, "expected a view from 1 to 4294967294, found 0"),

@@ -206,14 +206,22 @@ class Refusals(unittest.TestCase):
                   "What is wrong: the least group size is 8, allowed are 1 to 7.\n")
         self.says(inputs.Input([], []), 2, "At fault: the settings, which are missing.")
 
+    def recorded(self, given, answer, *pieces):
+        """Of an answer that was printed before the same is said, and no program is asked."""
+        told = explain(given, answers.parse(answers.printed(answer) + "\n"))
+        self.assertEqual((told.agrees, told.asked), (True, 0), told.lines)
+        for piece in pieces:
+            self.assertIn(piece, "\n".join(told.lines))
+
     def of_a_report(self, *rows):
         """Each row has a report of case A, the number and record with which it is refused, and what is said of it."""
         for number, index, block, why, *to_do in rows:
             with self.subTest(why):
                 record = "" if index is None else " at record %d" % index
-                self.says(support.with_block(3, block), number, "Refused with number %d%s, given when: " % (number, record),
-                          "At fault: report 3 of 6, which names machine %d.\nWhat is wrong: %s" % (block[0], why),
-                          "\nTo do: " + "".join(to_do), index=index)
+                given, fault = support.with_block(3, block), "At fault: report 3 of 6, which names machine %d.\n" % block[0]
+                pieces = "Refused with number %d%s, given when: " % (number, record), fault + "What is wrong: " + why
+                self.recorded(given, answers.Number(number, index), *pieces)
+                self.says(given, number, *pieces, "\nTo do: " + "".join(to_do), index=index)
 
     def test_each_row_of_a_report(self):
         rest = self.REST
@@ -272,6 +280,25 @@ class Refusals(unittest.TestCase):
         text = A.replace(start + "2", start + "3")
         self.says(support.given(text), 12, "At fault: report 5 of 6, which names machine 4 (line 42).\n",
                   "machine 4 gives view 7 the members of shard 0 0 3; machine 0 gave it 0 2")
+
+    def test_a_machine_that_went_back(self):
+        """Machine 2 comes with an older disk: both disks are told, and what to do."""
+        old = A.split("\n\n")[4].replace("report node 2 view 7", "report node 2 view 6")
+        self.says(support.given(A + "\n" + old + "\n"), 18,
+                  "Refused with number 18, given when: a smaller view than the node has reported before.\n"
+                  "At fault: report 7 of 7, which names machine 2 (line 55).\n"
+                  "What is wrong: machine 2 reports view 6, and has reported view 7 before, in report 3.\n"
+                  "Without report 7 of 7, which names machine 2 (line 55): a plan, new view 8, 2 moves.\n"
+                  "Without report 3 of 7, which names machine 2 (line 30) instead: a plan, new view 8, 2 moves.\n"
+                  "To do: The machine's disk went back: another disk is in it, or an older image of its own.")
+
+    def test_a_view_that_does_not_fall(self):
+        """The same view again, and a later one, are no step back; nor is an older view of another machine."""
+        again = "\n" + A.split("\n\n")[4]
+        self.assertTrue(explained(support.given(A + again), support.ANSWER_A).startswith("Plan: "))
+        first = again.replace("view 7", "view 6")
+        text = A.replace("\n\nreport node 2", first + "\n\nreport node 2")
+        self.assertTrue(explained(support.given(text), support.ANSWER_A).startswith("Plan: "))
 
     def test_two_terminations(self):
         parts, ending = A.split("\n\n"), "\n".join("termination shard %d view 7 update 4" % shard for shard in range(3))

@@ -146,14 +146,14 @@ class Diff(Folder):
             self.assertEqual(causes, ["The inputs differ: %s." % one for one in parts])
 
     def test_a_report_that_was_replaced(self):
-        """The kept view stays that of a report which the same machine has replaced since."""
+        """The kept termination stays that of a report which the same machine has replaced since."""
         case = support.example("a")
         report = next(section for section in case.split("\n\n") if section.startswith("report node 0 "))
-        before = report.replace("view 7", "view 8")
+        before = report + "".join("\ntermination shard %d view %d update %d" % at for at in ((0, 0, 0), (1, 7, 4), (2, 0, 0)))
         path = self.put("other.txt", case.replace(report, before + "\n\n" + report).encode())
         status, printed, _ = command("diff", CASE, path, "--program", support.program())
         self.assertEqual(status, 1)
-        self.assertIn("The inputs differ: an earlier report, which was replaced, had another view or termination.", printed.decode())
+        self.assertIn("The inputs differ: an earlier report, which was replaced, had a termination.", printed.decode())
 
     def test_inputs_and_answers(self):
         one = self.put("one", support.ANSWER_A.encode())
@@ -237,11 +237,24 @@ class Watch(Folder):
         self.assertIn("At fault: report 7 of 7, which names machine 2 (%s)." % bad, answers[0])
         self.assertIn("Without report 7 of 7, which names machine 2 (%s): a plan, new view 8, 2 moves." % bad, answers[0])
 
-    def test_a_later_report_replaces_an_older_one(self):
+    def later(self, block):
+        """What is answered with this report of a machine after all others."""
         self.split()
-        late = self.put("reports/0-later.bin", words.to_bytes([5, 6] + support.CASE_A[6][2:]))
+        late = self.put("reports/0-later.bin", words.to_bytes(block))
         os.utime(late, (2**31, 2**31))
-        self.assertEqual(self.watch(0.1)[0], 1)
+        status, answers = self.watch(0.1)
+        return status, answers[0]
+
+    def test_a_later_report_replaces_an_older_one(self):
+        """Machine 1 has lost its log, so machine 4's is taken."""
+        status, lines = self.later([1] + support.CASE_A[1][1:])
+        self.assertEqual(status, 0)
+        self.assertIn("  shard 1 up to (7, 4), from machine 4", lines)
+
+    def test_a_later_report_of_an_older_view(self):
+        status, lines = self.later([5, 6] + support.CASE_A[6][2:])
+        self.assertEqual(status, 2)
+        self.assertIn("What is wrong: machine 5 reports view 6, and has reported view 7 before, in report 6.", lines)
 
     def test_reports_beside_the_settings(self):
         """Where there is no folder reports; what is no .bin file is left alone."""

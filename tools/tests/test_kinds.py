@@ -58,6 +58,21 @@ class Kinds(unittest.TestCase):
                 text_of("desk", data)
             self.assertIn(message, str(caught.exception))
 
+    def test_a_state_that_an_earlier_release_saved(self):
+        """It is shown, with a remark that the planner refuses it; the remark does not stand in the way of the words."""
+        old = support.state_a()
+        old[122:154] = [0] * 32
+        lines = text_of("state", words.to_bytes(old))
+        self.assertTrue(lines[0].startswith("# held, and no view remembered: 0 1 2 3 4 5. A release before 0.3.0 has saved this state"), lines[0])
+        self.assertEqual(command("words", "-", data="\n".join(lines).encode())[1], words.to_bytes(old))
+        self.assertEqual(text_of("state", words.to_bytes([0] * 160))[0], "state gathering")
+
+    def test_a_state_that_remembers_too_much(self):
+        found = support.state_a()
+        found[122 + 3], found[122 + 6] = 8, 9
+        self.assertEqual(text_of("state", words.to_bytes(found))[0],
+                         "# held, and a view above the kept one remembered: 3. This state is refused with number 3")
+
     def test_settings_to_check_by(self):
         other = [1, 7, 255, 1] + support.CASE_A[2][4:]
         self.assertTrue(text_of("report", words.to_bytes(other)))

@@ -266,14 +266,15 @@ class LoneViews(unittest.TestCase):
                          "Only machine 4 reports view 9, the next lower is 7; without its report: wait 5 0, no placement of"
                          " subgroup 0; then machine 6 would have to report view 7.")
 
-    def test_reported_and_replaced(self):
-        """The view of a report that was replaced is kept, though nobody holds it."""
+    def test_a_high_view_and_then_the_right_one(self):
+        """The right report is refused, for the machine seems to have gone back; without the other one the rest have a plan."""
         parts = [part for part in A.split("\n\n") if part]
         place = next(place for place, part in enumerate(parts) if part.startswith("report node 3"))
         high = parts[place].replace("report node 3 view 7", "report node 3 view 9")
         found = told("\n\n".join(parts[:place] + [high] + parts[place:]).replace("shard 2 subgroup 0", "shard 2 subgroup 1"))
-        self.assertIn("Only machine 3 reports view 9, the next lower is 7; without its report: a plan, new view 8, 1 move.",
-                      found.lines)
+        self.assertEqual((found.answer.number, found.advice.without[0].blocks, found.advice.without[1].blocks), (18, [5], [4]))
+        self.assertIn("Without report 5 of 7, which names machine 3 (line 42): wait 4 0, no log of shard 0.", found.lines)
+        self.assertIn("Without report 4 of 7, which names machine 3 (line 36) instead: a plan, new view 8, 1 move.", found.lines)
 
     def test_two_reporters_are_not_alone(self):
         text = A.replace("report node 4 view 7", "report node 4 view 9").replace("report node 5 view 7", "report node 5 view 9")

@@ -141,8 +141,17 @@ class States(unittest.TestCase):
         self.assertIn("kept termination shard 0 view 0 update 0\nkept termination shard 1 view 7 update 5\n", text)
         self.assertEqual(state.to_words(state.from_section(sections(text)[0])), kept)
 
+    def test_remembered_views(self):
+        """Of held nodes, of one that was dropped and of one that reported the greatest view there is."""
+        kept = support.state_a()
+        kept[122:154] = [0] * 32
+        kept[122 + 6], kept[122 + 31] = 5, 4294967295
+        text = lines(printing.state_text(state.from_words(kept)))
+        self.assertIn("prepared none\nremembered node 6 view 5\nremembered node 31 view 4294967295\nplan view 8 moves 2\n", text)
+        self.assertEqual(state.to_words(state.from_section(sections(text)[0])), kept)
+
     def test_words_that_are_no_state(self):
-        for place, word in ((0, 4), (3, 2), (8, 5), (26, 1), (61, 1), (77, 2), (96, 1), (122, 1), (159, 1)):
+        for place, word in ((0, 4), (3, 2), (8, 5), (26, 1), (61, 1), (77, 2), (96, 1), (154, 1), (159, 1)):
             words_there = support.state_a()
             words_there[place] = word
             with self.assertRaises(Refused, msg="word %d" % place) as caught:

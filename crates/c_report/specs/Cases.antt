@@ -48,7 +48,7 @@ module _ (σ : List ℕ) (x : State) (d : List ℕ) where
   unfolding reportRefusal refusalBeside messageRefusal
   length-refused w h =
       let five : messageRefusal Report σ w ≡ refused 5 = unless-false (row5 w) 5 _ h in
-      let alone : refusalBeside σ (x .kept) (x .termination) w ≡ refused 5 =
+      let alone : refusalBeside σ (x .kept) (x .termination) (x .latest) w ≡ refused 5 =
       first-refused (messageRefusal Report σ w) _ (ap (λ (r : Refusal). accepted r) five) ∙ five in
       ap (firstOf (entryRefusal (deskOk d) σ x d (isGathering (x .phase)))) alone
 

@@ -13,6 +13,7 @@ use Rattle.message_format.specs.Records.{precedes, shardsWhere}
 use Rattle.message_format.specs.Rows.{row6, viewOk, row7, kindOk, plain, kindAt, shardAt, surplus, sequenceAt, complete, shardApart, row10At, row10, position, viewFits, legal, row11At}
 use Rattle.message_format.specs.Messages.{bodyWord, bodyOf, contentsOf, recordsRefusal, headRefusal, messageRefusal}
 use Rattle.report_views.specs.Slots.{sameView, row12, sameTermination, row13}
+use Rattle.report_latest.specs.Remembered.{noLatest, row18, noted}
 use Rattle.report_kept.specs.Reports.{keptRefusal, refusalBeside, layoutOf, terminationOf, renewed}
 use Rattle.report_desk.specs.Desk.{deskWith}
 use Rattle.history_cases.specs.Runs.{caseSettings, settingsWith, caseReport, noRuns, run1, desk, view7, sixMembers}
@@ -59,7 +60,7 @@ record CasesCome : Type 0 where
   i : Come (settingsWith 4 3) all-six (gathered view7 63)
 
 comes : CasesCome
-unfolding sizesOk nodesOk shardOk shardsOk settingsOk stateAfter allAccepted fresh keeping allBelow anyBelow lowest tabulate padded unless unlessAt firstOf place following row5 row8 precedes shardsWhere row6 viewOk row7 kindOk plain kindAt shardAt surplus sequenceAt complete shardApart row10At row10 position viewFits legal row11At bodyWord bodyOf contentsOf recordsRefusal headRefusal messageRefusal sameView row12 sameTermination row13 keptRefusal refusalBeside layoutOf terminationOf renewed afterReport
+unfolding sizesOk nodesOk shardOk shardsOk settingsOk stateAfter allAccepted fresh keeping allBelow anyBelow lowest tabulate padded unless unlessAt firstOf place following row5 row8 precedes shardsWhere row6 viewOk row7 kindOk plain kindAt shardAt surplus sequenceAt complete shardApart row10At row10 position viewFits legal row11At bodyWord bodyOf contentsOf recordsRefusal headRefusal messageRefusal sameView row12 sameTermination row13 row18 keptRefusal refusalBeside layoutOf terminationOf renewed noLatest noted afterReport
 comes =
     record {
       a = record { right = refl; taken = refl; state = refl };

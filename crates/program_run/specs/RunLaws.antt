@@ -49,7 +49,7 @@ long-report : (σ : List ℕ) (x : State) (d w : List ℕ) → 512 < length w �
 unfolding longRefusal reportRefusal refusalBeside messageRefusal
 long-report σ x d w h =
     let five : messageRefusal Report σ w ≡ refused 5 = unless-false (row5 w) 5 _ (long-row5 w h) in
-    let kept : Refusal = keptRefusal σ (x .kept) (x .termination) (contentsOf w) in
+    let kept : Refusal = keptRefusal σ (x .kept) (x .termination) (x .latest) (contentsOf w) in
     ap (firstOf (entryRefusal (deskOk d) σ x d (isGathering (x .phase))))
     (ap (λ (r : Refusal). firstOf r kept) five ∙ first-refused (refused 5) kept refl)
 

@@ -1,4 +1,4 @@
--- What settings and reports lead to where each report is accepted beside what is kept. Soundness is not asked again: every run
+-- What settings and reports lead to where each report is accepted beside what is kept and remembered. Soundness is not asked again: every run
 -- comes to a sound state.
 use Prim.Native.Nat.{ℕ}
 use mathlib.Core.Bool.{Bool, true, cond, _&&_}
@@ -28,11 +28,11 @@ unfoldable pub deskOf : List ℕ → List (List ℕ) → List ℕ
 deskOf d [] = d
 deskOf d (w ∷ ws) = deskOf (deskWith d (getD w 0 0) w) ws
 
--- each is accepted beside what is kept
+-- each is accepted beside what is kept and remembered
 unfoldable pub allAccepted : List ℕ → State → List (List ℕ) → Bool
 allAccepted σ x [] = true
 allAccepted σ x (w ∷ ws) =
-    accepted (refusalBeside σ (x .kept) (x .termination) w) && allAccepted σ (afterReport σ x (contentsOf w)) ws
+    accepted (refusalBeside σ (x .kept) (x .termination) (x .latest) w) && allAccepted σ (afterReport σ x (contentsOf w)) ws
 
 -- ---- laws
 
@@ -42,7 +42,7 @@ reports-lead : (σ : List ℕ) (x : State) (d : List ℕ) (ws : List (List ℕ))
 unfolding after taking stateAfter deskOf allAccepted
 reports-lead σ x d [] g h = refl
 reports-lead σ x d (w ∷ ws) g h =
-    let first : Bool = accepted (refusalBeside σ (x .kept) (x .termination) w) in
+    let first : Bool = accepted (refusalBeside σ (x .kept) (x .termination) (x .latest) w) in
     let rest : Bool = allAccepted σ (afterReport σ x (contentsOf w)) ws in
     let e : accepted (reportRefusal σ x d w) ≡ true = ap accepted (report-none σ x d w g) ∙ and-left first rest h in
     ap (λ (p : Progress). after p ws) (told-taken σ x d w e)

@@ -1,5 +1,5 @@
 -- Every run comes to a sound state, so that decide refuses nothing after its last block; and a run is ended only by number 2, by
--- one of 5 to 13 alone, or by 8, 9, 16 or 17 with a record.
+-- one of 5 to 13 or 18 alone, or by 8, 9, 16 or 17 with a record.
 use Prim.Native.Nat.{ℕ}
 use mathlib.Core.Bool.{Bool, true, false, cond}
 use mathlib.Core.Logic.{_⊎_, inl, inr, ⊎-elim}
@@ -43,7 +43,7 @@ entry-none σ x d g =
     reached-entry σ x d (g .reached) (isGathering (x .phase))
     ∙ unless-true (isGathering (x .phase)) 4 none (ap isGathering (g .phase))
 
-pub report-none : (σ : List ℕ) (x : State) (d w : List ℕ) → Gathers σ x d → reportRefusal σ x d w ≡ refusalBeside σ (x .kept) (x .termination) w
+pub report-none : (σ : List ℕ) (x : State) (d w : List ℕ) → Gathers σ x d → reportRefusal σ x d w ≡ refusalBeside σ (x .kept) (x .termination) (x .latest) w
 unfolding reportRefusal
 report-none σ x d w g = first-none _ _ (entry-none σ x d g)
 
@@ -75,10 +75,10 @@ module _ (σ : List ℕ) (x : State) (d w : List ℕ) (g : Gathers σ x d) where
   ended-number : accepted (reportRefusal σ x d w) ≡ false → Reaches (Ended (reportRefusal σ x d w) d)
   unfolding Reaches
   ended-number e =
-      let r : reportRefusal σ x d w ≡ refusalBeside σ (x .kept) (x .termination) w = report-none σ x d w g in
+      let r : reportRefusal σ x d w ≡ refusalBeside σ (x .kept) (x .termination) (x .latest) w = report-none σ x d w g in
       ⊎-elim (λ z. clash (eq-eqb (reportRefusal σ x d w .code) 0 (ap (λ (q : Refusal). q .code) r ∙ z)) e)
       (λ z. inr (subst⁻¹ (λ (q : Refusal). OfReport q) r z))
-      (in-beside σ (x .kept) (x .termination) w)
+      (in-beside σ (x .kept) (x .termination) (x .latest) w)
 
   reaches-told : Reaches (told σ x d w)
   unfolding Reaches told

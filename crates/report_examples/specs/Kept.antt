@@ -19,6 +19,7 @@ use Rattle.report_views.specs.Empty.{noView, noTermination}
 use Rattle.report_views.specs.Logs.{pos, start}
 use Rattle.report_views.specs.Reports.{slot, reportOf, terminated}
 use Rattle.report_views.specs.Slots.{sameView, row12, sameTermination, row13, termKept, slotOk, slotsOk}
+use Rattle.report_latest.specs.Remembered.{noLatest, row18}
 use Rattle.report_kept.specs.Reports.{keptRefusal, refusalBeside, layoutOf, terminationOf, keeps, renewed}
 use Rattle.report_examples.specs.Samples.{caseSettings, slotOf, view7}
 
@@ -74,14 +75,14 @@ pub record RowClauses : Type 0 where
   pub past-the-records : terminated caseSettings (record { node = record { 0 = 1 }; view = record { 0 = 7 }; members = 127; len = 3; body = 256 ∷ 5 ∷ 0 ∷ 257 ∷ 82 ∷ 0 ∷ 258 ∷ 32 ∷ 0 ∷ 512 ∷ [] }) ≡ false
   pub nothing-to-keep : termKept caseSettings view7 noTermination (said (openReport 7)) ≡ true
   -- rows 12 and 13 in their order, after those of the message
-  pub row-12-first : keptRefusal caseSettings view7 (endedAt 7 5 6 2) (said (reportWith 1 7 127 1 82 32 (endings 7 4 6 2))) ≡ refused 12
-  pub row-13 : keptRefusal caseSettings view7 (endedAt 7 5 6 2) (said (endedReport 7 7 4)) ≡ refused 13
-  pub taken : refusalBeside caseSettings view7 (endedAt 7 5 6 2) (endedReport 7 7 5) ≡ none
-  pub message-first : refusalBeside caseSettings view7 noTermination (reportWith 1 7 127 1 82 32 (4 ∷ 769 ∷ 7 ∷ 0 ∷ 0 ∷ [])) ≡ refused 11
-  pub then-kept : refusalBeside caseSettings view7 noTermination (reportWith 1 7 127 1 82 32 (0 ∷ [])) ≡ refused 12
+  pub row-12-first : keptRefusal caseSettings view7 (endedAt 7 5 6 2) noLatest (said (reportWith 1 7 127 1 82 32 (endings 7 4 6 2))) ≡ refused 12
+  pub row-13 : keptRefusal caseSettings view7 (endedAt 7 5 6 2) noLatest (said (endedReport 7 7 4)) ≡ refused 13
+  pub taken : refusalBeside caseSettings view7 (endedAt 7 5 6 2) noLatest (endedReport 7 7 5) ≡ none
+  pub message-first : refusalBeside caseSettings view7 noTermination noLatest (reportWith 1 7 127 1 82 32 (4 ∷ 769 ∷ 7 ∷ 0 ∷ 0 ∷ [])) ≡ refused 11
+  pub then-kept : refusalBeside caseSettings view7 noTermination noLatest (reportWith 1 7 127 1 82 32 (0 ∷ [])) ≡ refused 12
 
 pub row-clauses : RowClauses
-unfolding allBelow anyBelow lowest tabulate unless unlessAt firstOf place following row5 row8 precedes shardsWhere row6 viewOk row7 kindOk plain kindAt shardAt surplus sequenceAt complete shardApart row10At row10 position viewFits legal row11At bodyWord bodyOf contentsOf recordsRefusal headRefusal messageRefusal sameView row12 sameTermination row13 termKept keptRefusal refusalBeside
+unfolding allBelow anyBelow lowest tabulate unless unlessAt firstOf place following row5 row8 precedes shardsWhere row6 viewOk row7 kindOk plain kindAt shardAt surplus sequenceAt complete shardApart row10At row10 position viewFits legal row11At bodyWord bodyOf contentsOf recordsRefusal headRefusal messageRefusal sameView row12 sameTermination row13 termKept noLatest row18 keptRefusal refusalBeside
 row-clauses =
     record {
       same-masks = refl;

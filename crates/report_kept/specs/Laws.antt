@@ -25,37 +25,52 @@ use Rattle.report_views.specs.declared.Layout.{Layout}
 use Rattle.report_views.specs.declared.Termination.{Termination}
 use Rattle.report_views.specs.Logs.{start}
 use Rattle.report_views.specs.Reports.{terminated}
+use Rattle.report_latest.specs.declared.Latest.{Latest}
 use Rattle.report_kept.specs.Reports.{keptRefusal, refusalBeside, readingBeside, layoutOf, terminationOf, keeps, renewed}
 use Rattle.report_kept.specs.Words.{masksIn, positionsIn, madeFirst}
 
--- ---- rows 5 to 13
+-- ---- rows 5 to 13 with 18
 
-module _ (σ : List ℕ) (v : Layout) (t : Termination) (w : List ℕ) (r : Reading) (e : r ≡ readingUnder Report σ w) where
+-- the node of a report is one of the settings
+message-node : (σ w : List ℕ) → Settings σ → messageRefusal Report σ w ≡ none → getD w 0 0 < 32
+unfolding row6
+message-node σ w right h =
+    omega (arith, ltb-true (getD w 0 0) (nodes σ) (message-given Report σ w h .head-passes .node-passes), right .sizes .nodes-to)
+
+module _ (σ : List ℕ) (v : Layout) (t : Termination) (m : Latest) (w : List ℕ) (r : Reading) (e : r ≡ readingUnder Report σ w) where
   refusal-is : r .refusal ≡ messageRefusal Report σ w
   unfolding readingUnder
   refusal-is = ap (λ (x : Reading). x .refusal) e
 
-  pub beside-refused : (r .refusal .code ≡ 0 → ⊥) → r ≡ readingBeside σ v t w
+  pub beside-refused : (r .refusal .code ≡ 0 → ⊥) → r ≡ readingBeside σ v t m w
   unfolding readingBeside refusalBeside readingUnder
   beside-refused h =
       let bad : accepted (messageRefusal Report σ w) ≡ false = rw refusal-is at (ne-eqb (r .refusal .code) 0 h) in
       e
       ∙ ap (λ (k : Refusal). record { refusal = k; contents = readingUnder Report σ w .contents })
-      (sym (first-refused (messageRefusal Report σ w) (keptRefusal σ v t (contentsOf w)) bad))
+      (sym (first-refused (messageRefusal Report σ w) (keptRefusal σ v t m (contentsOf w)) bad))
 
-  pub beside-read : r .refusal .code ≡ 0 → (k : Refusal) → k ≡ keptRefusal σ v t (r .contents)
-      → record { refusal = k; contents = r .contents } ≡ readingBeside σ v t w
+  -- the node of a report that rows 5 to 11 do not refuse is one of the settings
+  pub read-node : Settings σ → r .refusal .code ≡ 0 → r .contents .node .0 < 32
+  unfolding readingUnder row6 contentsOf
+  read-node right h =
+      let good : accepted (messageRefusal Report σ w) ≡ true = rw refusal-is at (eq-eqb (r .refusal .code) 0 h) in
+      let same : r .contents .node .0 ≡ getD w 0 0 = ap (λ (x : Reading). x .contents .node .0) e ∙ rw good in
+      rw same (message-node σ w right (accepted-none (messageRefusal Report σ w) good))
+
+  pub beside-read : r .refusal .code ≡ 0 → (k : Refusal) → k ≡ keptRefusal σ v t m (r .contents)
+      → record { refusal = k; contents = r .contents } ≡ readingBeside σ v t m w
   unfolding readingBeside refusalBeside readingUnder
   beside-read h k f =
       let good : accepted (messageRefusal Report σ w) ≡ true = rw refusal-is at (eq-eqb (r .refusal .code) 0 h) in
       let same : r .contents ≡ contentsOf w = ap (λ (x : Reading). x .contents) e ∙ rw good in
-      rw (f, same, good, first-none (messageRefusal Report σ w) (keptRefusal σ v t (contentsOf w)) (accepted-none (messageRefusal Report σ w) good))
+      rw (f, same, good, first-none (messageRefusal Report σ w) (keptRefusal σ v t m (contentsOf w)) (accepted-none (messageRefusal Report σ w) good))
 
 -- what acceptance gives
-module _ (σ : List ℕ) (v : Layout) (t : Termination) (w : List ℕ) (taken : accepted (refusalBeside σ v t w) ≡ true) where
+module _ (σ : List ℕ) (v : Layout) (t : Termination) (m : Latest) (w : List ℕ) (taken : accepted (refusalBeside σ v t m w) ≡ true) where
   pub taken-message : messageRefusal Report σ w ≡ none
   unfolding refusalBeside
-  taken-message = first-left (messageRefusal Report σ w) _ (accepted-none (refusalBeside σ v t w) taken)
+  taken-message = first-left (messageRefusal Report σ w) _ (accepted-none (refusalBeside σ v t m w) taken)
 
   pub taken-contents : readingUnder Report σ w .contents ≡ contentsOf w
   unfolding readingUnder
@@ -63,9 +78,7 @@ module _ (σ : List ℕ) (v : Layout) (t : Termination) (w : List ℕ) (taken : 
 
   -- its node is one of the settings
   pub taken-node : Settings σ → getD w 0 0 < 32
-  unfolding row6
-  taken-node right =
-      omega (arith, ltb-true (getD w 0 0) (nodes σ) (message-given Report σ w taken-message .head-passes .node-passes), right .sizes .nodes-to)
+  taken-node right = message-node σ w right taken-message
 
 -- ---- the view and the termination
 

@@ -18,21 +18,23 @@ use Rattle.report_views.specs.declared.Termination.{Termination}
 use Rattle.report_views.specs.Logs.{start}
 use Rattle.report_views.specs.Reports.{terminated, terminatedAt}
 use Rattle.report_views.specs.Slots.{row12, row13}
+use Rattle.report_latest.specs.declared.Latest.{Latest}
+use Rattle.report_latest.specs.Remembered.{row18}
 use Rattle.report_kept.specs.declared.Kept.{Kept}
 
--- rows 12 and 13 of what a report says
-unfoldable pub keptRefusal : List ℕ → Layout → Termination → Contents → Refusal
-keptRefusal σ v t c = unless (row12 σ v c) 12 (unless (row13 σ v t c) 13 none)
+-- row 18, then rows 12 and 13 of what a report says
+unfoldable pub keptRefusal : List ℕ → Layout → Termination → Latest → Contents → Refusal
+keptRefusal σ v t m c = unless (row18 m c) 18 (unless (row12 σ v c) 12 (unless (row13 σ v t c) 13 none))
 
--- rows 5 to 13 of a report, where v with t is kept
-unfoldable pub refusalBeside : List ℕ → Layout → Termination → List ℕ → Refusal
-refusalBeside σ v t w = firstOf (messageRefusal Report σ w) (keptRefusal σ v t (contentsOf w))
+-- rows 5 to 11, 18, 12 and 13 of a report, where v with t is kept and m remembered
+unfoldable pub refusalBeside : List ℕ → Layout → Termination → Latest → List ℕ → Refusal
+refusalBeside σ v t m w = firstOf (messageRefusal Report σ w) (keptRefusal σ v t m (contentsOf w))
 
 -- that refusal, and what the reader gives
-unfoldable pub readingBeside : List ℕ → Layout → Termination → List ℕ → Reading
-readingBeside σ v t w =
+unfoldable pub readingBeside : List ℕ → Layout → Termination → Latest → List ℕ → Reading
+readingBeside σ v t m w =
     record {
-      refusal = refusalBeside σ v t w;
+      refusal = refusalBeside σ v t m w;
       contents = readingUnder Report σ w .contents;
     }
 

@@ -1,10 +1,11 @@
-// A report taken in: rows 5 to 13, the view and the termination that it gives, what is kept afterwards, and its slot of the desk.
+// A report taken in: rows 5 to 13 with 18, the view and the termination that it gives, what is kept afterwards, and its slot of the desk.
 use base_ids::Position;
 use base_ids::Refusal;
 use base_ids::View;
 use message_format::Contents;
 use message_format::Form;
 use message_format::Reading;
+use report_latest::Latest;
 use report_views::Layout;
 use report_views::Termination;
 ghost use mathlib.Core.Path.{_≡_};
@@ -19,11 +20,15 @@ pub struct Kept {
     pub termination: Termination,
 }
 
-// Rows 12 and 13.
-fn kept_refusal(settings: &[u32], v: Layout, t: Termination, c: Contents) -> Refusal
+// Row 18, then rows 12 and 13.
+fn kept_refusal(settings: &[u32], v: Layout, t: Termination, latest: Latest, c: Contents) -> Refusal
     requires { ⌜ Settings (now settings) ⌝ }
-    ensures { λ r. ⌜ r ≡ Reports.keptRefusal (now (settings .entry)) v t c ⌝ }
+    requires { ⌜ c .node .0 < 32 ⌝ }
+    ensures { λ r. ⌜ r ≡ Reports.keptRefusal (now (settings .entry)) v t latest c ⌝ }
 {
+    if !report_latest::row18(latest, c.node, c.view) {
+        return Refusal { code: 18 };
+    }
     if !report_rows::row12(settings, v, c) {
         return Refusal { code: 12 };
     }
@@ -33,17 +38,23 @@ fn kept_refusal(settings: &[u32], v: Layout, t: Termination, c: Contents) -> Ref
     Refusal { code: 0 }
 }
 
-// Reads a report beside what is kept: rows 5 to 13, and what it says.
-pub fn read_beside(settings: &[u32], v: Layout, t: Termination, message: &[u32]) -> Reading
+// Reads a report beside what is kept and remembered: rows 5 to 11, 18, 12 and 13, and what it says.
+pub fn read_beside(
+    settings: &[u32],
+    v: Layout,
+    t: Termination,
+    latest: Latest,
+    message: &[u32],
+) -> Reading
     requires { ⌜ Settings (now settings) ⌝ }
-    ensures { λ r. ⌜ r ≡ Reports.readingBeside (now (settings .entry)) v t (now (message .entry)) ⌝ }
+    ensures { λ r. ⌜ r ≡ Reports.readingBeside (now (settings .entry)) v t latest (now (message .entry)) ⌝ }
 {
     let r = message_reader::read_under(Form::Report, settings, message);
     let refusal = r.refusal;
     if refusal.code != 0 {
         return r;
     }
-    let refusal = kept_refusal(settings, v, t, r.contents);
+    let refusal = kept_refusal(settings, v, t, latest, r.contents);
     Reading { refusal, ..r }
 }
 

@@ -1,12 +1,12 @@
 -- A row for each clause of what the events lead to and when they are refused: with the clause left out or turned round the row would be
 -- false.
 use Prim.Native.Nat.{ℕ}
-use mathlib.Core.Bool.{true, false}
+use mathlib.Core.Bool.{true, false, _&&_}
 use mathlib.Core.List.{[]}
 use mathlib.Core.Path.{_≡_, refl}
 use lib.Count.{ones, onesIn}
 use lib.ListN.{replicate}
-use Rattle.base_laws.specs.Bools.{and-both}
+use Rattle.base_laws.specs.Bools.{and-both, and-fails-left, and-fails-right}
 use Rattle.base_laws.specs.Below.{allBelow, anyBelow, lowest}
 use Rattle.base_laws.specs.Positions.{pairNotAfter}
 use Rattle.base_laws.specs.Tables.{tabulate}
@@ -28,6 +28,8 @@ use Rattle.report_views.specs.Reports.{slot, reportOf}
 use Rattle.report_views.specs.Slots.{sameView, row12, sameTermination, row13, termKept, slotOk, slotsOk}
 use Rattle.report_views.specs.Quorums.{candidate, greatest, best, target, able, holder, majority, firstUnheld, quorumOf}
 use Rattle.report_views.specs.Soundness.{layoutTidy, layoutBlank, viewSound, termSoundAt, termSound, nothingKept, keptSound, marksSound, planBlank, isMet, shardPlanned, allMoves, planSound, planFits}
+use Rattle.report_latest.specs.declared.Latest.{Latest}
+use Rattle.report_latest.specs.Remembered.{noLatest, row18, noted, recalled, latestSound}
 use Rattle.report_kept.specs.Reports.{keptRefusal, refusalBeside, layoutOf, terminationOf, renewed}
 use Rattle.report_desk.specs.Desk.{deskWith}
 use Rattle.report_examples.specs.Kept.{openReport, endedReport, endedAt, view7As}
@@ -41,29 +43,30 @@ use Rattle.state_planner.specs.Refusing.{entryRefusal, eventRefusal, reportRefu
 use Rattle.state_planner.specs.Events.{afterReport, droppedIn, afterDrop, afterFetched, afterPrepared, outcome, deskAfter}
 use Rattle.state_planner.specs.declared.Decision.{Decision}
 use Rattle.state_planner.specs.Decide.{still, stateBy, decisionBy, decidedBy}
-use Rattle.state_cases.specs.Start.{gathered}
+use Rattle.state_cases.specs.Start.{reportedAt, gathered}
 
--- view 7 kept with a termination
+-- view 7 kept with a termination, and reported by nodes 0 to 5
 abbrev pub withEnds : Phase → ℕ → ℕ → ℕ → State
-withEnds phase held fetched prepared = ofParts phase view7 (endedAt 7 5 6 2) held fetched prepared planOfCaseA
+withEnds phase held fetched prepared = ofParts phase view7 (endedAt 7 5 6 2) held fetched prepared planOfCaseA (reportedAt 7 63)
 
 pub record EventClauses : Type 0 where
   -- a report's node is held, beside those that were; one that reports again is held once
   pub report-holds : afterReport caseSettings (gathered view7 33) (contentsOf (openReport 7)) ≡ gathered view7 35
   pub report-again : afterReport caseSettings (gathered view7 35) (contentsOf (openReport 7)) ≡ gathered view7 35
-  -- what is kept is renewed, and the others remain held
+  -- what is kept is renewed, the view is remembered as the node's, and the others remain held
   pub report-renews :
       afterReport caseSettings (gathered view7 33) (contentsOf (endedReport 8 7 5))
-      ≡ ofParts Gathering (view7As 8) (endedAt 7 5 6 2) 35 0 0 noPlan
-  -- a drop in gathering: the node is no longer held, and kept view and termination remain
+      ≡ ofParts Gathering (view7As 8) (endedAt 7 5 6 2) 35 0 0 noPlan (noted (reportedAt 7 33) 1 8)
+  -- a drop in gathering: the node is no longer held; kept view and termination remain, and what is remembered, of that node too
   pub drop-gathering :
-      afterDrop (ofParts Gathering view7 (endedAt 7 5 6 2) 63 0 0 noPlan) 5 ≡ ofParts Gathering view7 (endedAt 7 5 6 2) 31 0 0 noPlan
-  -- a drop while ordered or preparing: nobody is held, marks and plan go, and kept view and termination remain
-  pub drop-ordered : afterDrop (withEnds Ordered 63 31 0) 5 ≡ ofParts Gathering view7 (endedAt 7 5 6 2) 0 0 0 noPlan
-  pub drop-preparing : afterDrop (withEnds Preparing 63 63 31) 5 ≡ ofParts Gathering view7 (endedAt 7 5 6 2) 0 0 0 noPlan
+      afterDrop (ofParts Gathering view7 (endedAt 7 5 6 2) 63 0 0 noPlan (reportedAt 7 63)) 5
+      ≡ ofParts Gathering view7 (endedAt 7 5 6 2) 31 0 0 noPlan (reportedAt 7 63)
+  -- a drop while ordered or preparing: nobody is held, marks and plan go; kept view and termination remain, and what is remembered
+  pub drop-ordered : afterDrop (withEnds Ordered 63 31 0) 5 ≡ ofParts Gathering view7 (endedAt 7 5 6 2) 0 0 0 noPlan (reportedAt 7 63)
+  pub drop-preparing : afterDrop (withEnds Preparing 63 63 31) 5 ≡ ofParts Gathering view7 (endedAt 7 5 6 2) 0 0 0 noPlan (reportedAt 7 63)
   pub drop-committed : afterDrop (withEnds Committed 63 63 63) 5 ≡ withEnds Committed 63 63 63
   -- a plan leads to ordered, and all else remains; a wait changes nothing
-  pub plan-ordered : planned (ofParts Gathering view7 (endedAt 7 5 6 2) 63 0 0 noPlan) planOfCaseA ≡ withEnds Ordered 63 0 0
+  pub plan-ordered : planned (ofParts Gathering view7 (endedAt 7 5 6 2) 63 0 0 noPlan (reportedAt 7 63)) planOfCaseA ≡ withEnds Ordered 63 0 0
   pub met-plans : decidedBy Met (gathered view7 63) planOfCaseA ≡ still (planned (gathered view7 63) planOfCaseA) Decision.Planned
   pub short-waits : decidedBy (Short TooFew) (gathered view7 63) planOfCaseA ≡ still (gathered view7 63) (Decision.Wait TooFew)
   -- the node is marked; with the last held one the next phase follows
@@ -85,7 +88,7 @@ pub record EventClauses : Type 0 where
   pub node-none : nodeRefusal caseSettings 6 true ≡ none
 
 pub event-clauses : EventClauses
-unfolding allBelow anyBelow lowest tabulate unless place following bodyWord bodyOf contentsOf layoutOf terminationOf renewed fresh holding keeping marked restarted planned afterReport droppedIn afterFetched afterPrepared outcome stateBy decisionBy nodeRefusal
+unfolding allBelow anyBelow lowest tabulate unless place following bodyWord bodyOf contentsOf layoutOf terminationOf renewed noted fresh holding keeping marked restarted planned afterReport droppedIn afterFetched afterPrepared outcome stateBy decisionBy nodeRefusal
 event-clauses =
     record {
       report-holds = refl;
@@ -117,13 +120,17 @@ event-clauses =
 -- ---- when an event is refused: sound states of each phase beside case A's desk
 
 abbrev pub orderedA : State
-orderedA = ofParts Ordered view7 noTermination 63 1 0 planOfCaseA
+orderedA = ofParts Ordered view7 noTermination 63 1 0 planOfCaseA (reportedAt 7 63)
 
 abbrev pub preparingA : State
-preparingA = ofParts Preparing view7 noTermination 63 63 1 planOfCaseA
+preparingA = ofParts Preparing view7 noTermination 63 63 1 planOfCaseA (reportedAt 7 63)
 
 abbrev pub committedA : State
-committedA = ofParts Committed view7 noTermination 63 63 63 planOfCaseA
+committedA = ofParts Committed view7 noTermination 63 63 63 planOfCaseA (reportedAt 7 63)
+
+-- gathering with case A's desk: the held nodes, and what is remembered
+abbrev pub gatheringA : ℕ → Latest → State
+gatheringA held m = ofParts Gathering view7 noTermination held 0 0 noPlan m
 
 pub record RefusalClauses : Type 0 where
   -- a desk of another length, in every event
@@ -136,6 +143,14 @@ pub record RefusalClauses : Type 0 where
   pub report-taken : reportRefusal caseSettings (gathered view7 63) desk (openReport 7) ≡ none
   pub report-row-5 : reportRefusal caseSettings (gathered view7 63) desk [] ≡ refused 5
   pub report-ordered : reportRefusal caseSettings orderedA desk (openReport 7) ≡ refused 4
+  -- and no smaller view than the node's own greatest: while it is held, when it was dropped, and when gathering has started again
+  pub report-earlier : reportRefusal caseSettings (gathered view7 63) desk (openReport 6) ≡ refused 18
+  pub dropped-earlier : reportRefusal caseSettings (afterDrop (gathered view7 63) 1) desk (openReport 6) ≡ refused 18
+  pub restarted-earlier : reportRefusal caseSettings (afterDrop orderedA 5) desk (openReport 6) ≡ refused 18
+  pub fresh-earlier : reportRefusal caseSettings fresh desk (openReport 6) ≡ none
+  -- a state of held nodes that remembers nothing, as an earlier release saved it, is unsound; one that holds nobody is not
+  pub forgotten-held : reportRefusal caseSettings (gatheringA 63 noLatest) desk (openReport 7) ≡ refused 3
+  pub forgotten-empty : reportRefusal caseSettings (gatheringA 0 noLatest) desk (openReport 6) ≡ none
   -- the desk has the report in its node's slot, and beside a refusal what it had
   pub desk-taken : deskAfter caseSettings (gathered view7 63) desk (openReport 7) ≡ deskWith desk 1 (openReport 7)
   pub desk-refused : deskAfter caseSettings (gathered view7 63) desk [] ≡ desk
@@ -180,24 +195,57 @@ plan-is-sound : planSound caseSettings view7 noTermination 63 desk planOfCaseA �
 unfolding desk ones onesIn allBelow anyBelow lowest tabulate pairNotAfter sumBelow place following bodyWord bodyOf contentsOf endOf reaches holds hasUpdate slot reportOf candidate greatest best target able holder majority firstUnheld quorumOf spread shardValid shardApart groupValidAt groupValid groupMovesAt groupMoves allMoves layoutTidy isMet shardPlanned planSound
 plan-is-sound = refl
 
+latest-is-sound : latestSound caseSettings 7 63 desk (reportedAt 7 63) ≡ true
+unfolding desk allBelow tabulate place following bodyWord bodyOf contentsOf slot reportOf recalled latestSound
+latest-is-sound = refl
+
 gathered-sound : sound caseSettings (gathered view7 63) desk ≡ true
 unfolding allBelow layoutBlank planBlank marksSound planFits sound
-gathered-sound = and-both (and-both (and-both kept-is-sound parts-sound) refl) refl
+gathered-sound = and-both (and-both (and-both (and-both kept-is-sound parts-sound) refl) latest-is-sound) refl
+
+-- node 1 was dropped; nobody is held, with and without what is remembered; and the fresh state
+dropped-sound : sound caseSettings (afterDrop (gathered view7 63) 1) desk ≡ true
+unfolding desk allBelow anyBelow lowest tabulate unless unlessAt firstOf place following row5 row8 precedes shardsWhere row6 viewOk row7 kindOk plain kindAt shardAt surplus sequenceAt complete shardApart row10At row10 position viewFits legal row11At bodyWord bodyOf contentsOf recordsRefusal headRefusal messageRefusal slot reportOf sameView row12 sameTermination row13 termKept slotOk slotsOk layoutTidy layoutBlank viewSound termSoundAt termSound nothingKept keptSound marksSound planBlank planFits recalled latestSound holding droppedIn sound
+dropped-sound = refl
+
+restarted-is-sound : sound caseSettings (afterDrop orderedA 5) desk ≡ true
+unfolding allBelow tabulate viewOk shardApart row10At row10 slotsOk layoutTidy layoutBlank viewSound termSoundAt termSound nothingKept keptSound marksSound planBlank planFits recalled latestSound restarted droppedIn sound
+restarted-is-sound = refl
+
+empty-sound : sound caseSettings (gatheringA 0 noLatest) desk ≡ true
+unfolding allBelow tabulate viewOk shardApart row10At row10 slotsOk layoutTidy layoutBlank viewSound termSoundAt termSound nothingKept keptSound marksSound planBlank planFits noLatest recalled latestSound sound
+empty-sound = refl
+
+fresh-is-sound : sound caseSettings fresh desk ≡ true
+unfolding allBelow tabulate viewOk shardApart row10At row10 slotsOk layoutTidy layoutBlank viewSound termSoundAt termSound nothingKept keptSound marksSound planBlank planFits noLatest recalled latestSound fresh sound
+fresh-is-sound = refl
+
+-- a held node of which nothing is remembered
+forgotten-latest : latestSound caseSettings 7 63 desk noLatest ≡ false
+unfolding desk allBelow tabulate place following bodyWord bodyOf contentsOf slot reportOf noLatest recalled latestSound
+forgotten-latest = refl
+
+forgotten-unsound : sound caseSettings (gatheringA 63 noLatest) desk ≡ false
+unfolding sound
+forgotten-unsound =
+    and-fails-left (planFits Gathering caseSettings view7 noTermination 63 desk noPlan)
+    (and-fails-right (keptSound caseSettings view7 noTermination 63 && slotsOk caseSettings view7 noTermination 63 desk && marksSound Gathering 63 0 0)
+    forgotten-latest)
 
 ordered-sound : sound caseSettings orderedA desk ≡ true
 unfolding marksSound planFits sound
-ordered-sound = and-both (and-both (and-both kept-is-sound parts-sound) refl) plan-is-sound
+ordered-sound = and-both (and-both (and-both (and-both kept-is-sound parts-sound) refl) latest-is-sound) plan-is-sound
 
 preparing-sound : sound caseSettings preparingA desk ≡ true
 unfolding marksSound planFits sound
-preparing-sound = and-both (and-both (and-both kept-is-sound parts-sound) refl) plan-is-sound
+preparing-sound = and-both (and-both (and-both (and-both kept-is-sound parts-sound) refl) latest-is-sound) plan-is-sound
 
 committed-sound : sound caseSettings committedA desk ≡ true
 unfolding marksSound planFits sound
-committed-sound = and-both (and-both (and-both kept-is-sound parts-sound) refl) plan-is-sound
+committed-sound = and-both (and-both (and-both (and-both kept-is-sound parts-sound) refl) latest-is-sound) plan-is-sound
 
 pub refusal-clauses : RefusalClauses
-unfolding desk allBelow anyBelow lowest tabulate sizesOk nodesOk shardOk shardsOk settingsOk unless unlessAt firstOf place following row5 row8 precedes shardsWhere row6 viewOk row7 kindOk plain kindAt shardAt surplus sequenceAt complete shardApart row10At row10 position viewFits legal row11At bodyWord bodyOf contentsOf recordsRefusal headRefusal messageRefusal sameView row12 sameTermination row13 keptRefusal refusalBeside entryRefusal eventRefusal nodeRefusal reportRefusal dropRefusal decideRefusal orderRefusal fetchedRefusal preparedRefusal deskAfter
+unfolding desk allBelow anyBelow lowest tabulate sizesOk nodesOk shardOk shardsOk settingsOk unless unlessAt firstOf place following row5 row8 precedes shardsWhere row6 viewOk row7 kindOk plain kindAt shardAt surplus sequenceAt complete shardApart row10At row10 position viewFits legal row11At bodyWord bodyOf contentsOf recordsRefusal headRefusal messageRefusal sameView row12 sameTermination row13 noLatest row18 keptRefusal refusalBeside fresh holding restarted droppedIn entryRefusal eventRefusal nodeRefusal reportRefusal dropRefusal decideRefusal orderRefusal fetchedRefusal preparedRefusal deskAfter
 refusal-clauses =
     record {
       report-desk = refl;
@@ -208,6 +256,12 @@ refusal-clauses =
       report-taken = rw gathered-sound;
       report-row-5 = rw gathered-sound;
       report-ordered = rw ordered-sound;
+      report-earlier = rw gathered-sound;
+      dropped-earlier = rw dropped-sound;
+      restarted-earlier = rw restarted-is-sound;
+      fresh-earlier = rw fresh-is-sound;
+      forgotten-held = rw forgotten-unsound;
+      forgotten-empty = rw empty-sound;
       desk-taken = rw gathered-sound;
       desk-refused = rw gathered-sound;
       drop-taken = rw gathered-sound;

@@ -1,15 +1,23 @@
 -- The states that document 01's runs start from, and the desk of case C.
 use Prim.Native.Nat.{ℕ}
+use mathlib.Core.Bool.{cond}
 use mathlib.Core.List.{List, [], _∷_, _++_}
 use lib.ListN.{replicate}
+use Rattle.base_laws.specs.Masks.{has}
+use Rattle.base_laws.specs.Tables.{tabulate}
 use Rattle.report_views.specs.declared.Layout.{Layout}
 use Rattle.report_views.specs.declared.Phase.the-variants.{Gathering}
 use Rattle.history_cases.specs.Runs.{caseReport, noRuns, run1, slotOf, sixSlots}
 use Rattle.report_views.specs.Empty.{noTermination}
+use Rattle.report_latest.specs.declared.Latest.{Latest}
 use Rattle.state_planner.specs.declared.State.{State}
 use Rattle.state_planner.specs.States.{noPlan}
 
--- gathering: a kept view without a termination, and the held nodes
+-- these nodes have reported the view of this number, and no others any
+abbrev pub reportedAt : ℕ → ℕ → Latest
+reportedAt number held = record { views = tabulate 32 (λ n. record { 0 = cond (has held n) number 0 }) }
+
+-- gathering: a kept view without a termination, and the held nodes, which have reported it
 abbrev pub gathered : Layout → ℕ → State
 gathered v held =
     record {
@@ -20,6 +28,7 @@ gathered v held =
       fetched = 0;
       prepared = 0;
       plan = noPlan;
+      latest = reportedAt (v .number .0) held;
     }
 
 -- a report of view 7 of case C: members 0 to 5, empty logs

@@ -10,7 +10,7 @@ use lib.Dec.{eqb}
 use borrow.Author.Tests.{eqb-true, eq-eqb}
 use Rattle.base_laws.specs.Bools.{and-both, and-left, and-right, clash}
 use Rattle.base_laws.specs.Below.{allBelow}
-use Rattle.base_laws.specs.Masks.{has, subset, without, subset-has, subset-le, subset-zero, minus-subset, within-subset}
+use Rattle.base_laws.specs.Masks.{has, subset, without, subset-has, subset-le, subset-zero, has-zero, minus-subset, within-subset}
 use Rattle.settings_values.specs.Settings.{nodes}
 use Rattle.base_ids.specs.Refusals.{none}
 use Rattle.report_views.specs.declared.Layout.{Layout}
@@ -20,12 +20,16 @@ use Rattle.report_views.specs.declared.Phase.the-variants.{Gathering, Ordered, 
 use Rattle.report_views.specs.Meets.{slot-given}
 use Rattle.report_views.specs.Soundness.{layoutBlank, nothingKept, keptSound, marksSound, planBlank, planFits}
 use Rattle.report_views.specs.Slots.{slotsOk}
+use Rattle.report_latest.specs.declared.Latest.{Latest}
+use Rattle.report_latest.specs.Remembered.{latestAt, latestSound}
+use Rattle.report_latest.specs.Laws.{latest-given, latest-test}
 use Rattle.state_planner.specs.declared.State.{State}
 use Rattle.state_planner.specs.States.{sound, holding, restarted}
 use Rattle.state_planner.specs.Refusing.{isCommitted, deskOk, dropRefusal}
 use Rattle.state_planner.specs.Events.{droppedIn, afterDrop}
 use Rattle.state_invariant.specs.Parts.{Sound, sound-given, sound-test, kept-given, kept-test, slots-of, marks-still, plan-still, node-given}
 use Rattle.state_invariant.specs.Fitting.{slot-reported, reported-slot}
+use Rattle.state_invariant.specs.Noting.{RecallsReports}
 
 -- ---- fewer held nodes
 
@@ -53,6 +57,18 @@ module _ (σ : List ℕ) (v : Layout) (t : Termination) (held fewer : ℕ) (s : 
       slots-of σ v t fewer d (λ n l p.
       reported-slot σ v t d n (slot-reported σ v t d n (slot-given σ v t held d h n l (subset-has fewer held s n p))))
 
+-- what is remembered of fewer held nodes
+latest-fewer : (σ : List ℕ) (number held fewer : ℕ) (d : List ℕ) (m : Latest) → subset fewer held ≡ true → latestSound σ number held d m ≡ true
+    → latestSound σ number fewer d m ≡ true
+latest-fewer σ number held fewer d m s h =
+    let r = latest-given σ number held d m h in
+    latest-test σ number fewer d m
+    (record {
+      from-report = λ n l p. r .from-report n l (subset-has fewer held s n p);
+      to-kept = λ n l p. r .to-kept n l (subset-has fewer held s n p);
+      none-past = r .none-past;
+    })
+
 module _ (σ : List ℕ) (x : State) (d : List ℕ) (n : ℕ) (before : Sound σ x d) where
   -- while gathering, the node is no longer held
   fewer-sound : x .phase ≡ Gathering → sound σ (holding x (without (x .held) n)) d ≡ true
@@ -65,6 +81,7 @@ module _ (σ : List ℕ) (x : State) (d : List ℕ) (n : ℕ) (before : Sound σ
         kept-sound = kept-fewer σ (x .kept) (x .termination) (x .held) fewer s (before .kept-sound);
         slots-ok = slots-fewer σ (x .kept) (x .termination) (x .held) fewer s d (before .slots-ok);
         marks-sound = marks-still (x .phase) (x .held) fewer (x .fetched) (x .prepared) g (before .marks-sound);
+        latest-sound = latest-fewer σ (x .kept .number .0) (x .held) fewer d (x .latest) s (before .latest-sound);
         plan-fits = plan-still (x .phase) σ (x .kept) (x .kept) (x .termination) (x .termination) (x .held) fewer d d (x .plan) g (before .plan-fits);
       })
 
@@ -77,6 +94,7 @@ module _ (σ : List ℕ) (x : State) (d : List ℕ) (n : ℕ) (before : Sound σ
         kept-sound = kept-fewer σ (x .kept) (x .termination) (x .held) 0 (subset-zero (x .held)) (before .kept-sound);
         slots-ok = slots-fewer σ (x .kept) (x .termination) (x .held) 0 (subset-zero (x .held)) d (before .slots-ok);
         marks-sound = refl;
+        latest-sound = latest-fewer σ (x .kept .number .0) (x .held) 0 d (x .latest) (subset-zero (x .held)) (before .latest-sound);
         plan-fits = refl;
       })
 
@@ -86,6 +104,23 @@ module _ (σ : List ℕ) (x : State) (d : List ℕ) (n : ℕ) (before : Sound σ
   dropped-sound Ordered e g = restarted-sound
   dropped-sound Preparing e g = restarted-sound
   dropped-sound Committed e g = clash g refl
+
+-- nothing that is remembered goes
+pub drop-latest : (p : Phase) (x : State) (n : ℕ) → droppedIn p x n .latest ≡ x .latest
+unfolding droppedIn holding restarted
+drop-latest Gathering x n = refl
+drop-latest Ordered x n = refl
+drop-latest Preparing x n = refl
+drop-latest Committed x n = refl
+
+-- what is remembered of the nodes that are still held is what was
+pub drop-exact : (p : Phase) (x : State) (d : List ℕ) (n : ℕ) → RecallsReports (x .held) d (x .latest)
+    → RecallsReports (droppedIn p x n .held) d (droppedIn p x n .latest)
+unfolding droppedIn holding restarted
+drop-exact Gathering x d n r m l h = r m l (subset-has (without (x .held) n) (x .held) (minus-subset (x .held) (2 ^ n)) m h)
+drop-exact Ordered x d n r m l h = clash h (has-zero m)
+drop-exact Preparing x d n r m l h = clash h (has-zero m)
+drop-exact Committed x d n r m l h = r m l h
 
 pub drop-sound : (σ : List ℕ) (x : State) (d : List ℕ) (n : ℕ) → dropRefusal σ x d n ≡ none → sound σ (afterDrop x n) d ≡ true
 unfolding dropRefusal

@@ -63,5 +63,6 @@ module _ (σ : List ℕ) (x : State) (d : List ℕ) (p : Plan) (h : decideRefusa
             (and-both
             (and-both (subset-zero (x .held)) (not-of-false (ne-eqb 0 (x .held) (λ e. some-held σ (x .kept) (x .termination) (x .held) d p s (sym e)))))
             (and-right (eqb (x .fetched) 0) (eqb (x .prepared) 0) marks));
+        latest-sound = before .latest-sound;
         plan-fits = s;
       })

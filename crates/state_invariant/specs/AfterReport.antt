@@ -25,6 +25,9 @@ use Rattle.report_views.specs.Reports.{slot}
 use Rattle.report_views.specs.Slots.{slotOk}
 use Rattle.report_views.specs.Meets.{slot-given}
 use Rattle.report_views.specs.Soundness.{viewSound, termSound}
+use Rattle.report_latest.specs.declared.Latest.{Latest}
+use Rattle.report_latest.specs.Remembered.{noted}
+use Rattle.report_latest.specs.Laws.{latest-given, latest-test}
 use Rattle.state_planner.specs.declared.State.{State}
 use Rattle.state_planner.specs.States.{sound, keeping}
 use Rattle.state_planner.specs.Refusing.{reportRefusal}
@@ -38,11 +41,13 @@ use Rattle.state_invariant.specs.Parts.{Sound, sound-given, sound-test, 
 use Rattle.state_invariant.specs.Keeping.{Passes, view-of-report, term-of-report}
 use Rattle.state_invariant.specs.Fitting.{Fits, slot-reported, reported-slot, greater-fits, added-fits, known-fits, own-masks, own-fits}
 use Rattle.state_invariant.specs.Desks.{desk-length, slot-own, slot-other}
+use Rattle.state_invariant.specs.Noting.{RecallsReports, report-recalls, report-exact}
 
 -- view v with termination t can be kept after the report c where u with r was kept
 record Renewed (σ : List ℕ) (u : Layout) (r : Termination) (c : Contents) (v : Layout) (t : Termination) : Type 0 where
   view-sound : viewSound σ v ≡ true
   term-sound : termSound σ v t ≡ true
+  no-older : u .number .0 ≤ v .number .0
   fits : Fits σ v t c
   fits-still : (b : Contents) → Fits σ u r b → Fits σ v t b
 
@@ -85,6 +90,7 @@ module _ (σ : List ℕ) (x : State) (d w : List ℕ) (h : reportRefusal σ x d 
       record {
         view-sound = view-of-report σ (contentsOf w) few passes;
         term-sound = term-of-report σ (contentsOf w) few passes (layoutOf σ (contentsOf w)) refl;
+        no-older = omega arith;
         fits = own-fits σ few (contentsOf w) (layoutOf σ (contentsOf w)) (omega arith) (own-masks σ few (contentsOf w));
         fits-still = λ b. greater-fits σ (layoutOf σ (contentsOf w)) (terminationOf σ (contentsOf w)) b (x .kept) (x .termination) l;
       }
@@ -95,6 +101,7 @@ module _ (σ : List ℕ) (x : State) (d w : List ℕ) (h : reportRefusal σ x d 
       record {
         view-sound = view-kept (omega arith);
         term-sound = term-of-report σ (contentsOf w) few passes (x .kept) e;
+        no-older = omega arith;
         fits = own-fits σ few (contentsOf w) (x .kept) (omega arith) (taken .row12-holds);
         fits-still = λ b. added-fits σ (x .kept) (terminationOf σ (contentsOf w)) b (x .termination) unmade;
       }
@@ -105,6 +112,7 @@ module _ (σ : List ℕ) (x : State) (d w : List ℕ) (h : reportRefusal σ x d 
       record {
         view-sound = view-kept l;
         term-sound = kept-before .term-sound;
+        no-older = omega arith;
         fits = known-fits σ (x .kept) (x .termination) (contentsOf w) l (taken .row12-holds) (taken .row13-holds) e;
         fits-still = λ b f. f;
       }
@@ -117,13 +125,19 @@ module _ (σ : List ℕ) (x : State) (d w : List ℕ) (h : reportRefusal σ x d 
   words : length d ≡ 16384
   words = eqb-true (length d) 16384 (taken .entered .lengths-ok)
 
+  message-words : length w ≤ 512
+  message-words = let s = row5-gives w (message-given Report σ w (taken .message-taken) .words-pass) in omega (arith, s .few, s .whole)
+
+  -- what is remembered afterwards
+  abbrev noticed : Latest
+  noticed = noted (x .latest) (contentsOf w .node .0) (contentsOf w .view .0)
+
   module _ (v : Layout) (t : Termination) (next : KeptAfter v t) where
     -- the reporting node's slot
     own-slot : slotOk σ v t (deskWith d (getD w 0 0) w) (getD w 0 0) ≡ true
     unfolding contentsOf
     own-slot =
-        let s = row5-gives w (message-given Report σ w (taken .message-taken) .words-pass) in
-        let same = padded-contents w (omega (arith, s .few, s .whole)) in
+        let same = padded-contents w message-words in
         reported-slot σ v t (deskWith d (getD w 0 0) w) (getD w 0 0)
         (rw (slot-own d w (getD w 0 0) words node-32)
         (record {
@@ -150,12 +164,12 @@ module _ (σ : List ℕ) (x : State) (d w : List ℕ) (h : reportRefusal σ x d 
         (eq-or-ne m (getD w 0 0))
 
     -- the state that keeps v and t
-    next-sound : sound σ (keeping x v t (with (x .held) (contentsOf w .node .0))) (deskWith d (getD w 0 0) w) ≡ true
+    next-sound : sound σ (keeping x v t (with (x .held) (contentsOf w .node .0)) noticed) (deskWith d (getD w 0 0) w) ≡ true
     unfolding keeping contentsOf
     next-sound =
         let more = with (x .held) (getD w 0 0) in
         let g = gathering-is (x .phase) (taken .entered .in-phase) in
-        sound-test σ (keeping x v t more) (deskWith d (getD w 0 0) w)
+        sound-test σ (keeping x v t more noticed) (deskWith d (getD w 0 0) w)
         (record {
           kept-sound =
               kept-test σ v t more
@@ -168,6 +182,10 @@ module _ (σ : List ℕ) (x : State) (d w : List ℕ) (h : reportRefusal σ x d 
               });
           slots-ok = slots-of σ v t more (deskWith d (getD w 0 0) w) held-slot;
           marks-sound = marks-still (x .phase) (x .held) more (x .fetched) (x .prepared) g (before .marks-sound);
+          latest-sound =
+              latest-test σ (v .number .0) more (deskWith d (getD w 0 0) w) noticed
+              (report-recalls (x .held) d w (x .latest) words message-words node-32 (taken .row18-holds) σ (x .kept .number .0) (v .number .0) node-below
+              (next .no-older) (next .fits .no-later) (latest-given σ (x .kept .number .0) (x .held) d (x .latest) (before .latest-sound)));
           plan-fits =
               plan-still (x .phase) σ (x .kept) v (x .termination) t (x .held) more d (deskWith d (getD w 0 0) w) (x .plan) g (before .plan-fits);
         })
@@ -187,7 +205,13 @@ module _ (σ : List ℕ) (x : State) (d w : List ℕ) (h : reportRefusal σ x d 
     where
       leads : Kept → Type 0
       leads k =
-          sound σ (keeping x (k .view) (k .termination) (with (x .held) (contentsOf w .node .0))) (deskWith d (getD w 0 0) w) ≡ true
+          sound σ (keeping x (k .view) (k .termination) (with (x .held) (contentsOf w .node .0)) noticed) (deskWith d (getD w 0 0) w) ≡ true
+
+  -- of each held node the view of its report is remembered, if it was so before
+  pub report-recalled : RecallsReports (x .held) d (x .latest)
+      → RecallsReports (afterReport σ x (contentsOf w) .held) (deskWith d (getD w 0 0) w) (afterReport σ x (contentsOf w) .latest)
+  unfolding afterReport keeping contentsOf
+  report-recalled = report-exact (x .held) d w (x .latest) words message-words node-32 (taken .row18-holds)
 
   -- and the desk keeps its length
   pub report-desk : length (deskWith d (getD w 0 0) w) ≡ 16384

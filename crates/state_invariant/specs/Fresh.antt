@@ -10,6 +10,8 @@ use Rattle.base_laws.specs.Below.{allBelow}
 use Rattle.base_laws.specs.Masks.{has-zero, lt-within}
 use Rattle.settings_values.specs.Settings.{nodes}
 use Rattle.report_views.specs.Soundness.{layoutBlank, termSoundAt, termSound, nothingKept, marksSound, planBlank, planFits}
+use Rattle.report_latest.specs.Remembered.{noLatest}
+use Rattle.report_latest.specs.Laws.{none-latest, latest-test}
 use Rattle.state_planner.specs.States.{sound, noView, noTermination, fresh}
 use Rattle.state_invariant.specs.Parts.{sound-test, kept-test, slots-of}
 
@@ -23,5 +25,8 @@ fresh-sound σ d =
           (record { view-kept = inl refl; term-sound = refl; held-within = lt-within (nodes σ) 0 (pow-pos (nodes σ)) });
       slots-ok = slots-of σ noView noTermination 0 d (λ n l p. clash p (has-zero n));
       marks-sound = refl;
+      latest-sound =
+          latest-test σ 0 0 d noLatest
+          (record { from-report = λ n l p. clash p (has-zero n); to-kept = λ n l p. clash p (has-zero n); none-past = λ n l p. none-latest n l });
       plan-fits = refl;
     })

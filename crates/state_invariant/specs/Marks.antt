@@ -17,4 +17,4 @@ module _ (σ : List ℕ) (x : State) (d : List ℕ) (before : Sound σ x d) wher
   unfolding marked
   marked-sound p fetched prepared m f =
       sound-test σ (marked x p fetched prepared) d
-      (record { kept-sound = before .kept-sound; slots-ok = before .slots-ok; marks-sound = m; plan-fits = f })
+      (record { kept-sound = before .kept-sound; slots-ok = before .slots-ok; marks-sound = m; latest-sound = before .latest-sound; plan-fits = f })

@@ -18,6 +18,7 @@ use Rattle.report_views.specs.declared.Phase.{Phase}
 use Rattle.report_views.specs.declared.Phase.the-variants.{Gathering, Ordered, Preparing, Committed}
 use Rattle.report_views.specs.Slots.{row12, row13, slotOk, slotsOk}
 use Rattle.report_views.specs.Soundness.{marksSound, planFits}
+use Rattle.report_latest.specs.Remembered.{row18}
 use Rattle.report_kept.specs.Reports.{keptRefusal, refusalBeside}
 use Rattle.state_planner.specs.declared.State.{State}
 use Rattle.state_planner.specs.Refusing.{isGathering, isOrdered, isPreparing, deskOk, entryRefusal, reportRefusal}
@@ -70,6 +71,7 @@ plan-still p σ v u t r held more c d q e h = rw e (rw e at h)
 pub record ReportTaken (σ : List ℕ) (x : State) (d w : List ℕ) : Type 0 where
   pub entered : Entered (deskOk d) σ x d (isGathering (x .phase))
   pub message-taken : messageRefusal Report σ w ≡ none
+  pub row18-holds : row18 (x .latest) (contentsOf w) ≡ true
   pub row12-holds : row12 σ (x .kept) (contentsOf w) ≡ true
   pub row13-holds : row13 σ (x .kept) (x .termination) (contentsOf w) ≡ true
 
@@ -78,10 +80,12 @@ unfolding reportRefusal refusalBeside keptRefusal
 report-given σ x d w h0 =
     let h1 = first-right (entryRefusal (deskOk d) σ x d (isGathering (x .phase))) _ h0 in
     let h2 = first-right (messageRefusal Report σ w) _ h1 in
-    let h3 = unless-rest (row12 σ (x .kept) (contentsOf w)) 11 _ h2 in
+    let h3 = unless-rest (row18 (x .latest) (contentsOf w)) 17 _ h2 in
+    let h4 = unless-rest (row12 σ (x .kept) (contentsOf w)) 11 _ h3 in
     record {
       entered = entry-given (deskOk d) σ x d (isGathering (x .phase)) (first-left _ _ h0);
       message-taken = first-left _ _ h1;
-      row12-holds = unless-ok (row12 σ (x .kept) (contentsOf w)) 11 _ h2;
-      row13-holds = unless-ok (row13 σ (x .kept) (x .termination) (contentsOf w)) 12 none h3;
+      row18-holds = unless-ok (row18 (x .latest) (contentsOf w)) 17 _ h2;
+      row12-holds = unless-ok (row12 σ (x .kept) (contentsOf w)) 11 _ h3;
+      row13-holds = unless-ok (row13 σ (x .kept) (x .termination) (contentsOf w)) 12 none h4;
     }

@@ -1,27 +1,34 @@
 -- The states and desks that accepted events lead to from the fresh state. Each is sound, so rows 1 to 3 refuse no event of a run
 -- that goes by what the planner hands back. (A wait and an order change neither state nor desk.)
-use Prim.Native.Nat.{ℕ}
-use mathlib.Core.Bool.{Bool, true}
+use Prim.Native.Nat.{ℕ, max, _<_}
+use mathlib.Core.Bool.{Bool, true, cond}
 use mathlib.Core.List.{List}
 use mathlib.Core.Logic.{⊎-elim}
-use mathlib.Core.Path.{_≡_, _∙_, subst⁻¹}
+use mathlib.Core.Path.{_≡_, ap, _∙_, subst⁻¹}
+use lib.Dec.{eqb}
 use lib.ListN.{length, getD}
 use borrow.Author.Tests.{eq-eqb}
+use Rattle.base_laws.specs.Bools.{clash}
+use Rattle.base_laws.specs.Masks.{has-zero}
 use Rattle.settings_values.specs.Settings.{settingsOk}
 use Rattle.base_ids.specs.Refusals.{none, unless, unless-true}
 use Rattle.message_format.specs.Messages.{contentsOf}
 use Rattle.report_views.specs.declared.Plan.{Plan}
 use Rattle.report_views.specs.Soundness.{planSound}
+use Rattle.report_latest.specs.declared.Latest.{Latest}
+use Rattle.report_latest.specs.Remembered.{latestAt}
+use Rattle.report_latest.specs.Laws.{noted-at, none-latest}
 use Rattle.state_planner.specs.declared.State.{State}
 use Rattle.state_planner.specs.declared.Decided.{Decided}
-use Rattle.state_planner.specs.States.{sound, fresh, planned}
+use Rattle.state_planner.specs.States.{sound, fresh, keeping, marked, planned}
 use Rattle.state_planner.specs.Refusing.{deskOk, entryRefusal, reportRefusal, dropRefusal, decideRefusal, fetchedRefusal, preparedRefusal}
 use Rattle.state_planner.specs.Events.{afterReport, afterDrop, afterFetched, afterPrepared}
 use Rattle.report_desk.specs.Desk.{deskWith}
 use Rattle.state_planner.specs.Decide.{Decides}
 use Rattle.state_invariant.specs.Fresh.{fresh-sound}
-use Rattle.state_invariant.specs.AfterReport.{report-sound, report-desk}
-use Rattle.state_invariant.specs.AfterDrop.{drop-sound}
+use Rattle.state_invariant.specs.Noting.{RecallsReports}
+use Rattle.state_invariant.specs.AfterReport.{report-sound, report-recalled, report-desk}
+use Rattle.state_invariant.specs.AfterDrop.{drop-latest, drop-exact, drop-sound}
 use Rattle.state_invariant.specs.AfterMarks.{fetched-sound, prepared-sound}
 use Rattle.state_invariant.specs.AfterPlan.{plan-sound}
 use Rattle.state_invariant.specs.AfterDecide.{decided-state}
@@ -60,6 +67,37 @@ module _ (σ : List ℕ) where
   reached-desk (planning x d p r h s) = reached-desk r
   reached-desk (fetching x d n r h) = reached-desk r
   reached-desk (preparing x d n r h) = reached-desk r
+
+  -- of each held node the view of its report is remembered
+  pub reached-recalls : {x : State} {d : List ℕ} → Reached σ x d → RecallsReports (x .held) d (x .latest)
+  unfolding fresh planned afterFetched afterPrepared marked
+  reached-recalls (starting d s l) = λ n k h. clash h (has-zero n)
+  reached-recalls (reporting x d w r h) = report-recalled σ x d w h (reached-recalls r)
+  reached-recalls (dropping x d n r h) = drop-exact (x .phase) x d n (reached-recalls r)
+  reached-recalls (planning x d p r h s) = reached-recalls r
+  reached-recalls (fetching x d n r h) = reached-recalls r
+  reached-recalls (preparing x d n r h) = reached-recalls r
+
+  -- the greatest view that node n has reported on the way, 0: none
+  unfoldable pub greatestReported : {x : State} {d : List ℕ} → Reached σ x d → ℕ → ℕ
+  greatestReported (starting d s l) n = 0
+  greatestReported (reporting x d w r h) n = cond (eqb n (getD w 0 0)) (max (greatestReported r n) (getD w 1 0)) (greatestReported r n)
+  greatestReported (dropping x d m r h) n = greatestReported r n
+  greatestReported (planning x d p r h s) n = greatestReported r n
+  greatestReported (fetching x d m r h) n = greatestReported r n
+  greatestReported (preparing x d m r h) n = greatestReported r n
+
+  -- it is what the state remembers, through drops as well
+  pub reached-greatest : {x : State} {d : List ℕ} (r : Reached σ x d) (n : ℕ) → n < 32 → latestAt (x .latest) n ≡ greatestReported r n
+  unfolding greatestReported fresh afterReport keeping contentsOf planned afterFetched afterPrepared marked
+  reached-greatest (starting d s l) n k = none-latest n k
+  reached-greatest (reporting x d w r h) n k =
+      noted-at (x .latest) (getD w 0 0) (getD w 1 0) n k
+      ∙ ap (λ (v : ℕ). cond (eqb n (getD w 0 0)) (max v (getD w 1 0)) v) (reached-greatest r n k)
+  reached-greatest (dropping x d m r h) n k = ap (λ (q : Latest). latestAt q n) (drop-latest (x .phase) x m) ∙ reached-greatest r n k
+  reached-greatest (planning x d p r h s) n k = reached-greatest r n k
+  reached-greatest (fetching x d m r h) n k = reached-greatest r n k
+  reached-greatest (preparing x d m r h) n k = reached-greatest r n k
 
   -- of rows 1 to 4 only the last can refuse
   pub reached-entry : (x : State) (d : List ℕ) → Reached σ x d → (inPhase : Bool) → entryRefusal (deskOk d) σ x d inPhase ≡ unless inPhase 4 none

@@ -10,6 +10,7 @@ use Rattle.settings_values.specs.Settings.{nodes, settingsOk}
 use Rattle.base_ids.specs.Refusals.{none, unless-ok, unless-rest, first-left, first-right}
 use Rattle.report_views.specs.Slots.{slotsOk}
 use Rattle.report_views.specs.Soundness.{keptSound, marksSound, planFits}
+use Rattle.report_latest.specs.Remembered.{latestSound}
 use Rattle.state_rows.specs.Rows.{nodeRefusal}
 use Rattle.state_planner.specs.declared.State.{State}
 use Rattle.state_planner.specs.States.{sound}
@@ -20,6 +21,7 @@ pub record Sound (σ : List ℕ) (x : State) (d : List ℕ) : Type 0 where
   pub kept-sound : keptSound σ (x .kept) (x .termination) (x .held) ≡ true
   pub slots-ok : slotsOk σ (x .kept) (x .termination) (x .held) d ≡ true
   pub marks-sound : marksSound (x .phase) (x .held) (x .fetched) (x .prepared) ≡ true
+  pub latest-sound : latestSound σ (x .kept .number .0) (x .held) d (x .latest) ≡ true
   pub plan-fits : planFits (x .phase) σ (x .kept) (x .termination) (x .held) d (x .plan) ≡ true
 
 module _ (σ : List ℕ) (x : State) (d : List ℕ) where
@@ -29,19 +31,23 @@ module _ (σ : List ℕ) (x : State) (d : List ℕ) where
       let k = keptSound σ (x .kept) (x .termination) (x .held) in
       let s = slotsOk σ (x .kept) (x .termination) (x .held) d in
       let m = marksSound (x .phase) (x .held) (x .fetched) (x .prepared) in
+      let l = latestSound σ (x .kept .number .0) (x .held) d (x .latest) in
       let p = planFits (x .phase) σ (x .kept) (x .termination) (x .held) d (x .plan) in
-      let ksm : (k && s && m) ≡ true = and-left (k && s && m) p h in
+      let ksml : (k && s && m && l) ≡ true = and-left (k && s && m && l) p h in
+      let ksm : (k && s && m) ≡ true = and-left (k && s && m) l ksml in
       let ks : (k && s) ≡ true = and-left (k && s) m ksm in
       record {
         kept-sound = and-left k s ks;
         slots-ok = and-right k s ks;
         marks-sound = and-right (k && s) m ksm;
-        plan-fits = and-right (k && s && m) p h;
+        latest-sound = and-right (k && s && m) l ksml;
+        plan-fits = and-right (k && s && m && l) p h;
       }
 
   pub sound-test : Sound σ x d → sound σ x d ≡ true
   unfolding sound
-  sound-test p = and-both (and-both (and-both (p .kept-sound) (p .slots-ok)) (p .marks-sound)) (p .plan-fits)
+  sound-test p =
+      and-both (and-both (and-both (and-both (p .kept-sound) (p .slots-ok)) (p .marks-sound)) (p .latest-sound)) (p .plan-fits)
 
 -- rows 1 to 4 do not refuse
 pub record Entered (lengths : Bool) (σ : List ℕ) (x : State) (d : List ℕ) (inPhase : Bool) : Type 0 where

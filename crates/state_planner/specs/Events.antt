@@ -11,6 +11,7 @@ use Rattle.message_format.specs.declared.Contents.{Contents}
 use Rattle.message_format.specs.Messages.{contentsOf}
 use Rattle.report_views.specs.declared.Phase.{Phase}
 use Rattle.report_views.specs.declared.Phase.the-variants.{Gathering, Ordered, Preparing, Committed}
+use Rattle.report_latest.specs.Remembered.{noted}
 use Rattle.report_kept.specs.Reports.{renewed}
 use Rattle.report_desk.specs.Desk.{deskWith}
 use Rattle.state_planner.specs.declared.State.{State}
@@ -19,11 +20,11 @@ use Rattle.state_planner.specs.declared.Answer.{Answer}
 use Rattle.state_planner.specs.States.{holding, keeping, marked, restarted}
 use Rattle.state_planner.specs.Refusing.{reportRefusal, dropRefusal, fetchedRefusal, preparedRefusal}
 
--- a report's node is held, and what is kept is renewed
+-- a report's node is held, what is kept is renewed, and the view is remembered as that node's
 unfoldable pub afterReport : List ℕ → State → Contents → State
 afterReport σ x c =
     keeping x (renewed σ (x .kept) (x .termination) c .view) (renewed σ (x .kept) (x .termination) c .termination)
-    (with (x .held) (c .node .0))
+    (with (x .held) (c .node .0)) (noted (x .latest) (c .node .0) (c .view .0))
 
 -- in gathering the node is no longer held; while ordered or preparing gathering starts again with nothing held
 unfoldable pub droppedIn : Phase → State → ℕ → State

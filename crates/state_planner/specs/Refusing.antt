@@ -27,7 +27,7 @@ eventRefusal lengths σ x d inPhase n ok = firstOf (entryRefusal lengths σ x d 
 
 unfoldable pub reportRefusal : List ℕ → State → List ℕ → List ℕ → Refusal
 reportRefusal σ x d w =
-    firstOf (entryRefusal (deskOk d) σ x d (isGathering (x .phase))) (refusalBeside σ (x .kept) (x .termination) w)
+    firstOf (entryRefusal (deskOk d) σ x d (isGathering (x .phase))) (refusalBeside σ (x .kept) (x .termination) (x .latest) w)
 
 unfoldable pub dropRefusal : List ℕ → State → List ℕ → ℕ → Refusal
 dropRefusal σ x d n = eventRefusal (deskOk d) σ x d (not (isCommitted (x .phase))) n (has (x .held) n)

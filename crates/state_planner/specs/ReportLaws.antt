@@ -1,4 +1,4 @@
--- The report event from its parts: what comes back where rows 1 to 4 refuse, where rows 5 to 13 do, and where none does.
+-- The report event from its parts: what comes back where rows 1 to 4 refuse, where the report's own rows do, and where none does.
 use Prim.Native.Nat.{ℕ, _<_}
 use mathlib.Core.Bool.{Bool, true, false}
 use mathlib.Core.List.{List}
@@ -49,7 +49,7 @@ module _ (σ : List ℕ) (x : State) (d w : List ℕ) (g : Bool) (phase : g ≡ 
   entry-refuses h =
       refuses σ x d w e
       (entry-is
-      ∙ sym (first-refused (entryRefusal (deskOk d) σ x d (isGathering (x .phase))) (refusalBeside σ (x .kept) (x .termination) w)
+      ∙ sym (first-refused (entryRefusal (deskOk d) σ x d (isGathering (x .phase))) (refusalBeside σ (x .kept) (x .termination) (x .latest) w)
       (ap accepted (sym entry-is) ∙ ne-eqb (e .code) 0 h))) h
 
   module _ (h : e .code ≡ 0) where
@@ -62,15 +62,15 @@ module _ (σ : List ℕ) (x : State) (d w : List ℕ) (g : Bool) (phase : g ≡ 
     pub entered-desk : length d ≡ 16384
     entered-desk = eqb-true (length d) 16384 (entered .lengths-ok)
 
-    beside-is : reportRefusal σ x d w ≡ refusalBeside σ (x .kept) (x .termination) w
+    beside-is : reportRefusal σ x d w ≡ refusalBeside σ (x .kept) (x .termination) (x .latest) w
     unfolding reportRefusal
     beside-is =
-        first-none (entryRefusal (deskOk d) σ x d (isGathering (x .phase))) (refusalBeside σ (x .kept) (x .termination) w)
+        first-none (entryRefusal (deskOk d) σ x d (isGathering (x .phase))) (refusalBeside σ (x .kept) (x .termination) (x .latest) w)
         (sym entry-is ∙ ap refused h)
 
-    -- r: rows 5 to 13, and what the report says
-    module _ (r : Reading) (reading : r ≡ readingBeside σ (x .kept) (x .termination) w) where
-      refusal-is : r .refusal ≡ refusalBeside σ (x .kept) (x .termination) w
+    -- r: the report's own rows, and what it says
+    module _ (r : Reading) (reading : r ≡ readingBeside σ (x .kept) (x .termination) (x .latest) w) where
+      refusal-is : r .refusal ≡ refusalBeside σ (x .kept) (x .termination) (x .latest) w
       unfolding readingBeside
       refusal-is = ap (λ (y : Reading). y .refusal) reading
 
@@ -78,19 +78,19 @@ module _ (σ : List ℕ) (x : State) (d w : List ℕ) (g : Bool) (phase : g ≡ 
       beside-refuses = refuses σ x d w (r .refusal) (refusal-is ∙ sym beside-is)
 
       module _ (k : r .refusal .code ≡ 0) where
-        taken : accepted (refusalBeside σ (x .kept) (x .termination) w) ≡ true
+        taken : accepted (refusalBeside σ (x .kept) (x .termination) (x .latest) w) ≡ true
         taken = ap accepted (sym refusal-is ∙ ap refused k)
 
         contents-are : r .contents ≡ contentsOf w
         unfolding readingBeside
-        contents-are = ap (λ (y : Reading). y .contents) reading ∙ taken-contents σ (x .kept) (x .termination) w taken
+        contents-are = ap (λ (y : Reading). y .contents) reading ∙ taken-contents σ (x .kept) (x .termination) (x .latest) w taken
 
         node-is : r .contents .node .0 ≡ getD w 0 0
         unfolding contentsOf
         node-is = ap (λ (c : Contents). c .node .0) contents-are
 
         pub reporter-below : r .contents .node .0 < 32
-        reporter-below = rw node-is (taken-node σ (x .kept) (x .termination) w taken entered-settings)
+        reporter-below = rw node-is (taken-node σ (x .kept) (x .termination) (x .latest) w taken entered-settings)
 
         -- y: the next state; b: the desk with the message
         pub taken-reports : (y : State) (b : List ℕ) → y ≡ afterReport σ x (r .contents) → b ≡ deskWith d (r .contents .node .0) w

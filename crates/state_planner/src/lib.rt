@@ -5,6 +5,7 @@ use base_ids::Shard;
 use base_ids::View;
 use message_format::Contents;
 use plan_restart::Verdict;
+use report_latest::Latest;
 use report_views::Layout;
 use report_views::Phase;
 use report_views::Plan;
@@ -19,7 +20,8 @@ ghost use Rattle.state_planner.specs.Refusing as Refusing;
 ghost use Rattle.state_planner.specs.Events as Events;
 ghost use Rattle.state_planner.specs.Decide as Decide;
 
-// The planner's state: the phase, the kept view and its termination, the masks of held, fetched and prepared nodes, the plan.
+// The planner's state: the phase, the kept view and its termination, the masks of held, fetched and prepared nodes, the plan, and each
+// node's greatest reported view.
 pub struct State {
     pub phase: Phase,
     pub kept: Layout,
@@ -28,6 +30,7 @@ pub struct State {
     pub fetched: u32,
     pub prepared: u32,
     pub plan: Plan,
+    pub latest: Latest,
 }
 
 // The answer to report, drop, fetched and prepared.
@@ -64,8 +67,9 @@ fn of_parts(
     fetched: u32,
     prepared: u32,
     plan: Plan,
+    latest: Latest,
 ) -> State
-    ensures { λ r. ⌜ r ≡ States.ofParts phase kept termination held fetched prepared plan ⌝ }
+    ensures { λ r. ⌜ r ≡ States.ofParts phase kept termination held fetched prepared plan latest ⌝ }
 {
     State {
         phase,
@@ -75,6 +79,7 @@ fn of_parts(
         fetched,
         prepared,
         plan,
+        latest,
     }
 }
 
@@ -94,6 +99,7 @@ fn entry_refusal(settings: &[u32], x: State, desk: &[u32], in_phase: bool) -> Re
         x.fetched,
         x.prepared,
         x.plan,
+        x.latest,
     )
 }
 
@@ -122,6 +128,7 @@ pub fn event_refusal(
         x.fetched,
         x.prepared,
         x.plan,
+        x.latest,
     )
 }
 
@@ -150,7 +157,7 @@ fn settled(
     }
 }
 
-// Gathering anew: only the kept view and its termination remain.
+// Gathering anew: the kept view, its termination and the views that nodes have reported remain.
 fn restarted(x: State) -> State
     ensures { λ r. ⌜ r ≡ States.restarted x ⌝ }
 {
@@ -162,10 +169,11 @@ fn restarted(x: State) -> State
         0,
         0,
         plan_restart::no_plan(),
+        x.latest,
     )
 }
 
-// The node that reports is held, and what is kept is renewed.
+// The node that reports is held, what is kept is renewed, and its view is remembered.
 fn after_report(settings: &[u32], x: State, c: Contents) -> State
     requires { ⌜ Settings (now settings) ⌝ }
     requires { ⌜ c .node .0 < 32 ⌝ }
@@ -174,6 +182,7 @@ fn after_report(settings: &[u32], x: State, c: Contents) -> State
     let renewed = report_kept::renew(settings, x.kept, x.termination, c);
     let node = c.node;
     let held = base_masks::with(x.held, node.0 as usize);
+    let latest = report_latest::note(x.latest, node, c.view);
     let phase = x.phase;
     of_parts(
         phase,
@@ -183,6 +192,7 @@ fn after_report(settings: &[u32], x: State, c: Contents) -> State
         x.fetched,
         x.prepared,
         x.plan,
+        latest,
     )
 }
 
@@ -202,6 +212,7 @@ fn after_drop(x: State, node: Node) -> State
                 x.fetched,
                 x.prepared,
                 x.plan,
+                x.latest,
             )
         }
         Phase::Ordered => restarted(x),
@@ -224,6 +235,7 @@ fn after_fetched(x: State, node: Node) -> State
         fetched,
         x.prepared,
         x.plan,
+        x.latest,
     )
 }
 
@@ -241,6 +253,7 @@ fn after_prepared(x: State, node: Node) -> State
         x.fetched,
         prepared,
         x.plan,
+        x.latest,
     )
 }
 
@@ -257,6 +270,7 @@ fn after_quorum(x: State, quorum: Quorum, plan: Plan) -> State
             x.fetched,
             x.prepared,
             plan,
+            x.latest,
         ),
         Quorum::Short(_) => x,
     }
@@ -299,6 +313,7 @@ impl State {
             fetched: 0,
             prepared: 0,
             plan: plan_restart::no_plan(),
+            latest: report_latest::no_latest(),
         }
     }
 
@@ -316,7 +331,13 @@ impl State {
                 answer: Answer::Refused(entry),
             };
         }
-        let reading = report_kept::read_beside(settings, self.kept, self.termination, message);
+        let reading = report_kept::read_beside(
+            settings,
+            self.kept,
+            self.termination,
+            self.latest,
+            message,
+        );
         let refusal = reading.refusal;
         if refusal.code != 0 {
             return Outcome {

@@ -12,11 +12,15 @@ use Rattle.report_views.specs.declared.Plan.{Plan}
 use Rattle.report_views.specs.declared.Phase.{Phase}
 use Rattle.report_views.specs.Slots.{slotsOk}
 use Rattle.report_views.specs.Soundness.{keptSound, marksSound, planFits}
+use Rattle.report_latest.specs.declared.Latest.{Latest}
+use Rattle.report_latest.specs.Remembered.{latestSound}
 
 -- row 3: the parts are sound beside the desk, under right settings
-abbrev pub partsSound : List ℕ → List ℕ → Phase → Layout → Termination → ℕ → ℕ → ℕ → Plan → Bool
-partsSound σ d phase v t held fetched prepared p =
-    keptSound σ v t held && slotsOk σ v t held d && marksSound phase held fetched prepared && planFits phase σ v t held d p
+abbrev pub partsSound : List ℕ → List ℕ → Phase → Layout → Termination → ℕ → ℕ → ℕ → Plan → Latest → Bool
+partsSound σ d phase v t held fetched prepared p m =
+    keptSound σ v t held && slotsOk σ v t held d && marksSound phase held fetched prepared
+    && latestSound σ (v .number .0) held d m
+    && planFits phase σ v t held d p
 
 -- rows 1 to 4, which concern every event: lengths right, settings, state, and the event in its phase
 abbrev pub entryRows : Bool → Bool → Bool → Bool → Refusal

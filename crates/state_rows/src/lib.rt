@@ -1,7 +1,7 @@
 // What the events ask of a state's parts: its phase, rows 1 to 4, 6 and 14, and the marks of its nodes.
 use base_ids::Node;
 use base_ids::Refusal;
-use base_ids::View;
+use report_latest::Latest;
 use report_views::Layout;
 use report_views::Phase;
 use report_views::Plan;
@@ -72,10 +72,11 @@ fn is_sound(
     fetched: u32,
     prepared: u32,
     plan: Plan,
+    latest: Latest,
 ) -> bool
     requires { ⌜ Settings (now settings) ⌝ }
     requires { ⌜ length (now desk) ≡ 16384 ⌝ }
-    ensures { λ r. ⌜ r ≡ Rows.partsSound (now (settings .entry)) (now (desk .entry)) phase kept termination held fetched prepared plan ⌝ }
+    ensures { λ r. ⌜ r ≡ Rows.partsSound (now (settings .entry)) (now (desk .entry)) phase kept termination held fetched prepared plan latest ⌝ }
 {
     if !state_sound_parts::kept_sound(settings, kept, termination, held) {
         return false;
@@ -84,6 +85,9 @@ fn is_sound(
         return false;
     }
     if !state_sound_parts::marks_sound(phase, held, fetched, prepared) {
+        return false;
+    }
+    if !report_latest::latest_sound(settings, kept.number, held, desk, latest) {
         return false;
     }
     state_sound_plan::plan_fits(phase, settings, kept, termination, held, desk, plan)
@@ -101,8 +105,9 @@ pub fn entry_refusal(
     fetched: u32,
     prepared: u32,
     plan: Plan,
+    latest: Latest,
 ) -> Refusal
-    ensures { λ r. ⌜ r ≡ Rows.entryRows (eqb (length (now (desk .entry))) 16384) (settingsOk (now (settings .entry))) (Rows.partsSound (now (settings .entry)) (now (desk .entry)) phase kept termination held fetched prepared plan) in_phase ⌝ }
+    ensures { λ r. ⌜ r ≡ Rows.entryRows (eqb (length (now (desk .entry))) 16384) (settingsOk (now (settings .entry))) (Rows.partsSound (now (settings .entry)) (now (desk .entry)) phase kept termination held fetched prepared plan latest) in_phase ⌝ }
 {
     if desk.len() != 16384 {
         return Refusal { code: 1 };
@@ -120,6 +125,7 @@ pub fn entry_refusal(
         fetched,
         prepared,
         plan,
+        latest,
     ) {
         return Refusal { code: 3 };
     }
@@ -157,8 +163,9 @@ pub fn event_refusal(
     fetched: u32,
     prepared: u32,
     plan: Plan,
+    latest: Latest,
 ) -> Refusal
-    ensures { λ r. ⌜ r ≡ firstOf (Rows.entryRows (eqb (length (now (desk .entry))) 16384) (settingsOk (now (settings .entry))) (Rows.partsSound (now (settings .entry)) (now (desk .entry)) phase kept termination held fetched prepared plan) in_phase) (Rows.nodeRefusal (now (settings .entry)) (node .0) ok) ⌝ }
+    ensures { λ r. ⌜ r ≡ firstOf (Rows.entryRows (eqb (length (now (desk .entry))) 16384) (settingsOk (now (settings .entry))) (Rows.partsSound (now (settings .entry)) (now (desk .entry)) phase kept termination held fetched prepared plan latest) in_phase) (Rows.nodeRefusal (now (settings .entry)) (node .0) ok) ⌝ }
 {
     let refusal = entry_refusal(
         settings,
@@ -171,6 +178,7 @@ pub fn event_refusal(
         fetched,
         prepared,
         plan,
+        latest,
     );
     if refusal.code != 0 {
         return refusal;

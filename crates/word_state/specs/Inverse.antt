@@ -13,13 +13,15 @@ use Rattle.base_laws.specs.Below.{all-of}
 use Rattle.base_laws.specs.Tables.{tabulate, tabulate-ext, length-tabulate, getD-tabulate}
 use Rattle.base_ids.specs.declared.Node.{Node}
 use Rattle.base_ids.specs.declared.Position.{Position}
+use Rattle.base_ids.specs.declared.View.{View}
 use Rattle.report_views.specs.declared.Phase.{Phase}
 use Rattle.report_views.specs.declared.Phase.the-variants.{Gathering, Ordered, Preparing, Committed}
 use Rattle.report_views.specs.Logs.{pos, start}
 use Rattle.report_views.specs.Reports.{nodeAt, positionAt, holderAt, targetAt}
 use Rattle.report_views.specs.PositionTables.{positionWord}
+use Rattle.report_latest.specs.Remembered.{latestAt}
 use Rattle.state_planner.specs.declared.State.{State}
-use Rattle.word_state.specs.StateWords.{phaseNumber, flag, keptWord, planWord, stateWord, stateWords, phaseOf, span, nodesAt, positionsAt, layoutAt, stateIn, restZero, isState, decoded}
+use Rattle.word_state.specs.StateWords.{phaseNumber, flag, keptWord, planWord, latestWord, stateWord, stateWords, phaseOf, span, nodesAt, viewsAt, positionsAt, layoutAt, stateIn, restZero, isState, decoded}
 use Rattle.word_state.specs.Laws.{stated}
 
 -- one row of a table of words
@@ -41,6 +43,13 @@ unfolding nodesAt
 node-span w at k l h =
     let f : ℕ → Node = λ s. record { 0 = getD w (at + s) 0 } in
     ap (λ (n : Node). n .0) (getD-tabulate 16 f (k - at) (record { 0 = 0 }) (omega arith)) ∙ ap (λ (i : ℕ). getD w i 0) (omega arith)
+
+-- view k of those from a place on
+view-span : (w : List ℕ) (at k : ℕ) → at ≤ k → k < at + 32 → getD (viewsAt w at) (k - at) (record { 0 = 0 }) .0 ≡ getD w k 0
+unfolding viewsAt
+view-span w at k l h =
+    let f : ℕ → View = λ s. record { 0 = getD w (at + s) 0 } in
+    ap (λ (v : View). v .0) (getD-tabulate 32 f (k - at) (record { 0 = 0 }) (omega arith)) ∙ ap (λ (i : ℕ). getD w i 0) (omega arith)
 
 -- word i of a position
 word-of : (p : Position) (i v : ℕ) → (i % 2 ≡ 0 → p .view .0 ≡ v) → (i % 2 ≡ 1 → p .k ≡ v) → positionWord (λ s. p) i ≡ v
@@ -98,13 +107,15 @@ module _ (w : List ℕ) (h : isState w ≡ true) where
       (λ l4. row k 90 (λ l. node-span w 74 k l4 l) (λ l5. position-span w 90 k l5 m)))))
 
   word-back : (k : ℕ) → k < 160 → stateWord (stateIn w) k ≡ getD w k 0
-  unfolding stateWord stateIn
+  unfolding stateWord stateIn latestWord
   word-back k m =
       row k 52 (kept-back k)
       (λ l1. row k 53 (λ l. here 52 k (omega arith))
       (λ l2. row k 54 (λ l. here 53 k (omega arith))
       (λ l3. row k 55 (λ l. here 54 k (omega arith))
-      (λ l4. row k 122 (plan-back k l4) (λ l5. sym (stated w h .rest (k - 122) (omega arith)) ∙ here (122 + (k - 122)) k (omega arith))))))
+      (λ l4. row k 122 (plan-back k l4)
+      (λ l5. row k 154 (λ l. view-span w 122 k l5 l)
+      (λ l6. sym (stated w h .rest (k - 154) (omega arith)) ∙ here (154 + (k - 154)) k (omega arith)))))))
 
   pub encode-decode : stateWords (stateIn w) ≡ w
   unfolding stateWords
@@ -119,6 +130,7 @@ pub record SizedState (x : State) : Type 0 where
   pub plan-masks : length (x .plan .layout .masks) ≡ 16
   pub holders : length (x .plan .holders) ≡ 16
   pub targets : length (x .plan .targets) ≡ 16
+  pub views : length (x .latest .views) ≡ 32
 
 phase-there : (p : Phase) → phaseOf (phaseNumber p) ≡ p
 unfolding phaseOf
@@ -169,6 +181,18 @@ module _ (x : State) where
       here-is : (s : ℕ) → s < 16 → nodeAt l s ≡ getD (stateWords x) (at + s) 0
       here-is s q =
           ap (nodeAt l) (omega arith) ∙ sym (h (at + s) (omega arith) (omega arith)) ∙ sym (word (at + s) (omega arith))
+
+  views-are : (at : ℕ) (l : List View) → at + 32 ≤ 160 → length l ≡ 32
+      → ((k : ℕ) → at ≤ k → k < at + 32 → stateWord x k ≡ getD l (k - at) (record { 0 = 0 }) .0) → viewsAt (stateWords x) at ≡ l
+  unfolding viewsAt
+  views-are at l m e h =
+      sym (tabulate-ext (record { 0 = 0 }) 32 (λ s. record { 0 = getD (stateWords x) (at + s) 0 }) l e
+      (λ s q. ap (λ (n : ℕ). record { 0 = n }) (here-is s q)))
+    where
+      here-is : (s : ℕ) → s < 32 → getD l s (record { 0 = 0 }) .0 ≡ getD (stateWords x) (at + s) 0
+      here-is s q =
+          ap (λ (j : ℕ). getD l j (record { 0 = 0 }) .0) (omega arith) ∙ sym (h (at + s) (omega arith) (omega arith))
+          ∙ sym (word (at + s) (omega arith))
 
   positions-are : (at : ℕ) (l : List Position) → at + 32 ≤ 160 → length l ≡ 16
       → ((k : ℕ) → at ≤ k → k < at + 32 → stateWord x k ≡ positionWord (λ s. getD l s start) (k - at)) → positionsAt (stateWords x) at ≡ l
@@ -224,10 +248,15 @@ module _ (x : State) where
       plan-at k (omega arith) m
       ∙ simp (le-ltb k 56 (omega arith), le-ltb k 57 (omega arith), le-ltb k 58 (omega arith), le-ltb k 74 (omega arith), le-ltb k 90 l)
 
-  rest-at : (k : ℕ) → 122 ≤ k → stateWord x k ≡ 0
+  views-at : (k : ℕ) → 122 ≤ k → k < 154 → stateWord x k ≡ latestAt (x .latest) (k - 122)
+  unfolding stateWord latestWord
+  views-at k l m =
+      simp (le-ltb k 52 (omega arith), le-ltb k 53 (omega arith), le-ltb k 54 (omega arith), le-ltb k 55 (omega arith), le-ltb k 122 l, lt-ltb k 154 m)
+
+  rest-at : (k : ℕ) → 154 ≤ k → stateWord x k ≡ 0
   unfolding stateWord
   rest-at k l =
-      simp (le-ltb k 52 (omega arith), le-ltb k 53 (omega arith), le-ltb k 54 (omega arith), le-ltb k 55 (omega arith), le-ltb k 122 l)
+      simp (le-ltb k 52 (omega arith), le-ltb k 53 (omega arith), le-ltb k 54 (omega arith), le-ltb k 55 (omega arith), le-ltb k 122 (omega arith), le-ltb k 154 l)
 
   state-there : SizedState x → stateIn (stateWords x) ≡ x
   unfolding stateIn layoutAt stateWord keptWord planWord
@@ -252,7 +281,8 @@ module _ (x : State) where
       nodes-are 74 (x .plan .holders) (lit≤ tt) (s .holders) holders-at in
       let targets : positionsAt (stateWords x) 90 ≡ x .plan .targets =
       positions-are 90 (x .plan .targets) (lit≤ tt) (s .targets) targets-at in
-      rw (phase, number, members, made, masks, positions, held, fetched, prepared, plan-number, plan-members, total, plan-masks, holders, targets)
+      let views : viewsAt (stateWords x) 122 ≡ x .latest .views = views-are 122 (x .latest .views) (lit≤ tt) (s .views) views-at in
+      rw (phase, number, members, made, masks, positions, held, fetched, prepared, plan-number, plan-members, total, plan-masks, holders, targets, views)
 
   is-there : isState (stateWords x) ≡ true
   unfolding isState restZero stateWord keptWord
@@ -261,8 +291,8 @@ module _ (x : State) where
       (eq-eqb (length (stateWords x)) 160 length-words)
       (le-leb (getD (stateWords x) 0 0) 3 (rw (word 0 (lit< tt)) (phase-le (x .phase)))))
       (le-leb (getD (stateWords x) 3 0) 1 (rw (word 3 (lit< tt)) (flag-le (x .termination .made)))))
-      (all-of 38 (λ k. eqb (getD (stateWords x) (122 + k) 0) 0)
-      (λ k l. eq-eqb (getD (stateWords x) (122 + k) 0) 0 (word (122 + k) (omega arith) ∙ rest-at (122 + k) (omega arith))))
+      (all-of 6 (λ k. eqb (getD (stateWords x) (154 + k) 0) 0)
+      (λ k l. eq-eqb (getD (stateWords x) (154 + k) 0) 0 (word (154 + k) (omega arith) ∙ rest-at (154 + k) (omega arith))))
 
   pub decode-encode : SizedState x → decoded (stateWords x) ≡ record { ok = true; state = x }
   unfolding decoded

@@ -29,7 +29,7 @@ pub record Stated (w : List ℕ) : Type 0 where
   pub long : length w ≡ 160
   pub phase : getD w 0 0 ≤ 3
   pub flag : getD w 3 0 ≤ 1
-  pub rest : (k : ℕ) → k < 38 → getD w (122 + k) 0 ≡ 0
+  pub rest : (k : ℕ) → k < 6 → getD w (154 + k) 0 ≡ 0
 
 pub stated : (w : List ℕ) → isState w ≡ true → Stated w
 unfolding isState restZero
@@ -39,8 +39,8 @@ stated w h =
       phase = leb-true (getD w 0 0) 3 (and-right (eqb (length w) 160) (leb (getD w 0 0) 3) two);
       flag = leb-true (getD w 3 0) 1 (and-right (eqb (length w) 160 && leb (getD w 0 0) 3) (leb (getD w 3 0) 1) three);
       rest =
-          λ k l. eqb-true (getD w (122 + k) 0) 0
-          (all-at 38 (λ i. eqb (getD w (122 + i) 0) 0)
+          λ k l. eqb-true (getD w (154 + k) 0) 0
+          (all-at 6 (λ i. eqb (getD w (154 + i) 0) 0)
           (and-right (eqb (length w) 160 && leb (getD w 0 0) 3 && leb (getD w 3 0) 1) (restZero w) h) k l);
     }
   where

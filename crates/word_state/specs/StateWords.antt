@@ -1,12 +1,12 @@
--- A state as 160 words. What means nothing is zero in a sound state, and words 122 to 159 carry nothing, so each state has one
+-- A state as 160 words. What means nothing is zero in a sound state, and words 154 to 159 carry nothing, so each state has one
 -- representation.
 --
 --   0         phase                            55, 56, 57  plan: number, members, total moves
 --   1, 2      kept view: number, members       58 to 73    plan: shard masks
 --   3         whether a termination is kept    74 to 89    plan: holders
 --   4 to 19   kept view: shard masks           90 to 121   plan: targets, (view, k) for each shard
---   20 to 51  termination, (view, k)           122 to 159  zero
---   52 to 54  held, fetched, prepared
+--   20 to 51  termination, (view, k)           122 to 153  each node's greatest reported view
+--   52 to 54  held, fetched, prepared          154 to 159  zero
 use Prim.Native.Nat.{ℕ, _+_, _*_, _-_}
 use mathlib.Core.Bool.{Bool, true, false, cond, _&&_}
 use mathlib.Core.List.{List}
@@ -16,6 +16,7 @@ use Rattle.base_laws.specs.Below.{allBelow}
 use Rattle.base_laws.specs.Tables.{tabulate}
 use Rattle.base_ids.specs.declared.Node.{Node}
 use Rattle.base_ids.specs.declared.Position.{Position}
+use Rattle.base_ids.specs.declared.View.{View}
 use Rattle.report_views.specs.declared.Layout.{Layout}
 use Rattle.report_views.specs.declared.Plan.{Plan}
 use Rattle.report_views.specs.declared.Phase.{Phase}
@@ -23,6 +24,8 @@ use Rattle.report_views.specs.declared.Phase.the-variants.{Gathering, Ordered, 
 use Rattle.report_views.specs.Logs.{pos}
 use Rattle.report_views.specs.Reports.{positionAt, holderAt, targetAt}
 use Rattle.report_views.specs.PositionTables.{positionWord}
+use Rattle.report_latest.specs.declared.Latest.{Latest}
+use Rattle.report_latest.specs.Remembered.{latestAt}
 use Rattle.state_planner.specs.declared.State.{State}
 use Rattle.state_planner.specs.States.{fresh}
 use Rattle.word_state.specs.declared.Decoded.{Decoded}
@@ -56,12 +59,18 @@ planWord p k =
     (cond (ltb k 74) (getD (p .layout .masks) (k - 58) 0)
     (cond (ltb k 90) (holderAt p (k - 74)) (positionWord (targetAt p) (k - 90))))))
 
+-- words 122 to 153
+unfoldable pub latestWord : Latest → ℕ → ℕ
+latestWord m k = latestAt m (k - 122)
+
 -- word k
 unfoldable pub stateWord : State → ℕ → ℕ
 stateWord x k =
     cond (ltb k 52) (keptWord x k)
     (cond (ltb k 53) (x .held)
-    (cond (ltb k 54) (x .fetched) (cond (ltb k 55) (x .prepared) (cond (ltb k 122) (planWord (x .plan) k) 0))))
+    (cond (ltb k 54) (x .fetched)
+    (cond (ltb k 55) (x .prepared)
+    (cond (ltb k 122) (planWord (x .plan) k) (cond (ltb k 154) (latestWord (x .latest) k) 0)))))
 
 unfoldable pub stateWords : State → List ℕ
 stateWords x = tabulate 160 (stateWord x)
@@ -78,6 +87,10 @@ span w at n = tabulate n (λ k. getD w (at + k) 0)
 -- 16 nodes from a place on
 unfoldable pub nodesAt : List ℕ → ℕ → List Node
 nodesAt w at = tabulate 16 (λ s. record { 0 = getD w (at + s) 0 })
+
+-- 32 views from a place on
+unfoldable pub viewsAt : List ℕ → ℕ → List View
+viewsAt w at = tabulate 32 (λ n. record { 0 = getD w (at + n) 0 })
 
 -- 16 positions from a place on, two words each
 unfoldable pub positionsAt : List ℕ → ℕ → List Position
@@ -104,11 +117,12 @@ stateIn w =
             holders = nodesAt w 74;
             targets = positionsAt w 90;
           };
+      latest = record { views = viewsAt w 122 };
     }
 
--- words 122 to 159 are zero
+-- words 154 to 159 are zero
 unfoldable pub restZero : List ℕ → Bool
-restZero w = allBelow 38 (λ k. eqb (getD w (122 + k) 0) 0)
+restZero w = allBelow 6 (λ k. eqb (getD w (154 + k) 0) 0)
 
 -- words that are a state
 unfoldable pub isState : List ℕ → Bool

@@ -2,6 +2,7 @@
 use base_ids::Node;
 use base_ids::Position;
 use base_ids::View;
+use report_latest::Latest;
 use report_views::Layout;
 use report_views::Phase;
 use report_views::Plan;
@@ -103,6 +104,16 @@ fn plan_word(p: Plan, k: usize) -> u32
     position_word(targets[(k - 90) / 2], k - 90)
 }
 
+// Words 122 to 153: each node's greatest reported view.
+fn latest_word(m: Latest, k: usize) -> u32
+    requires { ⌜ (122 ≤ k) × (k < 154) ⌝ }
+    ensures { λ r. ⌜ r ≡ StateWords.latestWord m k ⌝ }
+{
+    let views = m.views;
+    let view = views[k - 122];
+    view.0
+}
+
 // Word k of a state.
 fn state_word(x: State, k: usize) -> u32
     ensures { λ r. ⌜ r ≡ StateWords.stateWord x k ⌝ }
@@ -121,6 +132,9 @@ fn state_word(x: State, k: usize) -> u32
     }
     if k < 122 {
         return plan_word(x.plan, k);
+    }
+    if k < 154 {
+        return latest_word(x.latest, k);
     }
     0
 }
@@ -189,6 +203,20 @@ fn nodes_at(words: &[u32], at: usize) -> [Node; 16]
     nodes
 }
 
+// The 32 views from a place on.
+fn views_at(words: &[u32], at: usize) -> [View; 32]
+    requires { ⌜ at + 32 ≤ length (now words) ⌝ }
+    ensures { λ r. ⌜ r ≡ StateWords.viewsAt (now (words .entry)) at ⌝ }
+{
+    let mut views = [View(0); 32];
+    let mut n: usize = 0;
+    while n < 32 {
+        views[n] = View(words[at + n]);
+        n += 1;
+    }
+    views
+}
+
 // The 16 positions from a place on, two words each.
 fn positions_at(words: &[u32], at: usize) -> [Position; 16]
     requires { ⌜ at + 32 ≤ length (now words) ⌝ }
@@ -242,6 +270,9 @@ fn state_in(words: &[u32]) -> State
             holders: nodes_at(words, 74),
             targets: positions_at(words, 90),
         },
+        latest: Latest {
+            views: views_at(words, 122),
+        },
     }
 }
 
@@ -251,8 +282,8 @@ fn rest_is_zero(words: &[u32]) -> bool
     ensures { λ r. ⌜ r ≡ StateWords.restZero (now (words .entry)) ⌝ }
 {
     let mut k: usize = 0;
-    while k < 38 {
-        if words[122 + k] != 0 {
+    while k < 6 {
+        if words[154 + k] != 0 {
             return false;
         }
         k += 1;

@@ -11,7 +11,7 @@ returns : tie.Need-returns
 unfolding restarted
 returns c =
     let x = c .before .before .args .x in
-    c .of-parts .ensures ∙ ap (λ (p : Plan). ofParts Gathering (x .kept) (x .termination) 0 0 0 p) (c .before .no-plan .ensures)
+    c .of-parts .ensures ∙ ap (λ (p : Plan). ofParts Gathering (x .kept) (x .termination) 0 0 0 p (x .latest)) (c .before .no-plan .ensures)
 
 pub restarted-spec : {M : Type 1} → statement M
 restarted-spec = tie.close (tie.spec (λ c κs. search needs) (λ c κs. search needs) returns)

@@ -13,24 +13,24 @@ use Rattle.word_state.proofs.rest_is_zero.Statement.{statement}
 use Rattle.word_state.proofs.rest_is_zero.Tie as tie
 
 abbrev Inv-loop : tie.InvT-loop
-Inv-loop words k₀ k = (k ≤ 38) × (allBelow k (λ i. eqb (getD words (122 + i) 0) 0) ≡ true)
+Inv-loop words k₀ k = (k ≤ 6) × (allBelow k (λ i. eqb (getD words (154 + i) 0) 0) ≡ true)
 
 abbrev μ-loop : tie.MeasureT-loop
-μ-loop words k₀ k = 38 - k
+μ-loop words k₀ k = 6 - k
 
 loop-holds : tie.Need-loop-holds Inv-loop μ-loop
 loop-holds c = (lit≤ tt, all-none _)
 
 returns : tie.Need-returns Inv-loop μ-loop
 unfolding restZero
-returns c = sym (all-fails 38 _ (c .before .before .before .loop .k) (omega arith) (ne-eqb _ _ (c .if1 .taken)))
+returns c = sym (all-fails 6 _ (c .before .before .before .loop .k) (omega arith) (ne-eqb _ _ (c .if1 .taken)))
 
 loop-again : tie.Need-loop-again Inv-loop μ-loop
 loop-again c = (omega arith, all-more _ _ (c .before .before .before .loop .inv .1) (eq-eqb _ _ (c .if1 .left)))
 
 returns-2 : tie.Need-returns-2 Inv-loop μ-loop
 unfolding restZero
-returns-2 c = sym (all-fewer 38 (c .before .loop .k) _ (omega arith) (c .before .loop .inv .1))
+returns-2 c = sym (all-fewer 6 (c .before .loop .k) _ (omega arith) (c .before .loop .inv .1))
 
 pub rest-is-zero-spec : {M : Type 1} → statement M
 rest-is-zero-spec =

@@ -6,10 +6,10 @@ use Rattle.word_state.proofs.state_in.Tie as tie
 
 returns : tie.Need-returns
 unfolding stateIn
-returns c = rw (c .before .before .before .before .before .before .before .before .before .before .phase-of .ensures, c .before .before .before .before .before .before .before .before .before .layout-at .ensures, c .before .before .before .before .before .before .before .positions-at .ensures, c .before .before .before .layout-at2 .ensures, c .before .nodes-at .ensures, c .positions-at2 .ensures)
+returns c = rw (c .before .before .before .before .before .before .before .before .before .before .before .phase-of .ensures, c .before .before .before .before .before .before .before .before .before .before .layout-at .ensures, c .before .before .before .before .before .before .before .before .positions-at .ensures, c .before .before .before .before .layout-at2 .ensures, c .before .before .nodes-at .ensures, c .before .positions-at2 .ensures, c .views-at .ensures)
 
 pub state-in-spec : {M : Type 1} → statement M
 state-in-spec =
     tie.close
     (tie.spec (λ c. search needs) (λ c κs. search needs) (λ c κs. search needs) (λ c. search needs) (λ c κs. search needs) (λ c. search needs)
-    (λ c. search needs) (λ c. search needs) (λ c κs. search needs) (λ c. search needs) (λ c κs. search needs) (λ c κs. search needs) returns)
+    (λ c. search needs) (λ c. search needs) (λ c κs. search needs) (λ c. search needs) (λ c κs. search needs) (λ c κs. search needs) (λ c κs. search needs) returns)

@@ -6,7 +6,7 @@ use Rattle.state_planner.proofs.State.fresh.Tie as tie
 
 returns : tie.Need-returns
 unfolding fresh
-returns c = simp (c .no-plan .ensures, c .before .no-positions .ensures, c .before .before .no-view .ensures)
+returns c = simp (c .no-latest .ensures, c .before .no-plan .ensures, c .before .before .no-positions .ensures, c .before .before .before .no-view .ensures)
 
 pub fresh-spec : {M : Type 1} → statement M
-fresh-spec = tie.close (tie.spec (λ c κs. search needs) (λ c κs. search needs) (λ c κs. search needs) returns)
+fresh-spec = tie.close (tie.spec (λ c κs. search needs) (λ c κs. search needs) (λ c κs. search needs) (λ c κs. search needs) returns)

@@ -1,0 +1,3 @@
+-- The greatest view that each node has reported.
+pub mod Remembered
+pub mod Laws
