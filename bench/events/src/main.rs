@@ -1,13 +1,16 @@
 //! Measures the planner's calls:
 //!
 //! - `events-bench times [COUNT]`: median and worst times over COUNT inputs
+//! - `events-bench compare [CALLS [SEED]]`: compares library, peer and reference
 //! - `events-bench stack [COUNT]`: the deepest stack of each call
 //! - `events-bench names`: the calls
 //! - `events-bench once CALL [INDEX]`: makes one call on a full-size input,
 //!   inside the function `measured`, for a program that counts instructions
 
 mod calls;
+mod compare;
 mod inputs;
+mod peer;
 mod stack;
 mod times;
 
@@ -32,6 +35,10 @@ fn main() -> ExitCode {
     };
     match mode.as_str() {
         "times" => times::print(number(40)),
+        "compare" => {
+            let seed = argument(3).and_then(|a| a.parse().ok()).unwrap_or(1);
+            return compare::run(number(20_000), seed);
+        }
         "stack" => stack::print(number(20)),
         "names" => Call::all()
             .iter()
@@ -47,7 +54,7 @@ fn main() -> ExitCode {
             println!("answer {}", measured(&mut ready));
         }
         _ => {
-            println!("times, stack, names or once");
+            println!("times, compare, stack, names or once");
             return ExitCode::FAILURE;
         }
     }
