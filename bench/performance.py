@@ -1,6 +1,6 @@
 """Measure the library and write docs/PERFORMANCE.md: performance.py [mock | mondays].
 
-Times of every call beside the reference's, instructions by callgrind, stack by painting, the placement beside LEMON's network
+Times of every call beside the reference's, of events beside a peer in C, instructions by callgrind, stack by painting, the placement beside LEMON's network
 simplex, and the program mondays beside a plain C program. With `mock` the reference stands in for the library and for mondays, the
 placement is left out and the page goes to target/performance.md; with `mondays` that section alone is measured and written anew. It
 needs valgrind and, for the placement, LEMON (Debian: liblemon-dev)."""
@@ -14,6 +14,7 @@ TARGET = os.path.join(ROOT, "target")
 CARGO = os.path.join(TARGET, "cargo")
 BENCH = os.path.join(CARGO, "release", "events-bench")
 ENVIRONMENT = dict(os.environ, CARGO_TARGET_DIR=CARGO, RESTART_LIB_DIR=os.path.join(TARGET, "staticlib"))
+SLOWEST = re.compile(r'^greatest ratio ([\d.]+): ([\d.]+) to ([\d.]+), seed (\d+), instance (\d+) of "(.+)"$', re.M)
 COUNTED = re.compile(r"Collected : (\d+)")
 ROW = re.compile(r"^(.+?)\s+(\d+)%\s+([\d.]+) \|\s+([\d.]+)\s+([\d.]+) \|\s+([\d.]+)\s+([\d.]+) \|\s+([\d.]+)\s+([\d.]+) \| (\d+)$")
 
@@ -49,15 +50,17 @@ def counted(call, index):
 
 
 def placement():
-    """The placement's table from bench/bench.cpp, and a sentence about single instances."""
-    rows = [row for row in map(ROW.match, said("make", "--no-print-directory", "-C", "bench", "bench").splitlines()) if row]
+    """The placement's table from bench/bench.cpp, and a sentence about the instance with the greatest ratio."""
+    printed = said("make", "--no-print-directory", "-C", "bench", "bench")
+    rows = [row for row in map(ROW.match, printed.splitlines()) if row]
     lines = ["| kind | median | worst | LEMON, median | worst | ratio of medians |", "|---|---|---|---|---|---|"]
     for row in rows:
         name, _, _, median, worst, lemon, lemon_worst, ratio, _, _ = row.groups()
         lines.append("| %s | %s | %s | %s | %s | %s |" % (name, median, worst, lemon, lemon_worst, ratio))
-    slowest = max(float(row.group(9)) for row in rows)
+    ratio, own, lemon, seed, index, kind = SLOWEST.search(printed).groups()
     differ = sum(int(row.group(10)) for row in rows)
-    lines.append("\nThe greatest ratio on a single instance is %.2f; %d answers differ." % (slowest, differ))
+    lines.append("\nThe greatest ratio on a single instance is %s: %s to %s microseconds, on instance %s of the kind" % (ratio, own, lemon, index))
+    lines.append("\"%s\" (counted from 0, seed %s), each the least of 15 runs. %d answers differ." % (kind, seed, differ))
     return "\n".join(lines)
 
 
@@ -80,7 +83,7 @@ def machine():
         cpus = [line.split(":", 1)[1].strip() for line in text if line.startswith("model name")]
     with open("/proc/meminfo") as text:
         memory = int(re.search(r"MemTotal:\s+(\d+)", text.read()).group(1)) // (1 << 20)
-    versions = [said(*command).splitlines()[0] for command in (["rustc", "--version"], ["valgrind", "--version"])]
+    versions = [said(*command).splitlines()[0] for command in (["rustc", "--version"], ["cc", "--version"], ["valgrind", "--version"])]
     system = "%s %s, %s" % (os.uname().sysname, os.uname().release.split("-")[0], os.uname().machine)
     return "%d processors (%s), %d GiB of memory, %s; %s." % (len(cpus), cpus[0], memory, system, ", ".join(versions))
 
@@ -97,7 +100,8 @@ state and every held slot before it does anything, so its time grows with the he
 {times}
 ### Instructions
 
-Of one call at full size, counted by callgrind over {counted} of the inputs.
+Of one call at full size, counted by callgrind over {counted} of the inputs. Callgrind counts a copied byte as an instruction where
+bytes are copied by one repeated instruction, so these numbers say little about time where much is copied.
 
 {instructions}
 

@@ -3,8 +3,9 @@
 #include "peer.h"
 
 /* Rows 1 to 3; 0 if they pass. */
-static uint32_t opened(struct restart *restart, const uint8_t *settings, size_t settings_len, const uint8_t *state,
-                       size_t state_len, const uint8_t *desk, size_t desk_len, int deciding)
+static uint32_t opened(struct restart *restart, const uint8_t *settings, size_t settings_len,
+                       const uint8_t *state, size_t state_len, const uint8_t *desk, size_t desk_len,
+                       int deciding)
 {
     if (desk_len != DESK_BYTES)
         return 1;
@@ -31,8 +32,8 @@ uint32_t peer_fresh(uint8_t *state, size_t state_len)
     return 0;
 }
 
-uint32_t peer_check_state(const uint8_t *settings, size_t settings_len, const uint8_t *state, size_t state_len,
-                          const uint8_t *desk, size_t desk_len)
+uint32_t peer_check_state(const uint8_t *settings, size_t settings_len, const uint8_t *state,
+                          size_t state_len, const uint8_t *desk, size_t desk_len)
 {
     struct restart restart;
     return opened(&restart, settings, settings_len, state, state_len, desk, desk_len, 0);
@@ -96,7 +97,8 @@ static void keep(const struct restart *restart, uint8_t *state, const uint8_t *m
 }
 
 /* Stores an accepted message. */
-static uint32_t store(const struct restart *restart, uint8_t *state, uint8_t *desk, const uint8_t *message, size_t length)
+static uint32_t store(const struct restart *restart, uint8_t *state, uint8_t *desk,
+                      const uint8_t *message, size_t length)
 {
     uint32_t node = word(message, 0);
     put(state, HELD, restart->held | UINT32_C(1) << node);
@@ -107,8 +109,8 @@ static uint32_t store(const struct restart *restart, uint8_t *state, uint8_t *de
 }
 
 /* A message that is no report without gaps of the kept view. */
-static uint32_t other_report(const struct restart *restart, uint8_t *state, uint8_t *desk, const uint8_t *message,
-                             size_t length)
+static uint32_t other_report(const struct restart *restart, uint8_t *state, uint8_t *desk,
+                             const uint8_t *message, size_t length)
 {
     uint8_t closed[SLOT_BYTES];
     const uint8_t *report = message;
@@ -127,11 +129,12 @@ static uint32_t other_report(const struct restart *restart, uint8_t *state, uint
     return store(restart, state, desk, message, length);
 }
 
-uint32_t peer_report(const uint8_t *settings, size_t settings_len, uint8_t *state, size_t state_len, uint8_t *desk,
-                     size_t desk_len, const uint8_t *message, size_t message_len)
+uint32_t peer_report(const uint8_t *settings, size_t settings_len, uint8_t *state, size_t state_len,
+                     uint8_t *desk, size_t desk_len, const uint8_t *message, size_t message_len)
 {
     struct restart restart;
-    uint32_t refusal = opened(&restart, settings, settings_len, state, state_len, desk, desk_len, 0);
+    uint32_t refusal =
+        opened(&restart, settings, settings_len, state, state_len, desk, desk_len, 0);
     if (refusal)
         return refusal;
     if (restart.phase != GATHERING)
@@ -139,18 +142,19 @@ uint32_t peer_report(const uint8_t *settings, size_t settings_len, uint8_t *stat
     if (message_len == 0 || message_len > SLOT_BYTES || message_len % 16 != 0)
         return 5;
     uint32_t node = word(message, 0), view = word(message, 1);
-    if (view == restart.kept && view != 0 && node < restart.settings.nodes && has(restart.members, node) &&
-        view >= word(state, LATEST + node) &&
-        is_kept_report(&restart, message, (uint32_t)(message_len / 16), NOTHING, NULL))
+    if (view == restart.kept && view != 0 && node < restart.settings.nodes &&
+        has(restart.members, node) && view >= word(state, LATEST + node) &&
+        is_kept_report(&restart, message, (uint32_t)(message_len / 16), NULL))
         return store(&restart, state, desk, message, message_len);
     return other_report(&restart, state, desk, message, message_len);
 }
 
-uint32_t peer_drop(const uint8_t *settings, size_t settings_len, uint8_t *state, size_t state_len, const uint8_t *desk,
-                   size_t desk_len, uint32_t node)
+uint32_t peer_drop(const uint8_t *settings, size_t settings_len, uint8_t *state, size_t state_len,
+                   const uint8_t *desk, size_t desk_len, uint32_t node)
 {
     struct restart restart;
-    uint32_t refusal = opened(&restart, settings, settings_len, state, state_len, desk, desk_len, 0);
+    uint32_t refusal =
+        opened(&restart, settings, settings_len, state, state_len, desk, desk_len, 0);
     if (refusal)
         return refusal;
     if (restart.phase == COMMITTED)
@@ -197,8 +201,9 @@ uint32_t peer_decide(const uint8_t *settings, size_t settings_len, uint8_t *stat
     return A_PLAN;
 }
 
-uint32_t peer_order(const uint8_t *settings, size_t settings_len, const uint8_t *state, size_t state_len,
-                    const uint8_t *desk, size_t desk_len, uint32_t node, uint8_t *buffer, size_t buffer_len)
+uint32_t peer_order(const uint8_t *settings, size_t settings_len, const uint8_t *state,
+                    size_t state_len, const uint8_t *desk, size_t desk_len, uint32_t node,
+                    uint8_t *buffer, size_t buffer_len)
 {
     struct restart restart;
     uint32_t refusal;
@@ -215,10 +220,12 @@ uint32_t peer_order(const uint8_t *settings, size_t settings_len, const uint8_t 
 
 /* Marks a node in its mask; when all held nodes are marked, the next phase follows. */
 static uint32_t mark(const uint8_t *settings, size_t settings_len, uint8_t *state, size_t state_len,
-                     const uint8_t *desk, size_t desk_len, uint32_t node, uint32_t phase, uint32_t place)
+                     const uint8_t *desk, size_t desk_len, uint32_t node, uint32_t phase,
+                     uint32_t place)
 {
     struct restart restart;
-    uint32_t refusal = opened(&restart, settings, settings_len, state, state_len, desk, desk_len, 0);
+    uint32_t refusal =
+        opened(&restart, settings, settings_len, state, state_len, desk, desk_len, 0);
     if (refusal)
         return refusal;
     if (restart.phase != phase)
@@ -235,14 +242,15 @@ static uint32_t mark(const uint8_t *settings, size_t settings_len, uint8_t *stat
     return 0;
 }
 
-uint32_t peer_fetched(const uint8_t *settings, size_t settings_len, uint8_t *state, size_t state_len,
-                      const uint8_t *desk, size_t desk_len, uint32_t node)
+uint32_t peer_fetched(const uint8_t *settings, size_t settings_len, uint8_t *state,
+                      size_t state_len, const uint8_t *desk, size_t desk_len, uint32_t node)
 {
     return mark(settings, settings_len, state, state_len, desk, desk_len, node, ORDERED, FETCHED);
 }
 
-uint32_t peer_prepared(const uint8_t *settings, size_t settings_len, uint8_t *state, size_t state_len,
-                       const uint8_t *desk, size_t desk_len, uint32_t node)
+uint32_t peer_prepared(const uint8_t *settings, size_t settings_len, uint8_t *state,
+                       size_t state_len, const uint8_t *desk, size_t desk_len, uint32_t node)
 {
-    return mark(settings, settings_len, state, state_len, desk, desk_len, node, PREPARING, PREPARED);
+    return mark(settings, settings_len, state, state_len, desk, desk_len, node, PREPARING,
+                PREPARED);
 }

@@ -1,14 +1,13 @@
 /* Orders and cuts, for the peer; see peer.h. */
 #include "parts.h"
 
-/* The first run of a shard in a report; some other record or RECORDS if it has none. */
-static uint32_t first_run(const struct restart *restart, const uint8_t *slot, uint32_t shard)
+/* The first record of a report at or after a shard's runs; 0 if there is none. */
+static uint32_t first_run(const uint8_t *slot, uint32_t shard)
 {
-    uint32_t key = 256 * RUN + shard, at = word(slot, 3);
-    while (at != 0 && word(slot, 4 * at) < key)
+    uint32_t at = word(slot, 3);
+    while (at != 0 && word(slot, 4 * at) < 256 * RUN + shard)
         at = word(slot, 4 * at + 3);
     return at;
-    (void)restart;
 }
 
 /* The run of the shard at a record; (0, 0) if there is none. */
@@ -28,7 +27,7 @@ static uint64_t cut_of(const struct restart *restart, uint32_t node, uint32_t sh
     const uint8_t *own = restart->desk + SLOT_BYTES * node;
     const uint8_t *other = restart->desk + SLOT_BYTES * (uint32_t)restart->holder[shard];
     uint64_t target = target_of(restart, shard), shared = 0;
-    uint32_t i = first_run(restart, own, shard), j = first_run(restart, other, shard);
+    uint32_t i = first_run(own, shard), j = first_run(other, shard);
     for (;;) {
         uint64_t a = run_at(own, i, shard), b = run_at(other, j, shard);
         uint32_t view = (uint32_t)(b >> 32);
@@ -45,7 +44,8 @@ static uint64_t cut_of(const struct restart *restart, uint32_t node, uint32_t sh
 }
 
 /* Puts record `at` and gives the place after it. */
-static uint32_t record(uint8_t *buffer, uint32_t at, uint32_t first, uint32_t second, uint32_t third)
+static uint32_t record(uint8_t *buffer, uint32_t at, uint32_t first, uint32_t second,
+                       uint32_t third)
 {
     put(buffer, 4 * at, first);
     put(buffer, 4 * at + 1, second);
@@ -65,7 +65,8 @@ uint32_t write_order(const struct restart *restart, uint32_t node, uint8_t *buff
         at = record(buffer, at, 256 * MEMBERS + s, mask, 0);
     }
     for (uint32_t s = 0; s < shards; ++s)
-        at = record(buffer, at, 256 * POSITION + s, word(state, PLAN_TARGETS + 2 * s), word(state, PLAN_TARGETS + 2 * s + 1));
+        at = record(buffer, at, 256 * POSITION + s, word(state, PLAN_TARGETS + 2 * s),
+                    word(state, PLAN_TARGETS + 2 * s + 1));
     for (uint32_t left = own; left; left &= left - 1)
         at = record(buffer, at, 256 * HOLDER + lowest(left), restart->holder[lowest(left)], 0);
     for (uint32_t left = own; left; left &= left - 1) {

@@ -119,7 +119,6 @@ struct restart {
     /* By shard the greatest end of a candidate that has the target, plus 1; 0: there is none. */
     uint64_t best[SHARDS];
     uint8_t holder[SHARDS];
-    uint32_t gapped; /* nodes whose report has gaps between its records */
 };
 
 /* Whether the state is sound. With `deciding` the holders are found in gathering too. */
@@ -136,18 +135,10 @@ static inline uint64_t target_of(const struct restart *restart, uint32_t shard)
 
 /* ---- slots and messages ---- */
 
-/* What is looked for in a report on the way. */
-enum { NOTHING, ENDS, TARGETS };
-
-struct logs {
-    uint64_t end[SHARDS];
-    uint32_t has_target; /* shards */
-};
-
 /* Whether records one after another are a report of the kept view with the kept masks, and with the
- * kept termination or none. */
+ * kept termination or none. Where `ends` is given, it gets the end of each shard's log. */
 int is_kept_report(const struct restart *restart, const uint8_t *message, uint32_t records,
-                   int looking, struct logs *logs);
+                   uint64_t *ends);
 
 /* Whether records one after another are a report under rows 7 to 11. */
 int is_report(const struct settings *settings, const uint8_t *message, uint32_t records);

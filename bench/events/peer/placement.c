@@ -26,15 +26,15 @@ int moves_of(const struct restart *restart, const uint8_t *masks)
 
 /* A subgroup under way. */
 struct subgroup {
-    uint32_t count, sets;           /* shards; sets that have a held node */
+    uint32_t count, sets; /* shards; sets that have a held node */
     uint32_t shard[SHARDS];
-    uint32_t old[SHARDS];           /* held old members */
-    uint32_t stay[SHARDS];          /* their sets */
-    uint32_t used[SHARDS];          /* the sets taken */
+    uint32_t old[SHARDS];  /* held old members */
+    uint32_t stay[SHARDS]; /* their sets */
+    uint32_t used[SHARDS]; /* the sets taken */
     uint32_t lacks[SHARDS];
-    uint32_t nodes[SETS];           /* held nodes of a set */
-    uint32_t room[SETS];            /* how many of them are left */
-    uint32_t full;                  /* sets without room */
+    uint32_t nodes[SETS]; /* held nodes of a set */
+    uint32_t room[SETS];  /* how many of them are left */
+    uint32_t full;        /* sets without room */
 };
 
 static uint32_t sets_of(const struct settings *settings, uint32_t nodes)

@@ -3,8 +3,8 @@
 
 struct chain {
     const uint8_t *message;
-    uint32_t count;          /* records after the head */
-    uint8_t at[RECORDS];     /* where they stand */
+    uint32_t count;      /* records after the head */
+    uint8_t at[RECORDS]; /* where they stand */
 };
 
 static uint32_t told(uint32_t number, uint32_t index)

@@ -5,7 +5,8 @@ int read_settings(struct settings *to, const uint8_t *bytes, size_t length)
 {
     if (length < 16)
         return 0;
-    uint32_t nodes = word(bytes, 0), sets = word(bytes, 1), least = word(bytes, 2), shards = word(bytes, 3);
+    uint32_t nodes = word(bytes, 0), sets = word(bytes, 1), least = word(bytes, 2),
+             shards = word(bytes, 3);
     if (nodes - 1 >= NODES || sets - 1 >= SETS || least - 1 >= nodes || shards - 1 >= SHARDS)
         return 0;
     if (length != 4 * (4 + (size_t)nodes + shards))

@@ -10,35 +10,28 @@ INLINE int goes_on(uint32_t at, uint32_t next, uint32_t records)
 }
 
 /* Runs from record `at` to the end of the chain. */
-INLINE int runs_ok(const struct restart *restart, const uint8_t *message, uint32_t at, uint32_t records,
-                   uint32_t view, uint32_t shards, int looking, struct logs *logs)
+INLINE int runs_ok(const uint8_t *message, uint32_t at, uint32_t records, uint32_t view,
+                   uint32_t shards, uint64_t *ends)
 {
-    uint64_t before = (uint64_t)(256 * RUN) << 32;
-    uint32_t wrong = 0, next = 1;
-    for (; at < records; ++at) {
-        uint64_t front = pair(message, 4 * at), back = pair(message, 4 * at + 2);
-        uint64_t key = front << 32 | front >> 32;
-        uint32_t run_view = (uint32_t)key, count = (uint32_t)back;
-        next = (uint32_t)(back >> 32);
-        wrong |= key <= before;
-        wrong |= run_view - 1 >= view;
-        wrong |= count == 0;
+    const uint8_t *run = message + 16 * at, *end = message + 16 * records;
+    uint64_t before = (uint64_t)(256 * RUN) << 32; /* kind, shard and view of the run before */
+    uint64_t usual = ((uint64_t)at + 1) << 32 | 1; /* words 2 and 3: one update, no gap */
+    for (; run < end; run += 16, usual += UINT64_C(1) << 32) {
+        uint64_t front = pair(run, 0), back = pair(run, 2), key = front << 32 | front >> 32;
+        if (key <= before || (uint32_t)key - 1 >= view)
+            return 0;
         before = key;
-        if (looking != NOTHING) {
-            uint32_t shard = (uint32_t)front % SHARDS;
-            uint64_t end = key << 32 | count;
-            logs->end[shard] = end;
-            if (looking == TARGETS)
-                logs->has_target |= (uint32_t)(end - restart->target[shard] <= restart->room[shard]) << shard;
-        }
-        if (next != at + 1)
-            break;
+        if (ends)
+            ends[(uint32_t)front % SHARDS] = key << 32 | (uint32_t)back;
+        if (back - usual >= UINT32_MAX)
+            return back - 1 < UINT32_MAX && key >> 32 < 256 * RUN + shards;
     }
-    return !wrong && next == 0 && before >> 32 < 256 * RUN + shards;
+    return 0;
 }
 
 /* Whether records from `at` on are the given ones, the last one's next index aside. */
-INLINE int are_records(const uint8_t *message, uint32_t at, const uint64_t (*given)[2], uint32_t count)
+INLINE int are_records(const uint8_t *message, uint32_t at, const uint64_t (*given)[2],
+                       uint32_t count)
 {
     uint64_t differ = 0;
     for (uint32_t s = 0; s < count - 1; ++s) {
@@ -51,8 +44,8 @@ INLINE int are_records(const uint8_t *message, uint32_t at, const uint64_t (*giv
     return differ == 0;
 }
 
-INLINE int kept_report(const struct restart *restart, const uint8_t *message, uint32_t records, int looking,
-                       struct logs *logs)
+INLINE int kept_report(const struct restart *restart, const uint8_t *message, uint32_t records,
+                       uint64_t *ends)
 {
     uint32_t shards = restart->settings.shards;
     if (records <= shards || pair(message, 2) != (restart->members | UINT64_C(1) << 32))
@@ -75,18 +68,16 @@ INLINE int kept_report(const struct restart *restart, const uint8_t *message, ui
         if (!goes_on(at, next, records))
             return 0;
     }
-    return runs_ok(restart, message, next, records, restart->kept, shards, looking, logs);
+    return runs_ok(message, next, records, restart->kept, shards, ends);
 }
 
-int is_kept_report(const struct restart *restart, const uint8_t *message, uint32_t records, int looking,
-                   struct logs *logs)
+int is_kept_report(const struct restart *restart, const uint8_t *message, uint32_t records,
+                   uint64_t *ends)
 {
-    if (looking == NOTHING)
-        return kept_report(restart, message, records, NOTHING, logs);
-    memset(logs, 0, sizeof *logs);
-    if (looking == ENDS)
-        return kept_report(restart, message, records, ENDS, logs);
-    return kept_report(restart, message, records, TARGETS, logs);
+    if (!ends)
+        return kept_report(restart, message, records, NULL);
+    memset(ends, 0, SHARDS * sizeof *ends);
+    return kept_report(restart, message, records, ends);
 }
 
 /* Records 1 to S are the masks of the shards in their order, under row 10. */
@@ -149,7 +140,7 @@ int is_report(const struct settings *settings, const uint8_t *message, uint32_t 
         if (!goes_on(at, next, records))
             return 0;
     }
-    return runs_ok(NULL, message, next, records, view, shards, NOTHING, NULL);
+    return runs_ok(message, next, records, view, shards, NULL);
 }
 
 uint32_t closed_up(uint8_t *to, const uint8_t *message, uint32_t records)

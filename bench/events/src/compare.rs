@@ -198,7 +198,10 @@ fn play(two: &mut Two, seed: u64, count: u64, seen: &mut Seen) -> Result<(), Str
 
 /// Compares so many calls and prints how many passed.
 pub fn run(count: u64, seed: u64) -> ExitCode {
-    println!("compare: seed {seed}, {} and the peer", library::tested_name());
+    println!(
+        "compare: seed {seed}, {} and the peer",
+        library::tested_name()
+    );
     lent::watch_ends();
     let mut two = Two {
         library: (library::tested_planner(), Pages::new(true)),

@@ -1,6 +1,7 @@
 //! Measures the planner's calls:
 //!
 //! - `events-bench times [COUNT]`: median and worst times over COUNT inputs
+//! - `events-bench peer [COUNT]`: of those, the library's beside the peer's alone
 //! - `events-bench compare [CALLS [SEED]]`: compares library, peer and reference
 //! - `events-bench stack [COUNT]`: the deepest stack of each call
 //! - `events-bench names`: the calls
@@ -11,6 +12,7 @@ mod calls;
 mod compare;
 mod inputs;
 mod peer;
+mod ratios;
 mod stack;
 mod times;
 
@@ -35,6 +37,7 @@ fn main() -> ExitCode {
     };
     match mode.as_str() {
         "times" => times::print(number(40)),
+        "peer" => ratios::print(&times::inputs(inputs::FULL, number(40)), number(40)),
         "compare" => {
             let seed = argument(3).and_then(|a| a.parse().ok()).unwrap_or(1);
             return compare::run(number(20_000), seed);
@@ -54,7 +57,7 @@ fn main() -> ExitCode {
             println!("answer {}", measured(&mut ready));
         }
         _ => {
-            println!("times, compare, stack, names or once");
+            println!("times, peer, compare, stack, names or once");
             return ExitCode::FAILURE;
         }
     }
