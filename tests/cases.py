@@ -163,7 +163,7 @@ def cures():
 
 
 def refused():
-    """A run for each number that restart can give: 2 and 5 to 13."""
+    """Runs for each number that restart can give: 2, 5 to 13, 16 and 17; with 8, 9, 16 and 17 the index of the record."""
     good = of_case_a(0)
     yield "number 2: no nodes", blocks(changed(SETTINGS, 0, 0)), 2
     yield "number 2: no words", blocks([]), 2
@@ -179,16 +179,30 @@ def refused():
     yield "number 7: greatest view", after(report(0, view=LARGEST)), 7
     yield "number 7: member 7 of 7", after(report(0, members=255)), 7
     yield "number 7: without the node", after(report(0, members=126)), 7
-    yield "number 8: record 2 names 2", after(changed(good, 11, 2)), 8
-    yield "number 8: past the end", after(changed(good, 15, 4)), 8
-    yield "number 8 before 9", after(changed(changed(good, 11, 2), 4, 9 * 256)), 8
-    yield "number 9: kind 9", after(changed(good, 4, 9 * 256)), 9
-    yield "number 9: shard 3 of 3", after(report(0, [[256 + 3, 1, 0]])), 9
-    yield "number 9: a mask is missing", after(report(0, masks=MASKS[:2])), 9
-    yield "number 9: word 2", after(changed(good, 6, 1)), 9
-    yield "number 9: one position of three", after(report(0, [[512, 1, 1]])), 9
-    yield "number 9: an order's record", after(report(0, [[1024, 1, 0]])), 9
-    yield "number 9: two runs of one view", after(report(0, runs(1, (5, 1), (5, 2)))), 9
+    gap = good[:12] + [258, 32, 0, 5] + [9, 9, 9, 9] + [769, 7, 5, 0]
+    yield "number 8: record 2 names 2", after(changed(good, 11, 2)), "8 2"
+    yield "number 8: past the end", after(changed(good, 15, 4)), "8 3"
+    yield "number 8: the head names 200", after(changed(good, 3, 200)), "8 0"
+    yield "number 8: a file cut between records, behind a gap", after(changed(gap, 3, 5)[:20]), "8 0"
+    yield "number 8 before 9", after(changed(changed(good, 11, 2), 4, 9 * 256)), "8 2"
+    yield "number 9: kind 9", after(changed(good, 4, 9 * 256)), "9 1"
+    yield "number 9: kind 9 behind a gap", after(changed(gap, 20, 9 * 256)), "9 5"
+    yield "number 9: word 2", after(changed(good, 6, 1)), "9 1"
+    yield "number 9: word 2 before kind 9", after(changed(changed(good, 14, 1), 8, 9 * 256 + 1)), "9 2"
+    yield "number 9: an order's record", after(report(0, [[1024, 1, 0]])), "9 4"
+    yield "number 9 before 16", after(report(0, [[9 * 256, 1, 1]], masks=MASKS[:2] + [32] * 2)), "9 5"
+    yield "number 16: shard 3 of 3", after(report(0, [[256 + 3, 1, 0]])), "16 4"
+    yield "number 16: behind a gap", after(changed(gap, 20, 768 + 255)), "16 5"
+    yield "number 16 before 17", after(report(0, [[256, 5, 0], [768 + 3, 1, 1]])), "16 5"
+    yield "number 17: no records", after(good[:3] + [0]), "17 0"
+    yield "number 17: a mask is missing", after(report(0, masks=MASKS[:2])), "17 2"
+    yield "number 17: a mask is missing, a run last", after(changed(gap, 11, 5)), "17 5"
+    yield "number 17: one position of three", after(report(0, [[512, 1, 1]])), "17 4"
+    yield "number 17: one position of three, a run last", after(report(0, [[512, 1, 1]] + runs(1, (5, 1)))), "17 5"
+    yield "number 17: two masks exchanged", after(message(0, 7, 127, [[257, 82, 0], [256, 5, 0], [258, 32, 0]])), "17 2"
+    yield "number 17: two runs of one view", after(report(0, runs(1, (5, 1), (5, 2)))), "17 5"
+    yield "number 17: runs that descend", after(report(0, runs(1, (6, 1), (5, 2), (4, 1)))), "17 5"
+    yield "number 17 before 10", after(report(0, runs(1, (5, 1), (5, 2)), masks=[0, 82, 32])), "17 5"
     yield "number 10: no members", after(changed(good, 5, 0)), 10
     yield "number 10: outside the members", after(report(0, members=123, masks=[5, 82, 32])), 10
     yield "number 10: a node twice", after(report(0, masks=[5, 83, 32])), 10
@@ -218,8 +232,8 @@ def cut_at(at):
     if block == 0:
         return "number 2\n"
     words = (inside - 4) // 4
-    # no words or no whole records, or a chain that leads out of the message
-    return "number 5\n" if words == 0 or words % 4 != 0 else "number 8\n"
+    # no words or no whole records, or a chain that leads out of the message at the last record left
+    return "number 5\n" if words == 0 or words % 4 != 0 else "number 8 %d\n" % (words // 4 - 1)
 
 
 def cut():
@@ -380,7 +394,7 @@ def own_input():
 
 def main():
     rows = list(named()) + list(more_plans()) + list(cures()) + list(cut()) + list(counts()) + list(long_runs())
-    rows += [(name, data, "number %d\n" % number) for name, data, number in refused()]
+    rows += [(name, data, "number %s\n" % number) for name, data, number in refused()]
     tried = [(name, data, text, None) for name, data, text in rows]
     tried += [(name + ", byte by byte", data, text, 1) for name, data, text in named()]
     tried += [("%s, %d bytes a read" % (name, piece), data, text, piece) for name, data, text in long_runs() for piece in (1021, 4095, 4096)]

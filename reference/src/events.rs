@@ -8,7 +8,7 @@ use crate::desk::{self, DESK_WORDS};
 use crate::log::{self, Log, Position};
 use crate::mask;
 use crate::message::{self, Contents, Form, Triple, CUT, HOLDER, MEMBERS, TERMINATION};
-use crate::number::{self, refuse_if, Number};
+use crate::number::{self, refuse_if, Number, Refusal};
 use crate::placement::Placement;
 use crate::quorum::{Reports, Wait};
 use crate::settings::{self, Settings, SUBGROUPS};
@@ -54,7 +54,7 @@ pub fn report(
     state: &[u32],
     desk: &[u32],
     message: &[u32],
-) -> Result<(Vec<u32>, Vec<u32>), Number> {
+) -> Result<(Vec<u32>, Vec<u32>), Refusal> {
     let Opened {
         settings, state, ..
     } = open(settings, state, desk)?;
@@ -174,7 +174,7 @@ pub fn order(
     desk: &[u32],
     node: u32,
     buffer_words: usize,
-) -> Result<Vec<u32>, Number> {
+) -> Result<Vec<u32>, Refusal> {
     refuse_if(buffer_words != message::MOST_WORDS, number::LENT_LENGTH)?;
     let opened = open(settings, state, desk)?;
     refuse_if(opened.state.phase != Phase::Ordered, number::PHASE)?;

@@ -1,12 +1,14 @@
-//! Reports and orders (document 01, section "Messages").
+//! Reports and orders (document 01, section "Messages"; document 02, request
+//! Seven).
 //!
-//! Each row of document 01's table from 5 to 11 is one function here that says
-//! whether the row's condition holds. The rows are asked one after another over
-//! the whole message, so between two faults the row's place decides and not the
-//! place in the message.
+//! Each row of document 01's table from 5 to 11, with 16 and 17 after 9, is one
+//! function here that says whether the row's condition holds or, from 8 to 17,
+//! which record it holds of. The rows are asked one after another over the whole
+//! message, so between two faults the row's place decides and not the place in
+//! the message; within one row the first bad record on the chain speaks.
 
 use crate::mask;
-use crate::number::{self, refuse_if, Number};
+use crate::number::{self, refuse_at, refuse_if, Refusal};
 use crate::settings::{self, Settings};
 
 /// A message has at most this many records of four words.
@@ -112,20 +114,28 @@ impl Contents {
 }
 
 /// Reads a message, given as words.
-pub fn read(form: Form, settings: &[u32], message: &[u32]) -> Result<Contents, Number> {
+pub fn read(form: Form, settings: &[u32], message: &[u32]) -> Result<Contents, Refusal> {
     let settings = settings::parse(settings)?;
     read_with(form, &settings, message)
 }
 
-/// Reads a message under settings that are known to be good: rows 5 to 11.
-pub fn read_with(form: Form, settings: &Settings, message: &[u32]) -> Result<Contents, Number> {
+/// Reads a message under settings that are known to be good: rows 5 to 11. The
+/// index of a record is its place in the message, not on the chain.
+pub fn read_with(form: Form, settings: &Settings, message: &[u32]) -> Result<Contents, Refusal> {
     refuse_if(row_5_words(message.len()), number::LENGTH)?;
     let head = contents_of(message, &[0]);
     refuse_if(row_6(settings, head.node), number::NODE)?;
     refuse_if(row_7(form, settings, &head), number::VIEW)?;
-    refuse_if(row_8(message), number::NEXT)?;
-    let contents = contents_of(message, &chain(message));
-    refuse_if(row_9(form, settings, &contents), number::RECORD)?;
+    refuse_at(row_8(message), number::NEXT)?;
+    let chain = chain(message);
+    let contents = contents_of(message, &chain);
+    let index = |place: usize| chain[place];
+    refuse_at(row_9(form, &contents).map(index), number::KIND)?;
+    refuse_at(row_16(settings, &contents).map(index), number::SHARD_NUMBER)?;
+    refuse_at(
+        row_17(form, settings, &contents).map(index),
+        number::SEQUENCE,
+    )?;
     refuse_if(row_10_of(settings, &contents), number::SHARD)?;
     refuse_if(row_11(form, &contents), number::POSITION)?;
     Ok(contents)
@@ -138,23 +148,26 @@ pub fn write(
     settings: &[u32],
     contents: &Contents,
     buffer_words: usize,
-) -> Result<Vec<u32>, Number> {
+) -> Result<Vec<u32>, Refusal> {
     refuse_if(buffer_words != MOST_WORDS, number::LENT_LENGTH)?;
     let settings = settings::parse(settings)?;
     write_with(form, &settings, contents)
 }
 
 /// Writes contents under settings that are known to be good: rows 5 to 11.
-/// Row 8 cannot hold of what the writer makes.
+/// Row 8 cannot hold of what the writer makes. As the message would stand, the
+/// index of a record is its place on the chain.
 pub fn write_with(
     form: Form,
     settings: &Settings,
     contents: &Contents,
-) -> Result<Vec<u32>, Number> {
+) -> Result<Vec<u32>, Refusal> {
     refuse_if(row_5_needed(contents), number::LENGTH)?;
     refuse_if(row_6(settings, contents.node), number::NODE)?;
     refuse_if(row_7(form, settings, contents), number::VIEW)?;
-    refuse_if(row_9(form, settings, contents), number::RECORD)?;
+    refuse_at(row_9(form, contents), number::KIND)?;
+    refuse_at(row_16(settings, contents), number::SHARD_NUMBER)?;
+    refuse_at(row_17(form, settings, contents), number::SEQUENCE)?;
     refuse_if(row_10_of(settings, contents), number::SHARD)?;
     refuse_if(row_11(form, contents), number::POSITION)?;
     Ok(encode(contents))
@@ -233,26 +246,29 @@ pub fn row_7_view(form: Form, view: u32) -> bool {
     view < least || view > greatest
 }
 
-/// Row 8: the chain stops at a next index other than 0.
-pub fn row_8(message: &[u32]) -> bool {
+/// Row 8: the chain stops at a next index other than 0. Gives the index of the
+/// record that names it.
+pub fn row_8(message: &[u32]) -> Option<usize> {
     let last = chain(message).into_iter().max().unwrap_or(0);
-    message[4 * last + 3] != 0
+    (message[4 * last + 3] != 0).then_some(last)
 }
 
-/// Row 9: kind, shard, order, missing or surplus record, or word 2 not zero.
-pub fn row_9(form: Form, settings: &Settings, contents: &Contents) -> bool {
-    let records = &contents.records;
-    records.iter().any(|&record| bad_kind(form, record))
-        || records.iter().any(|&record| bad_word_2(record))
-        || records
-            .iter()
-            .any(|record| record.shard() >= settings.shards)
-        || records
-            .windows(2)
-            .any(|pair| pair[0].key() >= pair[1].key())
-        || lacks_members(settings, contents)
-        || bad_termination(form, settings, contents)
-        || (form == Form::Order && bad_carried(settings, contents))
+/// The place on the chain of the first record that is bad. The head has place 0.
+fn first_bad(contents: &Contents, bad: impl Fn(Triple) -> bool) -> Option<usize> {
+    let bad = |&record: &Triple| bad(record);
+    contents
+        .records
+        .iter()
+        .position(bad)
+        .map(|before| before + 1)
+}
+
+/// Row 9: a kind that the message cannot have, or a word 2 that should be zero.
+/// This and the next two give a place on the chain.
+pub fn row_9(form: Form, contents: &Contents) -> Option<usize> {
+    first_bad(contents, |record| {
+        bad_kind(form, record) || bad_word_2(record)
+    })
 }
 
 fn bad_kind(form: Form, record: Triple) -> bool {
@@ -264,29 +280,62 @@ fn bad_word_2(record: Triple) -> bool {
     (record.kind() == MEMBERS || record.kind() == HOLDER) && record.word2 != 0
 }
 
+/// Number 16: a shard from S up.
+pub fn row_16(settings: &Settings, contents: &Contents) -> Option<usize> {
+    first_bad(contents, |record| record.shard() >= settings.shards)
+}
+
+/// Number 17: wrong sequence, a repeat or a surplus record, at that record; or
+/// a missing record, at the last one on the chain. No record comes after the
+/// last, so those of the first kind are asked first.
+pub fn row_17(form: Form, settings: &Settings, contents: &Contents) -> Option<usize> {
+    let last = contents.records.len();
+    let bad = |&place: &usize| out_of_sequence(contents, place) || surplus(contents, place);
+    let missing = lacks_members(settings, contents)
+        || lacks_termination(form, settings, contents)
+        || form == Form::Order && lacks_carried(settings, contents);
+    (1..=last).find(bad).or(missing.then_some(last))
+}
+
+/// The record does not come after the one before it: by kind, then shard, then
+/// a run's view. A repeat is out of sequence too.
+pub fn out_of_sequence(contents: &Contents, place: usize) -> bool {
+    let records = &contents.records;
+    place >= 2 && records[place - 2].key() >= records[place - 1].key()
+}
+
+/// A kind 4 or 5 is surplus unless a kind 1 before it gives the recipient that
+/// shard.
+pub fn surplus(contents: &Contents, place: usize) -> bool {
+    let record = contents.records[place - 1];
+    let gives = |before: &Triple| {
+        before.kind() == MEMBERS
+            && before.shard() == record.shard()
+            && mask::has(before.word1, contents.node)
+    };
+    let carried = contents.records[..place - 1].iter().any(gives);
+    matches!(record.kind(), HOLDER | CUT) && !carried
+}
+
 /// Kind 1: one for each shard.
 fn lacks_members(settings: &Settings, contents: &Contents) -> bool {
     (0..settings.shards).any(|shard| contents.find(MEMBERS, shard).is_none())
 }
 
-/// Kind 2: for every shard or for none; in an order for every shard. Without
-/// repeats, the number of records tells.
-fn bad_termination(form: Form, settings: &Settings, contents: &Contents) -> bool {
-    let records = contents.of_kind(TERMINATION).len();
-    let complete = records == settings.shards as usize;
-    match form {
-        Form::Report => !complete && records != 0,
-        Form::Order => !complete,
-    }
+/// Kind 2: for every shard or for none; in an order for every shard. Kind 2 for
+/// only some shards means that the others are missing.
+fn lacks_termination(form: Form, settings: &Settings, contents: &Contents) -> bool {
+    let lacks = |shard: u32| contents.find(TERMINATION, shard).is_none();
+    let wanted = form == Form::Order || !contents.of_kind(TERMINATION).is_empty();
+    wanted && (0..settings.shards).any(lacks)
 }
 
-/// Kinds 4 and 5: for exactly the shards that the recipient carries.
-fn bad_carried(settings: &Settings, contents: &Contents) -> bool {
+/// Kinds 4 and 5: one for each shard that the recipient carries.
+fn lacks_carried(settings: &Settings, contents: &Contents) -> bool {
     (0..settings.shards).any(|shard| {
         let carries = mask::has(contents.shard_mask(shard), contents.node);
-        let has_holder = contents.find(HOLDER, shard).is_some();
-        let has_cut = contents.find(CUT, shard).is_some();
-        has_holder != carries || has_cut != carries
+        let has = |kind| contents.find(kind, shard).is_some();
+        carries && !(has(HOLDER) && has(CUT))
     })
 }
 

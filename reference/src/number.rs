@@ -1,8 +1,46 @@
-//! The numbers of document 01, section "Numbers and their places".
+//! The numbers of document 01, section "Numbers and their places", and of
+//! document 02.
 
-/// A refusal: the number of the first row whose condition holds.
+use std::fmt;
+
+/// The number of the first row whose condition holds.
 #[derive(Clone, Copy, Debug, PartialEq, Eq)]
 pub struct Number(pub u32);
+
+/// A refusal: its number and, with 8, 9, 16 and 17, the index of the record
+/// looked at (document 02, request Seven).
+#[derive(Clone, Copy, Debug, PartialEq, Eq)]
+pub struct Refusal {
+    pub number: Number,
+    pub index: Option<u32>,
+}
+
+impl Refusal {
+    /// The answer to a C caller: the number + 256 times the index.
+    pub fn word(self) -> u32 {
+        self.number.0 + 256 * self.index.unwrap_or(0)
+    }
+}
+
+impl From<Number> for Refusal {
+    fn from(number: Number) -> Refusal {
+        Refusal {
+            number,
+            index: None,
+        }
+    }
+}
+
+impl fmt::Display for Refusal {
+    /// What `restart` prints: the index after the number, if there is one.
+    fn fmt(&self, f: &mut fmt::Formatter) -> fmt::Result {
+        write!(f, "number {}", self.number.0)?;
+        match self.index {
+            Some(index) => write!(f, " {index}"),
+            None => Ok(()),
+        }
+    }
+}
 
 /// Row 1: the desk or a buffer to be written has the wrong length.
 pub const LENT_LENGTH: Number = Number(1);
@@ -20,8 +58,13 @@ pub const NODE: Number = Number(6);
 pub const VIEW: Number = Number(7);
 /// Row 8: a next index.
 pub const NEXT: Number = Number(8);
-/// Row 9: kind, shard, order, a missing or surplus record, or word 2.
-pub const RECORD: Number = Number(9);
+/// Row 9: a kind that the message cannot have, or a word 2 that should be zero.
+pub const KIND: Number = Number(9);
+/// Request Seven, after row 9: a shard from S up.
+pub const SHARD_NUMBER: Number = Number(16);
+/// Request Seven, after 16: wrong sequence, a repeat, a missing or a surplus
+/// record.
+pub const SEQUENCE: Number = Number(17);
 /// Row 10: a shard's members mask.
 pub const SHARD: Number = Number(10);
 /// Row 11: a position, a run or a holder.
@@ -43,5 +86,16 @@ pub fn refuse_if(bad: bool, number: Number) -> Result<(), Number> {
         Err(number)
     } else {
         Ok(())
+    }
+}
+
+/// Refuses with `number` at a record, if there is a bad one.
+pub fn refuse_at(index: Option<usize>, number: Number) -> Result<(), Refusal> {
+    match index {
+        None => Ok(()),
+        Some(index) => Err(Refusal {
+            number,
+            index: Some(index as u32),
+        }),
     }
 }

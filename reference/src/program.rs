@@ -4,7 +4,7 @@
 use crate::desk::DESK_WORDS;
 use crate::events::{self, Decision};
 use crate::mask;
-use crate::number::Number;
+use crate::number::Refusal;
 use crate::quorum::Wait;
 use crate::settings::{self, Settings};
 use crate::state::{self, Plan, State};
@@ -39,7 +39,7 @@ pub struct Ended {
 /// What is printed for this standard input.
 pub fn run(input: &[u8]) -> String {
     match decide(input) {
-        Err(Number(number)) => format!("number {number}\n"),
+        Err(refusal) => format!("{refusal}\n"),
         Ok(ended) => match (ended.decision, &ended.state.plan) {
             (Decision::Wait(wait), _) => wait_line(wait),
             (Decision::Plan, plan) => plan_lines(plan.as_ref().expect("decide leaves a plan")),
@@ -48,7 +48,7 @@ pub fn run(input: &[u8]) -> String {
 }
 
 /// Reports all messages from the fresh state and decides after the last block.
-pub fn decide(input: &[u8]) -> Result<Ended, Number> {
+pub fn decide(input: &[u8]) -> Result<Ended, Refusal> {
     let mut blocks = Blocks { left: input };
     let words = blocks.next().unwrap_or_default();
     let mut state = state::encode(&state::fresh());

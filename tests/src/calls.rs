@@ -6,7 +6,7 @@ use crate::library::{Answer, Planner, ACCEPTED, PLAN, WAIT};
 use reference::desk::DESK_WORDS;
 use reference::events::{self, Decision};
 use reference::message::MOST_WORDS;
-use reference::number::{self, Number};
+use reference::number::{self, Refusal};
 use reference::settings::{self, Settings, SUBGROUPS};
 use reference::state::{self, State, STATE_WORDS};
 use reference::{placement::Subgroup, words};
@@ -112,8 +112,8 @@ pub fn wait_word(reason: u32, value: Option<u32>) -> u32 {
 /// What the reference says of a call.
 pub fn expected(asked: &Asked) -> Outcome {
     let mut outcome = Outcome::unchanged(asked, 0);
-    if let Err(Number(number)) = put_expected(asked, &mut outcome) {
-        outcome.answer = number;
+    if let Err(refusal) = put_expected(asked, &mut outcome) {
+        outcome.answer = refusal.word();
     }
     outcome
 }
@@ -124,7 +124,7 @@ fn whole(bytes: &[u8]) -> Vec<u32> {
     words::from_bytes(bytes).unwrap_or_default()
 }
 
-fn put_expected(asked: &Asked, outcome: &mut Outcome) -> Result<(), Number> {
+fn put_expected(asked: &Asked, outcome: &mut Outcome) -> Result<(), Refusal> {
     if asked.kind == Kind::Fresh {
         number::refuse_if(asked.table.state.len() != STATE_BYTES, number::STATE)?;
         outcome.state = words::to_bytes(&state::encode(&state::fresh()));
@@ -134,7 +134,7 @@ fn put_expected(asked: &Asked, outcome: &mut Outcome) -> Result<(), Number> {
     let state = &whole(&asked.table.state);
     let desk = &whole(&asked.table.desk);
     let next = match asked.kind {
-        Kind::CheckState => return events::check(settings, state, desk),
+        Kind::CheckState => return Ok(events::check(settings, state, desk)?),
         Kind::Report => {
             let message = whole(&asked.message);
             let (state, desk) = events::report(settings, state, desk, &message)?;

@@ -3,6 +3,7 @@
 
 use crate::generate;
 use crate::random::Random;
+use crate::records::chain;
 use reference::mask;
 use reference::message::{Contents, Form, Triple, CUT, HOLDER, MEMBERS, RUN, TERMINATION};
 use reference::settings::Settings;
@@ -33,7 +34,7 @@ pub fn settings(random: &mut Random, words: &mut Vec<u32>) {
 
 /// Damages contents.
 pub fn contents(random: &mut Random, form: Form, settings: &Settings, contents: &mut Contents) {
-    match random.between(0, 21) {
+    match random.between(0, 25) {
         0 => head_node(random, settings, contents),
         1 => head_view(random, contents),
         2 => head_members(random, settings, contents),
@@ -48,7 +49,23 @@ pub fn contents(random: &mut Random, form: Form, settings: &Settings, contents: 
         16 | 17 => position(random, form, contents),
         18 | 19 => run(random, contents),
         20 => holder(random, settings, contents),
+        21..=24 => record(random, form, settings, contents),
         _ => any_word(random, contents),
+    }
+}
+
+/// Damages a record so that numbers 9, 16 or 17 tell of it.
+pub fn record(random: &mut Random, form: Form, settings: &Settings, contents: &mut Contents) {
+    match random.between(0, 10) {
+        0 => kind(random, contents),
+        1 => word_2(random, contents),
+        2 | 3 => outside(random, settings, contents),
+        4 => swap(random, contents),
+        5 => repeat(random, contents),
+        6 => surplus(random, settings, contents),
+        7 | 8 if form == Form::Order => early(random, contents),
+        9 => cut_short(random, contents),
+        _ => remove(random, contents),
     }
 }
 
@@ -127,6 +144,35 @@ fn shard(random: &mut Random, settings: &Settings, contents: &mut Contents) {
         let other = random.pick(&[settings.shards, 255, settings.shards - 1, any]);
         record.word0 = record.kind() * 256 + other;
     }
+}
+
+/// A shard from S up.
+fn outside(random: &mut Random, settings: &Settings, contents: &mut Contents) {
+    if let Some(index) = some_index(random, contents) {
+        let record = &mut contents.records[index];
+        let next = settings.shards;
+        record.word0 = record.kind() * 256 + random.pick(&[next, next, next + 1, 16, 255]);
+    }
+}
+
+/// A holder or a cut before the masks, all of them or some.
+fn early(random: &mut Random, contents: &mut Contents) {
+    let carried = |record: &Triple| matches!(record.kind(), HOLDER | CUT);
+    let masks = contents.of_kind(MEMBERS).len().max(1);
+    if let Some(from) = contents.records.iter().position(carried) {
+        let moved = contents
+            .records
+            .remove(random.pick(&[from, contents.records.len() - 1]));
+        let between = random.below(masks);
+        let place = random.pick(&[0, between, between]);
+        contents.records.insert(place, moved);
+    }
+}
+
+/// The chain ends too early, now and then at the head.
+fn cut_short(random: &mut Random, contents: &mut Contents) {
+    let length = random.below(contents.records.len() + 1);
+    contents.records.truncate(random.pick(&[0, length, length]));
 }
 
 fn swap(random: &mut Random, contents: &mut Contents) {
@@ -304,20 +350,6 @@ pub fn next_index(random: &mut Random, words: &mut [u32]) {
         127,
     ];
     words[4 * index + 3] = random.pick(&choices);
-}
-
-/// The records on the chain, as far as it can be followed.
-fn chain(words: &[u32]) -> Vec<usize> {
-    let mut chain = vec![0];
-    let mut index = 0;
-    loop {
-        let next = words[4 * index + 3] as usize;
-        if next <= index || next >= words.len() / 4 {
-            return chain;
-        }
-        chain.push(next);
-        index = next;
-    }
 }
 
 /// Damages a word anywhere.

@@ -2,7 +2,7 @@
 
 use crate::library::ACCEPTED;
 use reference::message::{self, Contents, Form, Triple};
-use reference::number::{self, refuse_if, Number};
+use reference::number::{self, refuse_if, Number, Refusal};
 use reference::{settings, words};
 
 /// A buffer to be written, in bytes.
@@ -34,7 +34,7 @@ fn read_words(
     settings: &[u8],
     message: &[u8],
     buffer: usize,
-) -> Result<Vec<u32>, Number> {
+) -> Result<Vec<u32>, Refusal> {
     refuse_if(buffer != BUFFER_BYTES, number::LENT_LENGTH)?;
     let settings = parse_settings(settings)?;
     let message = words::from_bytes(message).ok_or(number::LENGTH)?;
@@ -52,7 +52,7 @@ fn write_words(
     settings: &[u8],
     contents: &[u8],
     buffer: usize,
-) -> Result<Vec<u32>, Number> {
+) -> Result<Vec<u32>, Refusal> {
     refuse_if(buffer != BUFFER_BYTES, number::LENT_LENGTH)?;
     let settings = parse_settings(settings)?;
     let words = words::from_bytes(contents).ok_or(number::LENGTH)?;
@@ -66,7 +66,7 @@ fn parse_settings(bytes: &[u8]) -> Result<settings::Settings, Number> {
 }
 
 /// The answer and the whole buffer: the words, then zeros.
-fn outcome(result: Result<Vec<u32>, Number>) -> Expected {
+fn outcome(result: Result<Vec<u32>, Refusal>) -> Expected {
     match result {
         Ok(written) => Expected {
             answer: ACCEPTED + written.len() as u32,
@@ -75,8 +75,8 @@ fn outcome(result: Result<Vec<u32>, Number>) -> Expected {
                 message::MOST_WORDS,
             ))),
         },
-        Err(Number(number)) => Expected {
-            answer: number,
+        Err(refusal) => Expected {
+            answer: refusal.word(),
             output: None,
         },
     }

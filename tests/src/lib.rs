@@ -7,6 +7,7 @@
 //! - `mock`: a stand-in for the library, made of the reference
 //! - `generate`: settings and valid messages of all shapes
 //! - `damage`: faults put into them
+//! - `records`: what a refusal with a record's index was about
 //! - `messages`: the inputs of the `messages` program and their comparison
 //! - `world`: groups whose nodes report
 //! - `sequences`: events that a state's phase takes
@@ -37,6 +38,7 @@ pub mod mondays;
 pub mod moves;
 pub mod random;
 pub mod recorder;
+pub mod records;
 pub mod regressions;
 pub mod runs;
 pub mod sequences;

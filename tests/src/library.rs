@@ -13,6 +13,9 @@ pub const PLAN: u32 = 2 * ACCEPTED;
 /// Added to 256 times the reason of a wait and to its shard or subgroup.
 pub const WAIT: u32 = 3 * ACCEPTED;
 
+/// The numbers that have the index of a record, which lies below 128.
+pub const LOCATED: [u32; 4] = [8, 9, 16, 17];
+
 /// What an answer word says.
 #[derive(Clone, Copy, Debug, PartialEq, Eq, PartialOrd, Ord)]
 pub enum Answer {
@@ -23,6 +26,8 @@ pub enum Answer {
     /// The reason, and its shard or subgroup or 0.
     Wait(u32, u32),
     Number(u32),
+    /// A number that has the index of a record.
+    Located(u32, u32),
     /// No answer has this word.
     Other(u32),
 }
@@ -32,6 +37,9 @@ impl Answer {
         let rest = word % ACCEPTED;
         match word / ACCEPTED {
             0 if rest == 0 => Answer::Accepted,
+            0 if LOCATED.contains(&(rest % 256)) && rest / 256 < 128 => {
+                Answer::Located(rest % 256, rest / 256)
+            }
             0 if rest < 256 => Answer::Number(rest),
             1 => Answer::Length(rest),
             2 if rest == 0 => Answer::Plan,
@@ -41,7 +49,18 @@ impl Answer {
     }
 
     pub fn refused(self) -> bool {
-        matches!(self, Answer::Number(_) | Answer::Other(_))
+        matches!(
+            self,
+            Answer::Number(_) | Answer::Located(_, _) | Answer::Other(_)
+        )
+    }
+
+    /// The number of a refusal.
+    pub fn number(self) -> Option<u32> {
+        match self {
+            Answer::Number(number) | Answer::Located(number, _) => Some(number),
+            _ => None,
+        }
     }
 }
 
@@ -55,6 +74,7 @@ impl fmt::Display for Answer {
             Answer::Wait(reason, 0) => write!(f, "wait {reason}"),
             Answer::Wait(reason, value) => write!(f, "wait {reason} with value {value}"),
             Answer::Number(number) => write!(f, "number {number}"),
+            Answer::Located(number, index) => write!(f, "number {number} {index}"),
             Answer::Other(word) => write!(f, "word {word}"),
         }
     }
@@ -275,7 +295,12 @@ mod tests {
         let words = [
             (0, "accepted"),
             (14, "number 14"),
-            (9 + 256 * 3, "word 777"),
+            (9 + 256 * 3, "number 9 3"),
+            (17, "number 17 0"),
+            (8 + 256 * 127, "number 8 127"),
+            (16 + 256 * 128, "word 32784"),
+            (10 + 256, "word 266"),
+            (256, "word 256"),
             (16_777_216 + 60, "length 60"),
             (33_554_432, "plan"),
             (33_554_433, "word 33554433"),

@@ -2,9 +2,9 @@
 
 use crate::expected::{self, Expected, BUFFER_BYTES};
 use crate::lent::{Lent, Place};
-use crate::library::{Convert, Library, ACCEPTED};
+use crate::library::{Answer, Convert, Library, ACCEPTED};
 use crate::random::Random;
-use crate::{damage, generate};
+use crate::{damage, generate, records};
 use reference::message::Form;
 use reference::{settings, words};
 
@@ -164,6 +164,19 @@ fn given_words(random: &mut Random, call: Call, words: &[u32]) -> Vec<u32> {
     words
 }
 
+/// What a refusal with the index of a record was about; none for other answers.
+pub fn looked_at(input: &Input, answer: u32) -> Option<String> {
+    let Answer::Located(number, index) = Answer::of(answer) else {
+        return None;
+    };
+    let (form, given) = (input.call.form(), words::whole_words(&input.given));
+    if input.call.reads() {
+        return Some(records::of_message(form, &given, number, index));
+    }
+    let contents = expected::words_contents(&given)?;
+    Some(records::of_contents(form, &contents, number, index))
+}
+
 /// The pages from which an input's memory is lent.
 pub struct Desk {
     settings: Lent,
@@ -196,8 +209,9 @@ pub fn compare(library: &Library, desk: &mut Desk, input: &Input) -> Result<u32,
     let (answer, after) = call(library, desk, input)?;
     if answer != expected.answer {
         return Err(format!(
-            "answer {answer}, the reference says {}",
-            expected.answer
+            "the answer is {}, the reference says {}",
+            Answer::of(answer),
+            Answer::of(expected.answer)
         ));
     }
     let accepted = expected.output.is_some();

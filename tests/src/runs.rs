@@ -131,7 +131,7 @@ pub fn compare(input: &[u8], printed: &str) -> Result<Ending, String> {
     let ended = program::decide(input);
     if printed == expected {
         return Ok(match ended {
-            Err(number) => Ending::Number(number.0),
+            Err(refusal) => Ending::Number(refusal.number.0),
             Ok(ended) if ended.state.plan.is_some() => Ending::FirstPlan,
             Ok(_) => Ending::Wait(reason(&expected)),
         });
@@ -223,6 +223,29 @@ mod tests {
         let text =
             format!("view 6\nmoves {moves}\nshard 0 holder 3 target 0 0 members {members}\n");
         compare(&input(), &text)
+    }
+
+    /// An index is printed after its number, 0 too.
+    #[test]
+    fn the_index_of_a_record() {
+        let settings = [4, 4, 1, 1, 0, 1, 2, 3, 2];
+        let said = |message: &[u32], text: &str| {
+            let mut all = vec![settings.len() as u32];
+            all.extend(settings);
+            all.push(message.len() as u32);
+            all.extend(message);
+            compare(&words::to_bytes(&all), text)
+        };
+        let head = [0, 5, 15, 0];
+        assert_eq!(said(&head, "number 17 0\n"), Ok(Ending::Number(17)));
+        assert!(said(&head, "number 17\n").is_err());
+        assert!(said(&head, "number 17 1\n").is_err());
+        let run = [0, 5, 15, 1, 256, 8, 0, 2, 769, 1, 1, 0];
+        assert_eq!(said(&run, "number 16 2\n"), Ok(Ending::Number(16)));
+        assert!(said(&run, "number 16\n").is_err());
+        let view = [0, 0, 15, 1];
+        assert_eq!(said(&view, "number 7\n"), Ok(Ending::Number(7)));
+        assert!(said(&view, "number 7 0\n").is_err());
     }
 
     #[test]

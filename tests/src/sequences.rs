@@ -4,7 +4,7 @@ use crate::random::Random;
 use crate::world::World;
 use reference::events::{self, Decision};
 use reference::mask;
-use reference::number::Number;
+use reference::number::Refusal;
 use reference::state::{self, Phase, State};
 
 #[derive(Clone, Debug)]
@@ -46,7 +46,7 @@ impl Table {
     }
 
     /// The reference's next table and what is given, or its number.
-    pub fn after(&self, event: &Event) -> Result<(Table, Given), Number> {
+    pub fn after(&self, event: &Event) -> Result<(Table, Given), Refusal> {
         let (settings, state, desk) = (&self.settings, &self.state, &self.desk);
         let mut next = self.clone();
         let mut given = Given::Nothing;

@@ -3,6 +3,7 @@
 
 use crate::calls::{Asked, Kind, Outcome};
 use crate::library::Answer;
+use crate::records;
 use reference::log::{Log, Position, START};
 use reference::message::{self, Contents, Form, CUT, HOLDER, TERMINATION};
 use reference::settings::{self, Settings};
@@ -10,7 +11,7 @@ use reference::state::{self, Phase, Plan, State, View};
 use reference::{desk, mask, words};
 
 /// Every situation that enough sequences must come to.
-pub const ALL: [&str; 58] = [
+pub const ALL: [&str; 71] = [
     "report: the first",
     "report: a greater view",
     "report: a greater view without termination takes the kept one away",
@@ -27,6 +28,19 @@ pub const ALL: [&str; 58] = [
     "report: records off the chain",
     "report: of 512 words",
     "report: of node 31",
+    "report: number 8 at the head",
+    "report: number 8 in line",
+    "report: number 8 behind a gap",
+    "report: number 9 in line",
+    "report: number 9 behind a gap",
+    "report: number 16 in line",
+    "report: number 16 behind a gap",
+    "report: number 17 sequence in line",
+    "report: number 17 repeat in line",
+    "report: number 17 sequence behind a gap",
+    "report: number 17 missing at the head",
+    "report: number 17 missing in line",
+    "report: number 17 missing behind a gap",
     "drop: in gathering",
     "drop: in gathering, the last held",
     "drop: while ordered",
@@ -95,7 +109,13 @@ pub fn of(asked: &Asked, outcome: &Outcome) -> Vec<&'static str> {
     };
     match (asked.kind, outcome.answer()) {
         (kind, Answer::Number(14)) => refused_node(&mut names, kind, &before, asked.node),
-        (_, Answer::Number(_)) => {}
+        (Kind::Report, Answer::Located(number, index)) => {
+            let message = whole(&asked.message);
+            let looked_at = records::of_message(Form::Report, &message, number, index);
+            let name = format!("report: number {looked_at}");
+            names.0.extend(ALL.iter().find(|other| **other == name));
+        }
+        (_, Answer::Number(_) | Answer::Located(_, _)) => {}
         (Kind::Report, _) => report(&mut names, &settings, asked, &before),
         (Kind::Drop, _) => dropped(&mut names, &before, &after),
         (Kind::Decide, Answer::Plan) => plan(&mut names, &settings, asked, &after),

@@ -23,12 +23,15 @@ pub struct Tally {
     faults: BTreeMap<&'static str, (u64, u64)>,
 }
 
-/// The answers that a call has, without lengths and values.
+/// The answers that a call has, without lengths, values and indexes.
 fn wanted(kind: Kind) -> Vec<String> {
     let (good, numbers): (&[&str], &[u32]) = match kind {
         Kind::Fresh => (&["accepted"], &[3]),
         Kind::CheckState => (&["accepted"], &[1, 2, 3]),
-        Kind::Report => (&["accepted"], &[1, 2, 3, 4, 5, 6, 7, 8, 9, 10, 11, 12, 13]),
+        Kind::Report => (
+            &["accepted"],
+            &[1, 2, 3, 4, 5, 6, 7, 8, 9, 10, 11, 12, 13, 16, 17],
+        ),
         Kind::Decide => (
             &["plan", "wait 1", "wait 2", "wait 3", "wait 4", "wait 5"],
             &[1, 2, 3, 4],
@@ -41,10 +44,11 @@ fn wanted(kind: Kind) -> Vec<String> {
     good.chain(numbers).collect()
 }
 
-/// An answer without its length and value.
+/// An answer without its length, value and index.
 fn class(answer: Answer) -> String {
     match answer {
         Answer::Length(_) => "length".into(),
+        Answer::Located(number, _) => format!("number {number}"),
         Answer::Wait(reason, _) => format!("wait {reason}"),
         other => other.to_string(),
     }

@@ -241,6 +241,9 @@ impl World {
         if random.chance(11) {
             damage::contents(random, Form::Report, &self.settings, &mut report);
         }
+        if random.chance(5) {
+            damage::record(random, Form::Report, &self.settings, &mut report);
+        }
         let mut words = generate::message(random, &report);
         if random.chance(2) {
             damage::next_index(random, &mut words);

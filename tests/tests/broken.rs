@@ -3,10 +3,12 @@
 
 use differential::expected::{self, Expected, BUFFER_BYTES};
 use differential::lent::Place;
-use differential::library::{Library, ACCEPTED};
+use differential::library::{Answer, Library, ACCEPTED};
 use differential::messages::{self, Call, Desk};
 use differential::mock::{self, Behaviour, Faithful};
-use reference::message::{self, Contents, Form, HOLDER, RUN, TERMINATION};
+use differential::records;
+use reference::message::{self, Contents, Form, HOLDER, MEMBERS, RUN, TERMINATION};
+use reference::settings::{self, Settings};
 use reference::words;
 
 const SEED: u64 = 20_261_115;
@@ -82,7 +84,8 @@ fn write_laxer(
     cure(&mut cured);
     let cured = words::to_bytes(&expected::contents_words(&cured));
     let cured = expected::write(form, settings, &cured, BUFFER_BYTES);
-    if faithful.answer != number || cured.output.is_none() {
+    let refused = Answer::of(faithful.answer).number() == Some(number);
+    if !refused || cured.output.is_none() {
         return faithful;
     }
     let written = message::encode(&contents);
@@ -100,7 +103,7 @@ impl Behaviour for EqualRunViews {
         if buffer != BUFFER_BYTES {
             return refusal(1);
         }
-        write_laxer(form, settings, contents, 9, |contents| {
+        write_laxer(form, settings, contents, 17, |contents| {
             contents
                 .records
                 .dedup_by(|a, b| a.kind() == RUN && a.word0 == b.word0 && a.word1 == b.word1)
@@ -121,7 +124,7 @@ impl Behaviour for PartTermination {
         if buffer != BUFFER_BYTES {
             return refusal(1);
         }
-        write_laxer(form, settings, contents, 9, |contents| {
+        write_laxer(form, settings, contents, 17, |contents| {
             contents
                 .records
                 .retain(|record| record.kind() != TERMINATION)
@@ -235,7 +238,8 @@ impl Behaviour for KindBeforeNext {
         let words = words::whole_words(message);
         let second = words.get(3).map_or(0, |&next| next as usize);
         let word0 = words.get(second.saturating_mul(4)).copied();
-        if expected.answer == 8 && second != 0 && word0.is_some_and(|word| word / 256 != 1) {
+        let refused = Answer::of(expected.answer).number() == Some(8);
+        if refused && second != 0 && word0.is_some_and(|word| word / 256 != 1) {
             return refusal(9);
         }
         expected
@@ -374,6 +378,428 @@ fn a_changed_input() {
     assert_eq!(what, "an input was changed");
 }
 
+/// What a stand-in with a fault of request Seven looks at: the records of the
+/// chain with their indexes, and the answer.
+struct Looked {
+    form: Form,
+    settings: Settings,
+    contents: Contents,
+    /// The index of each record on the chain.
+    chain: Vec<usize>,
+    number: u32,
+    index: u32,
+}
+
+impl Looked {
+    /// The same number at the record with this place on the chain.
+    fn at(&self, place: usize) -> u32 {
+        self.told(self.number, place)
+    }
+
+    fn told(&self, number: u32, place: usize) -> u32 {
+        number + 256 * self.chain[place] as u32
+    }
+
+    /// The place of the record that the answer names.
+    fn place(&self) -> usize {
+        let place = self
+            .chain
+            .iter()
+            .position(|&index| index == self.index as usize);
+        place.expect("a record on the chain")
+    }
+
+    fn last(&self) -> usize {
+        self.chain.len() - 1
+    }
+
+    /// The place of the first record that is bad.
+    fn first(&self, bad: impl Fn(usize) -> bool) -> Option<usize> {
+        (1..=self.last()).find(|&place| bad(place))
+    }
+
+    fn record(&self, place: usize) -> message::Triple {
+        self.contents.records[place - 1]
+    }
+
+    fn row_16(&self) -> Option<usize> {
+        message::row_16(&self.settings, &self.contents)
+    }
+
+    fn row_17(&self) -> Option<usize> {
+        message::row_17(self.form, &self.settings, &self.contents)
+    }
+
+    /// Number 17 for a record that is missing.
+    fn missing(&self) -> bool {
+        let place = self.place();
+        let wrong = place > 0
+            && (message::out_of_sequence(&self.contents, place)
+                || message::surplus(&self.contents, place));
+        self.number == 17 && !wrong
+    }
+}
+
+/// Gives another answer for a refusal with the index of a record.
+fn told_otherwise(
+    form: Form,
+    settings: &[u8],
+    expected: Expected,
+    chain: Vec<usize>,
+    contents: Contents,
+    told: fn(&Looked) -> u32,
+) -> Expected {
+    match Answer::of(expected.answer) {
+        Answer::Located(number, index) => refusal(told(&Looked {
+            form,
+            settings: settings::parse(&words::whole_words(settings)).expect("good settings"),
+            contents,
+            chain,
+            number,
+            index,
+        })),
+        _ => expected,
+    }
+}
+
+/// Defines a stand-in that tells a refusal with an index otherwise, in reading
+/// and in writing.
+macro_rules! told {
+    ($(#[$text:meta])* $name:ident, $test:ident, $told:expr) => {
+        $(#[$text])*
+        struct $name;
+
+        impl Behaviour for $name {
+            fn read(form: Form, settings: &[u8], message: &[u8], buffer: usize) -> Expected {
+                let expected = expected::read(form, settings, message, buffer);
+                if !matches!(Answer::of(expected.answer), Answer::Located(_, _)) {
+                    return expected;
+                }
+                let words = words::whole_words(message);
+                let chain = records::chain(&words);
+                let contents = records::on_chain(&words, &chain);
+                told_otherwise(form, settings, expected, chain, contents, $told)
+            }
+
+            fn write(form: Form, settings: &[u8], contents: &[u8], buffer: usize) -> Expected {
+                let expected = expected::write(form, settings, contents, buffer);
+                if !matches!(Answer::of(expected.answer), Answer::Located(_, _)) {
+                    return expected;
+                }
+                let words = words::whole_words(contents);
+                let contents = expected::words_contents(&words).expect("contents");
+                let chain = (0..=contents.records.len()).collect();
+                told_otherwise(form, settings, expected, chain, contents, $told)
+            }
+        }
+
+        #[test]
+        fn $test() {
+            assert_found::<$name>();
+        }
+    };
+}
+
+told!(
+    /// Gives the place on the chain for the index in the message.
+    PlaceForIndex,
+    a_place_on_the_chain_for_an_index,
+    |looked| looked.number + 256 * looked.place() as u32
+);
+
+told!(
+    /// Counts records from the first after the head.
+    HeadNotCounted,
+    records_counted_without_the_head,
+    |looked| looked.number + 256 * looked.index.saturating_sub(1)
+);
+
+told!(
+    /// Gives no index.
+    NoIndex,
+    a_number_without_its_index,
+    |looked| looked.number
+);
+
+told!(
+    /// Tells kind, shard and sequence as one, as document 01 does.
+    OneNine,
+    kind_shard_and_sequence_as_one,
+    |looked| match looked.number {
+        16 | 17 => 9 + 256 * looked.index,
+        number => number + 256 * looked.index,
+    }
+);
+
+told!(
+    /// Tells a shard from S up as a wrong kind.
+    ShardAsKind,
+    a_shard_told_as_a_kind,
+    |looked| match looked.number {
+        16 => 9 + 256 * looked.index,
+        number => number + 256 * looked.index,
+    }
+);
+
+told!(
+    /// Names the earlier record of a pair out of sequence.
+    EarlierOfPair,
+    the_earlier_record_of_a_pair,
+    |looked| {
+        let place = looked.place();
+        match looked.number {
+            17 if place > 0 && message::out_of_sequence(&looked.contents, place) => {
+                looked.at(place - 1)
+            }
+            _ => looked.at(place),
+        }
+    }
+);
+
+told!(
+    /// Names the head for a missing record.
+    MissingAtHead,
+    a_missing_record_told_at_the_head,
+    |looked| looked.at(if looked.missing() { 0 } else { looked.place() })
+);
+
+told!(
+    /// Names the last mask for a missing mask.
+    MissingAtMasks,
+    a_missing_mask_told_at_the_last_mask,
+    |looked| {
+        let masks = looked.contents.of_kind(MEMBERS).len();
+        let lacks = masks < looked.settings.shards as usize;
+        looked.at(if looked.missing() && lacks { masks } else { looked.place() })
+    }
+);
+
+told!(
+    /// Names the last kind 2 where others are missing.
+    PartAtTermination,
+    a_part_of_a_termination_told_at_its_end,
+    |looked| {
+        let is_position = |place: usize| looked.record(place).kind() == TERMINATION;
+        let last = (1..=looked.last()).rfind(|&place| is_position(place));
+        let part = looked.contents.of_kind(TERMINATION).len();
+        let lacks = part > 0 && part < looked.settings.shards as usize;
+        match last {
+            Some(last) if looked.missing() && lacks => looked.at(last),
+            _ => looked.at(looked.place()),
+        }
+    }
+);
+
+told!(
+    /// Asks for missing records before surplus ones and the sequence.
+    MissingFirst,
+    a_missing_record_before_the_sequence,
+    |looked| {
+        let lacks = |shard| looked.contents.find(MEMBERS, shard).is_none();
+        let missing = (0..looked.settings.shards).any(lacks);
+        match looked.number {
+            17 if missing => looked.at(looked.last()),
+            _ => looked.at(looked.place()),
+        }
+    }
+);
+
+told!(
+    /// Lets a mask anywhere give the recipient a shard.
+    LaterMasks,
+    a_mask_behind_the_holder,
+    |looked| {
+        let given = |place: usize| {
+            let mask = looked.contents.shard_mask(looked.record(place).shard());
+            reference::mask::has(mask, looked.contents.node)
+        };
+        let bad = |place: usize| {
+            message::out_of_sequence(&looked.contents, place)
+                || message::surplus(&looked.contents, place) && !given(place)
+        };
+        match looked.number {
+            17 => looked.at(looked.first(bad).unwrap_or(looked.last())),
+            _ => looked.at(looked.place()),
+        }
+    }
+);
+
+told!(
+    /// Tells surplus records after all that is out of sequence.
+    SequenceFirst,
+    the_sequence_before_surplus_records,
+    |looked| {
+        let bad = |place: usize| message::out_of_sequence(&looked.contents, place);
+        match (looked.number, looked.first(bad)) {
+            (17, Some(place)) => looked.at(place),
+            _ => looked.at(looked.place()),
+        }
+    }
+);
+
+told!(
+    /// Asks for words 2 after all kinds.
+    WordTwoLast,
+    words_2_after_all_kinds,
+    |looked| {
+        let kinds: &[u32] = match looked.form {
+            Form::Report => &[1, 2, 3],
+            Form::Order => &[1, 2, 4, 5],
+        };
+        let bad = |place: usize| !kinds.contains(&looked.record(place).kind());
+        match (looked.number, looked.first(bad)) {
+            (9, Some(place)) => looked.at(place),
+            _ => looked.at(looked.place()),
+        }
+    }
+);
+
+told!(
+    /// Names the last bad record rather than the first.
+    LastBad,
+    the_last_bad_record,
+    |looked| {
+        let bad = |place: &usize| message::out_of_sequence(&looked.contents, *place);
+        match (looked.number, (1..=looked.last()).rfind(bad)) {
+            (17, Some(place)) => looked.at(place),
+            _ => looked.at(looked.place()),
+        }
+    }
+);
+
+told!(
+    /// Gives 16 before 9.
+    ShardFirst,
+    a_shard_before_a_kind,
+    |looked| match (looked.number, looked.row_16()) {
+        (9, Some(place)) => looked.told(16, place),
+        _ => looked.at(looked.place()),
+    }
+);
+
+told!(
+    /// Gives 17 before 16.
+    SequenceBeforeShard,
+    a_sequence_before_a_shard,
+    |looked| match (looked.number, looked.row_17()) {
+        (16, Some(place)) => looked.told(17, place),
+        _ => looked.at(looked.place()),
+    }
+);
+
+told!(
+    /// Lets the first bad record speak whatever its number.
+    FirstRecord,
+    the_first_bad_record_of_any_number,
+    |looked| {
+        let rows = [(16, looked.row_16()), (17, looked.row_17())];
+        let earlier = rows.into_iter().find_map(|(number, place)| {
+            let place = place.filter(|&place| place < looked.place())?;
+            Some(looked.told(number, place))
+        });
+        match looked.number {
+            9 => earlier.unwrap_or(looked.at(looked.place())),
+            _ => looked.at(looked.place()),
+        }
+    }
+);
+
+/// Gives the index that a record names, with 8.
+struct NamedIndex;
+
+impl Behaviour for NamedIndex {
+    fn read(form: Form, settings: &[u8], message: &[u8], buffer: usize) -> Expected {
+        let expected = expected::read(form, settings, message, buffer);
+        match Answer::of(expected.answer) {
+            Answer::Located(8, index) => {
+                let named = words::whole_words(message)[4 * index as usize + 3];
+                refusal(8 + 256 * (named % 128))
+            }
+            _ => expected,
+        }
+    }
+}
+
+#[test]
+fn the_index_that_is_named() {
+    assert_found::<NamedIndex>();
+}
+
+/// Gives an index with a number that has none.
+struct IndexOfRun;
+
+impl Behaviour for IndexOfRun {
+    fn read(form: Form, settings: &[u8], message: &[u8], buffer: usize) -> Expected {
+        let expected = expected::read(form, settings, message, buffer);
+        match expected.answer {
+            11 => refusal(11 + 256 * 4),
+            _ => expected,
+        }
+    }
+}
+
+#[test]
+fn an_index_with_another_number() {
+    assert_found::<IndexOfRun>();
+}
+
+/// Row 9 of document 01, of which request Seven makes three numbers.
+fn old_row_9(form: Form, settings: &Settings, contents: &Contents) -> bool {
+    let records = &contents.records;
+    let kinds: &[u32] = match form {
+        Form::Report => &[1, 2, 3],
+        Form::Order => &[1, 2, 4, 5],
+    };
+    let key = |r: &message::Triple| (r.word0, if r.kind() == RUN { r.word1 } else { 0 });
+    let has = |kind: u32, shard: u32| contents.find(kind, shard).is_some();
+    let positions = contents.of_kind(TERMINATION).len() as u32;
+    let carried = |shard: u32| {
+        let carries = reference::mask::has(contents.shard_mask(shard), contents.node);
+        has(4, shard) == carries && has(5, shard) == carries
+    };
+    records.iter().any(|r| !kinds.contains(&r.kind()))
+        || records.iter().any(|r| r.kind() % 3 == 1 && r.word2 != 0)
+        || records.iter().any(|r| r.shard() >= settings.shards)
+        || records
+            .windows(2)
+            .any(|pair| key(&pair[0]) >= key(&pair[1]))
+        || (0..settings.shards).any(|shard| !has(MEMBERS, shard))
+        || positions != settings.shards && (positions != 0 || form == Form::Order)
+        || form == Form::Order && !(0..settings.shards).all(carried)
+}
+
+/// Numbers 9, 16 and 17 refuse what number 9 of document 01 refused, and no
+/// more.
+#[test]
+fn three_numbers_for_the_old_one() {
+    let mut refused = 0;
+    for index in 0..COUNT {
+        let input = messages::input(SEED, index);
+        let form = match input.call {
+            Call::WriteReport => Form::Report,
+            Call::WriteOrder => Form::Order,
+            _ => continue,
+        };
+        let settings = settings::parse(&words::whole_words(&input.settings));
+        let contents = expected::words_contents(&words::whole_words(&input.given));
+        let (Ok(settings), Some(contents)) = (settings, contents) else {
+            continue;
+        };
+        if contents.node >= 32 {
+            continue;
+        }
+        let rows = [
+            message::row_9(form, &contents),
+            message::row_16(&settings, &contents),
+            message::row_17(form, &settings, &contents),
+        ];
+        let bad = rows.iter().any(Option::is_some);
+        assert_eq!(bad, old_row_9(form, &settings, &contents), "input {index}");
+        refused += u32::from(bad);
+    }
+    assert!(refused > 1000, "{refused} refused");
+}
+
 /// A reader that swaps two functions.
 #[test]
 fn reports_and_orders_swapped() {
@@ -391,15 +817,16 @@ fn inputs_of_every_call() {
     for index in 0..COUNT {
         let input = messages::input(SEED, index);
         let answer = messages::compare(&library, &mut desk, &input).unwrap();
-        seen.insert((input.call, answer.min(ACCEPTED)));
+        let number = Answer::of(answer).number();
+        seen.insert((input.call, number.unwrap_or(ACCEPTED)));
     }
     for call in [Call::ReadReport, Call::ReadOrder] {
-        for answer in [1, 2, 5, 6, 7, 8, 9, 10, 11, ACCEPTED] {
+        for answer in [1, 2, 5, 6, 7, 8, 9, 10, 11, 16, 17, ACCEPTED] {
             assert!(seen.contains(&(call, answer)), "{call:?} {answer}");
         }
     }
     for call in [Call::WriteReport, Call::WriteOrder] {
-        for answer in [1, 2, 5, 6, 7, 9, 10, 11, ACCEPTED] {
+        for answer in [1, 2, 5, 6, 7, 9, 10, 11, 16, 17, ACCEPTED] {
             assert!(seen.contains(&(call, answer)), "{call:?} {answer}");
         }
     }

@@ -497,6 +497,42 @@ wrong!(
 );
 
 wrong!(
+    /// Gives no index of a record.
+    ReportNoIndex,
+    a_report_refused_without_an_index,
+    |_, mut outcome| {
+        if let Answer::Located(number, _) = outcome.answer() {
+            outcome.answer = number;
+        }
+        outcome
+    }
+);
+
+wrong!(
+    /// Tells a shard from S up and a wrong sequence as malformed.
+    ReportOneNine,
+    a_report_with_one_number_for_its_records,
+    |_, mut outcome| {
+        if let Answer::Located(16 | 17, index) = outcome.answer() {
+            outcome.answer = 9 + 256 * index;
+        }
+        outcome
+    }
+);
+
+wrong!(
+    /// Tells which slot's record makes a state unsound.
+    SlotIndex,
+    a_state_unsound_at_a_record,
+    |asked, mut outcome| {
+        if outcome.answer == 3 && left(asked, &outcome).is_some() {
+            outcome.answer = 3 + 256;
+        }
+        outcome
+    }
+);
+
+wrong!(
     /// Compares the masks of equal older views.
     OlderMasks,
     masks_of_an_older_view,

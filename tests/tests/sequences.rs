@@ -61,8 +61,8 @@ fn accepted_events_keep_the_state_sound() {
                     *seen.entry(label(&event, &given)).or_default() += 1;
                     table = next;
                 }
-                Err(number) => {
-                    let label = format!("{} number {}", name(&event), number.0);
+                Err(refusal) => {
+                    let label = format!("{} number {}", name(&event), refusal.number.0);
                     *seen.entry(label).or_default() += 1;
                 }
             }
@@ -82,7 +82,7 @@ fn accepted_events_keep_the_state_sound() {
             "wait {reason}"
         );
     }
-    for number in 4..=13 {
+    for number in (4..=13).chain(16..=17) {
         assert!(
             seen.contains_key(&format!("report number {number}")),
             "{number}"

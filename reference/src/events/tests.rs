@@ -62,7 +62,7 @@ impl Table {
                 self.desk = desk;
                 self.take(Ok(state))
             }
-            Err(Number(number)) => number,
+            Err(refusal) => refusal.word(),
         }
     }
 
@@ -88,7 +88,8 @@ impl Table {
     }
 
     fn order(&self, node: u32) -> Result<Vec<u32>, Number> {
-        order(&self.settings, &self.state, &self.desk, node, 512)
+        let order = order(&self.settings, &self.state, &self.desk, node, 512);
+        order.map_err(|refusal| refusal.number)
     }
 
     /// The number of a state with one word changed.
@@ -103,7 +104,7 @@ impl Table {
 fn row_1_desk_and_buffer() {
     let mut table = Table::ordered();
     let full = order(&table.settings, &table.state, &table.desk, 0, 511);
-    assert_eq!(full, Err(Number(1)));
+    assert_eq!(full, Err(Number(1).into()));
     table.desk.pop();
     table.settings[0] = 0;
     assert_eq!(table.check(), 1);
@@ -253,10 +254,18 @@ fn rows_5_to_11_of_a_report() {
     assert_eq!(table.report(&encode(&report_of(0, 0, &[]))), 7);
     let mut message = printed_report(0);
     message[11] = 2;
-    assert_eq!(table.report(&message), 8);
+    assert_eq!(table.report(&message), 8 + 256 * 2);
     message = printed_report(0);
     message[4] = 9 * 256;
-    assert_eq!(table.report(&message), 9);
+    assert_eq!(table.report(&message), 9 + 256);
+    message = printed_report(0);
+    message[12] = 256 + 3;
+    assert_eq!(table.report(&message), 16 + 256 * 3);
+    message = printed_report(0);
+    message[11] = 0;
+    assert_eq!(table.report(&message), 17 + 256 * 2);
+    message[3] = 0;
+    assert_eq!(table.report(&message), 17);
     message = printed_report(0);
     message[5] = 0;
     assert_eq!(table.report(&message), 10);

@@ -131,8 +131,27 @@ fn a_refusal_ends_the_run() {
     let mut messages = reports(&ALL);
     messages[2][4] = 9 * 256;
     messages[3][1] = 0;
-    assert_eq!(run(&input(&SETTINGS, &messages)), "number 9\n");
+    assert_eq!(run(&input(&SETTINGS, &messages)), "number 9 1\n");
     assert_eq!(changed(0, 0, &ALL), "number 2\n");
     let long = vec![vec![0; 516]];
     assert_eq!(run(&input(&SETTINGS, &long)), "number 5\n");
+}
+
+/// The index of the record comes after 8, 9, 16 and 17, 0 included, and after
+/// no other number.
+#[test]
+fn the_index_of_a_record() {
+    let with = |index: usize, word: u32| {
+        let mut message = printed_report(1);
+        message[index] = word;
+        run(&input(&SETTINGS, &[printed_report(0), message]))
+    };
+    assert_eq!(with(4 * 4, 9 * 256), "number 9 4\n");
+    assert_eq!(with(4 * 4, 3 * 256 + 3), "number 16 4\n");
+    assert_eq!(with(4 * 2, 256), "number 17 2\n");
+    assert_eq!(with(3, 0), "number 17 0\n");
+    assert_eq!(with(3, 5), "number 8 0\n");
+    assert_eq!(with(4 * 2 + 3, 2), "number 8 2\n");
+    assert_eq!(with(0, 7), "number 6\n");
+    assert_eq!(with(4 * 4 + 2, 0), "number 11\n");
 }

@@ -5,7 +5,7 @@
 //! INDEX` makes one input again.
 
 use differential::lent::{self, hex};
-use differential::library::{self, ACCEPTED};
+use differential::library::{self, Answer};
 use differential::messages::{self, Call, Desk, Input};
 use differential::random;
 use std::collections::BTreeMap;
@@ -15,11 +15,47 @@ const COUNT: u64 = 200_000;
 /// From this many inputs on, every answer must be common.
 const JUDGED: u64 = 10_000;
 /// The numbers that readers, writers and the settings check give.
-const NUMBERS: [u32; 9] = [1, 2, 5, 6, 7, 8, 9, 10, 11];
+const NUMBERS: [u32; 11] = [1, 2, 5, 6, 7, 8, 9, 10, 11, 16, 17];
+/// Each cause and place of a record comes once in so many inputs.
+const RECORD_IN: u64 = 4000;
 /// Stands for acceptance in the table of answers.
 const TAKEN: u32 = 0;
+/// What every reader's refusals with the index of a record come to.
+const READ: [&str; 14] = [
+    "8 at the head",
+    "8 in line",
+    "8 behind a gap",
+    "9 in line",
+    "9 behind a gap",
+    "16 in line",
+    "16 behind a gap",
+    "17 sequence in line",
+    "17 sequence behind a gap",
+    "17 repeat in line",
+    "17 repeat behind a gap",
+    "17 missing at the head",
+    "17 missing in line",
+    "17 missing behind a gap",
+];
+/// What every writer's come to.
+const WRITTEN: [&str; 6] = [
+    "9 in line",
+    "16 in line",
+    "17 sequence in line",
+    "17 repeat in line",
+    "17 missing at the head",
+    "17 missing in line",
+];
+/// What those of an order come to as well; only a reader has gaps.
+const ORDERS: [&str; 4] = [
+    "17 surplus in line",
+    "17 early in line",
+    "17 surplus behind a gap",
+    "17 early behind a gap",
+];
 
 type Answers = BTreeMap<(Call, u32), u64>;
+type Records = BTreeMap<(Call, String), u64>;
 
 fn main() -> ExitCode {
     let argument = |index| std::env::args().nth(index).and_then(|a| a.parse().ok());
@@ -35,11 +71,17 @@ fn main() -> ExitCode {
     let library = library::tested();
     let mut desk = Desk::default();
     let mut answers = Answers::new();
+    let mut records = Records::new();
     for index in first..first + count {
         lent::at_input(index);
         let input = messages::input(seed, index);
         match messages::compare(&library, &mut desk, &input) {
-            Ok(answer) => *answers.entry((input.call, class(answer))).or_default() += 1,
+            Ok(answer) => {
+                *answers.entry((input.call, class(answer))).or_default() += 1;
+                if let Some(name) = messages::looked_at(&input, answer) {
+                    *records.entry((input.call, name)).or_default() += 1;
+                }
+            }
             Err(what) => {
                 print_difference(seed, index, &input, &what);
                 return ExitCode::FAILURE;
@@ -47,7 +89,11 @@ fn main() -> ExitCode {
         }
     }
     print_answers(&answers, count);
-    let rare = rare_answers(&answers, count);
+    for ((call, name), times) in &records {
+        println!("  {call:?} {name}: {times}");
+    }
+    let mut rare = rare_answers(&answers, count);
+    rare.extend(rare_records(&records, count));
     for what in &rare {
         println!("messages: {what} is rare: the inputs are no good");
     }
@@ -58,13 +104,30 @@ fn main() -> ExitCode {
     ExitCode::SUCCESS
 }
 
-/// All acceptances are one class.
+/// All acceptances are one class, and so is a number with every index.
 fn class(answer: u32) -> u32 {
-    if answer >= ACCEPTED {
-        TAKEN
-    } else {
-        answer
+    Answer::of(answer).number().unwrap_or(TAKEN)
+}
+
+/// The causes and places of a record that a call hardly came to.
+fn rare_records(records: &Records, count: u64) -> Vec<String> {
+    let names = |call| match call {
+        Call::CheckSettings => vec![],
+        Call::ReadReport => READ.to_vec(),
+        Call::ReadOrder => [&READ[..], &ORDERS].concat(),
+        Call::WriteReport => WRITTEN.to_vec(),
+        Call::WriteOrder => [&WRITTEN[..], &ORDERS[..2]].concat(),
+    };
+    let mut rare = Vec::new();
+    for call in Call::ALL {
+        for name in names(call) {
+            let times = records.get(&(call, name.to_string()));
+            if times.copied().unwrap_or(0) * RECORD_IN < count {
+                rare.push(format!("{call:?} {name}"));
+            }
+        }
     }
+    rare
 }
 
 fn print_difference(seed: u64, index: u64, input: &Input, what: &str) {
