@@ -2,10 +2,10 @@
 //! damaged inputs: answers and all bytes left. Only in a plan the peer may take
 //! another placement, if it is valid and has as few moves.
 
-use crate::peer;
+use crate::{layouts, peer};
 use differential::calls::{self, Asked, Kind, Outcome, Pages};
 use differential::events::{self, Step};
-use differential::lent;
+use differential::lent::{self, Place};
 use differential::library::{self, Planner, PLAN};
 use reference::placement::Subgroup;
 use reference::settings::{self, Settings, SUBGROUPS};
@@ -17,6 +17,8 @@ use std::process::ExitCode;
 /// Each event comes at least so often to a state of each phase, and each answer
 /// is given at least so often.
 const LEAST: u64 = 10;
+/// One in so many calls is a decide that is hard to place.
+const LAYOUTS: u64 = 20;
 const PHASES: [Phase; 4] = [
     Phase::Gathering,
     Phase::Ordered,
@@ -112,6 +114,7 @@ struct Seen {
     events: BTreeMap<(Kind, usize), u64>,
     numbers: BTreeMap<u32, u64>,
     waits: BTreeMap<u32, u64>,
+    plans: u64,
 }
 
 impl Seen {
@@ -121,7 +124,8 @@ impl Seen {
             *self.events.entry((asked.kind, phase.into())).or_default() += 1;
         }
         match outcome.answer {
-            0 | PLAN => {}
+            0 => {}
+            PLAN => self.plans += 1,
             word if word < library::ACCEPTED => {
                 *self.numbers.entry(word % 256).or_default() += 1;
             }
@@ -146,6 +150,7 @@ impl Seen {
                 want(times, format!("{} while {phase:?}", kind.name()));
             }
         }
+        want(Some(&self.plans), "a plan".into());
         for number in NUMBERS {
             want(self.numbers.get(&number), format!("number {number}"));
         }
@@ -196,6 +201,23 @@ fn play(two: &mut Two, seed: u64, count: u64, seen: &mut Seen) -> Result<(), Str
     Ok(())
 }
 
+/// Compares decide on layouts that are hard to place.
+fn place(two: &mut Two, seed: u64, count: u64, seen: &mut Seen) -> Result<(), String> {
+    for index in 0..count {
+        lent::at_input(index);
+        let (planner, pages) = &mut two.library;
+        let step = Step {
+            asked: layouts::decide(planner, pages, seed, index),
+            places: [Place::Last; 5],
+            faults: Vec::new(),
+        };
+        let outcome = two.compare(&step);
+        let outcome = outcome.map_err(|what| format!("seed {seed}, layout {index}: {what}"))?;
+        seen.count(&step.asked, &outcome);
+    }
+    Ok(())
+}
+
 /// Compares so many calls and prints how many passed.
 pub fn run(count: u64, seed: u64) -> ExitCode {
     println!(
@@ -209,7 +231,9 @@ pub fn run(count: u64, seed: u64) -> ExitCode {
     };
     let mut seen = Seen::default();
     let mut failed = Vec::new();
-    failed.extend(play(&mut two, seed, count, &mut seen).err());
+    let done = place(&mut two, seed, count / LAYOUTS, &mut seen)
+        .and_then(|()| play(&mut two, seed, count, &mut seen));
+    failed.extend(done.err());
     if failed.is_empty() {
         let rare = seen.rare().into_iter();
         failed.extend(rare.map(|what| format!("{what} is rare: the inputs are no good")));

@@ -11,6 +11,7 @@
 mod calls;
 mod compare;
 mod inputs;
+mod layouts;
 mod peer;
 mod ratios;
 mod stack;
