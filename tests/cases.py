@@ -163,7 +163,7 @@ def cures():
 
 
 def refused():
-    """Runs for each number that restart can give: 2, 5 to 13, 16 and 17; with 8, 9, 16 and 17 the index of the record."""
+    """Runs for each number that restart can give: 2, 5 to 13 and 16 to 18; with 8, 9, 16 and 17 the index of the record."""
     good = of_case_a(0)
     yield "number 2: no nodes", blocks(changed(SETTINGS, 0, 0)), 2
     yield "number 2: no words", blocks([]), 2
@@ -210,6 +210,10 @@ def refused():
     yield "number 11: a run of count 0", after(report(0, runs(1, (7, 0)))), 11
     yield "number 11: position (0, 3)", after(report(0, termination([(0, 3), (0, 0), (0, 0)]))), 11
     yield "number 11: a run above the view", after(report(0, runs(1, (8, 1)))), 11
+    yield "number 18: view 6 after 7", after(good, report(0, view=6)), 18
+    yield "number 18: view 6 after 6 and 7", after(report(0, view=6), good, report(0, view=6)), 18
+    yield "number 18: others between", after(good, of_case_a(1), of_case_a(2), report(0, view=1)), 18
+    yield "number 11 before 18", after(good, report(0, runs(1, (6, 0)), view=6)), 11
     yield "number 12: other members", after(good, report(1, members=119)), 12
     yield "number 12: other shard", after(good, report(1, masks=[1, 82, 32])), 12
     at_five = termination([(0, 0), (7, 5), (0, 0)])

@@ -1,4 +1,5 @@
-//! The events (document 01, section "State, desk, events").
+//! The events (document 01, section "State, desk, events"; document 02, request
+//! Eight).
 //!
 //! Each event takes settings, state and desk as words and gives what follows,
 //! or the number of the first row that holds. Rows that concern an event are
@@ -60,6 +61,7 @@ pub fn report(
     } = open(settings, state, desk)?;
     refuse_if(state.phase != Phase::Gathering, number::PHASE)?;
     let report = message::read_with(Form::Report, &settings, message)?;
+    refuse_if(row_18(&state, &report), number::WENT_BACK)?;
     refuse_if(row_12(&settings, &state, &report), number::OTHER_MASKS)?;
     refuse_if(row_13(&state, &report), number::OTHER_TERMINATION)?;
     let next = after_report(&settings, &state, &report);
@@ -67,12 +69,20 @@ pub fn report(
     Ok((state::encode(&next), desk))
 }
 
+/// Number 18: a smaller view than the node's own earlier one.
+fn row_18(state: &State, report: &Contents) -> bool {
+    report.view < state.remembered[report.node as usize]
+}
+
 /// A greater view becomes the kept view, with its termination or none. An equal
 /// view adds its termination if none is kept. A smaller view changes neither.
+/// The node's greatest view is remembered.
 fn after_report(settings: &Settings, state: &State, report: &Contents) -> State {
     let mut next = state.clone();
     let kept = state.kept.as_ref().map_or(0, |view| view.number);
     next.held |= mask::only(report.node);
+    let remembered = &mut next.remembered[report.node as usize];
+    *remembered = report.view.max(*remembered);
     if report.view > kept {
         next.kept = Some(soundness::view(settings, report));
         next.termination = soundness::termination(report);
@@ -90,7 +100,7 @@ fn check_held(settings: &Settings, state: &State, node: u32) -> Result<(), Numbe
 }
 
 /// Drop: in gathering the node is no longer held; while ordered or preparing,
-/// gathering starts again with nothing held.
+/// gathering starts again with nothing held. What is remembered remains.
 pub fn drop_node(
     settings: &[u32],
     state: &[u32],
@@ -110,6 +120,7 @@ pub fn drop_node(
         held,
         kept: state.kept,
         termination: state.termination,
+        remembered: state.remembered,
         ..state::fresh()
     };
     Ok(state::encode(&next))

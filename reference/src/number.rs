@@ -69,6 +69,8 @@ pub const SEQUENCE: Number = Number(17);
 pub const SHARD: Number = Number(10);
 /// Row 11: a position, a run or a holder.
 pub const POSITION: Number = Number(11);
+/// Request Eight, after row 11: a smaller view than the node reported earlier.
+pub const WENT_BACK: Number = Number(18);
 /// Row 12: the kept number with other masks.
 pub const OTHER_MASKS: Number = Number(12);
 /// Row 13: another termination of the kept view.

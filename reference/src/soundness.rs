@@ -1,4 +1,5 @@
-//! When a state is sound (document 01, section "State, desk, events").
+//! When a state is sound (document 01, section "State, desk, events"; document
+//! 02, request Eight).
 
 use crate::desk;
 use crate::log::Position;
@@ -49,7 +50,18 @@ pub fn sound(settings: &Settings, state: &State, desk: &[u32]) -> Option<Reports
         return None;
     }
     let reports = held_reports(settings, state, desk)?;
-    sound_plan(settings, state, &reports).then_some(reports)
+    let memory_ok = sound_memory(state, &reports);
+    (memory_ok && sound_plan(settings, state, &reports)).then_some(reports)
+}
+
+/// For each held node a view from its report's up to the kept one is
+/// remembered. Of other nodes nothing is asked.
+fn sound_memory(state: &State, reports: &Reports) -> bool {
+    let kept = state.kept.as_ref().map_or(0, |view| view.number);
+    reports.iter().all(|report| {
+        let remembered = state.remembered[report.node as usize];
+        report.view <= remembered && remembered <= kept
+    })
 }
 
 /// Masks lie within N; marks lie within held.

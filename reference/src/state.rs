@@ -1,8 +1,8 @@
-//! The state (document 01, section "State, desk, events") and its words for C
-//! callers.
+//! The state (document 01, section "State, desk, events"; document 02, request
+//! Eight) and its words for C callers.
 
 use crate::log::Position;
-use crate::settings::Settings;
+use crate::settings::{Settings, MOST_NODES};
 
 /// The length of a state in words.
 pub const STATE_WORDS: usize = 160;
@@ -54,9 +54,11 @@ pub struct State {
     pub prepared: u32,
     /// There is a plan outside gathering.
     pub plan: Option<Plan>,
+    /// Each node's greatest reported view; 0 if none is remembered.
+    pub remembered: [u32; MOST_NODES as usize],
 }
 
-/// Gathering, with the rest empty.
+/// Gathering, with the rest empty. It remembers nothing.
 pub fn fresh() -> State {
     State {
         phase: Phase::Gathering,
@@ -66,6 +68,7 @@ pub fn fresh() -> State {
         fetched: 0,
         prepared: 0,
         plan: None,
+        remembered: [0; MOST_NODES as usize],
     }
 }
 
@@ -83,10 +86,11 @@ pub fn fresh() -> State {
 /// | 58–73 | plan: shard masks |
 /// | 74–89 | plan: holders |
 /// | 90–121 | plan: targets, (view, k) for each shard |
-/// | 122–159 | zero |
+/// | 122–153 | each node's greatest reported view (0 none) |
+/// | 154–159 | zero |
 ///
 /// What the state doesn't have is zero, and so is what belongs to a shard from
-/// S up.
+/// S up or to a node from N up.
 pub fn encode(state: &State) -> Vec<u32> {
     let mut words = vec![0; STATE_WORDS];
     words[0] = state.phase as u32;
@@ -109,6 +113,7 @@ pub fn encode(state: &State) -> Vec<u32> {
         put(&mut words[74..90], &plan.holders);
         put(&mut words[90..122], &flat(&plan.targets));
     }
+    put(&mut words[122..154], &state.remembered);
     words
 }
 
@@ -118,7 +123,9 @@ pub fn decode(settings: &Settings, words: &[u32]) -> Option<State> {
     if words.len() != STATE_WORDS || words[0] > 3 || words[3] > 1 {
         return None;
     }
-    let shards = settings.shards as usize;
+    let (shards, nodes) = (settings.shards as usize, settings.nodes as usize);
+    let mut remembered = [0; MOST_NODES as usize];
+    put(&mut remembered, &words[122..122 + nodes]);
     let phase = PHASES[words[0] as usize];
     let view = View {
         number: words[1],
@@ -141,6 +148,7 @@ pub fn decode(settings: &Settings, words: &[u32]) -> Option<State> {
         fetched: words[53],
         prepared: words[54],
         plan: (phase != Phase::Gathering).then_some(plan),
+        remembered,
     };
     // Only what a state has can be in its words.
     (encode(&state) == words).then_some(state)
@@ -171,7 +179,10 @@ mod tests {
     }
 
     fn full_state() -> State {
+        let mut remembered = [0; 32];
+        remembered[..7].copy_from_slice(&[7, 7, 7, 6, 7, 7, 4]);
         State {
+            remembered,
             phase: Phase::Preparing,
             kept: Some(View {
                 number: 7,
@@ -208,6 +219,20 @@ mod tests {
             assert_eq!(decode(&run_settings(), &words), Some(state));
         }
         assert_eq!(encode(&fresh()), vec![0; 160]);
+        let words = encode(&full_state());
+        assert_eq!(words[122..130], [7, 7, 7, 6, 7, 7, 4, 0]);
+    }
+
+    /// A node's word is its own, whether or not it is held.
+    #[test]
+    fn remembered_views() {
+        let settings = run_settings();
+        for node in 0..7 {
+            let mut words = encode(&fresh());
+            words[122 + node] = u32::MAX;
+            let state = decode(&settings, &words).unwrap();
+            assert_eq!(state.remembered[node], u32::MAX);
+        }
     }
 
     /// Every word after the last shard's, and every word of a part that is not
@@ -220,7 +245,7 @@ mod tests {
             words[index] = word;
             decode(&settings, &words)
         };
-        for index in [7, 19, 26, 51, 61, 73, 77, 89, 96, 121, 122, 153, 159] {
+        for index in [7, 19, 26, 51, 61, 73, 77, 89, 96, 121, 129, 153, 154, 159] {
             assert_eq!(with(&full_state(), index, 1), None, "word {index}");
         }
         for index in [2, 4, 20, 55, 56, 57, 58, 74, 90] {

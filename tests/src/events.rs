@@ -13,7 +13,7 @@ use crate::recorder::Recorder;
 use crate::sequences::{self, Event};
 use crate::world::{self, World};
 use crate::{damage, unsound};
-use reference::state::{self, Phase, State};
+use reference::state::{self, Phase, State, STATE_WORDS};
 use reference::words;
 
 /// A call of a sequence.
@@ -166,6 +166,14 @@ impl Sequence {
             }
             15..=24 => length(random, &mut table.state, "state's length"),
             25..=29 => length(random, &mut table.settings, "settings' length"),
+            41..=50 if asked.kind == Kind::Report => {
+                let node = words::whole_words(&asked.message).first().copied();
+                let node = node.unwrap_or(0) % self.world.settings.nodes;
+                in_words(&mut table.state, |words| match words.len() {
+                    STATE_WORDS => unsound::beyond(random, words, node),
+                    _ => "state's length",
+                })
+            }
             30..=40 => in_words(&mut table.settings, |words| {
                 if words == &self.world.words {
                     damage::settings(random, words);

@@ -68,6 +68,10 @@ fn whole(random: &mut Random) -> Vec<u8> {
     if random.chance(60) {
         nodes.truncate(random.below(nodes.len() + 1));
     }
+    if let (Some(&again), true) = (nodes.last(), random.chance(20)) {
+        let place = random.below(nodes.len());
+        nodes.insert(place, again);
+    }
     let faulty = random.chance(35);
     let mut bytes = block(random, &settings);
     for node in nodes {

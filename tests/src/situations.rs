@@ -7,11 +7,11 @@ use crate::records;
 use reference::log::{Log, Position, START};
 use reference::message::{self, Contents, Form, CUT, HOLDER, TERMINATION};
 use reference::settings::{self, Settings};
-use reference::state::{self, Phase, Plan, State, View};
-use reference::{desk, mask, words};
+use reference::state::{self, Phase, Plan, State, View, STATE_WORDS};
+use reference::{desk, mask, soundness, words};
 
 /// Every situation that enough sequences must come to.
-pub const ALL: [&str; 71] = [
+pub const ALL: [&str; 85] = [
     "report: the first",
     "report: a greater view",
     "report: a greater view without termination takes the kept one away",
@@ -23,11 +23,20 @@ pub const ALL: [&str; 71] = [
     "report: a smaller view",
     "report: a smaller view's termination",
     "report: replaces one of the node",
-    "report: replaces one of the node by a smaller view",
+    "report: repeats the node's view",
+    "report: raises the node's view",
+    "report: after a drop, of a view not below the remembered",
+    "report: a smaller view than another node's",
     "report: replaces a longer one",
     "report: records off the chain",
     "report: of 512 words",
     "report: of node 31",
+    "report: number 18 of a held node",
+    "report: number 18 after a drop",
+    "report: number 18 though the view is the kept one or greater",
+    "report: number 18 before 12",
+    "report: number 18 before 13",
+    "report: number 11 before 18",
     "report: number 8 at the head",
     "report: number 8 in line",
     "report: number 8 behind a gap",
@@ -83,6 +92,11 @@ pub const ALL: [&str; 71] = [
     "number 14: marked already",
     "decide: a wait with machines held",
     "decide: a wait with half of the members held",
+    "number 3: nothing remembered, with machines held",
+    "number 3: remembered of a node from N up",
+    "number 3: a word from 154 up",
+    "memory: more of a held node than its report",
+    "memory: more of an absent node than the kept view",
 ];
 
 struct Names(Vec<&'static str>);
@@ -102,12 +116,21 @@ pub fn of(asked: &Asked, outcome: &Outcome) -> Vec<&'static str> {
     let Ok(settings) = settings::parse(&whole(&asked.table.settings)) else {
         return names.0;
     };
+    if outcome.answer == 3 {
+        unsound(&mut names, &settings, &whole(&asked.table.state));
+    }
     let before = state::decode(&settings, &whole(&asked.table.state));
     let after = state::decode(&settings, &whole(&outcome.state));
     let (Some(before), Some(after)) = (before, after) else {
         return names.0;
     };
+    if asked.kind != Kind::Fresh && !outcome.answer().refused() {
+        memory(&mut names, &settings, asked, &before);
+    }
     match (asked.kind, outcome.answer()) {
+        (Kind::Report, Answer::Number(11 | 18)) => {
+            went_back(&mut names, &settings, asked, &before, outcome.answer);
+        }
         (kind, Answer::Number(14)) => refused_node(&mut names, kind, &before, asked.node),
         (Kind::Report, Answer::Located(number, index)) => {
             let message = whole(&asked.message);
@@ -149,14 +172,87 @@ fn report(names: &mut Names, settings: &Settings, asked: &Asked, before: &State)
         return;
     };
     view(names, before, &report);
+    remembered(names, before, &report);
     if mask::has(before.held, report.node) {
         let desk = words::whole_words(&asked.table.desk);
-        replaced(names, settings, &desk, &message, &report);
+        replaced(names, &desk, &message, &report);
     }
     let records = 1 + report.records.len();
     names.put(4 * records < message.len(), "report: records off the chain");
     names.put(message.len() == 512, "report: of 512 words");
     names.put(report.node == 31, "report: of node 31");
+}
+
+/// Where an unsound state's words on remembered views may be wrong.
+fn unsound(names: &mut Names, settings: &Settings, words: &[u32]) {
+    if words.len() != STATE_WORDS {
+        return;
+    }
+    let any = |from: usize, to: usize| words[from..to].iter().any(|&word| word != 0);
+    let nothing = !any(122, 154) && words[52] != 0;
+    names.put(nothing, "number 3: nothing remembered, with machines held");
+    let dead = any(122 + settings.nodes as usize, 154);
+    names.put(dead, "number 3: remembered of a node from N up");
+    names.put(any(154, STATE_WORDS), "number 3: a word from 154 up");
+}
+
+/// What a sound state remembers beside what is held.
+fn memory(names: &mut Names, settings: &Settings, asked: &Asked, before: &State) {
+    let kept = before.kept.as_ref().map_or(0, |kept| kept.number);
+    for node in 0..settings.nodes {
+        let remembered = before.remembered[node as usize];
+        if !mask::has(before.held, node) {
+            let more = remembered > kept;
+            names.put(more, "memory: more of an absent node than the kept view");
+        } else {
+            let first = 4 * (desk::SLOT_WORDS * node as usize + 1);
+            let view = words::whole_words(&asked.table.desk[first..first + 4])[0];
+            let more = remembered > view;
+            names.put(more, "memory: more of a held node than its report");
+        }
+    }
+}
+
+/// A report refused with 18, or with 11 where 18 comes after it.
+fn went_back(names: &mut Names, settings: &Settings, asked: &Asked, before: &State, number: u32) {
+    let message = words::whole_words(&asked.message);
+    let (node, view) = (message[0], message[1]);
+    let smaller = view < before.remembered[node as usize];
+    if number == 11 {
+        names.put(smaller, "report: number 11 before 18");
+        return;
+    }
+    let held = mask::has(before.held, node);
+    let kept = before.kept.as_ref().map_or(0, |kept| kept.number);
+    names.put(held, "report: number 18 of a held node");
+    names.put(!held, "report: number 18 after a drop");
+    names.put(
+        view >= kept,
+        "report: number 18 though the view is the kept one or greater",
+    );
+    if let Ok(report) = message::read_with(Form::Report, settings, &message) {
+        let masks = soundness::row_12(settings, before, &report);
+        names.put(masks, "report: number 18 before 12");
+        let termination = soundness::row_13(before, &report);
+        names.put(termination, "report: number 18 before 13");
+    }
+}
+
+/// The reported view beside those that are remembered.
+fn remembered(names: &mut Names, before: &State, report: &Contents) {
+    let own = before.remembered[report.node as usize];
+    let held = mask::has(before.held, report.node);
+    names.put(
+        held && report.view == own,
+        "report: repeats the node's view",
+    );
+    names.put(held && report.view > own, "report: raises the node's view");
+    names.put(
+        !held && own > 0,
+        "report: after a drop, of a view not below the remembered",
+    );
+    let greater = before.remembered.iter().any(|&view| view > report.view);
+    names.put(greater, "report: a smaller view than another node's");
 }
 
 /// The reported view and termination beside the kept ones.
@@ -189,21 +285,9 @@ fn view(names: &mut Names, before: &State, report: &Contents) {
     }
 }
 
-fn replaced(
-    names: &mut Names,
-    settings: &Settings,
-    desk: &[u32],
-    message: &[u32],
-    report: &Contents,
-) {
-    let older = desk::report(settings, desk, report.node);
-    let smaller = older.is_some_and(|older| report.view < older.view);
+fn replaced(names: &mut Names, desk: &[u32], message: &[u32], report: &Contents) {
     let slot = desk::slot(desk, report.node);
     names.put(true, "report: replaces one of the node");
-    names.put(
-        smaller,
-        "report: replaces one of the node by a smaller view",
-    );
     let rest = slot.iter().skip(message.len());
     let longer = rest.copied().any(|word| word != 0);
     names.put(longer, "report: replaces a longer one");

@@ -30,7 +30,7 @@ fn wanted(kind: Kind) -> Vec<String> {
         Kind::CheckState => (&["accepted"], &[1, 2, 3]),
         Kind::Report => (
             &["accepted"],
-            &[1, 2, 3, 4, 5, 6, 7, 8, 9, 10, 11, 12, 13, 16, 17],
+            &[1, 2, 3, 4, 5, 6, 7, 8, 9, 10, 11, 12, 13, 16, 17, 18],
         ),
         Kind::Decide => (
             &["plan", "wait 1", "wait 2", "wait 3", "wait 4", "wait 5"],

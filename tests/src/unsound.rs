@@ -26,13 +26,14 @@ const PLAN_TOTAL: usize = 57;
 const PLAN_MASKS: usize = 58;
 const HOLDERS: usize = 74;
 const TARGETS: usize = 90;
-const UNUSED: usize = 122;
+const REMEMBERED: usize = 122;
+const UNUSED: usize = 154;
 
 /// Puts a fault into the words of a state and names it.
 pub fn state(random: &mut Random, settings: &Settings, words: &mut [u32]) -> &'static str {
     let shard = random.below(settings.shards as usize);
     let held = words[HELD];
-    match random.between(0, 17) {
+    match random.between(0, 21) {
         0 => phase(random, words),
         1 => near(random, words, NUMBER, "kept number"),
         2 => any_mask(random, settings, words, MEMBERS, "kept members"),
@@ -57,12 +58,65 @@ pub fn state(random: &mut Random, settings: &Settings, words: &mut [u32]) -> &'s
         14 => position(random, words, TARGETS + 2 * shard, "target"),
         15 => dead_word(random, settings, words),
         16 => other_placement(random, settings, words),
+        17 | 18 => {
+            let nodes = mask::nodes(held & mask::below(settings.nodes));
+            let node = match nodes.is_empty() {
+                true => 0,
+                false => random.pick(&nodes),
+            };
+            memory(random, words, node)
+        }
+        19 => {
+            let node = random.between(0, settings.nodes - 1);
+            memory(random, words, node)
+        }
+        20 => earlier_release(words),
         _ => {
             let index = random.below(STATE_WORDS);
             words[index] = random.word();
             "any word"
         }
     }
+}
+
+/// What is remembered of a node is another view.
+fn memory(random: &mut Random, words: &mut [u32], node: u32) -> &'static str {
+    let at = REMEMBERED + node as usize;
+    let (view, kept) = (words[at], words[NUMBER]);
+    let other = words[REMEMBERED + random.below(32)];
+    let choices = [
+        view.wrapping_sub(1),
+        view.wrapping_add(1),
+        kept,
+        kept,
+        kept.wrapping_add(1),
+        0,
+        other,
+        u32::MAX,
+    ];
+    words[at] = random.pick(&choices);
+    memory_of(words, node)
+}
+
+fn memory_of(words: &[u32], node: u32) -> &'static str {
+    match mask::has(words[HELD], node) {
+        true => "view remembered of a held node",
+        false => "view remembered of an absent node",
+    }
+}
+
+/// A greater view than the kept one is remembered of a node. If it is absent
+/// the state is sound, and its reports have number 18.
+pub fn beyond(random: &mut Random, words: &mut [u32], node: u32) -> &'static str {
+    let kept = words[NUMBER];
+    words[REMEMBERED + node as usize] = random.pick(&[kept.saturating_add(1), u32::MAX]);
+    memory_of(words, node)
+}
+
+/// A state of a release that remembered nothing.
+fn earlier_release(words: &mut [u32]) -> &'static str {
+    words[REMEMBERED..].fill(0);
+    "state of an earlier release"
 }
 
 fn phase(random: &mut Random, words: &mut [u32]) -> &'static str {
@@ -162,7 +216,8 @@ fn dead_word(random: &mut Random, settings: &Settings, words: &mut [u32]) -> &'s
         (POSITIONS + 2 * shards, HELD),
         (PLAN_MASKS + shards, HOLDERS),
         (HOLDERS + shards, TARGETS),
-        (TARGETS + 2 * shards, UNUSED),
+        (TARGETS + 2 * shards, REMEMBERED),
+        (REMEMBERED + settings.nodes as usize, UNUSED),
         (UNUSED, STATE_WORDS),
     ];
     let (from, to) = random.pick(&parts);

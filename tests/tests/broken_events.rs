@@ -146,6 +146,10 @@ fn encoded(state: &State) -> Vec<u8> {
     words::to_bytes(&state::encode(state))
 }
 
+fn open_settings(asked: &Asked) -> Option<Settings> {
+    settings::parse(&words::from_bytes(&asked.table.settings)?).ok()
+}
+
 /// The state that an outcome leaves.
 fn left(asked: &Asked, outcome: &Outcome) -> Option<State> {
     let settings = settings::parse(&words::whole_words(&asked.table.settings)).ok()?;
@@ -275,6 +279,7 @@ wrong!(
                 held: opened.state.held & !mask::only(asked.node),
                 kept: opened.state.kept,
                 termination: opened.state.termination,
+                remembered: opened.state.remembered,
                 ..state::fresh()
             };
             outcome.state = encoded(&next);
@@ -562,18 +567,264 @@ wrong!(
     })
 );
 
+/// The call with nothing remembered of its report's node, which is not held
+/// then: number 18 cannot be given.
+fn forgetful(asked: &Asked) -> Asked {
+    let mut asked = asked.clone();
+    let node = words::whole_words(&asked.message)[0] as usize;
+    asked.table.state[4 * (122 + node)..][..4].fill(0);
+    asked.table.state[4 * 52 + node / 8] &= !(1 << (node % 8));
+    asked
+}
+
 wrong!(
-    /// Refuses a report of a smaller view from a held node.
-    NoStepBack,
-    a_report_replaced_by_a_smaller_view,
-    |asked, outcome| refused_if(asked, outcome, 12, |opened| {
+    /// Takes a report of a smaller view than the node's earlier one.
+    StepBack,
+    a_report_of_a_smaller_view,
+    |asked, outcome| match outcome.answer {
+        18 => calls::expected(&forgetful(asked)),
+        _ => outcome,
+    }
+);
+
+wrong!(
+    /// Looks at the slot of a held node for its earlier view.
+    HeldViews,
+    a_view_that_is_remembered_while_held,
+    |asked, outcome| match open(asked) {
+        Some(opened) if outcome.answer == 18 => {
+            let node = words::whole_words(&asked.message)[0];
+            if mask::has(opened.state.held, node) {
+                return outcome;
+            }
+            calls::expected(&forgetful(asked))
+        }
+        _ => outcome,
+    }
+);
+
+wrong!(
+    /// Refuses a report of the view that the node reported earlier.
+    NoRepeat,
+    a_report_of_an_equal_view,
+    |asked, outcome| refused_if(asked, outcome, 18, |opened| {
         let report = brought(asked, opened).filter(|_| asked.kind == Kind::Report);
-        let smaller = |report: Contents| {
-            let own = |older: &Contents| older.node == report.node && older.view > report.view;
-            opened.reports.iter().any(own)
-        };
-        report.is_some_and(smaller)
+        report.is_some_and(|r| r.view == opened.state.remembered[r.node as usize])
     })
+);
+
+wrong!(
+    /// Refuses a smaller view than any node has reported.
+    GroupMemory,
+    a_view_that_another_node_reported,
+    |asked, outcome| refused_if(asked, outcome, 18, |opened| {
+        let report = brought(asked, opened).filter(|_| asked.kind == Kind::Report);
+        let kept = opened.state.kept.as_ref().map_or(0, |kept| kept.number);
+        report.is_some_and(|report| report.view < kept)
+    })
+);
+
+wrong!(
+    /// Gives 18 before 11.
+    MemoryFirst,
+    a_smaller_view_before_its_runs,
+    |asked, outcome| match left(asked, &outcome) {
+        Some(state) if asked.kind == Kind::Report && outcome.answer == 11 => {
+            let message = words::whole_words(&asked.message);
+            if message[1] < state.remembered[message[0] as usize] {
+                return Outcome::unchanged(asked, 18);
+            }
+            outcome
+        }
+        _ => outcome,
+    }
+);
+
+wrong!(
+    /// Gives 12 and 13 before 18.
+    MemoryLast,
+    a_smaller_view_after_masks_and_termination,
+    |asked, outcome| match outcome.answer {
+        18 => {
+            let later = calls::expected(&forgetful(asked)).answer;
+            Outcome::unchanged(asked, if later == 0 { 18 } else { later })
+        }
+        _ => outcome,
+    }
+);
+
+/// Changes what is remembered of the nodes of a mask after an accepted call.
+fn remembers(
+    asked: &Asked,
+    mut outcome: Outcome,
+    nodes: impl Fn(&State) -> u32,
+    view: impl Fn(&State, u32) -> u32,
+) -> Outcome {
+    if let (Some(opened), Some(mut state)) = (open(asked), left(asked, &outcome)) {
+        for node in mask::nodes(nodes(&opened.state)) {
+            state.remembered[node as usize] = view(&state, node);
+        }
+        outcome.state = encoded(&state);
+    }
+    outcome
+}
+
+wrong!(
+    /// Forgets a node that is dropped in gathering.
+    ForgetsDropped,
+    a_drop_that_forgets_its_node,
+    |asked, outcome| match (asked.kind, outcome.answer) {
+        (Kind::Drop, 0) => {
+            let node = mask::only(asked.node);
+            let dropped = |state: &State| {
+                if state.phase == Phase::Gathering { node } else { 0 }
+            };
+            remembers(asked, outcome, dropped, |_, _| 0)
+        }
+        _ => outcome,
+    }
+);
+
+wrong!(
+    /// Forgets all nodes where gathering starts again.
+    ForgetsAll,
+    a_drop_that_forgets_all,
+    |asked, outcome| match (asked.kind, outcome.answer) {
+        (Kind::Drop, 0) => {
+            let all = |state: &State| {
+                if state.phase == Phase::Gathering { 0 } else { u32::MAX }
+            };
+            remembers(asked, outcome, all, |_, _| 0)
+        }
+        _ => outcome,
+    }
+);
+
+wrong!(
+    /// Remembers the kept view of a node that reported a smaller one.
+    RemembersKept,
+    the_kept_view_remembered,
+    |asked, outcome| match (asked.kind, outcome.answer) {
+        (Kind::Report, 0) => {
+            let node = mask::only(words::whole_words(&asked.message)[0]);
+            let kept = |state: &State, _| state.kept.as_ref().map_or(0, |kept| kept.number);
+            remembers(asked, outcome, |_| node, kept)
+        }
+        _ => outcome,
+    }
+);
+
+wrong!(
+    /// Remembers a report that is refused with 12 or 13.
+    RemembersRefused,
+    a_refused_report_remembered,
+    |asked, outcome| match (asked.kind, outcome.answer) {
+        (Kind::Report, 12 | 13) => {
+            let message = words::whole_words(&asked.message);
+            let (node, view) = (mask::only(message[0]), message[1]);
+            remembers(asked, outcome, |_| node, |_, _| view)
+        }
+        _ => outcome,
+    }
+);
+
+wrong!(
+    /// Forgets what is not held when a plan is made.
+    PlanForgets,
+    a_plan_that_forgets_absent_nodes,
+    |asked, outcome| match outcome.answer {
+        PLAN => remembers(asked, outcome, |state| !state.held, |_, _| 0),
+        _ => outcome,
+    }
+);
+
+wrong!(
+    /// Leaves what is remembered in a fresh state.
+    FreshRemembers,
+    a_fresh_state_that_remembers,
+    |asked, mut outcome| {
+        if asked.kind == Kind::Fresh && outcome.answer == 0 {
+            let memory = 4 * 122..4 * 154;
+            outcome.state[memory.clone()].copy_from_slice(&asked.table.state[memory]);
+        }
+        outcome
+    }
+);
+
+wrong!(
+    /// Wants the view of its report to be remembered of a held node.
+    ExactMemory,
+    a_memory_above_the_report,
+    |asked, outcome| refused_if(asked, outcome, 3, |opened| {
+        let remembered = &opened.state.remembered;
+        opened.reports.iter().any(|r| remembered[r.node as usize] != r.view)
+    })
+);
+
+wrong!(
+    /// Wants no view above the kept one to be remembered, held or not.
+    MemoryOfAbsent,
+    a_memory_of_absent_nodes,
+    |asked, outcome| refused_if(asked, outcome, 3, |opened| {
+        let kept = opened.state.kept.as_ref().map_or(0, |kept| kept.number);
+        opened.state.remembered.iter().any(|&view| view > kept)
+    })
+);
+
+/// A state that is unsound, checked again with other views remembered of held
+/// nodes.
+fn checked_with(asked: &Asked, outcome: Outcome, view: fn(u32, u32, u32) -> u32) -> Outcome {
+    let state = left(asked, &outcome).filter(|_| asked.kind == Kind::CheckState);
+    let (Some(mut state), 3) = (state, outcome.answer) else {
+        return outcome;
+    };
+    let desk = words::whole_words(&asked.table.desk);
+    let kept = state.kept.as_ref().map_or(0, |kept| kept.number);
+    for node in mask::nodes(state.held) {
+        let own = desk::slot(&desk, node)[1];
+        let remembered = &mut state.remembered[node as usize];
+        *remembered = view(*remembered, own, kept);
+    }
+    let mut cured = asked.clone();
+    cured.table.state = encoded(&state);
+    Outcome::unchanged(asked, calls::expected(&cured).answer)
+}
+
+wrong!(
+    /// Takes a memory below a held report, as that of an earlier release.
+    MemoryBelow,
+    a_memory_below_the_report,
+    |asked, outcome| checked_with(asked, outcome, |view, own, _| view.max(own))
+);
+
+wrong!(
+    /// Takes a memory above the kept view of a held node.
+    MemoryAbove,
+    a_memory_above_the_kept_view,
+    |asked, outcome| checked_with(asked, outcome, |view, _, kept| view.min(kept))
+);
+
+/// Whether a state is sound once these words of it are zero.
+fn checked_without(asked: &Asked, outcome: Outcome, words: std::ops::Range<usize>) -> Outcome {
+    if asked.kind != Kind::CheckState || outcome.answer != 3 || outcome.state.len() != STATE_BYTES {
+        return outcome;
+    }
+    let mut clean = asked.clone();
+    clean.table.state[4 * words.start..4 * words.end].fill(0);
+    Outcome::unchanged(asked, calls::expected(&clean).answer)
+}
+
+wrong!(
+    /// Takes a view remembered of a node from N up.
+    DeadNodes,
+    a_memory_of_nodes_that_are_none,
+    |asked, outcome| match open_settings(asked) {
+        Some(settings) => {
+            let first = 122 + settings.nodes as usize;
+            checked_without(asked, outcome, first..154)
+        }
+        None => outcome,
+    }
 );
 
 wrong!(
@@ -752,13 +1003,7 @@ wrong!(
     /// Takes any word where a state has none.
     DeadWords,
     words_that_mean_nothing,
-    |asked, outcome| {
-        let mut clean = asked.clone();
-        if outcome.answer == 3 && asked.table.state.len() == STATE_BYTES {
-            clean.table.state[4 * 122..].fill(0);
-        }
-        calls::expected(&clean)
-    }
+    |asked, outcome| checked_without(asked, outcome, 154..STATE_BYTES / 4)
 );
 
 wrong!(

@@ -1,6 +1,7 @@
 //! Random sequences of events on the reference itself: every accepted event
-//! keeps the state sound, every order can be written and obeys document 01's
-//! words on cuts, every plan is valid and complete.
+//! keeps the state sound, every order can be written and its cuts are what two
+//! logs share, every plan is valid and complete, and each node's greatest
+//! reported view is remembered.
 
 use differential::random::Random;
 use differential::sequences::{self, Event, Given, Table};
@@ -52,16 +53,24 @@ fn accepted_events_keep_the_state_sound() {
         let world = world::world(random);
         let settings = settings::parse(&world.words).unwrap();
         let mut table = Table::fresh(random, &world.words);
+        let mut greatest = [0; 32];
         for _ in 0..EVENTS {
             let state = decoded(&settings, &table);
             let event = sequences::event(random, &world, &state);
             match table.after(&event) {
                 Ok((next, given)) => {
                     check(&settings, &table, &next, &event, &given);
+                    if let Event::Report(message) = &event {
+                        let own: &mut u32 = &mut greatest[message[0] as usize];
+                        assert!(message[1] >= *own, "a step back");
+                        *own = message[1];
+                    }
+                    assert_eq!(decoded(&settings, &next).remembered, greatest);
                     *seen.entry(label(&event, &given)).or_default() += 1;
                     table = next;
                 }
                 Err(refusal) => {
+                    check_step_back(&event, &greatest, refusal.number.0);
                     let label = format!("{} number {}", name(&event), refusal.number.0);
                     *seen.entry(label).or_default() += 1;
                 }
@@ -82,11 +91,24 @@ fn accepted_events_keep_the_state_sound() {
             "wait {reason}"
         );
     }
-    for number in (4..=13).chain(16..=17) {
+    for number in (4..=13).chain(16..=18) {
         assert!(
             seen.contains_key(&format!("report number {number}")),
             "{number}"
         );
+    }
+}
+
+/// Number 18 is given only to a smaller view than the node's earlier one, and
+/// such a view gets no later number.
+fn check_step_back(event: &Event, greatest: &[u32; 32], number: u32) {
+    if let Event::Report(message) = event {
+        let own = message
+            .first()
+            .and_then(|&node| greatest.get(node as usize));
+        let back = own.is_some_and(|&own| message.get(1).is_some_and(|&view| view < own));
+        assert!(number != 18 || back, "{event:?}");
+        assert!(number != 12 && number != 13 || !back, "{event:?}");
     }
 }
 

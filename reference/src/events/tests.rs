@@ -313,7 +313,9 @@ fn row_13_another_termination() {
     assert_eq!(table.report(&encode(&with(7, 5))), 0);
     assert_eq!(table.report(&encode(&with(7, 4))), 13);
     assert_eq!(table.report(&encode(&with(7, 5))), 0);
-    let older = terminated(&report_of(6, 6, &[]), [(0, 0), (1, 1), (0, 0)]);
+    let mut table = Table::fresh();
+    assert_eq!(table.report(&encode(&with(7, 5))), 0);
+    let older = terminated(&report_of(0, 6, &[]), [(0, 0), (1, 1), (0, 0)]);
     assert_eq!(table.report(&encode(&older)), 0);
 }
 
@@ -366,10 +368,105 @@ fn drops() {
     assert_eq!(state.kept.as_ref().unwrap().number, 7);
     let emptied = State {
         kept: state.kept.clone(),
+        remembered: state.remembered,
         ..state::fresh()
     };
     assert_eq!(state, emptied);
     assert_eq!(table.decide(), Ok(Decision::Wait(Wait::NoMajority)));
+}
+
+/// Number 18, and what is remembered.
+#[test]
+fn row_18_a_smaller_view() {
+    let at = |node, view| encode(&report_of(node, view, &[]));
+    let mut table = Table::fresh();
+    assert_eq!(table.report(&at(0, 6)), 0);
+    assert_eq!(table.report(&at(0, 7)), 0);
+    assert_eq!(table.state().remembered[0], 7);
+    assert_eq!(table.report(&at(0, 7)), 0, "an equal view");
+    assert_eq!(table.report(&at(0, 6)), 18);
+    assert_eq!(table.report(&at(1, 6)), 0, "another node's");
+    assert_eq!(table.state().remembered[..3], [7, 6, 0]);
+    // A refused report is not remembered.
+    let mut other = report_of(1, 9, &[]);
+    other.records[0].word1 = 0;
+    assert_eq!(table.report(&encode(&other)), 10);
+    assert_eq!(table.report(&at(1, 7)), 0);
+    // 11 comes before 18, and 18 before 12 and 13.
+    assert_eq!(table.report(&encode(&report_of(0, 6, &[(6, 0)]))), 11);
+    table.state[1] = 6;
+    table.state[122] = 6;
+    table.state[123] = 6;
+    table.desk[1] = 6;
+    table.desk[513] = 6;
+    assert_eq!(table.check(), 0);
+    table.state[124] = 7;
+    let mut other = report_of(2, 6, &[]);
+    other.records[0].word1 = 1;
+    assert_eq!(table.report(&encode(&other)), 18);
+    table.state[124] = 6;
+    assert_eq!(table.report(&encode(&other)), 12);
+}
+
+#[test]
+fn drops_do_not_forget() {
+    let at = |node, view| encode(&report_of(node, view, &[]));
+    let mut table = Table::gathered();
+    assert_eq!(table.drop_node(3), 0);
+    assert_eq!(table.report(&at(3, 6)), 18);
+    assert_eq!(table.report(&at(3, 7)), 0);
+    let mut table = Table::ordered();
+    assert_eq!(table.drop_node(3), 0);
+    for node in 0..6 {
+        assert_eq!(table.report(&at(node, 6)), 18);
+    }
+    assert_eq!(table.report(&at(6, 6)), 0);
+    let fresh = Table::fresh();
+    table.state.clone_from(&fresh.state);
+    assert_eq!(table.report(&at(0, 6)), 0);
+}
+
+/// From a held node's report up to the kept view; of others nothing is asked.
+#[test]
+fn row_3_remembered_views() {
+    let mut table = Table::gathered();
+    assert_eq!(table.report(&encode(&report_of(6, 4, &[]))), 0);
+    for (word, number) in [(3, 3), (4, 0), (6, 0), (7, 0), (8, 3), (0, 3)] {
+        assert_eq!(table.with_word(128, word), number, "node 6 at {word}");
+    }
+    assert_eq!(table.with_word(122, 6), 3);
+    assert_eq!(table.with_word(129, 1), 3, "node 7 of 7");
+    assert_eq!(table.with_word(154, 1), 3);
+    assert_eq!(table.drop_node(6), 0);
+    for word in [0, 1, 4, 7, 8, u32::MAX] {
+        assert_eq!(table.with_word(128, word), 0, "node 6 at {word}, not held");
+    }
+    table.state[128] = u32::MAX;
+    let at = |view| encode(&report_of(6, view, &[]));
+    assert_eq!(table.report(&at(u32::MAX - 1)), 18);
+    // A state of before, with nothing remembered.
+    let mut old = Table::gathered();
+    old.state[122..].fill(0);
+    assert_eq!(old.check(), 3);
+    let fresh = Table::fresh();
+    assert_eq!(fresh.with_word(122, 7), 0, "nothing held, no view kept");
+}
+
+/// No other event touches what is remembered.
+#[test]
+fn memory_through_a_restart() {
+    let mut table = Table::gathered();
+    let remembered = table.state().remembered;
+    assert_eq!(remembered[..7], [7, 7, 7, 7, 7, 7, 0]);
+    assert_eq!(table.decide(), Ok(Decision::Plan));
+    for node in 0..6 {
+        assert_eq!(table.fetched(node), 0);
+    }
+    for node in 0..6 {
+        assert_eq!(table.prepared(node), 0);
+    }
+    assert_eq!(table.state().remembered, remembered);
+    assert_eq!(table.check(), 0);
 }
 
 /// Node 4's order in the printed run.

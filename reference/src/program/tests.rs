@@ -155,3 +155,16 @@ fn the_index_of_a_record() {
     assert_eq!(with(0, 7), "number 6\n");
     assert_eq!(with(4 * 4 + 2, 0), "number 11\n");
 }
+
+/// Request Eight: a machine that went back in time.
+#[test]
+fn a_smaller_view_of_the_same_node() {
+    let told = |views: &[(u32, u32)]| {
+        let message = |&(node, view): &(u32, u32)| encode(&report(node, view, &[]));
+        let messages: Vec<Vec<u32>> = views.iter().map(message).collect();
+        run(&input(&SETTINGS, &messages))
+    };
+    assert_eq!(told(&[(0, 7), (0, 6)]), "number 18\n");
+    assert_eq!(told(&[(0, 6), (0, 7), (0, 6)]), "number 18\n");
+    assert_eq!(told(&[(0, 7), (1, 6), (0, 7)]), "wait 2\n");
+}

@@ -71,7 +71,7 @@ fn compare(program: &str, input: &[u8], endings: &mut Endings) -> Result<(), Str
 
 /// The endings that must occur and did not.
 fn missing(endings: &Endings) -> Vec<String> {
-    let numbers = [2, 5, 6, 7, 8, 9, 10, 11, 12, 13, 16, 17].map(Ending::Number);
+    let numbers = [2, 5, 6, 7, 8, 9, 10, 11, 12, 13, 16, 17, 18].map(Ending::Number);
     let waits = [1, 2, 3, 4, 5].map(Ending::Wait);
     let mut missing = Vec::new();
     for ending in numbers.into_iter().chain(waits) {
