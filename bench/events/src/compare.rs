@@ -16,7 +16,7 @@ use std::process::ExitCode;
 
 /// Each event comes at least so often to a state of each phase, and each answer
 /// is given at least so often.
-const LEAST: u64 = 10;
+const LEAST: u64 = 5;
 /// One in so many calls is a decide that is hard to place.
 const LAYOUTS: u64 = 20;
 const PHASES: [Phase; 4] = [
@@ -136,28 +136,26 @@ impl Seen {
         }
     }
 
-    /// What came too seldom for the calls to show much.
-    fn rare(&self) -> Vec<String> {
-        let mut rare = Vec::new();
-        let mut want = |times: Option<&u64>, name: String| {
-            if times.copied().unwrap_or(0) < LEAST {
-                rare.push(name);
-            }
-        };
+    /// How often each event came to each phase, and each answer.
+    fn times(&self) -> Vec<(u64, String)> {
+        let mut all = vec![(self.plans, "a plan".into())];
         for kind in Kind::ALL {
             for phase in PHASES.into_iter().filter(|_| kind != Kind::Fresh) {
                 let times = self.events.get(&(kind, phase as usize));
-                want(times, format!("{} while {phase:?}", kind.name()));
+                let name = format!("{} while {phase:?}", kind.name());
+                all.push((times.copied().unwrap_or(0), name));
             }
         }
-        want(Some(&self.plans), "a plan".into());
         for number in NUMBERS {
-            want(self.numbers.get(&number), format!("number {number}"));
+            let times = self.numbers.get(&number).copied();
+            all.push((times.unwrap_or(0), format!("number {number}")));
         }
         for reason in WAITS {
-            want(self.waits.get(&reason), format!("wait {reason}"));
+            let times = self.waits.get(&reason).copied();
+            all.push((times.unwrap_or(0), format!("wait {reason}")));
         }
-        rare
+        all.sort();
+        all
     }
 }
 
@@ -235,8 +233,13 @@ pub fn run(count: u64, seed: u64) -> ExitCode {
         .and_then(|()| play(&mut two, seed, count, &mut seen));
     failed.extend(done.err());
     if failed.is_empty() {
-        let rare = seen.rare().into_iter();
-        failed.extend(rare.map(|what| format!("{what} is rare: the inputs are no good")));
+        let times = seen.times();
+        println!(
+            "compare: the rarest is {}, {} times",
+            times[0].1, times[0].0
+        );
+        let rare = times.into_iter().filter(|(times, _)| *times < LEAST);
+        failed.extend(rare.map(|(_, what)| format!("{what} is rare: the inputs are no good")));
     }
     for what in &failed {
         println!("compare: {what}");

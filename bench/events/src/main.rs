@@ -18,6 +18,7 @@ mod stack;
 mod times;
 
 use calls::{Call, Ready};
+use differential::random;
 use std::process::ExitCode;
 
 /// What is inside is counted.
@@ -40,8 +41,8 @@ fn main() -> ExitCode {
         "times" => times::print(number(40)),
         "peer" => ratios::print(&times::inputs(inputs::FULL, number(40)), number(40)),
         "compare" => {
-            let seed = argument(3).and_then(|a| a.parse().ok()).unwrap_or(1);
-            return compare::run(number(20_000), seed);
+            let seed = argument(3).and_then(|a| a.parse().ok());
+            return compare::run(number(20_000), seed.unwrap_or_else(random::clock_seed));
         }
         "stack" => stack::print(number(20)),
         "names" => Call::all()
