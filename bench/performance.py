@@ -60,7 +60,7 @@ def placement():
     ratio, own, lemon, seed, index, kind = SLOWEST.search(printed).groups()
     differ = sum(int(row.group(10)) for row in rows)
     lines.append("\nThe greatest ratio on a single instance is %s: %s to %s microseconds, on instance %s of the kind" % (ratio, own, lemon, index))
-    lines.append("\"%s\" (counted from 0, seed %s), each the least of 15 runs. %d answers differ." % (kind, seed, differ))
+    lines.append("\"%s\" (counted from 0, seed %s). %d answers differ." % (kind, seed, differ))
     return "\n".join(lines)
 
 
@@ -128,7 +128,7 @@ PLACEMENT = """
 ### Placement
 
 The placement of one subgroup (the first of least moves, or that none exists) against LEMON's network simplex (least moves alone,
-graph building included) on the same seeded instances; microseconds. `bench/README.md` describes the kinds.
+graph building included) on the same seeded instances; microseconds, each the least of 15 runs. `bench/README.md` describes the kinds.
 
 {table}
 """
