@@ -8,6 +8,7 @@ import os
 import re
 import subprocess
 import sys
+import time
 
 ROOT = os.path.dirname(os.path.dirname(os.path.abspath(__file__)))
 TARGET = os.path.join(ROOT, "target")
@@ -15,6 +16,8 @@ CARGO = os.path.join(TARGET, "cargo")
 BENCH = os.path.join(CARGO, "release", "events-bench")
 ENVIRONMENT = dict(os.environ, CARGO_TARGET_DIR=CARGO, RESTART_LIB_DIR=os.path.join(TARGET, "staticlib"))
 SLOWEST = re.compile(r'^greatest ratio ([\d.]+): ([\d.]+) to ([\d.]+), seed (\d+), instance (\d+) of "(.+)"$', re.M)
+EVENT = re.compile(r"### Beside a peer.*?^\| report \| ([\d.]+)", re.M | re.S)
+RUNS = 15
 COUNTED = re.compile(r"Collected : (\d+)")
 ROW = re.compile(r"^(.+?)\s+(\d+)%\s+([\d.]+) \|\s+([\d.]+)\s+([\d.]+) \|\s+([\d.]+)\s+([\d.]+) \|\s+([\d.]+)\s+([\d.]+) \| (\d+)$")
 
@@ -29,6 +32,7 @@ def build(mock):
     if not mock:
         for name in ("c_planner", "c_placement"):
             subprocess.run(["rt", "staticlib", name], cwd=ROOT, env=ENVIRONMENT, check=True, stdout=subprocess.DEVNULL)
+        said("make", "--no-print-directory", "target/bin/restart")
     features = ["--features", "mock"] if mock else []
     for folder, more in (("bench/events", features), ("reference", [])):
         said("cargo", "build", "--release", "--offline", "--quiet", "--manifest-path", folder + "/Cargo.toml", *more)
@@ -47,6 +51,27 @@ def counted(call, index):
     command = ["valgrind", "--tool=callgrind", "--toggle-collect=measured", "--callgrind-out-file=/dev/null", BENCH, "once", call, str(index)]
     done = subprocess.run(command, stdout=subprocess.PIPE, stderr=subprocess.STDOUT, text=True, check=True)
     return int(COUNTED.search(done.stdout).group(1))
+
+
+def run_time(program, blocks):
+    """The least time of some runs of a program on an input, in seconds."""
+    least = float("inf")
+    for _ in range(RUNS):
+        began = time.perf_counter()
+        subprocess.run([program], input=blocks, stdout=subprocess.DEVNULL, check=True)
+        least = min(least, time.perf_counter() - began)
+    return least
+
+
+def program(mock, times, more):
+    """What a report costs the program restart when all nodes are held, beside the library's event."""
+    name = os.path.join(CARGO, "release", "restart-reference") if mock else os.path.join(TARGET, "bin", "restart")
+    costs = []
+    for index in range(2 if mock else 6):
+        short, long = (subprocess.run([BENCH, "blocks", str(count), str(index)], stdout=subprocess.PIPE, check=True).stdout for count in (0, more))
+        costs.append((run_time(name, long) - run_time(name, short)) / more * 1e6)
+    cost, event = sorted(costs)[len(costs) // 2], float(EVENT.search(times).group(1))
+    return "%.1f microseconds; the library's event takes %.1f: %.2f times as long." % (cost, event, cost / event)
 
 
 def placement():
@@ -98,6 +123,11 @@ same options and given words where the library is given bytes; it is plain and n
 state and every held slot before it does anything, so its time grows with the held reports.
 
 {times}
+### The program restart
+
+A report while all 32 nodes are held, at full size: by how much a run with {more} reports more takes longer, each time the least of
+15 runs, median over some inputs. {program}
+
 ### Instructions
 
 Of one call at full size, counted by callgrind over {counted} of the inputs. Callgrind counts a copied byte as an instruction where
@@ -146,12 +176,16 @@ def main():
 def whole(mock):
     """The page, all of it measured."""
     count, stacks, counted_inputs = (4, 2, 1) if mock else (40, 20, 4)
+    more = 50 if mock else 2000
     build(mock)
+    times = said(BENCH, "times", str(count))
     return PAGE.format(
         machine=machine(),
         count=count,
         stacks=stacks,
-        times=said(BENCH, "times", str(count)),
+        times=times,
+        more=more,
+        program=program(mock, times, more),
         counted=counted_inputs,
         instructions=instructions(counted_inputs),
         stack=said(BENCH, "stack", str(stacks)),
