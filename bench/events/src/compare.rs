@@ -7,6 +7,7 @@ use differential::calls::{self, Asked, Kind, Outcome, Pages};
 use differential::events::{self, Step};
 use differential::lent::{self, Place};
 use differential::library::{self, Planner, PLAN};
+use differential::random::Random;
 use reference::placement::Subgroup;
 use reference::settings::{self, Settings, SUBGROUPS};
 use reference::state::{self, Phase, State};
@@ -18,7 +19,7 @@ use std::process::ExitCode;
 /// is given at least so often.
 const LEAST: u64 = 5;
 /// One in so many calls is a decide that is hard to place.
-const LAYOUTS: u64 = 20;
+const LAYOUTS: u64 = 40;
 const PHASES: [Phase; 4] = [
     Phase::Gathering,
     Phase::Ordered,
@@ -199,19 +200,31 @@ fn play(two: &mut Two, seed: u64, count: u64, seen: &mut Seen) -> Result<(), Str
     Ok(())
 }
 
-/// Compares decide on layouts that are hard to place.
+/// Compares decide on layouts that are hard to place, and calls with faults in
+/// them.
 fn place(two: &mut Two, seed: u64, count: u64, seen: &mut Seen) -> Result<(), String> {
     for index in 0..count {
         lent::at_input(index);
+        let random = &mut Random::of_input(seed, index);
         let (planner, pages) = &mut two.library;
-        let step = Step {
-            asked: layouts::decide(planner, pages, seed, index),
-            places: [Place::Last; 5],
-            faults: Vec::new(),
+        let asked = layouts::decide(planner, pages, random);
+        let mut made = |asked: &Asked| {
+            let step = Step {
+                asked: asked.clone(),
+                places: [Place::Last; 5],
+                faults: Vec::new(),
+            };
+            let outcome = two.compare(&step);
+            let outcome = outcome.map_err(|what| format!("seed {seed}, layout {index}: {what}"))?;
+            seen.count(asked, &outcome);
+            Ok::<Outcome, String>(outcome)
         };
-        let outcome = two.compare(&step);
-        let outcome = outcome.map_err(|what| format!("seed {seed}, layout {index}: {what}"))?;
-        seen.count(&step.asked, &outcome);
+        made(&layouts::report_too_short(&asked))?;
+        made(&layouts::with_stranger(&asked))?;
+        let decided = made(&asked)?;
+        if decided.answer == PLAN {
+            made(&layouts::with_other_member(random, &asked, &decided.state))?;
+        }
     }
     Ok(())
 }

@@ -1,6 +1,7 @@
 //! Restarts that are hard to place: nearly every held node is needed, and old
 //! members crowd into few sets, so that shards have to exchange nodes. No log
-//! holds anything.
+//! holds anything. The last node is no member of the view. Some faults that
+//! other inputs seldom have are put into them.
 
 use differential::calls::{self, Asked, Kind, Pages, Table, DESK_BYTES, STATE_BYTES};
 use differential::lent::Place;
@@ -11,6 +12,13 @@ use reference::words;
 
 const VIEW: u32 = 7;
 
+/// Words of the state.
+const KEPT_MASKS: usize = 4;
+const HELD: usize = 52;
+const PLAN_MOVES: usize = 57;
+const PLAN_MASKS: usize = 58;
+const LATEST: usize = 122;
+
 struct Layout {
     nodes: u32,
     settings: Vec<u32>,
@@ -19,10 +27,9 @@ struct Layout {
     held: u32,
 }
 
-/// The decide of layout `index` of a seed: all held nodes have reported to the
-/// planner.
-pub fn decide(planner: &Planner, pages: &mut Pages, seed: u64, index: u64) -> Asked {
-    let layout = layout(&mut Random::of_input(seed, index));
+/// The decide of a layout: all held nodes have reported to the planner.
+pub fn decide(planner: &Planner, pages: &mut Pages, random: &mut Random) -> Asked {
+    let layout = layout(random);
     let mut asked = Asked {
         kind: Kind::Report,
         table: Table {
@@ -46,15 +53,79 @@ pub fn decide(planner: &Planner, pages: &mut Pages, seed: u64, index: u64) -> As
     asked
 }
 
+/// The last report of a layout, its last record naming one behind the message.
+pub fn report_too_short(decide: &Asked) -> Asked {
+    let mut message = words::whole_words(&decide.message);
+    let words = message.len();
+    message[words - 1] = words as u32 / 4;
+    Asked {
+        kind: Kind::Report,
+        message: words::to_bytes(&message),
+        ..decide.clone()
+    }
+}
+
+/// A layout where the last node is held too, with a report of the view that
+/// does not have it.
+pub fn with_stranger(decide: &Asked) -> Asked {
+    let settings = words::whole_words(&decide.table.settings);
+    let mut state = words::whole_words(&decide.table.state);
+    let mut desk = words::whole_words(&decide.table.desk);
+    let node = settings[0] as usize - 1;
+    let report = words::whole_words(&decide.message);
+    desk[512 * node..512 * node + report.len()].copy_from_slice(&report);
+    desk[512 * node] = node as u32;
+    state[HELD] |= 1 << node;
+    state[LATEST + node] = VIEW;
+    with_table(decide, &state, &desk)
+}
+
+/// A plan with another member of some shard, and its moves counted anew.
+pub fn with_other_member(random: &mut Random, decide: &Asked, state: &[u8]) -> Asked {
+    let settings = words::whole_words(&decide.table.settings);
+    let mut state = words::whole_words(state);
+    let shard = random.below(settings[3] as usize);
+    let mut pick = |from: u32| {
+        let nodes = reference::mask::nodes(from);
+        nodes.get(random.below(nodes.len().max(1))).copied()
+    };
+    let (own, old) = (state[PLAN_MASKS + shard], state[KEPT_MASKS + shard]);
+    if let (Some(out), Some(into)) = (pick(own), pick(state[HELD] & !own)) {
+        let next = own & !(1 << out) | 1 << into;
+        state[PLAN_MOVES] += (next & !old).count_ones();
+        state[PLAN_MOVES] -= (own & !old).count_ones();
+        state[PLAN_MASKS + shard] = next;
+    }
+    with_table(decide, &state, &words::whole_words(&decide.table.desk))
+}
+
+/// The check of another state and desk.
+fn with_table(decide: &Asked, state: &[u32], desk: &[u32]) -> Asked {
+    Asked {
+        kind: Kind::CheckState,
+        table: Table {
+            settings: decide.table.settings.clone(),
+            state: words::to_bytes(state),
+            desk: words::to_bytes(desk),
+        },
+        ..decide.clone()
+    }
+}
+
 fn report(layout: &Layout, node: u32) -> Vec<u32> {
     let masks = (0..).zip(&layout.masks);
     let records = masks.map(|(shard, &own)| Triple::new(MEMBERS, shard, own, 0));
     encode(&Contents {
         node,
         view: VIEW,
-        members: u32::MAX >> (32 - layout.nodes),
+        members: members(layout.nodes),
         records: records.collect(),
     })
+}
+
+/// All nodes but the last.
+fn members(nodes: u32) -> u32 {
+    reference::mask::below(nodes - 1)
 }
 
 fn layout(random: &mut Random) -> Layout {
@@ -93,7 +164,7 @@ fn old_members(random: &mut Random, of_node: &[u32], groups: &[u32]) -> Vec<u32>
     let mut masks = vec![0; groups.len()];
     for group in [0, 3] {
         let own: Vec<usize> = (0..groups.len()).filter(|&s| groups[s] == group).collect();
-        let mut order: Vec<u32> = (0..of_node.len() as u32).collect();
+        let mut order: Vec<u32> = (0..of_node.len() as u32 - 1).collect();
         random.shuffle(&mut order);
         for (place, node) in order.into_iter().enumerate() {
             let with_set = own.get(of_node[node as usize] as usize % own.len().max(1));
@@ -113,7 +184,7 @@ fn old_members(random: &mut Random, of_node: &[u32], groups: &[u32]) -> Vec<u32>
 
 /// Most nodes; each shard has a held old member.
 fn held(random: &mut Random, nodes: u32, masks: &[u32]) -> u32 {
-    let mut held = u32::MAX >> (32 - nodes);
+    let mut held = members(nodes);
     for _ in 0..random.between(0, nodes / 4) {
         let without = held & !(1 << random.between(0, nodes - 1));
         if masks.iter().all(|own| own & without != 0) {

@@ -140,6 +140,6 @@ pub fn print(full: &[Input], count: u64) {
     table(&inputs(SMALL, count));
     println!("Short: 7 nodes, 3 shards, 4 runs in each report.\n");
     table(&inputs(SHORT, count));
-    println!("Both beside the memory, at full size: the desk has 65536 bytes. ");
+    println!("Both beside the memory, at full size, where the desk has 65536 bytes.");
     memory_table(&mut rows);
 }
