@@ -9,6 +9,7 @@
 //! - `damage`: faults put into them
 //! - `records`: what a refusal with a record's index was about
 //! - `messages`: the inputs of the `messages` program and their comparison
+//! - `stored`: stored calls of the readers and writers
 //! - `world`: groups whose nodes report
 //! - `sequences`: events that a state's phase takes
 //! - `calls`: one call of an event, what the reference says of it, and their
@@ -43,6 +44,7 @@ pub mod regressions;
 pub mod runs;
 pub mod sequences;
 pub mod situations;
+pub mod stored;
 pub mod tally;
 pub mod unsound;
 pub mod world;

@@ -77,6 +77,7 @@ pub fn directory() -> PathBuf {
 pub fn play_all(planner: &Planner, pages: &mut Pages) -> Result<usize, String> {
     let files = std::fs::read_dir(directory()).map_err(|error| error.to_string())?;
     let mut paths: Vec<PathBuf> = files.flatten().map(|file| file.path()).collect();
+    paths.retain(|path| path.is_file());
     paths.sort();
     let mut played = 0;
     for path in paths {

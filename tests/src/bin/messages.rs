@@ -7,7 +7,7 @@
 use differential::lent::{self, hex};
 use differential::library::{self, Answer};
 use differential::messages::{self, Call, Desk, Input};
-use differential::random;
+use differential::{random, stored};
 use std::collections::BTreeMap;
 use std::process::ExitCode;
 
@@ -69,6 +69,13 @@ fn main() -> ExitCode {
     lent::watch_ends();
 
     let library = library::tested();
+    match stored::play_all(&library) {
+        Ok(calls) => println!("messages: {calls} stored calls, 0 differ"),
+        Err(what) => {
+            println!("messages: {what}");
+            return ExitCode::FAILURE;
+        }
+    }
     let mut desk = Desk::default();
     let mut answers = Answers::new();
     let mut records = Records::new();
