@@ -50,6 +50,7 @@ THEN = [
     ("settings and messages against the reference", cargo("tests", "run", "--release", "--bin", "messages"), LIBRARY),
     ("events against the reference", cargo("tests", "run", "--release", "--bin", "events"), LIBRARY),
     ("plans against the reference", cargo("tests", "run", "--release", "--bin", "plans"), LIBRARY),
+    ("events against the peer in C and the reference", cargo("bench/events", "run", "--release", "--", "compare", "20000"), LIBRARY),
     ("placements against the reference", cargo("tests/placement", "run", "--release"), PLACEMENT),
     ("cases and numbers of the program restart", ["python3", "tests/cases.py"], None),
     ("texts and explanations for operators", ["python3", "tools/tests/run.py", "target/bin/restart", "target/bin/mondays"], None),
