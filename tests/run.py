@@ -51,7 +51,7 @@ THEN = [
     ("settings and messages against the reference", cargo("tests", "run", "--release", "--bin", "messages"), LIBRARY),
     ("events against the reference", cargo("tests", "run", "--release", "--bin", "events"), LIBRARY),
     ("plans against the reference", cargo("tests", "run", "--release", "--bin", "plans"), LIBRARY),
-    ("events against the peer in C and the reference", cargo("bench/events", "run", "--release", "--", "compare", "20000"), LIBRARY),
+    ("events against the peer in C and the reference", cargo("bench/events", "run", "--release", "--", "compare", "20000", "1"), LIBRARY),
     ("placements against the reference", cargo("tests/placement", "run", "--release"), PLACEMENT),
     ("cases and numbers of the program restart", ["python3", "tests/cases.py"], None),
     ("the library from C", ["make", "--no-print-directory", "test-c"], LIBRARY),
