@@ -47,20 +47,32 @@ static bool valid(const Instance &x, const std::array<uint8_t, NODES> &owners, i
     return paid == moves;
 }
 
-// The lesser of three runs: what another process took away is not counted.
-template <class F> double best_of_three(F f) {
+// Each time is the least of so many runs: what another process took away is not counted.
+constexpr int RUNS = 15;
+
+template <class F> double least_time(F f) {
     double best = microseconds(f);
-    for (int again = 0; again < 2; ++again) best = std::min(best, microseconds(f));
+    for (int again = 1; again < RUNS; ++again) best = std::min(best, microseconds(f));
     return best;
 }
+
+// The instance with the greatest ratio of times.
+struct Slowest {
+    double ratio = 0, ours = 0, lemons = 0;
+    int kind = 0, index = 0;
+    void see(double a, double b, int of_kind, int at) {
+        if (a / b > ratio) *this = {a / b, a, b, of_kind, at};
+    }
+};
 
 int main(int argc, char **argv) {
     int count = argc > 1 ? atoi(argv[1]) : 1000;
     uint64_t seed = argc > 2 ? strtoull(argv[2], nullptr, 10) : 1;
-    printf("seed %llu, %d instances a kind, microseconds, each the least of three runs\n", (unsigned long long)seed, count);
+    printf("seed %llu, %d instances a kind, microseconds, each the least of %d runs\n", (unsigned long long)seed, count, RUNS);
     printf("%-28s %6s %6s | %8s %8s | %8s %8s | %6s %6s | %s\n", "kind", "none", "moves", "median", "worst", "LEMON", "worst", "ratio",
            "worst", "differ");
     long differ = 0;
+    Slowest slowest;
     for (int kind = 0; kind < KINDS; ++kind) {
         Random r(seed * 1000 + static_cast<uint64_t>(kind));
         Times ours, lemons;
@@ -71,11 +83,12 @@ int main(int argc, char **argv) {
             std::array<uint8_t, NODES> owners{};
             uint32_t mine = 0;
             int theirs = 0;
-            double a = best_of_three([&] { mine = least(x, owners); });
-            double b = best_of_three([&] { theirs = lemon_least(x); });
+            double a = least_time([&] { mine = least(x, owners); });
+            double b = least_time([&] { theirs = lemon_least(x); });
             ours.all.push_back(a);
             lemons.all.push_back(b);
             worst_ratio = std::max(worst_ratio, a / b);
+            slowest.see(a, b, kind, k);
             if (mine != static_cast<uint32_t>(theirs) || (mine != NONE && !valid(x, owners, theirs))) ++wrong;
             if (mine == NONE) ++none;
             else moves += mine;
@@ -86,5 +99,7 @@ int main(int argc, char **argv) {
         fflush(stdout);
         differ += wrong;
     }
+    printf("greatest ratio %.2f: %.1f to %.1f, seed %llu, instance %d of \"%s\"\n", slowest.ratio, slowest.ours, slowest.lemons,
+           (unsigned long long)seed, slowest.index, name(slowest.kind));
     return differ ? 1 : 0;
 }

@@ -1,6 +1,6 @@
 """Measure the library and write docs/PERFORMANCE.md: performance.py [mock | mondays].
 
-Times of every call beside the reference's, instructions by callgrind, stack by painting, the placement beside LEMON's network
+Times of every call beside the reference's, of events beside a peer in C, instructions by callgrind, stack by painting, the placement beside LEMON's network
 simplex, and the program mondays beside a plain C program. With `mock` the reference stands in for the library and for mondays, the
 placement is left out and the page goes to target/performance.md; with `mondays` that section alone is measured and written anew. It
 needs valgrind and, for the placement, LEMON (Debian: liblemon-dev)."""
@@ -8,12 +8,16 @@ import os
 import re
 import subprocess
 import sys
+import time
 
 ROOT = os.path.dirname(os.path.dirname(os.path.abspath(__file__)))
 TARGET = os.path.join(ROOT, "target")
 CARGO = os.path.join(TARGET, "cargo")
 BENCH = os.path.join(CARGO, "release", "events-bench")
 ENVIRONMENT = dict(os.environ, CARGO_TARGET_DIR=CARGO, RESTART_LIB_DIR=os.path.join(TARGET, "staticlib"))
+SLOWEST = re.compile(r'^greatest ratio ([\d.]+): ([\d.]+) to ([\d.]+), seed (\d+), instance (\d+) of "(.+)"$', re.M)
+EVENT = re.compile(r"### Beside a peer.*?^\| report \| ([\d.]+)", re.M | re.S)
+RUNS = 15
 COUNTED = re.compile(r"Collected : (\d+)")
 ROW = re.compile(r"^(.+?)\s+(\d+)%\s+([\d.]+) \|\s+([\d.]+)\s+([\d.]+) \|\s+([\d.]+)\s+([\d.]+) \|\s+([\d.]+)\s+([\d.]+) \| (\d+)$")
 
@@ -28,6 +32,7 @@ def build(mock):
     if not mock:
         for name in ("c_planner", "c_placement"):
             subprocess.run(["rt", "staticlib", name], cwd=ROOT, env=ENVIRONMENT, check=True, stdout=subprocess.DEVNULL)
+        said("make", "--no-print-directory", "target/bin/restart")
     features = ["--features", "mock"] if mock else []
     for folder, more in (("bench/events", features), ("reference", [])):
         said("cargo", "build", "--release", "--offline", "--quiet", "--manifest-path", folder + "/Cargo.toml", *more)
@@ -48,16 +53,39 @@ def counted(call, index):
     return int(COUNTED.search(done.stdout).group(1))
 
 
+def run_time(program, blocks):
+    """The least time of some runs of a program on an input, in seconds."""
+    least = float("inf")
+    for _ in range(RUNS):
+        began = time.perf_counter()
+        subprocess.run([program], input=blocks, stdout=subprocess.DEVNULL, check=True)
+        least = min(least, time.perf_counter() - began)
+    return least
+
+
+def program(mock, times, more):
+    """What a report costs the program restart when all nodes are held, beside the library's event."""
+    name = os.path.join(CARGO, "release", "restart-reference") if mock else os.path.join(TARGET, "bin", "restart")
+    costs = []
+    for index in range(2 if mock else 6):
+        short, long = (subprocess.run([BENCH, "blocks", str(count), str(index)], stdout=subprocess.PIPE, check=True).stdout for count in (0, more))
+        costs.append((run_time(name, long) - run_time(name, short)) / more * 1e6)
+    cost, event = sorted(costs)[len(costs) // 2], float(EVENT.search(times).group(1))
+    return "%.1f microseconds; the library's event takes %.1f: %.2f times as long." % (cost, event, cost / event)
+
+
 def placement():
-    """The placement's table from bench/bench.cpp, and a sentence about single instances."""
-    rows = [row for row in map(ROW.match, said("make", "--no-print-directory", "-C", "bench", "bench").splitlines()) if row]
+    """The placement's table from bench/bench.cpp, and a sentence about the instance with the greatest ratio."""
+    printed = said("make", "--no-print-directory", "-C", "bench", "bench")
+    rows = [row for row in map(ROW.match, printed.splitlines()) if row]
     lines = ["| kind | median | worst | LEMON, median | worst | ratio of medians |", "|---|---|---|---|---|---|"]
     for row in rows:
         name, _, _, median, worst, lemon, lemon_worst, ratio, _, _ = row.groups()
         lines.append("| %s | %s | %s | %s | %s | %s |" % (name, median, worst, lemon, lemon_worst, ratio))
-    slowest = max(float(row.group(9)) for row in rows)
+    ratio, own, lemon, seed, index, kind = SLOWEST.search(printed).groups()
     differ = sum(int(row.group(10)) for row in rows)
-    lines.append("\nThe greatest ratio on a single instance is %.2f; %d answers differ." % (slowest, differ))
+    lines.append("\nThe greatest ratio on a single instance is %s: %s to %s microseconds, on instance %s of the kind" % (ratio, own, lemon, index))
+    lines.append("\"%s\" (counted from 0, seed %s). %d answers differ." % (kind, seed, differ))
     return "\n".join(lines)
 
 
@@ -80,7 +108,7 @@ def machine():
         cpus = [line.split(":", 1)[1].strip() for line in text if line.startswith("model name")]
     with open("/proc/meminfo") as text:
         memory = int(re.search(r"MemTotal:\s+(\d+)", text.read()).group(1)) // (1 << 20)
-    versions = [said(*command).splitlines()[0] for command in (["rustc", "--version"], ["valgrind", "--version"])]
+    versions = [said(*command).splitlines()[0] for command in (["rustc", "--version"], ["cc", "--version"], ["valgrind", "--version"])]
     system = "%s %s, %s" % (os.uname().sysname, os.uname().release.split("-")[0], os.uname().machine)
     return "%d processors (%s), %d GiB of memory, %s; %s." % (len(cpus), cpus[0], memory, system, ", ".join(versions))
 
@@ -95,9 +123,15 @@ same options and given words where the library is given bytes; it is plain and n
 state and every held slot before it does anything, so its time grows with the held reports.
 
 {times}
+### The program restart
+
+A report while all 32 nodes are held, at full size: by how much a run with {more} reports more takes longer, each time the least of
+15 runs, median over some inputs. {program}
+
 ### Instructions
 
-Of one call at full size, counted by callgrind over {counted} of the inputs.
+Of one call at full size, counted by callgrind over {counted} of the inputs. Callgrind counts a copied byte as an instruction where
+bytes are copied by one repeated instruction, so these numbers say little about time where much is copied.
 
 {instructions}
 
@@ -124,7 +158,7 @@ PLACEMENT = """
 ### Placement
 
 The placement of one subgroup (the first of least moves, or that none exists) against LEMON's network simplex (least moves alone,
-graph building included) on the same seeded instances; microseconds. `bench/README.md` describes the kinds.
+graph building included) on the same seeded instances; microseconds, each the least of 15 runs. `bench/README.md` describes the kinds.
 
 {table}
 """
@@ -142,12 +176,16 @@ def main():
 def whole(mock):
     """The page, all of it measured."""
     count, stacks, counted_inputs = (4, 2, 1) if mock else (40, 20, 4)
+    more = 50 if mock else 2000
     build(mock)
+    times = said(BENCH, "times", str(count))
     return PAGE.format(
         machine=machine(),
         count=count,
         stacks=stacks,
-        times=said(BENCH, "times", str(count)),
+        times=times,
+        more=more,
+        program=program(mock, times, more),
         counted=counted_inputs,
         instructions=instructions(counted_inputs),
         stack=said(BENCH, "stack", str(stacks)),

@@ -42,6 +42,7 @@ FIRST = [
 LIBRARY, PLACEMENT = "the library for C", "the placement for C"
 THEN = [
     (LIBRARY, ["make", "--no-print-directory", "lib"], None),
+    ("texts and explanations for operators", ["python3", "tools/tests/run.py", "target/bin/restart", "target/bin/mondays"], None),
     ("the reference's own tests", cargo("reference", "test", "--release"), None),
     ("tests of the comparison itself", cargo("tests", "test", "--release", "--features", "mock"), None),
     (PLACEMENT, ["rt", "staticlib", "c_placement"], LIBRARY),
@@ -50,9 +51,9 @@ THEN = [
     ("settings and messages against the reference", cargo("tests", "run", "--release", "--bin", "messages"), LIBRARY),
     ("events against the reference", cargo("tests", "run", "--release", "--bin", "events"), LIBRARY),
     ("plans against the reference", cargo("tests", "run", "--release", "--bin", "plans"), LIBRARY),
+    ("events against the peer in C and the reference", cargo("bench/events", "run", "--release", "--", "compare", "20000", "1"), LIBRARY),
     ("placements against the reference", cargo("tests/placement", "run", "--release"), PLACEMENT),
     ("cases and numbers of the program restart", ["python3", "tests/cases.py"], None),
-    ("texts and explanations for operators", ["python3", "tools/tests/run.py", "target/bin/restart", "target/bin/mondays"], None),
     ("the library from C", ["make", "--no-print-directory", "test-c"], LIBRARY),
     ("the total search is never entered", ["make", "--no-print-directory", "-C", "bench", "fallback"], PLACEMENT),
 ]

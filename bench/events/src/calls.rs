@@ -89,7 +89,11 @@ impl Call {
     }
 }
 
-/// A call of the library with memory of its own.
+/// How many calls can be made one after another before their states are
+/// restored.
+pub const CALLS: usize = 8;
+
+/// A call of a planner with memory of its own.
 pub struct Ready {
     call: Call,
     node: u32,
@@ -97,7 +101,7 @@ pub struct Ready {
     library: Library,
     settings: Vec<u8>,
     before: Vec<u8>,
-    state: Vec<u8>,
+    states: [Vec<u8>; CALLS],
     desk: Vec<u8>,
     given: Vec<u8>,
     buffer: Vec<u8>,
@@ -105,25 +109,36 @@ pub struct Ready {
 
 impl Ready {
     pub fn new(call: Call, input: &Input, node: u32) -> Ready {
+        Ready::of(library::tested_planner(), call, input, node)
+    }
+
+    /// An event of some planner.
+    pub fn of(planner: Planner, call: Call, input: &Input, node: u32) -> Ready {
         let state = words::to_bytes(call.state(input));
         Ready {
             call,
             node,
-            planner: library::tested_planner(),
+            planner,
             library: library::tested(),
             settings: words::to_bytes(&input.settings),
-            before: state.clone(),
-            state,
+            states: [(); CALLS].map(|()| state.clone()),
+            before: state,
             desk: words::to_bytes(&input.desk),
             given: words::to_bytes(call.given(input, node)),
             buffer: vec![0; 2048],
         }
     }
 
-    /// Makes the state what it was. A report leaves the desk as it is, for it
-    /// brings what the slot has.
+    /// Makes the states what they were. A report leaves the desk as it is, for
+    /// it brings what the slot has.
     pub fn restore(&mut self) {
-        self.state.copy_from_slice(&self.before);
+        for state in &mut self.states {
+            state.copy_from_slice(&self.before);
+        }
+    }
+
+    pub fn desk(&self) -> &[u8] {
+        &self.desk
     }
 
     /// Whether the last call was accepted.
@@ -132,8 +147,19 @@ impl Ready {
     }
 
     pub fn make(&mut self) -> u32 {
+        self.make_on(0)
+    }
+
+    /// Makes the call once on each state and gives the last answer.
+    pub fn make_all(&mut self) -> u32 {
+        let answers = (0..CALLS).map(|index| self.make_on(index));
+        answers.last().unwrap_or(0)
+    }
+
+    fn make_on(&mut self, index: usize) -> u32 {
         let (settings, s) = (self.settings.as_ptr(), self.settings.len());
-        let (state, t) = (self.state.as_mut_ptr(), self.state.len());
+        let state = &mut self.states[index];
+        let (state, t) = (state.as_mut_ptr(), state.len());
         let (desk, d) = (self.desk.as_mut_ptr(), self.desk.len());
         let (given, g) = (self.given.as_ptr(), self.given.len());
         let (buffer, b) = (self.buffer.as_mut_ptr(), self.buffer.len());

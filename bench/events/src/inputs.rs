@@ -7,7 +7,7 @@ use differential::random::Random;
 use reference::desk::DESK_WORDS;
 use reference::events::{self, Decision};
 use reference::message::{encode, Contents, Form, Triple, MEMBERS, RUN, TERMINATION};
-use reference::{mask, message, settings, state};
+use reference::{mask, message, settings, state, words};
 
 const SEED: u64 = 1;
 const VIEW: u32 = 1000;
@@ -77,6 +77,16 @@ pub fn input(size: Size, index: u64) -> Input {
         preparing,
         order,
     }
+}
+
+/// What the program `restart` reads: the settings, the reports of all nodes and
+/// `more` of them again, each with its word count before it.
+pub fn blocks(input: &Input, more: u64) -> Vec<u8> {
+    let all = input.messages.len() + more as usize;
+    let reports = input.messages.iter().cycle().take(all);
+    let blocks = [&input.settings].into_iter().chain(reports);
+    let words = blocks.flat_map(|block| [&[block.len() as u32], block.as_slice()].concat());
+    words::to_bytes(&words.collect::<Vec<u32>>())
 }
 
 /// Four subgroups; each shard needs three quarters of its share of the nodes.

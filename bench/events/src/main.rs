@@ -1,17 +1,27 @@
 //! Measures the planner's calls:
 //!
 //! - `events-bench times [COUNT]`: median and worst times over COUNT inputs
+//! - `events-bench peer [COUNT]`: of those, the library's beside the peer's alone
+//! - `events-bench compare [CALLS [SEED]]`: compares library, peer and reference
+//! - `events-bench blocks [MORE [INDEX]]`: a full-size input of the program
+//!   `restart`, with so many reports more after the last node's
 //! - `events-bench stack [COUNT]`: the deepest stack of each call
 //! - `events-bench names`: the calls
 //! - `events-bench once CALL [INDEX]`: makes one call on a full-size input,
 //!   inside the function `measured`, for a program that counts instructions
 
 mod calls;
+mod compare;
 mod inputs;
+mod layouts;
+mod peer;
+mod ratios;
 mod stack;
 mod times;
 
 use calls::{Call, Ready};
+use differential::random;
+use std::io::Write;
 use std::process::ExitCode;
 
 /// What is inside is counted.
@@ -32,6 +42,16 @@ fn main() -> ExitCode {
     };
     match mode.as_str() {
         "times" => times::print(number(40)),
+        "peer" => ratios::print(&times::inputs(inputs::FULL, number(40)), number(40)),
+        "compare" => {
+            let seed = argument(3).and_then(|a| a.parse().ok());
+            return compare::run(number(20_000), seed.unwrap_or_else(random::clock_seed));
+        }
+        "blocks" => {
+            let index = argument(3).and_then(|a| a.parse().ok()).unwrap_or(0);
+            let blocks = inputs::blocks(&inputs::input(inputs::FULL, index), number(0));
+            std::io::stdout().write_all(&blocks).expect("written");
+        }
         "stack" => stack::print(number(20)),
         "names" => Call::all()
             .iter()
@@ -47,7 +67,7 @@ fn main() -> ExitCode {
             println!("answer {}", measured(&mut ready));
         }
         _ => {
-            println!("times, stack, names or once");
+            println!("times, peer, compare, blocks, stack, names or once");
             return ExitCode::FAILURE;
         }
     }

@@ -2,6 +2,7 @@
 
 use crate::calls::{by_reference, Call, Ready};
 use crate::inputs::{input, Input, Size, FULL};
+use crate::ratios;
 use std::time::Instant;
 
 /// A time is the least of so many runs of the same call.
@@ -10,15 +11,19 @@ const REFERENCE_RUNS: u32 = 5;
 
 /// Times in microseconds.
 #[derive(Default)]
-struct Times(Vec<f64>);
+pub struct Times(Vec<f64>);
 
 impl Times {
-    fn median(&mut self) -> f64 {
+    pub fn add(&mut self, time: f64) {
+        self.0.push(time);
+    }
+
+    pub fn median(&mut self) -> f64 {
         self.0.sort_by(f64::total_cmp);
         self.0[self.0.len() / 2]
     }
 
-    fn worst(&self) -> f64 {
+    pub fn worst(&self) -> f64 {
         self.0.iter().copied().fold(0.0, f64::max)
     }
 }
@@ -28,7 +33,7 @@ fn least_of(runs: u32, mut run: impl FnMut() -> f64) -> f64 {
     (0..runs).map(|_| run()).fold(f64::INFINITY, f64::min)
 }
 
-fn microseconds(run: impl FnOnce()) -> f64 {
+pub fn microseconds(run: impl FnOnce()) -> f64 {
     let from = Instant::now();
     run();
     from.elapsed().as_secs_f64() * 1e6
@@ -44,10 +49,14 @@ fn library_time(ready: &mut Ready) -> f64 {
     })
 }
 
-/// Some nodes of an input, the first and the last among them.
-fn nodes(input: &Input) -> Vec<u32> {
+/// Some nodes of an input, the first and the last among them; one for a call
+/// that takes no node.
+pub fn nodes(call: Call, input: &Input) -> Vec<u32> {
     let last = input.nodes - 1;
-    vec![0, last / 3, last / 2, last]
+    match call {
+        Call::Decide => vec![0],
+        _ => vec![0, last / 3, last / 2, last],
+    }
 }
 
 fn measure(call: Call, inputs: &[Input]) -> Times {
@@ -67,13 +76,8 @@ fn measure_reference(call: Call, inputs: &[Input]) -> Times {
 fn each(call: Call, inputs: &[Input], mut time: impl FnMut(&Input, u32) -> f64) -> Times {
     let mut times = Times::default();
     for input in inputs {
-        let mut nodes = nodes(input);
-        if call == Call::Decide {
-            nodes.truncate(1);
-        }
-        times
-            .0
-            .extend(nodes.into_iter().map(|node| time(input, node)));
+        let nodes = nodes(call, input).into_iter();
+        times.0.extend(nodes.map(|node| time(input, node)));
     }
     times
 }
@@ -111,7 +115,7 @@ fn sizes_table(heading: &str, sizes: &[(u32, Size)], count: u64) {
     }
 }
 
-fn inputs(size: Size, count: u64) -> Vec<Input> {
+pub fn inputs(size: Size, count: u64) -> Vec<Input> {
     (0..count).map(|index| input(size, index)).collect()
 }
 
@@ -139,6 +143,7 @@ pub fn print(count: u64) {
     let medians = calls_table(&Call::EVENTS, &full);
     let (own, reference) = whole_restart(&medians);
     println!("\nA whole restart (32 reports, decide, 32 orders, 32 fetched, 32 prepared): {own:.2} ms, the reference {reference:.1} ms.\n");
+    ratios::print(&full, count);
     println!("### Settings and messages at full size\n");
     println!("A report of 128 records, the order of a node; microseconds.\n");
     calls_table(&Call::MESSAGES, &full);

@@ -1,0 +1,33 @@
+/*
+ * A peer of the library, in C and for speed alone: the events of include/restart.h from the same
+ * bytes, with the same answers and the same bytes left. It is what the library's times are compared
+ * with, and nothing else. Nothing is proved of it; the comparison in ../src/compare.rs holds it to
+ * the library and the reference.
+ *
+ * It was written from the specification and its requests, not from the library. Where the library
+ * gives the first of the placements of least moves, the peer gives any of them.
+ */
+#ifndef PEER_H
+#define PEER_H
+
+#include <stddef.h>
+#include <stdint.h>
+
+uint32_t peer_fresh(uint8_t *state, size_t state_len);
+uint32_t peer_check_state(const uint8_t *settings, size_t settings_len, const uint8_t *state,
+                          size_t state_len, const uint8_t *desk, size_t desk_len);
+uint32_t peer_report(const uint8_t *settings, size_t settings_len, uint8_t *state, size_t state_len,
+                     uint8_t *desk, size_t desk_len, const uint8_t *message, size_t message_len);
+uint32_t peer_drop(const uint8_t *settings, size_t settings_len, uint8_t *state, size_t state_len,
+                   const uint8_t *desk, size_t desk_len, uint32_t node);
+uint32_t peer_decide(const uint8_t *settings, size_t settings_len, uint8_t *state, size_t state_len,
+                     const uint8_t *desk, size_t desk_len);
+uint32_t peer_order(const uint8_t *settings, size_t settings_len, const uint8_t *state,
+                    size_t state_len, const uint8_t *desk, size_t desk_len, uint32_t node,
+                    uint8_t *buffer, size_t buffer_len);
+uint32_t peer_fetched(const uint8_t *settings, size_t settings_len, uint8_t *state,
+                      size_t state_len, const uint8_t *desk, size_t desk_len, uint32_t node);
+uint32_t peer_prepared(const uint8_t *settings, size_t settings_len, uint8_t *state,
+                       size_t state_len, const uint8_t *desk, size_t desk_len, uint32_t node);
+
+#endif
