@@ -11,6 +11,7 @@ use lib.Pow.{pow-pos}
 use borrow.Author.Tests.{eqb-true, eq-eqb, ne-eqb, lt-ltb, le-ltb, le-leb, lt-leb}
 use Rattle.base_laws.specs.Bools.{either, and-both, and-fails-left, and-fails-right, or-left, or-right, not-of-false, lt-or-le, eq-or-ne}
 use Rattle.base_laws.specs.Below.{allBelow, all-of}
+use Rattle.base_laws.specs.Tables.{length-part}
 use Rattle.base_laws.specs.Masks.{has, subset, subset-of, has-below}
 use Rattle.settings_values.specs.Settings.{shards, Settings}
 use Rattle.base_ids.specs.declared.Refusal.{Refusal}
@@ -281,20 +282,43 @@ module _ (σ : List ℕ) (w : List ℕ) (view m n : ℕ) (right : Settings σ) (
         ⊎-elim (λ d. or-right (not (eqb (getD w 1 0) (v .number .0) && (ltb S (following w) && eqb (kind (bodyOf w) S) 2))) (e .1 .made (eqb-true (getD w 1 0) (v .number .0) d))) (λ d. or-left (t .made) (not-of-false (and-fails-left _ d)))
         (either (eqb (getD w 1 0) (v .number .0)))
 
+-- a slot of a desk is 512 words long
+pub length-slot : (d : List ℕ) (n : ℕ) → length d ≡ 16384 → n < 32 → length (slot d n) ≡ 512
+unfolding slot
+length-slot d n whole below = length-part (512 * n) (512 * n + 512) d (omega arith) ∙ omega arith
+
+-- what stands after the masks: m records before the runs, n in all
+pub record RestFits (σ : List ℕ) (v : Layout) (t : Termination) (w : List ℕ) : Type 0 where
+  pub front : ℕ
+  pub last : ℕ
+  pub ending : (front ≡ shards σ) ⊎ ((front ≡ shards σ + shards σ) × EndFits σ v t w)
+  pub positions : (front ≡ shards σ) ⊎ ((front ≡ shards σ + shards σ) × ((s : ℕ) → s < shards σ → PositionTold w (getD w 1 0) (shards σ + s) s))
+  pub runs : RunsTold w front (shards σ) (getD w 1 0) last
+
+-- all of it
+pub record WordsFit (σ : List ℕ) (v : Layout) (t : Termination) (w : List ℕ) (n : ℕ) : Type 0 where
+  pub head : HeadTold σ (v .number .0) w n
+  pub members : (s : ℕ) → s < shards σ → MemberTold w s
+  pub masks : MasksFit σ v w
+  pub rest : RestFits σ v t w
+
 -- the slot of node j is sound
-pub accepts : (σ : List ℕ) (v : Layout) (t : Termination) (d : List ℕ) (j m n : ℕ) → Settings σ → length (slot d j) ≡ 512
-    → HeadTold σ (v .number .0) (slot d j) j → FrontTold (slot d j) (shards σ) (getD (slot d j) 1 0) m → MasksFit σ v (slot d j)
-    → (m ≡ shards σ) ⊎ ((m ≡ shards σ + shards σ) × EndFits σ v t (slot d j)) → RunsTold (slot d j) m (shards σ) (getD (slot d j) 1 0) n
+pub accepts : (σ : List ℕ) (v : Layout) (t : Termination) (d : List ℕ) (j : ℕ) → Settings σ → length (slot d j) ≡ 512 → WordsFit σ v t (slot d j) j
     → slotOk σ v t d j ≡ true
 unfolding slotOk reportOf Ending contentsOf
-accepts σ v t d j m n right long h f k e r =
+accepts σ v t d j right long f =
     let w : List ℕ = slot d j in
+    let m : ℕ = f .rest .front in
+    let n : ℕ = f .rest .last in
     let view : ℕ = getD w 1 0 in
-    let pass = message-none Report σ w (front-passes σ w view m n right f r long (record { node-passes = h .known; view-passes = h .seen }) refl (k .sound)) in
+    let p : FrontTold w (shards σ) view m = record { members = f .members; positions = f .rest .positions } in
+    let r = f .rest .runs in
+    let h = f .head in
+    let pass = message-none Report σ w (front-passes σ w view m n right p r long (record { node-passes = h .known; view-passes = h .seen }) refl (f .masks .sound)) in
     and-both (and-both (and-both (and-both (and-both
     (eq-eqb _ 0 (ap (λ (x : Refusal). x .code) pass))
     (eq-eqb _ j (h .own)))
     (le-leb _ (v .number .0) (h .view-to)))
-    (front-row12 σ w view m n right f r v t refl k))
-    (front-row13 σ w view m n right f r v t refl e))
-    (front-kept σ w view m n right f r v t refl e)
+    (front-row12 σ w view m n right p r v t refl (f .masks)))
+    (front-row13 σ w view m n right p r v t refl (f .rest .ending)))
+    (front-kept σ w view m n right p r v t refl (f .rest .ending))

@@ -7,15 +7,16 @@ use message_format::Form;
 use report_views::Layout;
 use report_views::Termination;
 ghost use mathlib.Core.Bool.{true};
+ghost use mathlib.Core.Logic.{_⊎_};
 ghost use mathlib.Core.Path.{_≡_};
 ghost use Prim.Native.Nat.{ℕ, _+_, _*_, _<_, _≤_};
 ghost use lib.ListN.{length, getD};
 ghost use Rattle.settings_values.specs.Settings.{Settings, shards};
 ghost use Rattle.message_format.specs.Rows.{row10};
-ghost use Rattle.report_views.specs.Logs.{start};
 ghost use Rattle.report_views.specs.Reports.{maskAt};
 ghost use Rattle.report_views.specs.Slots.{slotOk};
-ghost use Rattle.report_quick.specs.Told.{MemberTold, PositionTold, RunFits, RunsTold, HeadTold, maskTold, MasksFit, EndFits};
+ghost use Rattle.report_quick.specs.Told.{MemberTold, PositionTold, RunFits, RunsTold, HeadTold, maskTold, MasksFit, PositionFits, EndFits};
+ghost use Rattle.report_quick.specs.Accepts.{RestFits, WordsFit};
 
 // Record s + 1 stands after the one before it and gives the members of shard s.
 fn member_told(w: &[u32], s: usize) -> bool
@@ -82,18 +83,26 @@ fn positions_told(w: &[u32], count: usize, view: u32) -> bool
     true
 }
 
+// A record comes after one by tag, then word 1.
+fn rises(before: u32, since: u32, tag: u32, v: u32) -> bool
+    ensures { λ r. ⌜ (r ≡ true → (before < tag) ⊎ ((before ≡ tag) × (since < v))) ⌝ }
+{
+    if before < tag {
+        return true;
+    }
+    if before == tag {
+        return since < v;
+    }
+    false
+}
+
 // A run: of a known shard, after the record before it by shard and view, its view from 1 to the report's and its count from 1.
 fn run_fits(before: u32, since: u32, tag: u32, v: u32, k: u32, count: u32, view: u32) -> bool
     requires { ⌜ count ≤ 16 ⌝ }
     ensures { λ r. ⌜ (r ≡ true → RunFits before since tag v k count view) ⌝ }
 {
-    if tag < before {
+    if !rises(before, since, tag, v) {
         return false;
-    }
-    if tag == before {
-        if v <= since {
-            return false;
-        }
     }
     if tag < 768 {
         return false;
@@ -115,8 +124,8 @@ fn runs_told(w: &[u32], at: usize, count: u32, view: u32) -> usize
     requires { ⌜ (length (now w) ≡ 512) × (at ≤ 32) × (count ≤ 16) ⌝ }
     ensures { λ r. ⌜ (r ≤ 127 → RunsTold (now (w .entry)) at count view r) ⌝ }
 {
-    let mut before = w[4 * at];
-    let mut since = w[4 * at + 1];
+    let mut tag = w[4 * at];
+    let mut word = w[4 * at + 1];
     let mut i = at;
     while i < 127 {
         if w[4 * i + 3] == 0 {
@@ -125,11 +134,11 @@ fn runs_told(w: &[u32], at: usize, count: u32, view: u32) -> usize
         if w[4 * i + 3] != i as u32 + 1 {
             return 128;
         }
-        if !run_fits(before, since, w[4 * i + 4], w[4 * i + 5], w[4 * i + 6], count, view) {
+        if !run_fits(tag, word, w[4 * i + 4], w[4 * i + 5], w[4 * i + 6], count, view) {
             return 128;
         }
-        before = w[4 * i + 4];
-        since = w[4 * i + 5];
+        tag = w[4 * i + 4];
+        word = w[4 * i + 5];
         i += 1;
     }
     if w[511] == 0 { 127 } else { 128 }
@@ -180,4 +189,118 @@ fn masks_same(w: &[u32], masks: &[u32; 16], count: usize) -> bool
         s += 1;
     }
     true
+}
+
+// The masks pass row 10, and a report of the kept view has its members and masks; sound: the kept view passes row 10.
+fn masks_fit(settings: &[u32], v: Layout, sound: bool, w: &[u32], count: usize) -> bool
+    requires { ⌜ Settings (now settings) ⌝ }
+    requires { ⌜ (length (now w) ≡ 512) × (count ≡ shards (now settings)) ⌝ }
+    requires { ⌜ (sound ≡ true → row10 (now settings) (v .members) (maskAt v) ≡ true) ⌝ }
+    ensures { λ r. ⌜ (r ≡ true → MasksFit (now (settings .entry)) v (now (w .entry))) ⌝ }
+{
+    let number = v.number;
+    if w[1] != number.0 {
+        let masks = masks_told(w, count);
+        return message_shards::row10(settings, w[2], &masks);
+    }
+    if !sound {
+        return false;
+    }
+    if w[2] != v.members {
+        return false;
+    }
+    masks_same(w, &v.masks, count)
+}
+
+// Record i + 1 has this position.
+fn position_same(w: &[u32], p: Position, i: usize) -> bool
+    requires { ⌜ (length (now w) ≡ 512) × (i < 32) ⌝ }
+    ensures { λ r. ⌜ (r ≡ true → (getD (now (w .entry)) (4 * i + 5) 0 ≡ p .view .0) × (getD (now (w .entry)) (4 * i + 6) 0 ≡ p .k)) ⌝ }
+{
+    let view = p.view;
+    if w[4 * i + 5] != view.0 {
+        return false;
+    }
+    w[4 * i + 6] == p.k
+}
+
+// The positions are those of the termination.
+fn positions_same(w: &[u32], t: Termination, count: usize) -> bool
+    requires { ⌜ (length (now w) ≡ 512) × (count ≤ 16) ⌝ }
+    ensures { λ r. ⌜ (r ≡ true → (s : ℕ) → s < count → PositionFits t (now (w .entry)) (count + s) s) ⌝ }
+{
+    let positions = t.positions;
+    let mut s: usize = 0;
+    while s < count {
+        if !position_same(w, positions[s], count + s) {
+            return false;
+        }
+        s += 1;
+    }
+    true
+}
+
+// A termination in a report of the kept view is kept, with these positions.
+fn end_fits(settings: &[u32], v: Layout, t: Termination, w: &[u32], count: usize) -> bool
+    requires { ⌜ Settings (now settings) ⌝ }
+    requires { ⌜ (length (now w) ≡ 512) × (count ≡ shards (now settings)) ⌝ }
+    ensures { λ r. ⌜ (r ≡ true → EndFits (now (settings .entry)) v t (now (w .entry))) ⌝ }
+{
+    let number = v.number;
+    if w[1] != number.0 {
+        return true;
+    }
+    if !t.made {
+        return false;
+    }
+    positions_same(w, t, count)
+}
+
+// The records after the masks: a termination or none, and the runs.
+fn rest_fits(settings: &[u32], v: Layout, t: Termination, w: &[u32], count: usize) -> bool
+    requires { ⌜ Settings (now settings) ⌝ }
+    requires { ⌜ (length (now w) ≡ 512) × (count ≡ shards (now settings)) ⌝ }
+    ensures { λ r. ⌜ (r ≡ true → RestFits (now (settings .entry)) v t (now (w .entry))) ⌝ }
+{
+    if w[4 * count + 4] / 256 != 2 {
+        return runs_told(w, count, count as u32, w[1]) <= 127;
+    }
+    if !positions_told(w, count, w[1]) {
+        return false;
+    }
+    if !end_fits(settings, v, t, w, count) {
+        return false;
+    }
+    runs_told(w, count + count, count as u32, w[1]) <= 127
+}
+
+// The words of a node's slot are sound, as far as is seen at once.
+fn words_fit(settings: &[u32], v: Layout, t: Termination, sound: bool, w: &[u32], node: Node) -> bool
+    requires { ⌜ Settings (now settings) ⌝ }
+    requires { ⌜ length (now w) ≡ 512 ⌝ }
+    requires { ⌜ (sound ≡ true → row10 (now settings) (v .members) (maskAt v) ≡ true) ⌝ }
+    ensures { λ r. ⌜ (r ≡ true → WordsFit (now (settings .entry)) v t (now (w .entry)) (node .0)) ⌝ }
+{
+    if !head_told(settings, v.number, w, node) {
+        return false;
+    }
+    let count = settings_values::shards(settings) as usize;
+    if !members_told(w, count) {
+        return false;
+    }
+    if !masks_fit(settings, v, sound, w, count) {
+        return false;
+    }
+    rest_fits(settings, v, t, w, count)
+}
+
+// A node's slot is sound, as far as is seen at once. sound: the kept view passes row 10.
+pub fn accepts(settings: &[u32], v: Layout, t: Termination, sound: bool, desk: &[u32], node: Node) -> bool
+    requires { ⌜ Settings (now settings) ⌝ }
+    requires { ⌜ (length (now desk) ≡ 16384) × (node .0 < 32) ⌝ }
+    requires { ⌜ (sound ≡ true → row10 (now settings) (v .members) (maskAt v) ≡ true) ⌝ }
+    ensures { λ r. ⌜ (r ≡ true → slotOk (now (settings .entry)) v t (now (desk .entry)) (node .0) ≡ true) ⌝ }
+{
+    let at = 512 * (node.0 as usize);
+    words_fit(settings, v, t, sound, &desk[at..at + 512], node)
 }

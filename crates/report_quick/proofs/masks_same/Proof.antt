@@ -1,78 +1,39 @@
+-- `report_quick::masks_same` meets its contract. The invariant: what is promised, of the shards below s.
+use Prim.Native.Nat.{ℕ, _+_, _*_, _≤_, _<_, _-_}
+use mathlib.Core.Bool.{false≢true}
+use mathlib.Core.Logic.{⊎-elim}
+use mathlib.Core.Path.{_≡_, sym, _∙_, subst}
+use native.Mathlib.Omega.{arith}
+use Rattle.base_laws.specs.Bools.{eq-or-ne, of-not-false}
+use Rattle.report_quick.specs.Told.{maskTold}
+use lib.ListN.{getD}
 use borrow.Author.Needs.{needs}
 use Rattle.report_quick.proofs.masks_same.Statement.{statement}
 use Rattle.report_quick.proofs.masks_same.Tie as tie
-use Rattle.report_quick.proofs.masks_same.Reads as reads
-use Rattle.report_quick.proofs.masks_same.Lts as lts
 
 abbrev Inv-loop : tie.InvT-loop
-Inv-loop w masks count s₀ s = ?
+Inv-loop w masks count s₀ s = (s ≤ count) × ((j : ℕ) → j < s → maskTold w j ≡ getD masks j 0)
 
 abbrev μ-loop : tie.MeasureT-loop
-μ-loop w masks count s₀ s = ?
+μ-loop w masks count s₀ s = count - s
 
--- src/lib.rt:176:5
 loop-holds : tie.Need-loop-holds Inv-loop μ-loop
-loop-holds c = search needs
+loop-holds c =
+    (search needs, λ j l. absurd (omega arith))
 
--- src/lib.rt:177:14
-mul-if1 : tie.Need-mul-if1 Inv-loop μ-loop
-mul-if1 c = search needs
-
--- src/lib.rt:177:14
-add-if1 : tie.Need-add-if1 Inv-loop μ-loop
-add-if1 c = search needs
-
--- src/lib.rt:177:12
-mul-if1-2 : tie.Need-mul-if1-2 Inv-loop μ-loop
-mul-if1-2 c = search needs
-
--- src/lib.rt:177:12
-shared-slice-read-if1 : tie.Need-shared-slice-read-if1 Inv-loop μ-loop
-shared-slice-read-if1 c = search needs
-
--- src/lib.rt:177:28
-mul-if1-3 : tie.Need-mul-if1-3 Inv-loop μ-loop
-mul-if1-3 c = search needs
-
--- src/lib.rt:177:28
-element-copy-out-if1 : tie.Need-element-copy-out-if1 Inv-loop μ-loop
-element-copy-out-if1 c = search needs
-
--- src/lib.rt:178:13
 returns : tie.Need-returns Inv-loop μ-loop
-returns c = search needs
+returns c =
+    λ e. absurd (false≢true e)
 
--- src/lib.rt:180:9
-add-s : tie.Need-add-s Inv-loop μ-loop
-add-s c = search needs
-
--- src/lib.rt:176:5
-loop-less : tie.Need-loop-less Inv-loop μ-loop
-loop-less c = search needs
-
--- src/lib.rt:176:5
 loop-again : tie.Need-loop-again Inv-loop μ-loop
-loop-again c = search needs
+loop-again c =
+    (omega arith, λ j l. ⊎-elim (λ e. subst (λ (i : ℕ). maskTold (c .before .before .before .before .before .args .w .now) i ≡ getD (c .before .before .before .before .before .args .masks .now) i 0) (sym e) (c .if1 .left)) (λ e. c .before .before .before .before .loop .inv .1 j (omega arith)) (eq-or-ne j (c .before .before .before .before .loop .s)))
 
--- src/lib.rt:171:1
 returns-2 : tie.Need-returns-2 Inv-loop μ-loop
-returns-2 c = search needs
+returns-2 c =
+    λ e j l. c .before .loop .inv .1 j (omega arith)
 
 pub masks-same-spec : {M : Type 1} → statement M
 masks-same-spec =
     tie.close
-    (tie.spec
-    Inv-loop
-    μ-loop
-    loop-holds
-    mul-if1
-    add-if1
-    mul-if1-2
-    shared-slice-read-if1
-    mul-if1-3
-    element-copy-out-if1
-    returns
-    add-s
-    loop-less
-    loop-again
-    returns-2)
+    (tie.spec Inv-loop μ-loop loop-holds (λ c. search needs) (λ c. search needs) (λ c. search needs) (λ c. search needs) (λ c. search needs) (λ c. search needs) returns (λ c. search needs) (λ c. search needs) loop-again returns-2)

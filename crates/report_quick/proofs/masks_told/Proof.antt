@@ -1,73 +1,36 @@
+-- `report_quick::masks_told` meets its contract. The invariant: what is promised, of the shards below s.
+use Prim.Native.Nat.{ℕ, _+_, _*_, _≤_, _<_, _-_}
+use mathlib.Core.Logic.{⊎-elim}
+use mathlib.Core.Path.{_≡_, sym, _∙_, subst}
+use native.Mathlib.Omega.{arith}
+use Rattle.base_laws.specs.Bools.{eq-or-ne, of-not-false}
+use mathlib.Core.List.{List}
+use lib.ListN.{length, getD, set, length-set}
+use lib.Seq.{getD-set-same, getD-set-other}
+use Rattle.report_quick.specs.Told.{maskTold}
 use borrow.Author.Needs.{needs}
 use Rattle.report_quick.proofs.masks_told.Statement.{statement}
 use Rattle.report_quick.proofs.masks_told.Tie as tie
-use Rattle.report_quick.proofs.masks_told.Reads as reads
-use Rattle.report_quick.proofs.masks_told.Lts as lts
 
 abbrev Inv-loop : tie.InvT-loop
-Inv-loop w count masks₀ s₀ masks s = ?
+Inv-loop w count masks₀ s₀ masks s = (s ≤ count) × (length masks ≡ 16) × ((j : ℕ) → j < s → maskTold w j ≡ getD masks j 0)
 
 abbrev μ-loop : tie.MeasureT-loop
-μ-loop w count masks₀ s₀ masks s = ?
+μ-loop w count masks₀ s₀ masks s = count - s
 
--- src/lib.rt:163:5
 loop-holds : tie.Need-loop-holds Inv-loop μ-loop
-loop-holds c = search needs
+loop-holds c =
+    (search needs, search needs, λ j l. absurd (omega arith))
 
--- src/lib.rt:164:22
-mul-masks : tie.Need-mul-masks Inv-loop μ-loop
-mul-masks c = search needs
-
--- src/lib.rt:164:22
-add-masks : tie.Need-add-masks Inv-loop μ-loop
-add-masks c = search needs
-
--- src/lib.rt:164:20
-mul-masks-2 : tie.Need-mul-masks-2 Inv-loop μ-loop
-mul-masks-2 c = search needs
-
--- src/lib.rt:164:20
-shared-slice-read-masks : tie.Need-shared-slice-read-masks Inv-loop μ-loop
-shared-slice-read-masks c = search needs
-
--- src/lib.rt:164:9
-mul-masks-3 : tie.Need-mul-masks-3 Inv-loop μ-loop
-mul-masks-3 c = search needs
-
--- src/lib.rt:164:9
-array-write-masks : tie.Need-array-write-masks Inv-loop μ-loop
-array-write-masks c = search needs
-
--- src/lib.rt:165:9
-add-s : tie.Need-add-s Inv-loop μ-loop
-add-s c = search needs
-
--- src/lib.rt:163:5
-loop-less : tie.Need-loop-less Inv-loop μ-loop
-loop-less c = search needs
-
--- src/lib.rt:163:5
 loop-again : tie.Need-loop-again Inv-loop μ-loop
-loop-again c = search needs
+loop-again c =
+    (omega arith, length-set (c .before .before .loop .masks) (c .before .before .loop .s) (maskTold (c .before .before .before .args .w .now) (c .before .before .loop .s)) ∙ c .before .before .loop .inv .1, λ j l. ⊎-elim (λ e. subst (λ (i : ℕ). maskTold (c .before .before .before .args .w .now) i ≡ getD (set (c .before .before .loop .masks) (c .before .before .loop .s) (maskTold (c .before .before .before .args .w .now) (c .before .before .loop .s))) i 0) (sym e) (sym (getD-set-same (c .before .before .loop .masks) (c .before .before .loop .s) _ 0 (omega (arith, c .before .before .loop .inv .1))))) (λ e. c .before .before .loop .inv .2 j (omega arith) ∙ sym (getD-set-other (c .before .before .loop .masks) (c .before .before .loop .s) j _ 0 e)) (eq-or-ne j (c .before .before .loop .s)))
 
--- src/lib.rt:157:1
 returns : tie.Need-returns Inv-loop μ-loop
-returns c = search needs
+returns c =
+    λ j l. c .before .loop .inv .2 j (omega arith)
 
 pub masks-told-spec : {M : Type 1} → statement M
 masks-told-spec =
     tie.close
-    (tie.spec
-    Inv-loop
-    μ-loop
-    loop-holds
-    mul-masks
-    add-masks
-    mul-masks-2
-    shared-slice-read-masks
-    mul-masks-3
-    array-write-masks
-    add-s
-    loop-less
-    loop-again
-    returns)
+    (tie.spec Inv-loop μ-loop loop-holds (λ c. search needs) (λ c. search needs) (λ c. search needs) (λ c. search needs) (λ c. search needs) (λ c. search needs) (λ c. search needs) (λ c. search needs) loop-again returns)

@@ -1,54 +1,38 @@
+-- `report_quick::members_told` meets its contract. The invariant: what is promised, of the shards below s.
+use Prim.Native.Nat.{ℕ, _+_, _*_, _≤_, _<_, _-_}
+use mathlib.Core.Bool.{false≢true}
+use mathlib.Core.Logic.{⊎-elim}
+use mathlib.Core.Path.{_≡_, sym, _∙_, subst}
+use native.Mathlib.Omega.{arith}
+use Rattle.base_laws.specs.Bools.{eq-or-ne, of-not-false}
+use Rattle.report_quick.specs.Told.{MemberTold}
 use borrow.Author.Needs.{needs}
 use Rattle.report_quick.proofs.members_told.Statement.{statement}
 use Rattle.report_quick.proofs.members_told.Tie as tie
-use Rattle.report_quick.proofs.members_told.Reads as reads
-use Rattle.report_quick.proofs.members_told.Lts as lts
-use Rattle.report_quick.proofs.member_told.Reads as member-told-reads
 
 abbrev Inv-loop : tie.InvT-loop
-Inv-loop w count s₀ s = ?
+Inv-loop w count s₀ s = (s ≤ count) × ((j : ℕ) → j < s → MemberTold w j)
 
 abbrev μ-loop : tie.MeasureT-loop
-μ-loop w count s₀ s = ?
+μ-loop w count s₀ s = count - s
 
--- src/lib.rt:40:5
 loop-holds : tie.Need-loop-holds Inv-loop μ-loop
-loop-holds c = search needs
+loop-holds c =
+    (search needs, λ j l. absurd (omega arith))
 
--- src/lib.rt:41:13
-member-told-requires : tie.Need-member-told-requires Inv-loop μ-loop
-member-told-requires c κs = search needs
-
--- src/lib.rt:42:13
 returns : tie.Need-returns Inv-loop μ-loop
-returns c = search needs
+returns c =
+    λ e. absurd (false≢true e)
 
--- src/lib.rt:44:9
-add-s : tie.Need-add-s Inv-loop μ-loop
-add-s c = search needs
-
--- src/lib.rt:40:5
-loop-less : tie.Need-loop-less Inv-loop μ-loop
-loop-less c = search needs
-
--- src/lib.rt:40:5
 loop-again : tie.Need-loop-again Inv-loop μ-loop
-loop-again c = search needs
+loop-again c =
+    (omega arith, λ j l. ⊎-elim (λ e. subst (MemberTold (c .before .before .before .before .before .args .w .now)) (sym e) (c .before .member-told .ensures (of-not-false (c .before .member-told .result) (c .if1 .left)))) (λ e. c .before .before .before .loop .inv .1 j (omega arith)) (eq-or-ne j (c .before .before .before .loop .s)))
 
--- src/lib.rt:35:1
 returns-2 : tie.Need-returns-2 Inv-loop μ-loop
-returns-2 c = search needs
+returns-2 c =
+    λ e j l. c .before .loop .inv .1 j (omega arith)
 
 pub members-told-spec : {M : Type 1} → statement M
 members-told-spec =
     tie.close
-    (tie.spec
-    Inv-loop
-    μ-loop
-    loop-holds
-    member-told-requires
-    returns
-    add-s
-    loop-less
-    loop-again
-    returns-2)
+    (tie.spec Inv-loop μ-loop loop-holds (λ c κs. search needs) returns (λ c. search needs) (λ c. search needs) loop-again returns-2)

@@ -1,59 +1,38 @@
+-- `report_quick::positions_told` meets its contract. The invariant: what is promised, of the shards below s.
+use Prim.Native.Nat.{ℕ, _+_, _*_, _≤_, _<_, _-_}
+use mathlib.Core.Bool.{false≢true}
+use mathlib.Core.Logic.{⊎-elim}
+use mathlib.Core.Path.{_≡_, sym, _∙_, subst}
+use native.Mathlib.Omega.{arith}
+use Rattle.base_laws.specs.Bools.{eq-or-ne, of-not-false}
+use Rattle.report_quick.specs.Told.{PositionTold}
 use borrow.Author.Needs.{needs}
 use Rattle.report_quick.proofs.positions_told.Statement.{statement}
 use Rattle.report_quick.proofs.positions_told.Tie as tie
-use Rattle.report_quick.proofs.positions_told.Reads as reads
-use Rattle.report_quick.proofs.positions_told.Lts as lts
-use Rattle.report_quick.proofs.position_told.Reads as position-told-reads
 
 abbrev Inv-loop : tie.InvT-loop
-Inv-loop w count view s₀ s = ?
+Inv-loop w count view s₀ s = (s ≤ count) × ((j : ℕ) → j < s → PositionTold w view (count + j) j)
 
 abbrev μ-loop : tie.MeasureT-loop
-μ-loop w count view s₀ s = ?
+μ-loop w count view s₀ s = count - s
 
--- src/lib.rt:76:5
 loop-holds : tie.Need-loop-holds Inv-loop μ-loop
-loop-holds c = search needs
+loop-holds c =
+    (search needs, λ j l. absurd (omega arith))
 
--- src/lib.rt:77:36
-add-position-told : tie.Need-add-position-told Inv-loop μ-loop
-add-position-told c = search needs
-
--- src/lib.rt:77:13
-position-told-requires : tie.Need-position-told-requires Inv-loop μ-loop
-position-told-requires c κs = search needs
-
--- src/lib.rt:78:13
 returns : tie.Need-returns Inv-loop μ-loop
-returns c = search needs
+returns c =
+    λ e. absurd (false≢true e)
 
--- src/lib.rt:80:9
-add-s : tie.Need-add-s Inv-loop μ-loop
-add-s c = search needs
-
--- src/lib.rt:76:5
-loop-less : tie.Need-loop-less Inv-loop μ-loop
-loop-less c = search needs
-
--- src/lib.rt:76:5
 loop-again : tie.Need-loop-again Inv-loop μ-loop
-loop-again c = search needs
+loop-again c =
+    (omega arith, λ j l. ⊎-elim (λ e. subst (λ (i : ℕ). PositionTold (c .before .before .before .before .before .args .w .now) (c .before .before .before .before .before .args .view) (c .before .before .before .before .before .args .count + i) i) (sym e) (c .before .position-told .ensures (of-not-false (c .before .position-told .result) (c .if1 .left)))) (λ e. c .before .before .before .loop .inv .1 j (omega arith)) (eq-or-ne j (c .before .before .before .loop .s)))
 
--- src/lib.rt:71:1
 returns-2 : tie.Need-returns-2 Inv-loop μ-loop
-returns-2 c = search needs
+returns-2 c =
+    λ e j l. c .before .loop .inv .1 j (omega arith)
 
 pub positions-told-spec : {M : Type 1} → statement M
 positions-told-spec =
     tie.close
-    (tie.spec
-    Inv-loop
-    μ-loop
-    loop-holds
-    add-position-told
-    position-told-requires
-    returns
-    add-s
-    loop-less
-    loop-again
-    returns-2)
+    (tie.spec Inv-loop μ-loop loop-holds (λ c. search needs) (λ c κs. search needs) returns (λ c. search needs) (λ c. search needs) loop-again returns-2)

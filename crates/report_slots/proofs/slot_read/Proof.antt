@@ -1,10 +1,10 @@
--- `report_slots::slot_ok` meets its contract: what the reader gives of the slot is its refusal and its report.
+-- `report_slots::slot_read` meets its contract: what the reader gives of the slot is its refusal and its report.
 use mathlib.Core.Path.{_∙_}
 use borrow.Author.Needs.{needs}
 use Rattle.report_views.specs.Reports.{slot}
 use Rattle.report_slots.specs.Desk.{slot-refused, slot-read}
-use Rattle.report_slots.proofs.slot_ok.Statement.{statement}
-use Rattle.report_slots.proofs.slot_ok.Tie as tie
+use Rattle.report_slots.proofs.slot_read.Statement.{statement}
+use Rattle.report_slots.proofs.slot_read.Tie as tie
 
 returns : tie.Need-returns
 unfolding slot
@@ -18,7 +18,7 @@ returns-2 c = let a = c .before .before .before .before .before .before .before 
     let r = c .before .before .before .before .read-under in
     c .report-fits .ensures ∙ slot-read (a .settings .now) (a .v) (a .t) (a .desk .now) (a .node .0) (r .result) (r .ensures) (c .before .if1 .left)
 
-pub slot-ok-spec : {M : Type 1} → statement M
-slot-ok-spec =
+pub slot-read-spec : {M : Type 1} → statement M
+slot-read-spec =
     tie.close
     (tie.spec (λ c. search needs) (λ c. search needs) (λ c. search needs) (λ c. search needs) (λ c. search needs) (λ c. search needs) (λ c. search needs) (λ c κs. search needs) returns (λ c κs. search needs) returns-2)
