@@ -96,6 +96,32 @@ list-before (suc k) a n m f g p q h e d r s u =
         both true = simp (eq-eqb a a refl, i) (or-right (ltb a a) refl)
         both false = i
 
+-- a list without numbers
+list-none : (k a : ℕ) (f : ℕ → Bool) → ((n : ℕ) → a ≤ n → n < a + k → f n ≡ false) → listFrom a k f ≡ []
+unfolding listFrom
+list-none zero a f h = refl
+list-none (suc k) a f h = rw (h a (omega arith) (omega arith)) (list-none k (suc a) f (λ n p q. h n (omega arith) (omega arith)))
+
+-- two lists that agree below n, where the first ends and the second has n: the first is a proper prefix
+pub list-prefix : (k a n : ℕ) (f g : ℕ → Bool) → a ≤ n → n < a + k → ((j : ℕ) → a ≤ j → j < n → f j ≡ g j) →
+    ((j : ℕ) → n ≤ j → j < a + k → f j ≡ false) → g n ≡ true → listBefore (listFrom a k f) (listFrom a k g) ≡ true
+unfolding listFrom listBefore
+list-prefix zero a n f g p q h e d = absurd (omega arith)
+list-prefix (suc k) a n f g p q h e d =
+    ⊎-elim (λ w. here w) (λ w. past w (list-prefix k (suc a) n f g (omega arith) (omega arith) (λ j v x. h j (omega arith) x) (λ j v x. e j v (omega arith)) d)) (eq-or-ne a n)
+  where
+    here : a ≡ n → listBefore (cond (f a) (a ∷ listFrom (suc a) k f) (listFrom (suc a) k f)) (cond (g a) (a ∷ listFrom (suc a) k g) (listFrom (suc a) k g)) ≡ true
+    here w =
+        simp (e a (omega arith) (omega arith), subst (λ (j : ℕ). g j ≡ true) (sym w) d, list-none k (suc a) f (λ j v x. e j (omega arith) (omega arith)))
+
+    past : (a ≡ n → ⊥) → listBefore (listFrom (suc a) k f) (listFrom (suc a) k g) ≡ true →
+        listBefore (cond (f a) (a ∷ listFrom (suc a) k f) (listFrom (suc a) k f)) (cond (g a) (a ∷ listFrom (suc a) k g) (listFrom (suc a) k g)) ≡ true
+    past w i = rw (h a (omega arith) (omega arith)) (both (g a))
+      where
+        both : (b : Bool) → listBefore (cond b (a ∷ listFrom (suc a) k f) (listFrom (suc a) k f)) (cond b (a ∷ listFrom (suc a) k g) (listFrom (suc a) k g)) ≡ true
+        both true = simp (eq-eqb a a refl, i) (or-right (ltb a a) refl)
+        both false = i
+
 -- ---- laws of the order
 
 -- a proper prefix is the smaller

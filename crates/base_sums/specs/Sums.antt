@@ -183,3 +183,20 @@ sum-but-one (suc n) f g k l h =
     let b : g k ≡ g n = ap g z in
     omega (arith, sum-cong n f g (λ j i. h j (omega arith) (λ e. omega arith))))
     (lt-or-le k n)
+
+-- a count times a number, as a sum
+pub count-times : (n c : ℕ) (f : ℕ → Bool) → countBelow n f * c ≡ sumBelow n (λ k. cond (f k) c 0)
+unfolding countBelow sumBelow
+count-times zero c f = omega arith
+count-times (suc n) c f = go (count-times n c f) (f n)
+  where
+    go : countBelow n f * c ≡ sumBelow n (λ k. cond (f k) c 0) → (b : Bool) →
+        (countBelow n f + cond b 1 0) * c ≡ sumBelow n (λ k. cond (f k) c 0) + cond b c 0
+    go h true = omega arith
+    go h false = omega arith
+
+-- a factor of every term
+pub sum-scale : (n c : ℕ) (f : ℕ → ℕ) → sumBelow n (λ k. f k * c) ≡ sumBelow n f * c
+unfolding sumBelow
+sum-scale zero c f = omega arith
+sum-scale (suc n) c f = omega (arith, sum-scale n c f)

@@ -1,10 +1,11 @@
--- Placements of one subgroup: what is valid, what it costs, which comes first, and the bound by weights.
+-- Placements of one subgroup with caps: what is valid, what it costs, which comes first, and the bound by weights.
 pub mod Case
-pub mod Tables
-pub mod Order
-pub mod Tests
 pub mod Duality
-pub mod Least
-pub mod Dictionary
+pub mod Order
 pub mod Cut
-pub mod Floor
+pub mod Dictionary
+pub mod Lesser
+pub mod Ranks
+pub mod Tables
+pub mod Tests
+pub mod Least

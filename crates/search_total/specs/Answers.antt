@@ -6,7 +6,7 @@ use Prim.Native.Nat.{ℕ, _≤_, _<_}
 use native.Mathlib.Omega.{arith}
 use lib.ListN.{length-replicate, getD-replicate}
 use Rattle.base_laws.specs.Bools.{clash}
-use Rattle.search_theory.specs.Case.{Case, Valid, Within, moves}
+use Rattle.search_theory.specs.Case.{Case, Valid, Within, weight}
 use Rattle.search_theory.specs.Tables.{ownersOf}
 use Rattle.search_theory.specs.Order.{First, None, From, begun-start}
 use Rattle.search_theory.specs.Least.{AtLeast, first-least, none-all}
@@ -25,20 +25,20 @@ ready-blank = record { owners = owners-blank; begun = begun-start (λ n l. omega
 -- what is known of an answer that has the owners p
 pub record HasOwners (K : Case) (p : List ℕ) (a : Solution) : Type 0 where
   pub exists : a .exists ≡ true
-  pub moves : a .moves ≡ moves K (ownersOf p)
+  pub weight : a .weight ≡ weight K (ownersOf p)
   pub owners : a .owners ≡ p
 
 -- what is known of an answer that says that there is none
 pub record Empty (a : Solution) : Type 0 where
   pub exists : a .exists ≡ false
-  pub moves : a .moves ≡ 0
+  pub weight : a .weight ≡ 0
   pub owners : a .owners ≡ noOwners
 
 pub within-found : {K : Case} {k : ℕ} {p : List ℕ} {a : Solution} → First (Within K k) (ownersOf p) → Owners p → HasOwners K p a → WithinAnswer K k a
 within-found {K} {k} f o h =
     record {
       found = λ e. subst (λ (w : List ℕ). First (Within K k) (ownersOf w)) (sym (h .owners)) f;
-      exact = λ e. h .moves ∙ ap (λ (w : List ℕ). moves K (ownersOf w)) (sym (h .owners));
+      exact = λ e. h .weight ∙ ap (λ (w : List ℕ). weight K (ownersOf w)) (sym (h .owners));
       none = λ e. clash (h .exists) e;
       empty = λ e. clash (h .exists) e;
       owners = subst Owners (sym (h .owners)) o;
@@ -50,7 +50,7 @@ within-none n h =
       found = λ e. clash e (h .exists);
       exact = λ e. clash e (h .exists);
       none = λ e. n;
-      empty = λ e. (h .moves, h .owners);
+      empty = λ e. (h .weight, h .owners);
       owners = subst Owners (sym (h .owners)) owners-blank;
     }
 
@@ -65,13 +65,13 @@ least-found b w e =
       owners = w .owners;
     }
 
--- the same where the bound is 32 or more, and there may be none
-pub least-last : {K : Case} {k : ℕ} {a : Solution} → 32 ≤ k → AtLeast K k → WithinAnswer K k a → LeastAnswer K a
-least-last l b w =
+-- the same where the bound is 8192 or more, and there may be none
+pub least-last : {K : Case} {k : ℕ} {a : Solution} → K .idle < 256 → 8192 ≤ k → AtLeast K k → WithinAnswer K k a → LeastAnswer K a
+least-last d l b w =
     record {
       found = λ d. first-least b (w .found d);
       exact = w .exact;
-      none = λ d. none-all l (w .none d);
+      none = λ e. none-all d l (w .none e);
       empty = w .empty;
       owners = w .owners;
     }
@@ -82,6 +82,6 @@ least-none n h =
       found = λ e. clash e (h .exists);
       exact = λ e. clash e (h .exists);
       none = λ e. n;
-      empty = λ e. (h .moves, h .owners);
+      empty = λ e. (h .weight, h .owners);
       owners = subst Owners (sym (h .owners)) owners-blank;
     }

@@ -26,7 +26,7 @@ returns-3 c =
     λ e.
     let p = c .before .before .before .before .before in
     let cut = p .prune .ensures .0 (not-false (p .prune .result .good) (c .before .before .before .if2 .left)) in
-    within-capped (p .before .before .before .before .before .before .before .capped .ensures) (within-none (none-below (c .before .if3 .taken) (at-least cut)) (c .none .ensures .1))
+    within-capped (omega (arith, c .before .before .before .before .before .before .before .before .before .before .before .before .before .before .before .before .fits .idle)) (p .before .before .before .before .before .before .before .capped .ensures) (within-none (none-below (c .before .if3 .taken) (at-least cut)) (c .nothing .ensures))
 
 follow-requires : tie.Need-follow-requires
 follow-requires c κs =
@@ -35,13 +35,13 @@ follow-requires c κs =
     let f = m .before .before in
     let s = f .before .before in
     let ok = f .fit .ensures (not-false (f .fit .result) (m .before .if1 .left)) in
-    let start = stage-start (s .args .sets .now) (s .args .needs .now) (s .args .prices .now) (m .capped .result) (ok .1) in (
+    let start = stage-start (s .args .sets .now) (s .args .needs .now) (s .args .caps .now) (s .args .prices .now) (s .args .idle) (m .capped .result) (ok .1) in (
       omega (arith, m .capped .ensures),
       (ok .0, stage-cut start (p .prune .ensures .1) (p .prune .ensures .0 (not-false (p .prune .result .good) (c .before .before .before .before .if2 .left)))),
     )
 
 returns-4 : tie.Need-returns-4
-returns-4 c = λ e. within-capped (c .before .before .before .before .before .before .before .before .before .before .before .before .before .before .capped .ensures) (c .follow .ensures e .within)
+returns-4 c = λ e. within-capped (omega (arith, c .before .before .before .before .before .before .before .before .before .before .before .before .before .before .before .before .before .before .fits .idle)) (c .before .before .before .before .before .before .before .before .before .before .before .before .before .before .capped .ensures) (c .follow .ensures e .within)
 
 pub quick-within-spec : {M : Type 1} → statement M
 quick-within-spec =

@@ -1,4 +1,4 @@
--- The loop's invariant: every valid placement has at least k moves. So the first within k is the first of least moves. Assumes nothing.
+-- The loop's invariant: every valid placement has a weight of at least k. So the first within k is the first of least weight. Assumes nothing.
 use borrow.Author.Needs.{needs}
 use Prim.Native.Nat.{_≤_, _-_}
 use native.Mathlib.Omega.{arith}
@@ -9,10 +9,10 @@ use Rattle.search_total.proofs.plain_least.Statement.{statement}
 use Rattle.search_total.proofs.plain_least.Tie as tie
 
 abbrev Inv-loop : tie.InvT-loop
-Inv-loop sets needs prices k₀ k = (k ≤ 32) × AtLeast (caseOf sets needs prices) k
+Inv-loop sets needs caps costs idle k₀ k = (k ≤ 8192) × AtLeast (caseOf sets needs caps costs idle) k
 
 abbrev μ-loop : tie.MeasureT-loop
-μ-loop sets needs prices k₀ k = 32 - k
+μ-loop sets needs caps costs idle k₀ k = 8192 - k
 
 loop-holds : tie.Need-loop-holds Inv-loop μ-loop
 loop-holds c = (omega arith, at-least-none)
@@ -24,7 +24,7 @@ loop-again : tie.Need-loop-again Inv-loop μ-loop
 loop-again c = (omega arith, at-least-more (c .before .plain-within .ensures .none (c .if1 .left)))
 
 returns-2 : tie.Need-returns-2 Inv-loop μ-loop
-returns-2 c = least-last (c .before .loop-test .left) (c .before .before .loop .inv .1) (c .plain-within2 .ensures)
+returns-2 c = least-last (omega (arith, c .before .before .before .fits .idle)) (c .before .loop-test .left) (c .before .before .loop .inv .1) (c .plain-within2 .ensures)
 
 pub plain-least-spec : {M : Type 1} → statement M
 plain-least-spec =
