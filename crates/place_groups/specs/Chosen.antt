@@ -1,5 +1,6 @@
--- The choice among placements of least moves: shards ascending, each shard's nodes listed ascending, and at the first shard that
--- differs the smaller list in dictionary order wins. The same order serves a subgroup and the plan as a whole.
+-- The choice among placements of least moves: those in which the most nodes stay, and of those the first, shards ascending, each
+-- shard's nodes listed ascending, where at the first shard that differs the smaller list in dictionary order wins. The same choice
+-- serves a subgroup and the plan as a whole.
 use Prim.Native.Nat.{ℕ, _^_, _≤_, _<_}
 use native.Mathlib.Omega.{arith}
 use mathlib.Core.Bool.{Bool, true, _&&_}
@@ -12,7 +13,7 @@ use Rattle.base_laws.specs.Masks.{has, ext}
 use Rattle.base_sums.specs.Sums.{sumBelow}
 use Rattle.base_sums.specs.Lists.{listFrom, listBefore, before-self, before-both, list-cong, list-tells}
 use Rattle.settings_values.specs.Settings.{shards, subgroup}
-use Rattle.place_groups.specs.Placements.{groupValid, groupMoves, Lowest, LeastMoves}
+use Rattle.place_groups.specs.Placements.{groupValid, groupMoves, groupStays, Lowest, LeastMoves}
 
 -- s is a shard
 unfoldable pub isShard : List ℕ → ℕ → Bool
@@ -41,14 +42,20 @@ pub record Sooner (of : ℕ → Bool) (a b : ℕ → ℕ) : Type 0 where
 abbrev pub NotLater : (ℕ → Bool) → (ℕ → ℕ) → (ℕ → ℕ) → Type 0
 NotLater of a b = SameNodes of a b ⊎ Sooner of a b
 
--- the placement of subgroup g: the first of those of least moves
+-- the placement of subgroup g: of least moves, of those with the most stays, and of those the first
 pub record Chosen (σ : List ℕ) (held : ℕ) (old masks : ℕ → ℕ) (g : ℕ) : Type 0 where
   pub least : LeastMoves σ held old masks g
-  pub first : (other : ℕ → ℕ) → LeastMoves σ held old other g → NotLater (ofGroup σ g) masks other
+  pub most : (other : ℕ → ℕ) → LeastMoves σ held old other g → groupStays σ old other g ≤ groupStays σ old masks g
+  pub first : (other : ℕ → ℕ) → LeastMoves σ held old other g → groupStays σ old other g ≡ groupStays σ old masks g
+      → NotLater (ofGroup σ g) masks other
 
 -- the moves of all four subgroups
 abbrev pub planMoves : List ℕ → (ℕ → ℕ) → (ℕ → ℕ) → ℕ
 planMoves σ old masks = sumBelow 4 (groupMoves σ old masks)
+
+-- the stays of all four subgroups
+abbrev pub planStays : List ℕ → (ℕ → ℕ) → (ℕ → ℕ) → ℕ
+planStays σ old masks = sumBelow 4 (groupStays σ old masks)
 
 -- valid in every subgroup
 abbrev pub AllValid : List ℕ → ℕ → (ℕ → ℕ) → Type 0
@@ -59,10 +66,11 @@ pub record LeastPlan (σ : List ℕ) (held : ℕ) (old masks : ℕ → ℕ) : Ty
   pub valid : AllValid σ held masks
   pub least : (other : ℕ → ℕ) → AllValid σ held other → planMoves σ old masks ≤ planMoves σ old other
 
--- the first of those, over all shards whatever their subgroup
+-- of those with the most stays the first, over all shards whatever their subgroup
 pub record ChosenPlan (σ : List ℕ) (held : ℕ) (old masks : ℕ → ℕ) : Type 0 where
   pub least : LeastPlan σ held old masks
-  pub first : (other : ℕ → ℕ) → LeastPlan σ held old other → NotLater (isShard σ) masks other
+  pub most : (other : ℕ → ℕ) → LeastPlan σ held old other → planStays σ old other ≤ planStays σ old masks
+  pub first : (other : ℕ → ℕ) → LeastPlan σ held old other → planStays σ old other ≡ planStays σ old masks → NotLater (isShard σ) masks other
 
 -- ---- laws
 
