@@ -1,11 +1,12 @@
-// What the oracle with caps keeps: an array that the caller lends, in parts, some of masks and the others of numbers below 65536.
+// What the placement oracle keeps: an array that the caller lends, in parts, some of masks and the others of numbers below 65536.
 // An element is named by its part and its index there; every place is taken modulo the array's length, so that no index is out of range.
 ghost use mathlib.Core.Path.{_≡_};
-ghost use Prim.Native.Nat.{_+_, _-_, _%_, _<_};
+ghost use Prim.Native.Nat.{_+_, _-_, _^_, _%_, _<_, max};
 ghost use lib.ListN.{getD};
 ghost use lib.ListN as Lists;
 ghost use lib.Bits.{bitAnd, bitOr};
-ghost use Rattle.hint_memory.specs.Places.{place};
+ghost use lib.Count.{trailingZeros};
+ghost use Rattle.hint_memory.specs.Places.{cell};
 
 // Masks by shard: the nodes that it may have at no cost, and at the cost of a move; those that it has for its need and in its room,
 // not for good; those of the failure sets that its need uses, and of those that it has for good.
@@ -91,34 +92,62 @@ pub const END: u32 = 33;
 
 pub const NO_VERTEX: u32 = 34;
 
+// A byte as a number.
+pub fn wide(x: u8) -> u32
+    ensures { λ r. ⌜ (r ≡ x) × (r < 256) ⌝ }
+{
+    x as u32
+}
+
+// The mask of one node.
+pub fn bit(n: u32) -> u32
+    ensures { λ r. ⌜ r ≡ 2 ^ (n % 32) ⌝ }
+{
+    1 << (n % 32)
+}
+
+// The lowest node of a mask.
+pub fn lowest(m: u32) -> u32
+    ensures { λ r. ⌜ (r ≡ trailingZeros 32 m % 32) × (r < 32) ⌝ }
+{
+    u32::trailing_zeros(m) % 32
+}
+
+// A mask without its lowest node. It is less where there is one, so a loop over the nodes ends.
+pub fn without_lowest(m: u32) -> u32
+    ensures { λ r. ⌜ (r ≡ bitAnd m (m - 1)) × (r < max m 1) ⌝ }
+{
+    if m == 0 { 0 } else { m & (m - 1) }
+}
+
 pub fn nodes(mem: &[u32; 1024], part: u32, i: u32) -> u32
-    ensures { λ r. ⌜ r ≡ getD (now (mem .entry)) (place part i) 0 ⌝ }
+    ensures { λ r. ⌜ r ≡ getD (now (mem .entry)) (cell part i) 0 ⌝ }
 {
     mem[((part % 1024 + i % 256) % 1024) as usize]
 }
 
 // The element as a number below 65536.
 pub fn number(mem: &[u32; 1024], part: u32, i: u32) -> u32
-    ensures { λ r. ⌜ (r ≡ getD (now (mem .entry)) (place part i) 0 % 65536) × (r < 65536) ⌝ }
+    ensures { λ r. ⌜ (r ≡ getD (now (mem .entry)) (cell part i) 0 % 65536) × (r < 65536) ⌝ }
 {
     mem[((part % 1024 + i % 256) % 1024) as usize] % 65536
 }
 
 pub fn set(mem: &mut [u32; 1024], part: u32, i: u32, v: u32)
-    ensures { λ r. ⌜ now (mem .exit) ≡ Lists.set (now (mem .entry)) (place part i) v ⌝ }
+    ensures { λ r. ⌜ now (mem .exit) ≡ Lists.set (now (mem .entry)) (cell part i) v ⌝ }
 {
     mem[((part % 1024 + i % 256) % 1024) as usize] = v;
 }
 
 pub fn add_nodes(mem: &mut [u32; 1024], part: u32, i: u32, nodes: u32)
-    ensures { λ r. ⌜ now (mem .exit) ≡ Lists.set (now (mem .entry)) (place part i) (bitOr (getD (now (mem .entry)) (place part i) 0) nodes) ⌝ }
+    ensures { λ r. ⌜ now (mem .exit) ≡ Lists.set (now (mem .entry)) (cell part i) (bitOr (getD (now (mem .entry)) (cell part i) 0) nodes) ⌝ }
 {
     let at = ((part % 1024 + i % 256) % 1024) as usize;
     mem[at] = mem[at] | nodes;
 }
 
 pub fn drop_nodes(mem: &mut [u32; 1024], part: u32, i: u32, nodes: u32)
-    ensures { λ r. ⌜ now (mem .exit) ≡ Lists.set (now (mem .entry)) (place part i) (bitAnd (getD (now (mem .entry)) (place part i) 0) (4294967295 - nodes)) ⌝ }
+    ensures { λ r. ⌜ now (mem .exit) ≡ Lists.set (now (mem .entry)) (cell part i) (bitAnd (getD (now (mem .entry)) (cell part i) 0) (4294967295 - nodes)) ⌝ }
 {
     let at = ((part % 1024 + i % 256) % 1024) as usize;
     mem[at] = mem[at] & !nodes;
@@ -126,7 +155,7 @@ pub fn drop_nodes(mem: &mut [u32; 1024], part: u32, i: u32, nodes: u32)
 
 // So much more, modulo 65536.
 pub fn add_number(mem: &mut [u32; 1024], part: u32, i: u32, by: u32)
-    ensures { λ r. ⌜ now (mem .exit) ≡ Lists.set (now (mem .entry)) (place part i) (getD (now (mem .entry)) (place part i) 0 % 65536 + by % 65536) ⌝ }
+    ensures { λ r. ⌜ now (mem .exit) ≡ Lists.set (now (mem .entry)) (cell part i) (getD (now (mem .entry)) (cell part i) 0 % 65536 + by % 65536) ⌝ }
 {
     let at = ((part % 1024 + i % 256) % 1024) as usize;
     mem[at] = mem[at] % 65536 + by % 65536;

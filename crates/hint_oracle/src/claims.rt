@@ -44,9 +44,9 @@ fn has(mem: &[u32; 1024], part: u32, i: u32, n: u32) -> bool {
 
 // Shard i has node n for good.
 fn fix(mem: &mut [u32; 1024], i: u32, n: u32) {
-    hint_memory::drop_nodes(mem, hint_memory::OPEN, 0, memory::bit(n));
-    hint_memory::drop_nodes(mem, hint_memory::OWED, i, memory::bit(n));
-    hint_memory::drop_nodes(mem, hint_memory::SPARE, i, memory::bit(n));
+    hint_memory::drop_nodes(mem, hint_memory::OPEN, 0, hint_memory::bit(n));
+    hint_memory::drop_nodes(mem, hint_memory::OWED, i, hint_memory::bit(n));
+    hint_memory::drop_nodes(mem, hint_memory::SPARE, i, hint_memory::bit(n));
     let peers = hint_memory::nodes(mem, hint_memory::PEERS, n);
     hint_memory::add_nodes(mem, hint_memory::USED, i, peers);
     hint_memory::add_nodes(mem, hint_memory::COVERED, i, peers);
@@ -103,7 +103,7 @@ fn reroute(
 
 // The shard's need takes the node from the shard's room, and gives it another.
 fn exchange(mem: &mut [u32; 1024], i: u32, n: u32) {
-    let y = memory::lowest(rivals(mem, i, n));
+    let y = hint_memory::lowest(rivals(mem, i, n));
     owners::release(mem, n);
     owners::release(mem, y);
     owners::give(mem, y, owners::room_of(i));
@@ -194,8 +194,8 @@ pub(crate) fn claim(mem: &mut [u32; 1024], i: u32, n: u32, most: u32) -> u32
 fn release_all(mem: &mut [u32; 1024], nodes: u32) {
     let mut m = nodes;
     while m != 0 {
-        owners::release(mem, memory::lowest(m));
-        m = memory::without_lowest(m);
+        owners::release(mem, hint_memory::lowest(m));
+        m = hint_memory::without_lowest(m);
     }
 }
 
@@ -205,7 +205,7 @@ fn shut(mem: &mut [u32; 1024], i: u32) {
     hint_memory::drop_nodes(mem, hint_memory::STAY, i, open);
     hint_memory::drop_nodes(mem, hint_memory::MOVED, i, open);
     hint_memory::set(mem, hint_memory::ROOM, i, 0);
-    hint_memory::add_nodes(mem, hint_memory::CLOSED, 0, memory::bit(i));
+    hint_memory::add_nodes(mem, hint_memory::CLOSED, 0, hint_memory::bit(i));
 }
 
 // Ends the list of shard i, whose room has the nodes, if the weight allows that.

@@ -45,7 +45,7 @@ fn room_weight(mem: &[u32; 1024], i: u32) -> u32
         zero(mem),
         owners::held_level(
             mem,
-            memory::lowest(hint_memory::nodes(mem, hint_memory::SPARE, i)),
+            hint_memory::lowest(hint_memory::nodes(mem, hint_memory::SPARE, i)),
         ),
     )
 }
@@ -163,7 +163,7 @@ fn weigh_pair(
 {
     let i = hint_memory::number(mem, hint_memory::OWNER, n);
     if i < 16 {
-        let f = memory::wide(sets[(n % 32) as usize]) % 16;
+        let f = hint_memory::wide(sets[(n % 32) as usize]) % 16;
         w[(i * 16 + f) as usize] = short(pair_weight(
             mem,
             wide(wants[i as usize]),

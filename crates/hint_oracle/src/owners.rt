@@ -55,13 +55,13 @@ pub(crate) fn held_level(mem: &[u32; 1024], n: u32) -> u32
 
 // The nodes that shard i has for its need lose node n.
 fn leave_need(mem: &mut [u32; 1024], i: u32, n: u32) {
-    hint_memory::drop_nodes(mem, hint_memory::OWED, i, memory::bit(n));
+    hint_memory::drop_nodes(mem, hint_memory::OWED, i, hint_memory::bit(n));
     let peers = hint_memory::nodes(mem, hint_memory::PEERS, n);
     hint_memory::drop_nodes(mem, hint_memory::USED, i, peers);
 }
 
 fn enter_need(mem: &mut [u32; 1024], i: u32, n: u32) {
-    hint_memory::add_nodes(mem, hint_memory::OWED, i, memory::bit(n));
+    hint_memory::add_nodes(mem, hint_memory::OWED, i, hint_memory::bit(n));
     let peers = hint_memory::nodes(mem, hint_memory::PEERS, n);
     hint_memory::add_nodes(mem, hint_memory::USED, i, peers);
 }
@@ -71,7 +71,7 @@ fn leave(mem: &mut [u32; 1024], o: u32, n: u32) {
     if o < 16 {
         leave_need(mem, o, n);
     } else {
-        hint_memory::drop_nodes(mem, hint_memory::SPARE, o % 16, memory::bit(n));
+        hint_memory::drop_nodes(mem, hint_memory::SPARE, o % 16, hint_memory::bit(n));
     }
 }
 
@@ -79,7 +79,7 @@ fn enter(mem: &mut [u32; 1024], o: u32, n: u32) {
     if o < 16 {
         enter_need(mem, o, n);
     } else {
-        hint_memory::add_nodes(mem, hint_memory::SPARE, o % 16, memory::bit(n));
+        hint_memory::add_nodes(mem, hint_memory::SPARE, o % 16, hint_memory::bit(n));
     }
 }
 
@@ -91,8 +91,8 @@ pub(crate) fn release(mem: &mut [u32; 1024], n: u32) {
     if o < hint_memory::NOWHERE {
         leave(mem, o, n);
     }
-    hint_memory::drop_nodes(mem, hint_memory::IDLE, 0, memory::bit(n));
-    hint_memory::add_nodes(mem, hint_memory::LOOSE, 0, memory::bit(n));
+    hint_memory::drop_nodes(mem, hint_memory::IDLE, 0, hint_memory::bit(n));
+    hint_memory::add_nodes(mem, hint_memory::LOOSE, 0, hint_memory::bit(n));
     hint_memory::set(mem, hint_memory::OWNER, n, hint_memory::NO_OWNER);
 }
 
@@ -103,9 +103,9 @@ pub(crate) fn give(mem: &mut [u32; 1024], n: u32, o: u32) {
     if o < hint_memory::NOWHERE {
         enter(mem, o, n);
     } else {
-        hint_memory::add_nodes(mem, hint_memory::IDLE, 0, memory::bit(n));
+        hint_memory::add_nodes(mem, hint_memory::IDLE, 0, hint_memory::bit(n));
     }
-    hint_memory::drop_nodes(mem, hint_memory::LOOSE, 0, memory::bit(n));
+    hint_memory::drop_nodes(mem, hint_memory::LOOSE, 0, hint_memory::bit(n));
     hint_memory::set(mem, hint_memory::OWNER, n, o);
 }
 
@@ -143,8 +143,8 @@ pub(crate) fn highest(mem: &[u32; 1024], nodes: u32) -> u32
     let mut top: u32 = 0;
     let mut m = nodes;
     while m != 0 {
-        top = larger(top, held_level(mem, memory::lowest(m)));
-        m = memory::without_lowest(m);
+        top = larger(top, held_level(mem, hint_memory::lowest(m)));
+        m = hint_memory::without_lowest(m);
     }
     top
 }

@@ -15,8 +15,8 @@ fn nodes_of_sets(sets: &[u8; 32]) -> [u32; 16] {
     let mut nodes = [0u32; 16];
     let mut n: u32 = 0;
     while n < 32 {
-        let f = memory::wide(sets[n as usize]) % 16;
-        nodes[f as usize] = nodes[f as usize] | memory::bit(n);
+        let f = hint_memory::wide(sets[n as usize]) % 16;
+        nodes[f as usize] = nodes[f as usize] | hint_memory::bit(n);
         n += 1;
     }
     nodes
@@ -27,7 +27,7 @@ fn load_nodes(mem: &mut [u32; 1024], sets: &[u8; 32]) {
     let nodes = nodes_of_sets(sets);
     let mut n: u32 = 0;
     while n < 32 {
-        let f = memory::wide(sets[n as usize]) % 16;
+        let f = hint_memory::wide(sets[n as usize]) % 16;
         hint_memory::set(mem, hint_memory::PEERS, n, nodes[f as usize]);
         hint_memory::set(mem, hint_memory::OWNER, n, hint_memory::NO_OWNER);
         hint_memory::set(mem, hint_memory::LEVEL, n, FIRST_LEVEL);
@@ -40,7 +40,7 @@ fn move_cost(costs: &[u8; 512]) -> u32 {
     let mut c: u32 = 0;
     let mut x: usize = 0;
     while x < 512 {
-        let d = memory::wide(costs[x]);
+        let d = hint_memory::wide(costs[x]);
         if c < d && d < 255 {
             c = d;
         }
@@ -55,12 +55,12 @@ fn load_row(mem: &mut [u32; 1024], costs: &[u8; 512], i: u32, w: u32) {
     let mut moved: u32 = 0;
     let mut n: u32 = 0;
     while n < 32 {
-        let c = memory::wide(costs[(i % 16 * 32 + n) as usize]);
+        let c = hint_memory::wide(costs[(i % 16 * 32 + n) as usize]);
         if c == 0 {
-            stay = stay | memory::bit(n);
+            stay = stay | hint_memory::bit(n);
         }
         if c == w {
-            moved = moved | memory::bit(n);
+            moved = moved | hint_memory::bit(n);
         }
         n += 1;
     }
@@ -88,7 +88,7 @@ fn keep_need(mem: &mut [u32; 1024], i: u32) {
         if m == 0 || owners::lack(mem, i) == 0 {
             return;
         }
-        owners::give(mem, memory::lowest(m), i);
+        owners::give(mem, hint_memory::lowest(m), i);
         round += 1;
     }
 }
@@ -102,7 +102,7 @@ fn keep_room(mem: &mut [u32; 1024], i: u32) {
         if m == 0 || owners::free_room(mem, i) == 0 {
             return;
         }
-        owners::give(mem, memory::lowest(m), owners::room_of(i));
+        owners::give(mem, hint_memory::lowest(m), owners::room_of(i));
         round += 1;
     }
 }
@@ -128,8 +128,8 @@ fn enter_shards(mem: &mut [u32; 1024], needs: &[u8; 16], caps: &[u8; 16], costs:
             mem,
             costs,
             i,
-            memory::wide(needs[i as usize]),
-            memory::wide(caps[i as usize]),
+            hint_memory::wide(needs[i as usize]),
+            hint_memory::wide(caps[i as usize]),
             w,
         );
         i += 1;
@@ -151,11 +151,11 @@ fn place_idle(mem: &mut [u32; 1024], nodes: u32) {
     let c = hint_memory::number(mem, hint_memory::IDLE_COST, 0);
     let mut m = nodes;
     while m != 0 {
-        let n = memory::lowest(m);
+        let n = hint_memory::lowest(m);
         if hint_memory::number(mem, hint_memory::LEVEL, n) + c == up {
             owners::give(mem, n, hint_memory::NOWHERE);
         }
-        m = memory::without_lowest(m);
+        m = hint_memory::without_lowest(m);
     }
 }
 
@@ -183,12 +183,12 @@ pub(crate) fn least_level(mem: &[u32; 1024], i: u32, nodes: u32) -> u32
     let mut least: u32 = 131072;
     let mut m = nodes;
     while m != 0 {
-        let n = memory::lowest(m);
+        let n = hint_memory::lowest(m);
         least = owners::smaller(
             least,
             hint_memory::number(mem, hint_memory::LEVEL, n) + owners::price(mem, i, n),
         );
-        m = memory::without_lowest(m);
+        m = hint_memory::without_lowest(m);
     }
     least
 }
@@ -262,7 +262,7 @@ pub(crate) fn start(
     hint_memory::set(mem, hint_memory::WEIGHT, 0, 0);
     hint_memory::set(mem, hint_memory::STALE, 0, 0);
     hint_memory::set(mem, hint_memory::MOVE_COST, 0, move_cost(costs));
-    hint_memory::set(mem, hint_memory::IDLE_COST, 0, memory::wide(idle));
+    hint_memory::set(mem, hint_memory::IDLE_COST, 0, hint_memory::wide(idle));
     enter_shards(mem, needs, caps, costs);
     enter_rooms(mem);
     settle(mem);

@@ -48,9 +48,9 @@ fn reach(mem: &mut [u32; 1024], y: u32, from: u32, taker: u32, price: u32, level
     let d = at + owners::less(up, level);
     if note(mem, y, d, from, taker) {
         if d == at {
-            hint_memory::add_nodes(mem, hint_memory::FRONT, 0, memory::bit(y));
+            hint_memory::add_nodes(mem, hint_memory::FRONT, 0, hint_memory::bit(y));
         } else {
-            hint_memory::add_nodes(mem, hint_memory::LATER, 0, memory::bit(y));
+            hint_memory::add_nodes(mem, hint_memory::LATER, 0, hint_memory::bit(y));
         }
     }
 }
@@ -66,8 +66,8 @@ pub(crate) fn reach_all(
 ) {
     let mut m = nodes;
     while m != 0 {
-        reach(mem, memory::lowest(m), from, taker, price, level);
-        m = memory::without_lowest(m);
+        reach(mem, hint_memory::lowest(m), from, taker, price, level);
+        m = hint_memory::without_lowest(m);
     }
 }
 
@@ -185,8 +185,8 @@ fn leave_owner(mem: &mut [u32; 1024], x: u32) {
 
 // Done with node x: the search may end there.
 fn leave_node(mem: &mut [u32; 1024], x: u32) {
-    hint_memory::add_nodes(mem, hint_memory::DONE, 0, memory::bit(x));
-    if hint_memory::nodes(mem, hint_memory::GOAL, 0) & memory::bit(x) != 0 {
+    hint_memory::add_nodes(mem, hint_memory::DONE, 0, hint_memory::bit(x));
+    if hint_memory::nodes(mem, hint_memory::GOAL, 0) & hint_memory::bit(x) != 0 {
         let further = owners::less(
             hint_memory::number(mem, hint_memory::AIM, 0),
             owners::held_level(mem, x),
@@ -208,9 +208,9 @@ fn least_distance(mem: &[u32; 1024], nodes: u32, first: u32) -> u32
     while m != 0 {
         d = owners::smaller(
             d,
-            hint_memory::number(mem, hint_memory::DISTANCE, memory::lowest(m)),
+            hint_memory::number(mem, hint_memory::DISTANCE, hint_memory::lowest(m)),
         );
-        m = memory::without_lowest(m);
+        m = hint_memory::without_lowest(m);
     }
     d
 }
@@ -220,10 +220,10 @@ fn at_distance(mem: &[u32; 1024], nodes: u32, d: u32) -> u32 {
     let mut at: u32 = 0;
     let mut m = nodes;
     while m != 0 {
-        if hint_memory::number(mem, hint_memory::DISTANCE, memory::lowest(m)) == d {
-            at = at | memory::bit(memory::lowest(m));
+        if hint_memory::number(mem, hint_memory::DISTANCE, hint_memory::lowest(m)) == d {
+            at = at | hint_memory::bit(hint_memory::lowest(m));
         }
-        m = memory::without_lowest(m);
+        m = hint_memory::without_lowest(m);
     }
     at
 }
@@ -266,9 +266,9 @@ fn advance(mem: &mut [u32; 1024]) -> u32 {
 fn goal_first(mem: &[u32; 1024], nodes: u32) -> u32 {
     let m = nodes & hint_memory::nodes(mem, hint_memory::GOAL, 0);
     if m == 0 {
-        return memory::lowest(nodes);
+        return hint_memory::lowest(nodes);
     }
-    memory::lowest(m)
+    hint_memory::lowest(m)
 }
 
 // One vertex more.
@@ -287,7 +287,7 @@ fn step(mem: &mut [u32; 1024]) -> u32 {
         return advance(mem);
     }
     let x = goal_first(mem, m);
-    hint_memory::set(mem, hint_memory::FRONT, 0, m & !memory::bit(x));
+    hint_memory::set(mem, hint_memory::FRONT, 0, m & !hint_memory::bit(x));
     leave_node(mem, x);
     ON
 }
@@ -330,7 +330,7 @@ pub(crate) fn search(mem: &mut [u32; 1024]) -> u32 {
 
 // Starts from node n, which `taker` would take.
 pub(crate) fn from_node(mem: &mut [u32; 1024], n: u32, taker: u32) {
-    hint_memory::set(mem, hint_memory::FRONT, 0, memory::bit(n));
+    hint_memory::set(mem, hint_memory::FRONT, 0, hint_memory::bit(n));
     note(mem, n, 0, hint_memory::NO_VERTEX, taker);
 }
 
