@@ -1,5 +1,5 @@
 -- One subgroup's case with caps, by functions: 32 nodes, 16 shards, 16 failure sets. A placement gives each node its owner:
--- below 16 the shard, anything else means that the node is hasOwner nowhere. So no node is in two shards.
+-- below 16 the shard, anything else means that the node is placed nowhere. So no node is in two shards.
 use mathlib.Core.Path.{_≡_}
 use mathlib.Core.Bool.{Bool, cond, _&&_}
 use Prim.Native.Nat.{ℕ, _≤_, _<_}
@@ -16,10 +16,10 @@ pub record Case : Type 0 where
   pub cap : ℕ → ℕ
   -- of a shard and a node: what it costs to place the node there; from 255 up it is not allowed
   pub cost : ℕ → ℕ → ℕ
-  -- what a node costs that is hasOwner nowhere
+  -- what a node costs that is placed nowhere
   pub idle : ℕ
 
--- node n is hasOwner
+-- node n is placed
 abbrev pub hasOwner : (ℕ → ℕ) → ℕ → Bool
 hasOwner z n = ltb (z n) 16
 

@@ -13,20 +13,20 @@ use Rattle.search_theory.specs.Case.{Case, Valid, Within, hasOwner, size
 use Rattle.search_theory.specs.Order.{takes, takes-at, Agree, From, Begun, None, Same}
 use Rattle.search_theory.specs.Cut.{keeps, decided}
 
--- node n is hasOwner nowhere, or where it is allowed
+-- node n is placed nowhere, or where it is allowed
 abbrev pub stands : Case → (ℕ → ℕ) → ℕ → Bool
 stands K z n = cond (hasOwner z n) (ltb (K .cost (z n) n) 255) true
 
 -- shard i has no more nodes than its cap, and no fewer sets than its need
-abbrev pub fits : Case → (ℕ → ℕ) → ℕ → Bool
-fits K z i = leb (size z i) (K .cap i) && leb (K .need i) (spread K z i)
+abbrev pub shardFits : Case → (ℕ → ℕ) → ℕ → Bool
+shardFits K z i = leb (size z i) (K .cap i) && leb (K .need i) (spread K z i)
 
-pub valid-of : {K : Case} {z : ℕ → ℕ} → allBelow 32 (stands K z) ≡ true → allBelow 16 (fits K z) ≡ true → Valid K z
+pub valid-of : {K : Case} {z : ℕ → ℕ} → allBelow 32 (stands K z) ≡ true → allBelow 16 (shardFits K z) ≡ true → Valid K z
 valid-of {K} {z} s f =
     record {
       allowed = λ n q p. ltb-true (K .cost (z n) n) 255 (taken (hasOwner z n) (ltb (K .cost (z n) n) 255) (lt-ltb (z n) 16 p) (all-at 32 (stands K z) s n q));
-      most = λ i q. leb-true (size z i) (K .cap i) (and-left (leb (size z i) (K .cap i)) (leb (K .need i) (spread K z i)) (all-at 16 (fits K z) f i q));
-      sets = λ i q. leb-true (K .need i) (spread K z i) (and-right (leb (size z i) (K .cap i)) (leb (K .need i) (spread K z i)) (all-at 16 (fits K z) f i q));
+      most = λ i q. leb-true (size z i) (K .cap i) (and-left (leb (size z i) (K .cap i)) (leb (K .need i) (spread K z i)) (all-at 16 (shardFits K z) f i q));
+      sets = λ i q. leb-true (K .need i) (spread K z i) (and-right (leb (size z i) (K .cap i)) (leb (K .need i) (spread K z i)) (all-at 16 (shardFits K z) f i q));
     }
   where
     taken : (a b : Bool) → a ≡ true → cond a b true ≡ true → b ≡ true
@@ -36,8 +36,8 @@ valid-of {K} {z} s f =
 pub valid-stands : {K : Case} {z : ℕ → ℕ} → Valid K z → allBelow 32 (stands K z) ≡ true
 valid-stands {K} {z} v = all-of 32 (stands K z) (λ n l. ⊎-elim (λ h. simp (lt-ltb (z n) 16 h, lt-ltb (K .cost (z n) n) 255 (v .allowed n l h))) (λ h. simp (le-ltb (z n) 16 h)) (lt-or-le (z n) 16))
 
-pub valid-fits : {K : Case} {z : ℕ → ℕ} → Valid K z → allBelow 16 (fits K z) ≡ true
-valid-fits {K} {z} v = all-of 16 (fits K z) (λ i l. and-both (le-leb (size z i) (K .cap i) (v .most i l)) (le-leb (K .need i) (spread K z i) (v .sets i l)))
+pub valid-fits : {K : Case} {z : ℕ → ℕ} → Valid K z → allBelow 16 (shardFits K z) ≡ true
+valid-fits {K} {z} v = all-of 16 (shardFits K z) (λ i l. and-both (le-leb (size z i) (K .cap i) (v .most i l)) (le-leb (K .need i) (spread K z i) (v .sets i l)))
 
 -- ---- owners that place the same nodes in the same shards
 

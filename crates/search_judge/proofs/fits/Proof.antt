@@ -13,10 +13,10 @@ use Rattle.search_judge.proofs.fits.Statement.{statement}
 use Rattle.search_judge.proofs.fits.Tie as tie
 use Rattle.base_laws.specs.Below.{allBelow, all-none, all-more, all-fails}
 use Rattle.base_laws.specs.Loops.{all-done}
-use Rattle.search_theory.specs.Tests.{fits}
+use Rattle.search_theory.specs.Tests.{shardFits}
 
 abbrev Inv-loop : tie.InvT-loop
-Inv-loop sets needs caps owner i₀ i = (i ≤ 16) × (allBelow i (fits (caseOf sets needs caps [] 0) (ownersOf owner)) ≡ true)
+Inv-loop sets needs caps owner i₀ i = (i ≤ 16) × (allBelow i (shardFits (caseOf sets needs caps [] 0) (ownersOf owner)) ≡ true)
 
 abbrev μ-loop : tie.MeasureT-loop
 μ-loop sets needs caps owner i₀ i = 16 - i
