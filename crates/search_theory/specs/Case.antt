@@ -41,6 +41,10 @@ pub record Valid (K : Case) (z : ℕ → ℕ) : Type 0 where
   pub most : (i : ℕ) → i < 16 → size z i ≤ K .cap i
   pub sets : (i : ℕ) → i < 16 → K .need i ≤ spread K z i
 
+-- by a table of prices, what the placed nodes cost: the moves, where a price is 1 for a move and 0 for a stay
+unfoldable pub moves : (ℕ → ℕ → ℕ) → (ℕ → ℕ) → ℕ
+moves price z = sumBelow 32 (λ n. cond (hasOwner z n) (price (z n) n) 0)
+
 -- what a placement costs, counted by node
 unfoldable pub weight : Case → (ℕ → ℕ) → ℕ
 weight K z = sumBelow 32 (λ n. cond (hasOwner z n) (K .cost (z n) n) (K .idle))

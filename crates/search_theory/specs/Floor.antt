@@ -12,10 +12,10 @@ use borrow.Author.Tests.{eqb-true, ltb-true, lt-ltb, le-ltb}
 use Rattle.base_laws.specs.Bools.{and-left, and-right, lt-or-le}
 use Rattle.base_laws.specs.Below.{countBelow, anyBelow, any-witness, count-mono}
 use Rattle.base_sums.specs.Sums.{sumBelow, sum-mono, sum-add, count-sum}
-use Rattle.search_theory.specs.Case.{Case, Valid, size, meets, spread}
+use Rattle.search_theory.specs.Case.{Case, Valid, size, meets, spread, moves}
 use Rattle.search_theory.specs.Order.{None}
 use Rattle.search_theory.specs.Duality.{by-shard, shard-cover}
-use Rattle.search_theory.specs.Ranks.{Priced, moves}
+use Rattle.search_theory.specs.Ranks.{Priced}
 
 -- the entry of shard i and failure set f
 abbrev pub entryOf : List (List ℕ) → ℕ → ℕ → ℕ

@@ -11,14 +11,11 @@ use borrow.Author.Tests.{eqb-true, eq-eqb, ne-eqb, ltb-true, ltb-false, lt-ltb, 
 use Rattle.base_laws.specs.Bools.{either, and-both, lt-or-le, eq-or-ne}
 use Rattle.base_laws.specs.Below.{countBelow, anyBelow, any-at}
 use Rattle.base_sums.specs.Sums.{sumBelow, sum-cong, sum-mono, sum-add, sum-none, sum-const, sum-scale, sum-by-key, count-sum}
-use Rattle.search_theory.specs.Case.{Case, Valid, Least, hasOwner, size, meets, spread, weight}
-use Rattle.search_theory.specs.Duality.{DualWeights, Modest, Bounds, asked, gain, toll, weak, shard-cover}
+use Rattle.search_theory.specs.Case.{Case, Valid, Least, hasOwner, size, spread, moves, weight}
+use Rattle.search_theory.specs.Duality.{shard-cover}
 use Rattle.search_theory.specs.Order.{First}
 
--- of prices, 0 for a stay and 1 for a move: the moves of a placement, and its stays
-unfoldable pub moves : (ℕ → ℕ → ℕ) → (ℕ → ℕ) → ℕ
-moves price z = sumBelow 32 (λ n. cond (hasOwner z n) (price (z n) n) 0)
-
+-- by the same prices, the stays
 unfoldable pub stays : (ℕ → ℕ → ℕ) → (ℕ → ℕ) → ℕ
 stays price z = sumBelow 32 (λ n. cond (hasOwner z n) (1 - price (z n) n) 0)
 

@@ -13,7 +13,7 @@ use Rattle.search_theory.specs.Case.{Case, Within}
 use Rattle.search_theory.specs.Tables.{ownersOf}
 use Rattle.search_theory.specs.Order.{takes, shardEnd, None, From, TakesPair, begun-leave, begun-close, begun-take, first-leave, none-leave, first-close, first-take, none-take, first-end, none-end}
 use Rattle.search_theory.specs.Tests.{within-same}
-use Rattle.search_judge.specs.Post.{Judged, Barred, Hopeless}
+use Rattle.search_judge.specs.Post.{Judged, Barred, hopelessFrom, hopeless-none}
 use Rattle.search_total.specs.Post.{Owners, ReadyFrom, Sought}
 
 -- owners with pair t taken
@@ -150,5 +150,6 @@ sought-end {K} {k} {o} {t} {b} d r j =
     record { yes = λ e. first-end (j .yes e); no = λ e. none-end (λ y s w. within-same (ownersOf o) y s w) (j .no e); kept = λ e. refl; owners = r .owners }
 
 -- nothing to hope for
-pub sought-hopeless : {K : Case} {k : ℕ} {o : List ℕ} {t : ℕ} {b : Bool} → ReadyFrom o t → b ≡ true → Hopeless K k (ownersOf o) t b → Sought K k o t o false
-sought-hopeless r g h = record { yes = λ e. absurd (false≢true e); no = λ e. h .yes g; kept = λ e. refl; owners = r .owners }
+pub sought-hopeless : {K : Case} {k : ℕ} {o : List ℕ} {t : ℕ} {b : Bool} → t ≤ 512 → ReadyFrom o t → b ≡ true → b ≡ hopelessFrom K k (ownersOf o) t →
+    Sought K k o t o false
+sought-hopeless l r g h = record { yes = λ e. absurd (false≢true e); no = λ e. hopeless-none l (r .begun) (sym h ∙ g); kept = λ e. refl; owners = r .owners }
