@@ -24,6 +24,7 @@ unfoldable pub kept : Case → (ℕ → ℕ) → ℕ → Bool
 kept K z n =
     not (anyBelow n (λ m. eqb (z m) (z n) && eqb (K .setOf m) (K .setOf n))) && ltb (countBelow (K .setOf n) (meets K z (z n))) (K .need (z n))
 
+-- the nodes that are kept where they are, and no other
 unfoldable pub narrowed : Case → (ℕ → ℕ) → ℕ → ℕ
 narrowed K z n = cond (hasOwner z n && kept K z n) (z n) 16
 
