@@ -43,7 +43,7 @@ unfoldable pub toll : Case → DualWeights → ℕ
 toll K W = sumBelow 16 (λ i. sumBelow 16 (W .pair i)) + sumBelow 16 (λ i. K .cap i * W .room i) + sumBelow 32 (W .node)
 
 -- a sum over the placed nodes, shard by shard
-by-shard : (z : ℕ → ℕ) (g : ℕ → ℕ → ℕ) →
+pub by-shard : (z : ℕ → ℕ) (g : ℕ → ℕ → ℕ) →
     sumBelow 32 (λ n. cond (hasOwner z n) (g (z n) n) 0) ≡ sumBelow 16 (λ i. sumBelow 32 (λ n. cond (eqb (z n) i) (g i n) 0))
 by-shard z g =
     sum-cong 32 (λ n. cond (hasOwner z n) (g (z n) n) 0) (λ n. sumBelow 16 (λ i. cond (eqb (z n) i) (g i n) 0))

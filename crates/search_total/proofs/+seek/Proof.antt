@@ -67,8 +67,8 @@ pub +seek-spec : {M : Type 1} → statement M
     seek.Post
     (λ c κs. search needs)
     (λ c. sought-end (c .before .before .if1 .taken) (c .before .before .before .pre .1 .1 .0) (c .within .ensures))
-    (λ c κs. (c .before .before .pre .1 .0, c .before .before .pre .1 .1 .0 .begun))
-    (λ c. sought-hopeless (c .before .before .before .before .pre .1 .1 .0) (c .if2 .taken) (c .before .hopeless .ensures))
+    (λ c κs. c .before .before .pre .1 .0)
+    (λ c. sought-hopeless (c .before .before .before .before .pre .1 .0) (c .before .before .before .before .pre .1 .1 .0) (c .if2 .taken) (c .before .hopeless .ensures))
     (λ c κs. below (c .before .before .before .before .before .if1 .left) (c .before .before .before .before .before .before .pre .1 .0))
     (λ c κs.
     let s = c .before .before .before .before .before .before .before in
