@@ -111,6 +111,10 @@ pub move-most : (σ : List ℕ) (g : ℕ) → Settings σ → moveCost σ g ≤ 
 unfolding moveCost
 move-most σ g right = omega (arith, sum-bound 16 15 (λ s. capIn σ g s - needIn σ g s) (λ s l. spare-most σ g s right))
 
+pub move-least : (σ : List ℕ) (g : ℕ) → 1 ≤ moveCost σ g
+unfolding moveCost
+move-least σ g = omega arith
+
 pub set-past : (σ : List ℕ) (n : ℕ) → nodes σ ≤ n → setIn σ n ≡ 0
 unfolding setIn
 set-past σ n l = ap (λ (b : Bool). cond b (setOf σ n) 0) (le-ltb n (nodes σ) l)

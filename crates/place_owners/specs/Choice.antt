@@ -16,8 +16,8 @@ use Rattle.base_sums.specs.Lists.{listBefore, list-cong, before-self}
 use Rattle.settings_values.specs.Settings.{nodes, shards, subgroup, Settings}
 use Rattle.place_groups.specs.Placements.{groupValid, groupStays, LeastMoves}
 use Rattle.place_groups.specs.Chosen.{nodesIn, SameNodes, Sooner, NotLater, Chosen, nodes-tell, nodes-listed, not-later-both, not-later-alike}
-use Rattle.search_theory.specs.Case.{Case, Valid, Least}
-use Rattle.search_theory.specs.Ranks.{Best, Priced, moves, spare, first-best}
+use Rattle.search_theory.specs.Case.{Case, Valid, Least, moves}
+use Rattle.search_theory.specs.Ranks.{Best, Priced, spare, first-best}
 use Rattle.search_theory.specs.Order.{First}
 use Rattle.search_theory.specs.Dictionary.{nodesOf, Earlier, first-listed}
 use Rattle.place_owners.specs.Cases.{ofGroup, priceIn, CaseFor, shard-below, of-group, cap-none, set-small}

@@ -17,8 +17,8 @@ use Rattle.base_laws.specs.Masks.{has, count, minus, has-and, has-minus, has-be
 use Rattle.base_sums.specs.Sums.{sumBelow, sum-cong, sum-swap, sum-single, sum-none, count-sum}
 use Rattle.settings_values.specs.Settings.{nodes, shards, setOf, subgroup, need, Settings}
 use Rattle.place_groups.specs.Placements.{meetsSet, setsIn, groupValid, groupMovesAt, groupMoves, groupStaysAt, groupStays, Impossible, LeastMoves}
-use Rattle.search_theory.specs.Case.{Case, Valid, hasOwner, size, meets, spread}
-use Rattle.search_theory.specs.Ranks.{Best, moves, stays}
+use Rattle.search_theory.specs.Case.{Case, Valid, hasOwner, size, meets, spread, moves}
+use Rattle.search_theory.specs.Ranks.{Best, stays}
 use Rattle.search_theory.specs.Order.{None}
 use Rattle.place_owners.specs.Cases.{ofGroup, needIn, capIn, priceIn, CaseFor, of-group, group-shard, group-subgroup, shard-below, need-of, need-none, cap-of, set-in}
 use Rattle.place_owners.specs.Shards.{group-valid-of, shard-placed}

@@ -67,7 +67,7 @@ costs-skip σ held old g s l o =
         (lt-or-le k (s * 32))
 
 module _ (σ : List ℕ) (held : ℕ) (old : ℕ → ℕ) (g : ℕ) where
-  cost-at : (s n : ℕ) → s < 16 → n < 32 → groupCase σ held old g .cost s n ≡ costIn σ held old g s n
+  pub cost-at : (s n : ℕ) → s < 16 → n < 32 → groupCase σ held old g .cost s n ≡ costIn σ held old g s n
   cost-at s n l k =
       getD-tabulate 512 (λ t. costIn σ held old g (t / 32) (t % 32)) (s * 32 + n) 0 (omega arith)
       ∙ ap₂ (costIn σ held old g) (omega arith) (omega arith)
