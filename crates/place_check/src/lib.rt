@@ -12,7 +12,8 @@ fn sets_in(settings: &[u32], mask: u32) -> u32
     requires { ⌜ Settings (now settings) ⌝ }
     ensures { λ r. ⌜ r ≡ Placements.setsIn (now (settings .entry)) mask ⌝ }
 {
-    base_masks::count(place_groups::sets_of(settings, mask))
+    let sets = place_groups::sets_of(settings, mask);
+    base_masks::count(sets)
 }
 
 // Shard s gets held nodes, at most its cap, from at least as many failure sets as it needs.
