@@ -1,10 +1,10 @@
 use native.Mathlib.Omega.{arith}
-use Rattle.place_groups.specs.Spread.{seenWith}
+use Rattle.place_groups.specs.Sets.{seenWith}
 use mathlib.Core.Path.{sym}
 use borrow.Author.Tests.{not-true, not-false}
 use borrow.Author.Needs.{needs}
-use Rattle.place_check.proofs.seen_with.Statement.{statement}
-use Rattle.place_check.proofs.seen_with.Tie as tie
+use Rattle.place_groups.proofs.seen_with.Statement.{statement}
+use Rattle.place_groups.proofs.seen_with.Tie as tie
 
 returns : tie.Need-returns
 unfolding seenWith
