@@ -1,11 +1,11 @@
 // Tests on a subgroup's tables with caps: sets and owners by node, needs and caps by shard, costs at shard * 32 + node (from 255 up
 // not allowed). An owner below 16 is the node's shard; any other means that the node is placed nowhere, which costs idle.
 ghost use mathlib.Core.Path.{_≡_};
-ghost use mathlib.Core.Bool.{cond, true, _&&_};
+ghost use mathlib.Core.Bool.{cond, true};
 ghost use mathlib.Core.List.{[]};
 ghost use Prim.Native.Nat.{_+_, _*_, _/_, _%_, _<_, _≤_};
 ghost use lib.ListN.{getD};
-ghost use lib.Dec.{eqb, ltb, leb};
+ghost use lib.Dec.{eqb, ltb};
 ghost use Rattle.base_laws.specs.Below.{allBelow, anyBelow};
 ghost use Rattle.search_theory.specs.Case.{size, spread, weight};
 ghost use Rattle.search_theory.specs.Tables.{caseOf, ownersOf};

@@ -1,6 +1,5 @@
 -- One subgroup's case with caps, by functions: 32 nodes, 16 shards, 16 failure sets. A placement gives each node its owner:
 -- below 16 the shard, anything else means that the node is placed nowhere. So no node is in two shards.
-use mathlib.Core.Path.{_≡_}
 use mathlib.Core.Bool.{Bool, cond, _&&_}
 use Prim.Native.Nat.{ℕ, _≤_, _<_}
 use lib.Dec.{eqb, ltb}

@@ -2,13 +2,12 @@
 -- bound the weight of a valid placement from below. Node weights are counted from a base.
 use mathlib.Core.Path.{_≡_, refl, sym, ap, _∙_}
 use mathlib.Core.Bool.{Bool, true, false, cond, _&&_}
-use mathlib.Core.Logic.{⊎-elim}
-use Prim.Native.Nat.{ℕ, zero, suc, _+_, _*_, _-_, _≤_, _<_}
+use Prim.Native.Nat.{ℕ, _+_, _*_, _-_, _≤_, _<_}
 use native.Mathlib.Nat.{mul-le-mul-right}
 use native.Mathlib.Omega.{arith}
 use lib.Dec.{eqb, ltb}
-use borrow.Author.Tests.{ltb-true, ltb-false, lt-ltb, le-ltb, eqb-true, eq-eqb}
-use Rattle.base_laws.specs.Bools.{either, and-both, and-left, and-right, lt-or-le}
+use borrow.Author.Tests.{ltb-true, ltb-false, lt-ltb, eqb-true}
+use Rattle.base_laws.specs.Bools.{and-left, and-right}
 use Rattle.base_laws.specs.Below.{countBelow, anyBelow, any-witness, count-pos}
 use Rattle.base_sums.specs.Sums.{sumBelow, sum-cong, sum-mono, sum-add, sum-swap, sum-single, sum-by-key, count-times}
 use Rattle.search_theory.specs.Case.{Case, Valid, hasOwner, size, meets, spread, weight}

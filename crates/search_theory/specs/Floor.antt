@@ -1,6 +1,6 @@
 -- A sheet of the case: by shard and failure set, 2 where no node of the set is allowed, 1 where every one that is moves. It tells of
 -- every valid placement how many moves it has at least, and where there is none.
-use mathlib.Core.Path.{_≡_, refl, sym, ap, _∙_, subst}
+use mathlib.Core.Path.{_≡_, refl, subst}
 use mathlib.Core.Bool.{Bool, true, false, cond, _&&_}
 use mathlib.Core.List.{List, []}
 use mathlib.Core.Logic.{⊎-elim}
@@ -8,11 +8,11 @@ use Prim.Native.Nat.{ℕ, zero, suc, _+_, _*_, _-_, _≤_, _<_, min}
 use native.Mathlib.Omega.{arith}
 use lib.Dec.{eqb, ltb}
 use lib.ListN.{getD}
-use borrow.Author.Tests.{eqb-true, ltb-true, lt-ltb, le-ltb}
+use borrow.Author.Tests.{eqb-true, ltb-true, lt-ltb}
 use Rattle.base_laws.specs.Bools.{and-left, and-right, lt-or-le}
 use Rattle.base_laws.specs.Below.{countBelow, anyBelow, any-witness, count-mono}
 use Rattle.base_sums.specs.Sums.{sumBelow, sum-mono, sum-add, count-sum}
-use Rattle.search_theory.specs.Case.{Case, Valid, size, meets, spread, moves}
+use Rattle.search_theory.specs.Case.{Case, Valid, meets, spread, moves}
 use Rattle.search_theory.specs.Order.{None}
 use Rattle.search_theory.specs.Duality.{by-shard, shard-cover}
 use Rattle.search_theory.specs.Ranks.{Priced}

@@ -6,10 +6,10 @@ use mathlib.Core.Logic.{⊎-elim}
 use Prim.Native.Nat.{ℕ, zero, suc, _+_, _*_, _≤_, _<_, min}
 use native.Mathlib.Omega.{arith}
 use lib.Dec.{eqb, ltb}
-use borrow.Author.Tests.{eqb-true, eq-eqb, ne-eqb, ltb-true, ltb-false, lt-ltb, le-ltb}
-use Rattle.base_laws.specs.Bools.{clash, either, same, no-true, and-both, and-left, and-right, of-not-true, not-of-false, lt-or-le}
-use Rattle.base_laws.specs.Below.{countBelow, anyBelow, any-at, any-none-of, any-fails, any-witness, lowest, lowest-holds, lowest-below, lowest-first, count-cong, count-pos, count-none}
-use Rattle.base_sums.specs.Sums.{sumBelow, sum-cong, sum-mono, sum-by-key, count-sum, count-once}
+use borrow.Author.Tests.{eqb-true, eq-eqb, ltb-true, ltb-false, lt-ltb, le-ltb}
+use Rattle.base_laws.specs.Bools.{clash, no-true, and-both, and-left, and-right, of-not-true, not-of-false, lt-or-le}
+use Rattle.base_laws.specs.Below.{countBelow, anyBelow, any-at, any-none-of, any-fails, lowest, lowest-holds, lowest-below, lowest-first, count-pos, count-none}
+use Rattle.base_sums.specs.Sums.{sum-cong, sum-mono, sum-by-key, count-sum, count-once}
 use Rattle.search_theory.specs.Case.{Case, Valid, hasOwner, size, meets, spread, moves}
 
 -- each placed node is allowed, each shard has exactly its need, and no two nodes of a shard are of one failure set

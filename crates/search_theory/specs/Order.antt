@@ -4,7 +4,7 @@
 -- Then the laws of a search that decides the pairs one after another, for placements with any property P: at pair t it ends the
 -- shard's list, or takes the pair, or leaves it.
 use mathlib.Core.Path.{_≡_, refl, sym, ap, ap₂, _∙_, subst}
-use mathlib.Core.Bool.{Bool, true, false, true≢false}
+use mathlib.Core.Bool.{Bool, true, false}
 use Prim.Native.Nat.{ℕ, zero, suc, _+_, _*_, _/_, _%_, _≤_, _<_, min}
 use native.Mathlib.Numerals.{add-one}
 use native.Mathlib.Omega.{arith}
@@ -150,10 +150,6 @@ module _ {o : ℕ → ℕ} {t : ℕ} (l : t < 512) (b : Begun o t) where
           ⊎-elim (λ p. clash d (before y g s p ∙ e))
           (λ p. ⊎-elim (λ r. clash d (ended s p r)) (λ r. f .first y (beyond y g s r a) .longer s q a d e h) (lt-or-le s (shardEnd t)))
           (lt-or-le s t)
-
-  -- none with the list ended: none either once pair t is left within the shard
-  pub none-closed-leave : {P : (ℕ → ℕ) → Type 0} → shardEnd (t + 1) ≡ shardEnd t → None (From P o (shardEnd t)) → None (From P o (shardEnd (t + 1)))
-  none-closed-leave {P} e n = subst (λ (s : ℕ). None (From P o s)) (sym e) n
 
   module _ {p : ℕ → ℕ} (free : 16 ≤ o (t % 32)) (tk : TakesPair o t p) where
     -- taking it

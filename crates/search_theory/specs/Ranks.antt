@@ -1,16 +1,14 @@
 -- Fewest moves, then most stays, as one number: a move costs w, a node that is placed nowhere 1, where w is more than the nodes that
 -- the caps leave over the needs.
-use mathlib.Core.Path.{_≡_, refl, sym, ap, _∙_, subst}
-use mathlib.Core.Bool.{Bool, true, false, cond, _&&_}
+use mathlib.Core.Path.{_≡_, refl, ap, _∙_}
+use mathlib.Core.Bool.{Bool, true, false, cond}
 use mathlib.Core.Logic.{⊎-elim}
-use Prim.Native.Nat.{ℕ, zero, suc, _+_, _*_, _-_, _≤_, _<_, min}
+use Prim.Native.Nat.{ℕ, _+_, _*_, _-_, _≤_, _<_}
 use native.Mathlib.Nat.{mul-le-mul-right}
 use native.Mathlib.Omega.{arith}
-use lib.Dec.{eqb, ltb}
-use borrow.Author.Tests.{eqb-true, eq-eqb, ne-eqb, ltb-true, ltb-false, lt-ltb, le-ltb}
-use Rattle.base_laws.specs.Bools.{either, and-both, lt-or-le, eq-or-ne}
-use Rattle.base_laws.specs.Below.{countBelow, anyBelow, any-at}
-use Rattle.base_sums.specs.Sums.{sumBelow, sum-cong, sum-mono, sum-add, sum-none, sum-const, sum-scale, sum-by-key, count-sum}
+use borrow.Author.Tests.{ltb-true}
+use Rattle.base_laws.specs.Bools.{lt-or-le, eq-or-ne}
+use Rattle.base_sums.specs.Sums.{sumBelow, sum-cong, sum-mono, sum-add, sum-none, sum-const, sum-scale, sum-by-key}
 use Rattle.search_theory.specs.Case.{Case, Valid, Least, hasOwner, size, spread, moves, weight}
 use Rattle.search_theory.specs.Duality.{shard-cover}
 use Rattle.search_theory.specs.Order.{First}

@@ -2,16 +2,16 @@
 use mathlib.Core.Path.{_≡_, refl, sym, ap, _∙_, subst}
 use mathlib.Core.Bool.{Bool, true, false, cond, _&&_, _||_}
 use mathlib.Core.Logic.{⊎-elim}
-use Prim.Native.Nat.{ℕ, _+_, _*_, _/_, _%_, _≤_, _<_, min}
+use Prim.Native.Nat.{ℕ, _+_, _*_, _/_, _%_, _≤_, _<_}
 use native.Mathlib.Omega.{arith}
 use lib.Dec.{eqb, ltb, leb}
-use borrow.Author.Tests.{eqb-true, eqb-false, eq-eqb, ne-eqb, ltb-true, lt-ltb, le-ltb, leb-true, le-leb, lt-leb}
+use borrow.Author.Tests.{eqb-true, eq-eqb, ne-eqb, ltb-true, lt-ltb, le-ltb, leb-true, le-leb, lt-leb}
 use Rattle.base_laws.specs.Bools.{clash, same, lt-or-le, and-left, and-right, and-both, or-holds}
-use Rattle.base_laws.specs.Below.{allBelow, countBelow, anyBelow, all-at, all-of, count-mono, count-with, count-cong, any-cong}
-use Rattle.base_sums.specs.Sums.{sumBelow, sum-mono, sum-cong}
+use Rattle.base_laws.specs.Below.{allBelow, all-at, all-of, count-mono, count-with, count-cong, any-cong}
+use Rattle.base_sums.specs.Sums.{sum-mono, sum-cong}
 use Rattle.search_theory.specs.Case.{Case, Valid, Within, hasOwner, size, meets, spread, moves, weight}
 use Rattle.search_theory.specs.Order.{takes, takes-at, Agree, From, Begun, None, Same}
-use Rattle.search_theory.specs.Cut.{keeps, decided}
+use Rattle.search_theory.specs.Cut.{keeps}
 
 -- node n is placed nowhere, or where it is allowed
 abbrev pub stands : Case → (ℕ → ℕ) → ℕ → Bool

@@ -2,13 +2,15 @@
 use mathlib.Core.Path.{_≡_, refl, sym, ap, _∙_, subst}
 use mathlib.Core.Bool.{Bool, true, false, true≢false, false≢true}
 use mathlib.Core.List.{List}
+use mathlib.Core.Logic.{⊎-elim}
 use Prim.Native.Nat.{ℕ, _+_, _/_, _%_, _≤_, _<_}
 use native.Mathlib.Nat.{le-antisymm}
 use native.Mathlib.Omega.{arith}
 use lib.ListN.{getD, set, length-set}
+use lib.Dec.{eqb}
 use lib.Seq.{getD-set-same, getD-set-other, set-set, set-getD}
+use borrow.Author.Tests.{eqb-true}
 use Rattle.base_laws.specs.Bools.{eq-or-ne}
-use mathlib.Core.Logic.{⊎-elim}
 use Rattle.search_theory.specs.Case.{Case, Within}
 use Rattle.search_theory.specs.Tables.{ownersOf}
 use Rattle.search_theory.specs.Order.{takes, shardEnd, None, From, TakesPair, begun-leave, begun-close, begun-take, first-leave, none-leave, first-close, first-take, none-take, first-end, none-end}
@@ -33,6 +35,11 @@ owners-set {o} n v w l h =
 pub taken : {o : List ℕ} {t : ℕ} → Owners o → TakesPair (ownersOf o) t (ownersOf (pairTaken o t))
 taken {o} {t} w =
     record { there = getD-set-same o (t % 32) (t / 32) 0 (omega (arith, w .long)); else = λ n l e. getD-set-other o (t % 32) n (t / 32) 0 e }
+
+-- none with the list ended, one pair later in the shard
+pub none-later : {K : Case} {k : ℕ} (o : List ℕ) (t : ℕ) {b : Bool} → b ≡ eqb (shardEnd (t + 1)) (shardEnd t) → None (From (Within K k) (ownersOf o) (shardEnd t)) →
+    b ≡ true → None (From (Within K k) (ownersOf o) (shardEnd (t + 1)))
+none-later {K} {k} o t h n e = subst (λ (j : ℕ). None (From (Within K k) (ownersOf o) j)) (sym (eqb-true (shardEnd (t + 1)) (shardEnd t) (sym h ∙ e))) n
 
 module _ {o : List ℕ} {t : ℕ} (l : t < 512) (r : ReadyFrom o t) where
   pub ready-leave : ReadyFrom o (t + 1)
@@ -105,11 +112,10 @@ module _ {o : List ℕ} {t : ℕ} (l : t < 512) (r : ReadyFrom o t) where
       pub ready-restored : ReadyFrom (set q (t % 32) 16) (t + 1)
       ready-restored = subst (λ (w : List ℕ). ReadyFrom w (t + 1)) (sym restored) ready-leave
 
-      pub restored-none : {d : Bool} → None (From (Within K k) (ownersOf o) (shardEnd t)) → (d ≡ true → shardEnd (t + 1) ≡ shardEnd t) → d ≡ true →
+      pub restored-none : {d : Bool} → None (From (Within K k) (ownersOf o) (shardEnd t)) → d ≡ eqb (shardEnd (t + 1)) (shardEnd t) → d ≡ true →
           None (From (Within K k) (ownersOf (set q (t % 32) 16)) (shardEnd (t + 1)))
       restored-none n h e =
-          subst (λ (w : List ℕ). None (From (Within K k) (ownersOf w) (shardEnd (t + 1)))) (sym restored)
-          (subst (λ (j : ℕ). None (From (Within K k) (ownersOf o) j)) (sym (h e)) n)
+          subst (λ (w : List ℕ). None (From (Within K k) (ownersOf w) (shardEnd (t + 1)))) (sym restored) (none-later o t h n e)
 
       pub sought-else : {p : List ℕ} {d : Bool} → Sought K k (set q (t % 32) 16) (t + 1) p d → Sought K k o t p d
       sought-else {p} {d} h =
@@ -133,11 +139,6 @@ module _ {K : Case} {k : ℕ} {o q : List ℕ} (t : ℕ) {j : ℕ} {b : Bool} (e
 
   pub closed-else : {p : List ℕ} {d : Bool} → b ≡ false → Sought K k q t p d → Sought K k o t p d
   closed-else {p} {d} g h = subst (λ (w : List ℕ). Sought K k w t p d) (s .kept g) h
-
--- none with the list ended, one pair later in the shard
-pub none-later : {K : Case} {k : ℕ} (o : List ℕ) (t : ℕ) {b : Bool} → (b ≡ true → shardEnd (t + 1) ≡ shardEnd t) → None (From (Within K k) (ownersOf o) (shardEnd t)) →
-    b ≡ true → None (From (Within K k) (ownersOf o) (shardEnd (t + 1)))
-none-later {K} {k} o t h n e = subst (λ (j : ℕ). None (From (Within K k) (ownersOf o) j)) (sym (h e)) n
 
 -- the pair is barred
 pub barred-none : {K : Case} {k : ℕ} {o : ℕ → ℕ} {t : ℕ} {b : Bool} → b ≡ true → Barred K o t b → (y : ℕ → ℕ) → From (Within K k) o t y → takes y t ≡ true → ⊥

@@ -4,6 +4,7 @@ ghost use mathlib.Core.Path.{_≡_};
 ghost use mathlib.Core.Bool.{true};
 ghost use mathlib.Core.List.{[]};
 ghost use Prim.Native.Nat.{_+_, _≤_, _<_};
+ghost use lib.Dec.{eqb};
 ghost use Rattle.search_theory.specs.Case.{Within};
 ghost use Rattle.search_theory.specs.Order.{None, From, shardEnd};
 ghost use Rattle.search_theory.specs.Tables.{caseOf, ownersOf};
@@ -28,7 +29,7 @@ pub fn next(t: usize) -> usize
 // Whether the pair after t is of the same shard.
 pub fn same_shard(t: usize) -> bool
     requires { ⌜ t < 512 ⌝ }
-    ensures { λ r. ⌜ (r ≡ true → shardEnd (t + 1) ≡ shardEnd t) ⌝ }
+    ensures { λ r. ⌜ r ≡ eqb (shardEnd (t + 1)) (shardEnd t) ⌝ }
 {
     t % 32 < 31
 }

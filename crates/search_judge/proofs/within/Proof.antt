@@ -1,14 +1,8 @@
 -- Each test that fails is one that a valid placement of a weight of at most k passes; all passed, the placement is one. Assumes nothing.
 use borrow.Author.Needs.{needs}
-use Prim.Native.Nat.{ℕ, _≤_, _-_, _+_, _*_, _/_, _%_}
-use mathlib.Core.Path.{_≡_, sym, _∙_, ap, ap₂, subst}
-use mathlib.Core.Bool.{true, false, cond, _&&_}
-use mathlib.Core.List.{[]}
+use mathlib.Core.Path.{sym, _∙_}
 use native.Mathlib.Omega.{arith}
-use borrow.Author.Tests.{not-true, not-false, lt-ltb, le-ltb, ltb-true, le-leb, lt-leb, eq-eqb}
-use lib.Dec.{eqb, ltb, leb}
-use lib.ListN.{getD}
-use Rattle.search_theory.specs.Tables.{caseOf, ownersOf}
+use borrow.Author.Tests.{not-true, not-false}
 use Rattle.search_judge.proofs.within.Statement.{statement}
 use Rattle.search_judge.proofs.within.Tie as tie
 use Rattle.base_laws.specs.Bools.{clash}

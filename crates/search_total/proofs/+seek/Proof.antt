@@ -2,7 +2,7 @@
 -- end, nothing to hope for, the list ended, a pair that is barred, a pair taken with a placement found, and a pair left after
 -- none was found with it. Assumes nothing.
 use Prim.Native.Nat.{ℕ, _<_, _≤_, _-_, _+_, _*_}
-use mathlib.Core.Path.{_≡_, ap, refl}
+use mathlib.Core.Path.{_≡_, ap}
 use mathlib.Core.Bool.{Bool, true, false, cond, false≢true}
 use native.Mathlib.Numerals.{add-one-le}
 use native.Mathlib.Omega.{arith}
@@ -10,8 +10,7 @@ use borrow.Author.Needs.{needs}
 use borrow.Author.Tests.{not-true, not-false}
 use borrow.Fn.Kinds.{In}
 use borrow.Fn.PlainCycle.{Measures, is, falls, and}
-use Rattle.search_total.specs.Steps.{closing, sought-end, sought-hopeless, sought-leave, sought-found, sought-else, barred-none, ready-leave, ready-close, ready-stored, ready-restored, closed-found, closed-ready, closed-none, closed-else, none-later, restored-none}
-use Rattle.search_total.specs.Post.{ReadyFrom}
+use Rattle.search_total.specs.Steps.{closing, sought-end, sought-hopeless, sought-leave, sought-found, sought-else, barred-none, ready-leave, ready-stored, ready-restored, closed-found, closed-ready, closed-none, closed-else, none-later, restored-none}
 use Rattle.search_total.proofs.seek.Reads as seek
 use Rattle.search_total.proofs.seek.Kinds as seek-kinds
 use Rattle.search_total.proofs.+seek.Lts-seek as seek-lts
