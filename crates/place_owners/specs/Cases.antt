@@ -101,7 +101,7 @@ need-cap σ g s right =
     (either (ofGroup σ g s))
 
 -- a shard may have at most 15 nodes more than it needs, so a move costs at most 241
-spare-most : (σ : List ℕ) (g s : ℕ) → Settings σ → capIn σ g s - needIn σ g s ≤ 15
+pub spare-most : (σ : List ℕ) (g s : ℕ) → Settings σ → capIn σ g s - needIn σ g s ≤ 15
 spare-most σ g s right =
     ⊎-elim
     (λ o. omega (arith, need-of σ g s o, cap-of σ g s o, right .need-from s (group-shard σ g s o), right .cap-to s (group-shard σ g s o)))
