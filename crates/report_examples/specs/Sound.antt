@@ -6,16 +6,17 @@ use mathlib.Core.List.{List, [], _∷_, _++_}
 use mathlib.Core.Path.{_≡_, refl}
 use lib.Count.{ones, onesIn}
 use lib.ListN.{replicate}
-use Rattle.base_laws.specs.Below.{allBelow, anyBelow, lowest}
+use Rattle.base_laws.specs.Below.{allBelow, anyBelow, countBelow, lowest}
 use Rattle.base_laws.specs.Positions.{pairNotAfter}
 use Rattle.base_laws.specs.Tables.{tabulate}
 use Rattle.base_sums.specs.Sums.{sumBelow}
 use Rattle.base_ids.specs.declared.Node.{Node}
 use Rattle.base_ids.specs.declared.Position.{Position}
+use Rattle.settings_values.specs.Settings.{cap}
 use Rattle.message_format.specs.Chain.{place, following}
 use Rattle.message_format.specs.Rows.{viewOk, shardApart, row10At, row10, position}
 use Rattle.message_format.specs.Messages.{bodyWord, bodyOf, contentsOf}
-use Rattle.place_groups.specs.Placements.{spread, shardValid, groupValidAt, groupValid, groupMovesAt, groupMoves}
+use Rattle.place_groups.specs.Placements.{meetsSet, setsIn, shardValid, groupValidAt, groupValid, groupMovesAt, groupMoves}
 use Rattle.report_views.specs.declared.Layout.{Layout}
 use Rattle.report_views.specs.declared.Termination.{Termination}
 use Rattle.report_views.specs.declared.Plan.{Plan}
@@ -220,7 +221,7 @@ pub record PlanClauses : Type 0 where
   pub no-plan : planSound caseSettings view7 noTermination 63 caseSlots noPlan ≡ false
 
 pub plan-clauses : PlanClauses
-unfolding caseSlots ones onesIn allBelow anyBelow lowest tabulate pairNotAfter sumBelow place following bodyWord bodyOf contentsOf endOf reaches holds hasUpdate slot reportOf candidate greatest best target able holder majority firstUnheld quorumOf spread shardValid shardApart groupValidAt groupValid groupMovesAt groupMoves allMoves layoutTidy layoutBlank planBlank isMet shardPlanned planSound
+unfolding caseSlots ones onesIn allBelow anyBelow lowest tabulate pairNotAfter sumBelow place following bodyWord bodyOf contentsOf endOf reaches holds hasUpdate slot reportOf candidate greatest best target able holder majority firstUnheld quorumOf countBelow cap meetsSet setsIn shardValid shardApart groupValidAt groupValid groupMovesAt groupMoves allMoves layoutTidy layoutBlank planBlank isMet shardPlanned planSound
 plan-clauses =
     record {
       blank = refl;
