@@ -1,27 +1,29 @@
 -- The choice by masks: it is the search's first placement of least weight, it speaks of its subgroup's masks alone, and there is at
 -- most one.
-use mathlib.Core.Path.{_≡_, refl, sym, _∙_, subst}
-use mathlib.Core.Bool.{true, false}
+use mathlib.Core.Path.{_≡_, refl, sym, ap, _∙_, subst}
+use mathlib.Core.Bool.{Bool, true, false, cond}
 use mathlib.Core.List.{List}
 use mathlib.Core.Logic.{_⊎_, inl, inr, ⊎-elim}
 use Prim.Native.Nat.{ℕ, _^_, _≤_, _<_}
 use native.Mathlib.Nat.{lt-of-lt-of-le, lt-of-le-of-lt}
 use native.Mathlib.Omega.{arith}
+use lib.Bits.{bitAnd}
 use lib.Dec.{eqb}
 use lib.Pow.{pow-mono}
-use Rattle.base_laws.specs.Bools.{either, no-true}
+use Rattle.base_laws.specs.Bools.{either, clash, no-true}
 use Rattle.base_laws.specs.Below.{count-pos}
-use Rattle.base_laws.specs.Masks.{subset-le}
+use Rattle.base_laws.specs.Masks.{count, minus, subset-le}
+use Rattle.base_sums.specs.Sums.{sum-none}
 use Rattle.base_sums.specs.Lists.{listBefore, list-cong, before-self}
 use Rattle.settings_values.specs.Settings.{nodes, shards, subgroup, Settings}
-use Rattle.place_groups.specs.Placements.{groupValid, groupStays, LeastMoves}
+use Rattle.place_groups.specs.Placements.{groupValid, groupMovesAt, groupMoves, groupStaysAt, groupStays, LeastMoves}
 use Rattle.place_groups.specs.Chosen.{nodesIn, SameNodes, Sooner, NotLater, Chosen, nodes-tell, nodes-listed, not-later-both, not-later-alike}
 use Rattle.search_theory.specs.Case.{Case, Valid, Least, moves}
 use Rattle.search_theory.specs.Ranks.{Best, Priced, spare, first-best}
 use Rattle.search_theory.specs.Order.{First}
 use Rattle.search_theory.specs.Dictionary.{nodesOf, Earlier, first-listed}
-use Rattle.place_owners.specs.Cases.{ofGroup, priceIn, CaseFor, shard-below, of-group, cap-none, set-small}
-use Rattle.place_owners.specs.Shards.{shard-placed}
+use Rattle.place_owners.specs.Cases.{ofGroup, priceIn, CaseFor, shard-below, of-group, group-is, cap-none, set-small}
+use Rattle.place_owners.specs.Shards.{group-valid-of, shard-placed}
 use Rattle.place_owners.specs.Owners.{Masked, owner, owner-masked, masks-valid, moves-same, stays-same, from-masks, from-moves, from-stays, least-moves}
 use Rattle.place_owners.specs.Local.{AlikeInGroup, stays-local, least-local}
 
@@ -34,6 +36,36 @@ chosen-local {old = old} k w =
       most = λ other l. omega (arith, w .most other l, stays-local k old);
       first = λ other l e. not-later-alike (k .at) (λ s o. refl) (w .first other l (e ∙ sym (stays-local k old)));
     }
+
+-- ---- a subgroup without shards
+
+module _ (σ : List ℕ) (g : ℕ) (empty : (s : ℕ) → ofGroup σ g s ≡ false) where
+  not-ours : (s : ℕ) → s < shards σ → eqb (subgroup σ s) g ≡ false
+  not-ours s l = sym (group-is σ g s l) ∙ empty s
+
+  -- nothing moves
+  pub none-moves : (old masks : ℕ → ℕ) → groupMoves σ old masks g ≡ 0
+  unfolding groupMoves groupMovesAt
+  none-moves old masks =
+      sum-none (shards σ) (groupMovesAt σ old masks g) (λ s l. ap (λ (b : Bool). cond b (count (minus (masks s) (old s))) 0) (not-ours s l))
+
+  none-stays : (old masks : ℕ → ℕ) → groupStays σ old masks g ≡ 0
+  unfolding groupStays groupStaysAt
+  none-stays old masks =
+      sum-none (shards σ) (groupStaysAt σ old masks g) (λ s l. ap (λ (b : Bool). cond b (count (bitAnd (masks s) (old s))) 0) (not-ours s l))
+
+  -- so any masks are its choice
+  pub chosen-none : (held : ℕ) (old masks : ℕ → ℕ) → Chosen σ held old masks g
+  chosen-none held old masks =
+      record {
+        least =
+            record {
+              valid = group-valid-of σ held masks g (λ s o. clash o (empty s));
+              least = λ other v. omega (arith, none-moves old masks);
+            };
+        most = λ other l. omega (arith, none-stays old other);
+        first = λ other l e. inl (record { alike = λ s o. clash o (empty s) });
+      }
 
 -- ---- at most one
 

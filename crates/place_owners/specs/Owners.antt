@@ -11,16 +11,16 @@ use lib.Bits.{bitAnd}
 use lib.Dec.{eqb, ltb}
 use lib.Pow.{pow-mono}
 use borrow.Author.Tests.{eqb-true, eq-eqb, ne-eqb, ltb-true, lt-ltb}
-use Rattle.base_laws.specs.Bools.{either, clash, same, no-true, and-both, and-left, and-right, lt-or-le}
+use Rattle.base_laws.specs.Bools.{either, clash, same, no-true, and-both, and-left, and-right, cond-of}
 use Rattle.base_laws.specs.Below.{anyBelow, any-at, any-witness, lowest, lowest-unique, lowest-holds, lowest-none, any-none-of, count-cong, count-none}
 use Rattle.base_laws.specs.Masks.{has, count, minus, has-and, has-minus, has-below, minus-lt, and-subset-left, count-below, disjoint, subset-of, subset-has, subset-le, disjoint-of, disjoint-has}
-use Rattle.base_sums.specs.Sums.{sumBelow, sum-cong, sum-swap, sum-single, sum-none, count-sum}
+use Rattle.base_sums.specs.Sums.{sumBelow, sum-cong, sum-swap, sum-single, sum-none, sum-bound, count-sum}
 use Rattle.settings_values.specs.Settings.{nodes, shards, setOf, subgroup, need, Settings}
 use Rattle.place_groups.specs.Placements.{meetsSet, setsIn, groupValid, groupMovesAt, groupMoves, groupStaysAt, groupStays, Impossible, LeastMoves}
 use Rattle.search_theory.specs.Case.{Case, Valid, hasOwner, size, meets, spread, moves}
 use Rattle.search_theory.specs.Ranks.{Best, stays}
 use Rattle.search_theory.specs.Order.{None}
-use Rattle.place_owners.specs.Cases.{ofGroup, needIn, capIn, priceIn, CaseFor, of-group, group-shard, group-subgroup, shard-below, need-of, need-none, cap-of, set-in}
+use Rattle.place_owners.specs.Cases.{ofGroup, needIn, capIn, priceIn, CaseFor, of-group, group-shard, group-subgroup, shard-below, need-of, need-none, cap-of, set-in, price-most}
 use Rattle.place_owners.specs.Shards.{group-valid-of, shard-placed}
 
 -- the masks and the owners z say the same of subgroup g's shards
@@ -161,7 +161,18 @@ module _ {σ : List ℕ} {held g : ℕ} {K : Case} {z masks : ℕ → ℕ}
           turned (eqb (z n) s) (has (old s) n)
           ∙ sym (ap (λ (b : Bool). cond b 1 0) (has-minus (masks s) (old s) n ∙ ap (λ (b : Bool). b && not (has (old s) n)) (k .bits s o n l)))
 
-  -- and stays just where it is one
+  -- at most all 32 nodes move
+  pub moves-small : (old : ℕ → ℕ) → groupMoves σ old masks g ≤ 32
+  unfolding moves
+  moves-small old =
+      omega (
+        arith,
+        moves-same old,
+        sum-bound 32 1 (λ n. cond (hasOwner z n) (priceIn old (z n) n) 0)
+            (λ n l. cond-of (λ (c : ℕ). c ≤ 1) (hasOwner z n) (λ e. price-most old (z n) n) (λ e. omega arith)),
+      )
+
+  -- and a node stays just where it is one
   pub stays-same : (old : ℕ → ℕ) → stays (priceIn old) z ≡ groupStays σ old masks g
   unfolding stays priceIn groupStays groupStaysAt
   stays-same old = counted-by-shard (λ s n. 1 - priceIn old s n) (λ s. bitAnd (masks s) (old s)) small at
