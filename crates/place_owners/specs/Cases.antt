@@ -1,5 +1,5 @@
 -- The case of subgroup g, from the settings σ, the mask of held nodes and the members that each shard had in the kept view (old).
-use mathlib.Core.Path.{_≡_, refl, sym, ap, ap₂, _∙_, subst}
+use mathlib.Core.Path.{_≡_, refl, sym, ap, _∙_}
 use mathlib.Core.Bool.{Bool, true, false, cond, _&&_}
 use mathlib.Core.List.{List}
 use mathlib.Core.Logic.{⊎-elim}
@@ -7,7 +7,7 @@ use Prim.Native.Nat.{ℕ, _+_, _*_, _-_, _^_, _≤_, _<_}
 use native.Mathlib.Omega.{arith}
 use lib.Dec.{eqb, ltb}
 use borrow.Author.Tests.{ltb-true, lt-ltb, le-ltb, eqb-true, eq-eqb}
-use Rattle.base_laws.specs.Bools.{either, clash, and-both, and-left, and-right, and-fails-left, and-fails-right, no-true, lt-or-le}
+use Rattle.base_laws.specs.Bools.{either, and-both, and-left, and-right, and-fails-left, and-fails-right, no-true, lt-or-le}
 use Rattle.base_laws.specs.Masks.{has, has-below}
 use Rattle.base_sums.specs.Sums.{sumBelow, sum-bound}
 use Rattle.settings_values.specs.Settings.{nodes, shards, setOf, subgroup, need, cap, Settings}
@@ -169,15 +169,6 @@ module _ (σ : List ℕ) (held : ℕ) (old : ℕ → ℕ) (g s n : ℕ) where
       low : (b : Bool) → cond b (cond (has (old s) n) 0 (moveCost σ g)) 255 < 255 → b ≡ true
       low true i = refl
       low false i = absurd (omega arith)
-
-  pub cost-most : Settings σ → costIn σ held old g s n ≤ 255
-  unfolding costIn
-  cost-most right = low (ofGroup σ g s && has held n) (has (old s) n)
-    where
-      low : (b d : Bool) → cond b (cond d 0 (moveCost σ g)) 255 ≤ 255
-      low true true = omega arith
-      low true false = omega (arith, move-most σ g right)
-      low false d = omega arith
 
   pub cost-low : Settings σ → (ofGroup σ g s && has held n) ≡ true → costIn σ held old g s n < 255
   cost-low right h = omega (arith, cost-held h, low (has (old s) n))

@@ -1,16 +1,15 @@
 -- What the placement sheet says of subgroup g, in document 01's own terms: it is a sheet of the subgroup's case, its zeros are the failure
 -- sets of a shard's held old members, and no valid placement of g has fewer moves than the floor.
 use mathlib.Core.Path.{_≡_, sym, ap, ap₂, _∙_, subst}
-use mathlib.Core.Bool.{Bool, true, false, cond, _&&_}
-use mathlib.Core.List.{List, []}
+use mathlib.Core.Bool.{Bool, true, cond, _&&_}
+use mathlib.Core.List.{List}
 use mathlib.Core.Logic.{⊎-elim}
 use Prim.Native.Nat.{ℕ, _-_, _^_, _≤_, _<_, min}
 use native.Mathlib.Omega.{arith}
 use lib.Bits.{bitAnd}
 use lib.Dec.{eqb, ltb}
-use lib.ListN.{getD}
 use Rattle.base_laws.specs.Bools.{either, and-left, and-right, lt-or-le}
-use Rattle.base_laws.specs.Below.{countBelow, count-cong}
+use Rattle.base_laws.specs.Below.{count-cong}
 use Rattle.base_laws.specs.Masks.{has, has-below}
 use Rattle.base_sums.specs.Sums.{sumBelow, sum-cong, sum-past}
 use Rattle.settings_values.specs.Settings.{nodes, shards, setOf, subgroup, need, Settings}
@@ -18,7 +17,7 @@ use Rattle.place_groups.specs.Placements.{meetsSet, setsIn, groupValid, groupMo
 use Rattle.place_sheet.specs.Sheet.{sheetAt, sheetOf}
 use Rattle.place_sheet.specs.Laws.{sheet-entry, entry-stays, held-entry, member-entry}
 use Rattle.search_theory.specs.Floor.{SheetFor, entryOf, entriesBelow, lackAt, floorOf, priced-floor}
-use Rattle.place_owners.specs.Cases.{ofGroup, setIn, needIn, costIn, group-shard, group-past, group-is, need-of, need-none, set-held, set-small, moveCost, move-least, cost-held, cost-allowed}
+use Rattle.place_owners.specs.Cases.{ofGroup, setIn, costIn, group-shard, group-past, group-is, need-of, need-none, set-held, set-small, moveCost, move-least, cost-held, cost-allowed}
 use Rattle.place_owners.specs.Owners.{owner, from-masks, from-moves}
 use Rattle.place_owners.specs.Tables.{groupCase, cost-at, case-for, case-priced}
 

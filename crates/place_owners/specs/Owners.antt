@@ -1,6 +1,6 @@
 -- Owners and masks of a subgroup say the same: a valid one gives a valid other with as many moves and stays. So the best placement of
 -- the case is of least moves in document 01's own terms, and where the case has none there is none.
-use mathlib.Core.Path.{_≡_, refl, sym, ap, ap₂, _∙_, subst}
+use mathlib.Core.Path.{_≡_, refl, sym, ap, _∙_, subst}
 use mathlib.Core.Bool.{Bool, true, false, cond, not, _&&_}
 use mathlib.Core.List.{List}
 use mathlib.Core.Logic.{⊎-elim}
@@ -15,12 +15,12 @@ use Rattle.base_laws.specs.Bools.{either, clash, same, no-true, and-both, and-l
 use Rattle.base_laws.specs.Below.{anyBelow, any-at, any-witness, lowest, lowest-unique, lowest-holds, lowest-none, any-none-of, count-cong, count-none}
 use Rattle.base_laws.specs.Masks.{has, count, minus, has-and, has-minus, has-below, minus-lt, and-subset-left, count-below, disjoint, subset-of, subset-has, subset-le, disjoint-of, disjoint-has}
 use Rattle.base_sums.specs.Sums.{sumBelow, sum-cong, sum-swap, sum-single, sum-none, sum-bound, count-sum}
-use Rattle.settings_values.specs.Settings.{nodes, shards, setOf, subgroup, need, Settings}
+use Rattle.settings_values.specs.Settings.{nodes, shards, setOf, subgroup, Settings}
 use Rattle.place_groups.specs.Placements.{meetsSet, setsIn, groupValid, groupMovesAt, groupMoves, groupStaysAt, groupStays, Impossible, LeastMoves}
 use Rattle.search_theory.specs.Case.{Case, Valid, hasOwner, size, meets, spread, moves}
 use Rattle.search_theory.specs.Ranks.{Best, stays}
 use Rattle.search_theory.specs.Order.{None}
-use Rattle.place_owners.specs.Cases.{ofGroup, needIn, capIn, priceIn, CaseFor, of-group, group-shard, group-subgroup, shard-below, need-of, need-none, cap-of, set-in, price-most}
+use Rattle.place_owners.specs.Cases.{ofGroup, priceIn, CaseFor, of-group, group-shard, group-subgroup, shard-below, need-of, need-none, cap-of, set-in, price-most}
 use Rattle.place_owners.specs.Shards.{group-valid-of, shard-placed}
 
 -- the masks and the owners z say the same of subgroup g's shards
@@ -83,19 +83,19 @@ module _ {σ : List ℕ} {held g : ℕ} {K : Case} {z masks : ℕ → ℕ}
 
   pub masks-valid : groupValid σ held masks g ≡ true
   masks-valid = group-valid-of σ held masks g (λ s o.
-    let l : s < 16 = shard-below σ g right s o in
-    record {
-      inside = subset-of 32 (masks s) held (k .small s o) (λ n l p. mask-held s n o l p);
-      sized = omega (arith, count-size k s o, v .most s l, stands .caps s l, cap-of σ g s o);
-      spreads = omega (
-        arith,
-        sets-spread k stands (right .sizes .nodes-to) s o (λ n q p. has-below held (nodes σ) n inside (mask-held s n o q p)),
-        v .sets s l,
-        stands .needs s l,
-        need-of σ g s o,
-      );
-      shares = λ t l e. shares s o t l e;
-    })
+      let l : s < 16 = shard-below σ g right s o in
+      record {
+        inside = subset-of 32 (masks s) held (k .small s o) (λ n l p. mask-held s n o l p);
+        sized = omega (arith, count-size k s o, v .most s l, stands .caps s l, cap-of σ g s o);
+        spreads = omega (
+          arith,
+          sets-spread k stands (right .sizes .nodes-to) s o (λ n q p. has-below held (nodes σ) n inside (mask-held s n o q p)),
+          v .sets s l,
+          stands .needs s l,
+          need-of σ g s o,
+        );
+        shares = λ t l e. shares s o t l e;
+      })
     where
       shares : (s : ℕ) → ofGroup σ g s ≡ true → (t : ℕ) → t < s → subgroup σ t ≡ subgroup σ s → disjoint (masks t) (masks s) ≡ true
       shares s o t l e =

@@ -1,6 +1,6 @@
 -- The case of subgroup g by tables: sets by node, needs and caps by shard, costs of shard s and node n at s * 32 + n.
 use mathlib.Core.Path.{_≡_, refl, sym, ap, ap₂, _∙_, subst}
-use mathlib.Core.Bool.{true, false, _&&_}
+use mathlib.Core.Bool.{false}
 use mathlib.Core.List.{List}
 use mathlib.Core.Logic.{⊎-elim}
 use Prim.Native.Nat.{ℕ, _+_, _*_, _-_, _/_, _%_, _<_}
@@ -9,7 +9,7 @@ use lib.ListN.{getD, set, replicate, length-replicate, getD-replicate}
 use Rattle.base_laws.specs.Bools.{lt-or-le}
 use Rattle.base_laws.specs.Masks.{has}
 use Rattle.base_laws.specs.Tables.{tabulate, filled, getD-tabulate, length-filled, getD-filled, getD-filled-rest, filled-ext, fill-turn}
-use Rattle.base_sums.specs.Sums.{sumBelow, sum-cong}
+use Rattle.base_sums.specs.Sums.{sum-cong}
 use Rattle.settings_values.specs.Settings.{Settings}
 use Rattle.search_theory.specs.Case.{Case}
 use Rattle.search_theory.specs.Ranks.{Priced, spare}

@@ -1,6 +1,6 @@
 -- Caps change no wait and no total: with every cap at its shard's need a valid placement of a subgroup exists just where one exists with
 -- the caps as they are, and the least moves are as many.
-use mathlib.Core.Path.{_≡_, refl, sym, ap, ap₂, _∙_, subst}
+use mathlib.Core.Path.{_≡_, sym, ap, ap₂, _∙_, subst}
 use mathlib.Core.Bool.{Bool, true, false, cond, _&&_}
 use mathlib.Core.List.{List}
 use mathlib.Core.Logic.{⊎-elim}
@@ -15,13 +15,13 @@ use Rattle.base_laws.specs.Masks.{has, count, minus}
 use Rattle.base_laws.specs.Picked.{maskBelow, mask-lt, mask-at}
 use Rattle.base_laws.specs.Tables.{tabulate, length-tabulate, getD-tabulate, getD-tabulate-past}
 use Rattle.base_sums.specs.Sums.{sumBelow, sum-cong}
-use Rattle.settings_values.specs.Settings.{nodes, sets, least, shards, setOf, shardWord, subgroup, need, cap, Sizes, Settings}
+use Rattle.settings_values.specs.Settings.{nodes, sets, least, shards, setOf, shardWord, subgroup, need, cap, Settings}
 use Rattle.place_groups.specs.Placements.{meetsSet, setsIn, groupValid, groupMovesAt, groupMoves, Impossible, Lowest, LeastMoves}
 use Rattle.place_groups.specs.Chosen.{ofGroup}
 use Rattle.search_theory.specs.Case.{Case, Valid, moves}
 use Rattle.search_theory.specs.Lesser.{Exact, narrowed, narrow, narrow-moves, widen}
-use Rattle.place_owners.specs.Cases.{setIn, needIn, capIn, priceIn, CaseFor, group-shard, need-cap, set-small}
-use Rattle.place_owners.specs.Shards.{ShardPlaced, group-valid-of, shard-placed}
+use Rattle.place_owners.specs.Cases.{setIn, needIn, priceIn, CaseFor, group-shard, need-cap, set-small}
+use Rattle.place_owners.specs.Shards.{group-valid-of, shard-placed}
 use Rattle.place_owners.specs.Owners.{Masked, owner, masks-valid, moves-same, from-masks, from-moves}
 use Rattle.place_owners.specs.Tables.{groupCase, case-for}
 
@@ -168,54 +168,56 @@ module _ (σ : List ℕ) where
         })
 
     module _ (held : ℕ) (inside : held < 2 ^ nodes σ) (old : ℕ → ℕ) (g : ℕ) (masks : ℕ → ℕ) (v : groupValid σ held masks g ≡ true) where
-      abbrev K : Case
-      K = groupCase σ held old g
+      -- the subgroup's case with the caps as they are, and with every cap at its need
+      abbrev withCaps : Case
+      withCaps = groupCase σ held old g
 
-      abbrev L : Case
-      L = groupCase (uncapped σ) held old g
+      abbrev withNeeds : Case
+      withNeeds = groupCase (uncapped σ) held old g
 
-      wide-for : CaseFor σ held g K
+      wide-for : CaseFor σ held g withCaps
       wide-for = case-for σ held old g right
 
-      low-for : CaseFor (uncapped σ) held g L
+      low-for : CaseFor (uncapped σ) held g withNeeds
       low-for = case-for (uncapped σ) held old g (uncapped-right right)
 
       within : held < 2 ^ nodes (uncapped σ)
       within = subst (λ (n : ℕ). held < 2 ^ n) (sym uncapped-nodes) inside
 
-      abbrev z : ℕ → ℕ
-      z = narrowed K (owner σ g masks)
+      -- the owners that are kept
+      abbrev lessOwners : ℕ → ℕ
+      lessOwners = narrowed withCaps (owner σ g masks)
 
       -- sets below 16, in both cases alike
-      small : (n : ℕ) → n < 32 → K .setOf n < 16
+      small : (n : ℕ) → n < 32 → withCaps .setOf n < 16
       small n l = subst (λ (i : ℕ). i < 16) (sym (wide-for .sets n l)) (set-small σ n right)
 
-      sets-alike : (n : ℕ) → n < 32 → L .setOf n ≡ K .setOf n
+      sets-alike : (n : ℕ) → n < 32 → withNeeds .setOf n ≡ withCaps .setOf n
       sets-alike n l = low-for .sets n l ∙ (set-same n ∙ sym (wide-for .sets n l))
 
-      exact : Exact K z
-      exact = narrow K (owner σ g masks) small (from-masks right inside wide-for masks v)
+      exact : Exact withCaps lessOwners
+      exact = narrow withCaps (owner σ g masks) small (from-masks right inside wide-for masks v)
 
       -- exactly as needed is exactly so by either
-      exact-low : Exact L z
+      exact-low : Exact withNeeds lessOwners
       exact-low =
           record {
-            allowed = λ n l p. low-for .allows (z n) n p l (ap (λ (b : Bool). b && has held n) (uncapped-group g (z n)) ∙ wide-for .allowed (z n) n p l (exact .allowed n l p));
+            allowed = λ n l p. low-for .allows (lessOwners n) n p l (ap (λ (b : Bool). b && has held n) (uncapped-group g (lessOwners n)) ∙ wide-for .allowed (lessOwners n) n p l (exact .allowed n l p));
             sized = λ s l. exact .sized s l ∙ (wide-for .needs s l ∙ (sym (need-same g s) ∙ sym (low-for .needs s l)));
             apart = λ n m l j p e d. exact .apart n m l j p e (sym (sets-alike n l) ∙ (d ∙ sets-alike m j));
           }
 
-      low-valid : Valid L z
+      low-valid : Valid withNeeds lessOwners
       low-valid =
-          widen L z (λ n l. omega (arith, small n l, sets-alike n l))
+          widen withNeeds lessOwners (λ n l. omega (arith, small n l, sets-alike n l))
           (λ s l. omega (arith, low-for .needs s l, low-for .caps s l, need-cap (uncapped σ) g s (uncapped-right right))) exact-low
 
-      low-masked : Masked (uncapped σ) g z (narrower σ held old g masks)
+      low-masked : Masked (uncapped σ) g lessOwners (narrower σ held old g masks)
       unfolding narrower
       low-masked =
           record {
-            bits = λ s o n l. mask-at 32 (λ m. eqb (z m) s) n l;
-            small = λ s o. mask-lt 32 32 (λ m. eqb (z m) s) (omega arith);
+            bits = λ s o n l. mask-at 32 (λ m. eqb (lessOwners m) s) n l;
+            small = λ s o. mask-lt 32 32 (λ m. eqb (lessOwners m) s) (omega arith);
           }
 
       -- a valid placement has within it one with every cap at its need
@@ -229,7 +231,7 @@ module _ (σ : List ℕ) where
             arith,
             moves-same (uncapped-right right) within low-for low-masked low-valid old,
             uncapped-moves old (narrower σ held old g masks) g,
-            narrow-moves K (owner σ g masks) (priceIn old),
+            narrow-moves withCaps (owner σ g masks) (priceIn old),
             from-moves right inside wide-for old masks v,
           )
 
