@@ -25,9 +25,13 @@ use Rattle.place_owners.specs.Shards.{group-valid-of, shard-placed}
 use Rattle.place_owners.specs.Owners.{Masked, owner, masks-valid, moves-same, from-masks, from-moves}
 use Rattle.place_owners.specs.Tables.{groupCase, case-for}
 
--- the settings with every shard's cap at its need: the shards' words below 65536
+-- a word with every shard's cap at its need: the shards' words below 65536
+unfoldable pub uncappedWord : List ℕ → ℕ → ℕ
+uncappedWord σ k = cond (ltb k (4 + nodes σ)) (getD σ k 0) (getD σ k 0 % 65536)
+
+-- the settings of these words
 unfoldable pub uncapped : List ℕ → List ℕ
-uncapped σ = tabulate (length σ) (λ k. cond (ltb k (4 + nodes σ)) (getD σ k 0) (getD σ k 0 % 65536))
+uncapped σ = tabulate (length σ) (uncappedWord σ)
 
 -- a valid placement of subgroup g with every cap at its need, from any valid one: of each shard's nodes the lowest of each of the first sets
 -- that it needs
@@ -37,20 +41,19 @@ narrower σ held old g masks s = maskBelow 32 (λ n. eqb (narrowed (groupCase σ
 -- ---- the words
 
 module _ (σ : List ℕ) where
-  word-at : (k : ℕ) → getD (uncapped σ) k 0 ≡ cond (ltb k (4 + nodes σ)) (getD σ k 0) (getD σ k 0 % 65536)
-  unfolding uncapped
+  word-at : (k : ℕ) → getD (uncapped σ) k 0 ≡ uncappedWord σ k
+  unfolding uncapped uncappedWord
   word-at k =
-      ⊎-elim (λ l. getD-tabulate (length σ) (λ i. cond (ltb i (4 + nodes σ)) (getD σ i 0) (getD σ i 0 % 65536)) k 0 l)
-      (λ l.
-      getD-tabulate-past (length σ) (λ i. cond (ltb i (4 + nodes σ)) (getD σ i 0) (getD σ i 0 % 65536)) k 0 l
-      ∙ sym (both (ltb k (4 + nodes σ)) (List·getD-eq-default σ 0 {n = k} l)))
+      ⊎-elim (λ l. getD-tabulate (length σ) (uncappedWord σ) k 0 l)
+      (λ l. getD-tabulate-past (length σ) (uncappedWord σ) k 0 l ∙ sym (past (ltb k (4 + nodes σ)) (List·getD-eq-default σ 0 {n = k} l)))
       (lt-or-le k (length σ))
     where
-      both : (b : Bool) {w : ℕ} → w ≡ 0 → cond b w (w % 65536) ≡ 0
-      both true e = e
-      both false e = omega arith
+      past : (b : Bool) {w : ℕ} → w ≡ 0 → cond b w (w % 65536) ≡ 0
+      past true e = e
+      past false e = omega arith
 
   word-kept : (k : ℕ) → k < 4 + nodes σ → getD (uncapped σ) k 0 ≡ getD σ k 0
+  unfolding uncappedWord
   word-kept k l = word-at k ∙ ap (λ (b : Bool). cond b (getD σ k 0) (getD σ k 0 % 65536)) (lt-ltb k (4 + nodes σ) l)
 
   pub uncapped-nodes : nodes (uncapped σ) ≡ nodes σ
@@ -69,6 +72,7 @@ module _ (σ : List ℕ) where
   uncapped-set n l = word-kept (4 + n) (omega arith)
 
   shard-at : (s : ℕ) → shardWord (uncapped σ) s ≡ shardWord σ s % 65536
+  unfolding uncappedWord
   shard-at s =
       ap (λ (m : ℕ). getD (uncapped σ) (4 + m + s) 0) uncapped-nodes
       ∙ (word-at (4 + nodes σ + s)
@@ -89,7 +93,7 @@ module _ (σ : List ℕ) where
 
   uncapped-length : length (uncapped σ) ≡ length σ
   unfolding uncapped
-  uncapped-length = length-tabulate (length σ) (λ k. cond (ltb k (4 + nodes σ)) (getD σ k 0) (getD σ k 0 % 65536))
+  uncapped-length = length-tabulate (length σ) (uncappedWord σ)
 
   pub uncapped-right : Settings σ → Settings (uncapped σ)
   uncapped-right right =
