@@ -24,6 +24,7 @@ use Rattle.place_owners.specs.Cases.{setIn, needIn, priceIn, CaseFor, gr
 use Rattle.place_owners.specs.Shards.{group-valid-of, shard-placed}
 use Rattle.place_owners.specs.Owners.{Masked, owner, masks-valid, moves-same, from-masks, from-moves}
 use Rattle.place_owners.specs.Tables.{groupCase, case-for}
+use Rattle.place_owners.specs.Exactly.{CapsAtNeeds}
 
 -- a word with every shard's cap at its need: the shards' words below 65536
 unfoldable pub uncappedWord : List ℕ → ℕ → ℕ
@@ -90,6 +91,9 @@ module _ (σ : List ℕ) where
   uncapped-cap s =
       let none : shardWord (uncapped σ) s / 65536 ≡ 0 = omega (arith, shard-at s) in
       ap (λ (c : ℕ). cond (eqb c 0) (need (uncapped σ) s) c) none ∙ uncapped-need s
+
+  pub uncapped-caps : (g : ℕ) → CapsAtNeeds (uncapped σ) g
+  uncapped-caps g = record { at = λ s o. uncapped-cap s ∙ sym (uncapped-need s) }
 
   uncapped-length : length (uncapped σ) ≡ length σ
   unfolding uncapped
