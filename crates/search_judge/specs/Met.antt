@@ -1,4 +1,4 @@
--- The failure sets from which a shard has nodes, as a mask.
+-- The failure sets of which a shard has nodes, as a mask.
 use mathlib.Core.Path.{_≡_, refl, sym, ap, _∙_, subst}
 use mathlib.Core.Bool.{Bool, true, false, _&&_, _||_, or-false}
 use mathlib.Core.List.{List, []}

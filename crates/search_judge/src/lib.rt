@@ -1,4 +1,4 @@
-// Tests on a subgroup's tables with caps: sets and owners by node, needs and caps by shard, costs at shard * 32 + node (from 255 up
+// Tests on a subgroup's tables: sets and owners by node, needs and caps by shard, costs at shard * 32 + node (from 255 up
 // not allowed). An owner below 16 is the node's shard; any other means that the node is placed nowhere, which costs idle.
 ghost use mathlib.Core.Path.{_≡_};
 ghost use mathlib.Core.Bool.{cond, true};
@@ -63,7 +63,7 @@ fn joined(m: u32, o: usize, i: usize, f: usize) -> u32
     m
 }
 
-// The failure sets from which shard i has nodes.
+// The failure sets of which shard i has nodes, as a mask.
 fn met(sets: &[u8; 32], owner: &[u8; 32], i: usize) -> u32
     ensures { λ r. ⌜ Met (now (owner .entry)) (now (sets .entry)) i 32 r ⌝ }
 {
@@ -76,7 +76,7 @@ fn met(sets: &[u8; 32], owner: &[u8; 32], i: usize) -> u32
     m
 }
 
-// From how many different sets shard i has nodes.
+// Of how many different sets shard i has nodes.
 pub fn spread(sets: &[u8; 32], owner: &[u8; 32], i: usize) -> usize
     ensures { λ r. ⌜ r ≡ spread (caseOf (now (sets .entry)) [] [] [] 0) (ownersOf (now (owner .entry))) i ⌝ }
 {
@@ -95,7 +95,7 @@ fn filled_at(sets: &[u8; 32], needs: &[u8; 16], caps: &[u8; 16], owner: &[u8; 32
     }
 }
 
-// Every shard.
+// Each shard has no more nodes than its cap, and no fewer sets than its need.
 fn filled(sets: &[u8; 32], needs: &[u8; 16], caps: &[u8; 16], owner: &[u8; 32]) -> bool
     ensures { λ r. ⌜ r ≡ allBelow 16 (needsMet (caseOf (now (sets .entry)) (now (needs .entry)) (now (caps .entry)) [] 0) (ownersOf (now (owner .entry)))) ⌝ }
 {

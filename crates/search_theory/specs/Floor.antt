@@ -14,7 +14,8 @@ use Rattle.base_laws.specs.Below.{countBelow, anyBelow, any-witness, count-mono
 use Rattle.base_sums.specs.Sums.{sumBelow, sum-mono, sum-add, count-sum}
 use Rattle.search_theory.specs.Case.{Case, Valid, meets, spread, moves}
 use Rattle.search_theory.specs.Order.{None}
-use Rattle.search_theory.specs.Duality.{by-shard, shard-cover}
+use Rattle.search_theory.specs.Shards.{by-shard}
+use Rattle.search_theory.specs.Duality.{shard-cover}
 use Rattle.search_theory.specs.Ranks.{Priced}
 
 -- the entry of shard i and failure set f

@@ -1,5 +1,5 @@
--- Fewest moves, then most stays, as one number: a move costs w, a node that is placed nowhere 1, where w is more than the nodes that
--- the caps leave over the needs.
+-- Fewest moves, then most stays, as one number: a stay costs 0, a move w, and a node that is placed nowhere 1, where w is more than the
+-- nodes that the caps leave over the needs.
 use mathlib.Core.Path.{_≡_, refl, ap, _∙_}
 use mathlib.Core.Bool.{Bool, true, false, cond}
 use mathlib.Core.Logic.{⊎-elim}
@@ -33,7 +33,7 @@ pub record Best (K : Case) (price : ℕ → ℕ → ℕ) (z : ℕ → ℕ) : Typ
 unfoldable pub spare : Case → ℕ
 spare K = sumBelow 16 (λ i. K .cap i - K .need i)
 
--- the placed nodes
+-- how many nodes are placed
 unfoldable pub placedCount : (ℕ → ℕ) → ℕ
 placedCount z = sumBelow 32 (λ n. cond (hasOwner z n) 1 0)
 

@@ -1,4 +1,4 @@
--- From what a search found to the answer: the first placement, its moves, or that there is none.
+-- From what a search found to the answer: the first placement, its weight, or that there is none.
 use mathlib.Core.Path.{_≡_, sym, ap, _∙_, subst}
 use mathlib.Core.Bool.{true, false}
 use mathlib.Core.List.{List}

@@ -1,4 +1,5 @@
--- The search's steps, from pair t + 1 to pair t: taking a pair, leaving it, undoing a take, and the end.
+-- The search's steps, from pair t + 1 to pair t: ending the shard's list, taking a pair, leaving it,
+-- undoing a take, and the end.
 use mathlib.Core.Path.{_≡_, refl, sym, ap, _∙_, subst}
 use mathlib.Core.Bool.{Bool, true, false, true≢false, false≢true}
 use mathlib.Core.List.{List}

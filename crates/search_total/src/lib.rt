@@ -1,5 +1,5 @@
-// The first valid placement of a subgroup with caps of a weight of at most k, and the first of least weight, or that there is none.
-// The tables are those of search_judge; shards ascending, the smaller list of nodes in dictionary order comes first, a prefix too.
+// The first valid placement of a subgroup of a weight of at most k, and the first of least weight, or that there is none. The tables are
+// those of search_judge; shards ascending, the smaller list of nodes in dictionary order comes first, and a list before a longer one.
 ghost use mathlib.Core.Path.{_≡_};
 ghost use mathlib.Core.Bool.{true};
 ghost use mathlib.Core.List.{[]};
@@ -35,7 +35,7 @@ pub fn same_shard(t: usize) -> bool
 }
 
 // Depth first over the pairs from t on: the shard's list is ended before a pair is taken, and a pair is taken before it is left.
-// tried: there is none with the list ended here.
+// Where `tried` says so there is none with the list ended here.
 fn seek(
     sets: &[u8; 32],
     needs: &[u8; 16],
