@@ -2,3 +2,4 @@
 pub mod Post
 pub mod Steps
 pub mod Unique
+pub mod Uncapped

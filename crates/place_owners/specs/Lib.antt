@@ -9,3 +9,4 @@ pub mod Whole
 pub mod Tables
 pub mod Adding
 pub mod Floor
+pub mod Uncapped

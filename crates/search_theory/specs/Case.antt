@@ -1,6 +1,5 @@
 -- One subgroup's case with caps, by functions: 32 nodes, 16 shards, 16 failure sets. A placement gives each node its owner:
--- below 16 the shard, anything else means that the node is hasOwner nowhere. So no node is in two shards.
-use mathlib.Core.Path.{_≡_}
+-- below 16 the shard, anything else means that the node is placed nowhere. So no node is in two shards.
 use mathlib.Core.Bool.{Bool, cond, _&&_}
 use Prim.Native.Nat.{ℕ, _≤_, _<_}
 use lib.Dec.{eqb, ltb}
@@ -16,10 +15,10 @@ pub record Case : Type 0 where
   pub cap : ℕ → ℕ
   -- of a shard and a node: what it costs to place the node there; from 255 up it is not allowed
   pub cost : ℕ → ℕ → ℕ
-  -- what a node costs that is hasOwner nowhere
+  -- what a node costs that is placed nowhere
   pub idle : ℕ
 
--- node n is hasOwner
+-- node n is placed
 abbrev pub hasOwner : (ℕ → ℕ) → ℕ → Bool
 hasOwner z n = ltb (z n) 16
 
@@ -40,6 +39,10 @@ pub record Valid (K : Case) (z : ℕ → ℕ) : Type 0 where
   pub allowed : (n : ℕ) → n < 32 → z n < 16 → K .cost (z n) n < 255
   pub most : (i : ℕ) → i < 16 → size z i ≤ K .cap i
   pub sets : (i : ℕ) → i < 16 → K .need i ≤ spread K z i
+
+-- by a table of prices, what the placed nodes cost: the moves, where a price is 1 for a move and 0 for a stay
+unfoldable pub moves : (ℕ → ℕ → ℕ) → (ℕ → ℕ) → ℕ
+moves price z = sumBelow 32 (λ n. cond (hasOwner z n) (price (z n) n) 0)
 
 -- what a placement costs, counted by node
 unfoldable pub weight : Case → (ℕ → ℕ) → ℕ

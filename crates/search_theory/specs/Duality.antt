@@ -2,13 +2,12 @@
 -- bound the weight of a valid placement from below. Node weights are counted from a base.
 use mathlib.Core.Path.{_≡_, refl, sym, ap, _∙_}
 use mathlib.Core.Bool.{Bool, true, false, cond, _&&_}
-use mathlib.Core.Logic.{⊎-elim}
-use Prim.Native.Nat.{ℕ, zero, suc, _+_, _*_, _-_, _≤_, _<_}
+use Prim.Native.Nat.{ℕ, _+_, _*_, _-_, _≤_, _<_}
 use native.Mathlib.Nat.{mul-le-mul-right}
 use native.Mathlib.Omega.{arith}
 use lib.Dec.{eqb, ltb}
-use borrow.Author.Tests.{ltb-true, ltb-false, lt-ltb, le-ltb, eqb-true, eq-eqb}
-use Rattle.base_laws.specs.Bools.{either, and-both, and-left, and-right, lt-or-le}
+use borrow.Author.Tests.{ltb-true, ltb-false, lt-ltb, eqb-true}
+use Rattle.base_laws.specs.Bools.{and-left, and-right}
 use Rattle.base_laws.specs.Below.{countBelow, anyBelow, any-witness, count-pos}
 use Rattle.base_sums.specs.Sums.{sumBelow, sum-cong, sum-mono, sum-add, sum-swap, sum-single, sum-by-key, count-times}
 use Rattle.search_theory.specs.Case.{Case, Valid, hasOwner, size, meets, spread, weight}
@@ -43,7 +42,7 @@ unfoldable pub toll : Case → DualWeights → ℕ
 toll K W = sumBelow 16 (λ i. sumBelow 16 (W .pair i)) + sumBelow 16 (λ i. K .cap i * W .room i) + sumBelow 32 (W .node)
 
 -- a sum over the placed nodes, shard by shard
-by-shard : (z : ℕ → ℕ) (g : ℕ → ℕ → ℕ) →
+pub by-shard : (z : ℕ → ℕ) (g : ℕ → ℕ → ℕ) →
     sumBelow 32 (λ n. cond (hasOwner z n) (g (z n) n) 0) ≡ sumBelow 16 (λ i. sumBelow 32 (λ n. cond (eqb (z n) i) (g i n) 0))
 by-shard z g =
     sum-cong 32 (λ n. cond (hasOwner z n) (g (z n) n) 0) (λ n. sumBelow 16 (λ i. cond (eqb (z n) i) (g i n) 0))

@@ -6,15 +6,11 @@ use mathlib.Core.Logic.{⊎-elim}
 use Prim.Native.Nat.{ℕ, zero, suc, _+_, _*_, _≤_, _<_, min}
 use native.Mathlib.Omega.{arith}
 use lib.Dec.{eqb, ltb}
-use borrow.Author.Tests.{eqb-true, eq-eqb, ne-eqb, ltb-true, ltb-false, lt-ltb, le-ltb}
-use Rattle.base_laws.specs.Bools.{clash, either, same, no-true, and-both, and-left, and-right, of-not-true, not-of-false, lt-or-le}
-use Rattle.base_laws.specs.Below.{countBelow, anyBelow, any-at, any-none-of, any-fails, any-witness, lowest, lowest-holds, lowest-below, lowest-first, count-cong, count-pos, count-none}
-use Rattle.base_sums.specs.Sums.{sumBelow, sum-cong, sum-mono, sum-by-key, count-sum, count-once}
-use Rattle.search_theory.specs.Case.{Case, Valid, hasOwner, size, meets, spread}
-
--- the placed nodes' costs: the moves, where a cost is 1 for a move and 0 for a stay
-unfoldable pub paid : Case → (ℕ → ℕ) → ℕ
-paid K z = sumBelow 32 (λ n. cond (hasOwner z n) (K .cost (z n) n) 0)
+use borrow.Author.Tests.{eqb-true, eq-eqb, ltb-true, ltb-false, lt-ltb, le-ltb}
+use Rattle.base_laws.specs.Bools.{clash, no-true, and-both, and-left, and-right, of-not-true, not-of-false, lt-or-le}
+use Rattle.base_laws.specs.Below.{countBelow, anyBelow, any-at, any-none-of, any-fails, lowest, lowest-holds, lowest-below, lowest-first, count-pos, count-none}
+use Rattle.base_sums.specs.Sums.{sum-cong, sum-mono, sum-by-key, count-sum, count-once}
+use Rattle.search_theory.specs.Case.{Case, Valid, hasOwner, size, meets, spread, moves}
 
 -- each placed node is allowed, each shard has exactly its need, and no two nodes of a shard are of one failure set
 pub record Exact (K : Case) (z : ℕ → ℕ) : Type 0 where
@@ -58,14 +54,15 @@ module _ (K : Case) (z : ℕ → ℕ) where
   narrow-same : (n : ℕ) → narrowed K z n < 16 → narrowed K z n ≡ z n
   narrow-same n l = narrow-of n (narrow-is n l)
 
-  pub narrow-paid : paid K (narrowed K z) ≤ paid K z
-  unfolding paid
-  narrow-paid = sum-mono 32 (λ n. cond (hasOwner (narrowed K z) n) (K .cost (narrowed K z n) n) 0) (λ n. cond (hasOwner z n) (K .cost (z n) n) 0) (λ n l. at n)
+  -- at no more moves, whatever the prices
+  pub narrow-moves : (price : ℕ → ℕ → ℕ) → moves price (narrowed K z) ≤ moves price z
+  unfolding moves
+  narrow-moves price = sum-mono 32 (λ n. cond (hasOwner (narrowed K z) n) (price (narrowed K z n) n) 0) (λ n. cond (hasOwner z n) (price (z n) n) 0) (λ n l. at n)
     where
-      at : (n : ℕ) → cond (hasOwner (narrowed K z) n) (K .cost (narrowed K z n) n) 0 ≤ cond (hasOwner z n) (K .cost (z n) n) 0
+      at : (n : ℕ) → cond (hasOwner (narrowed K z) n) (price (narrowed K z n) n) 0 ≤ cond (hasOwner z n) (price (z n) n) 0
       at n =
           ⊎-elim
-          (λ h. subst (λ (i : ℕ). cond (ltb i 16) (K .cost i n) 0 ≤ cond (hasOwner z n) (K .cost (z n) n) 0) (sym (narrow-same n h)) (omega arith))
+          (λ h. subst (λ (i : ℕ). cond (ltb i 16) (price i n) 0 ≤ cond (hasOwner z n) (price (z n) n) 0) (sym (narrow-same n h)) (omega arith))
           (λ h. simp (le-ltb (narrowed K z n) 16 h) (omega arith))
           (lt-or-le (narrowed K z n) 16)
 
@@ -234,5 +231,6 @@ module _ (K : Case) (z : ℕ → ℕ) where
         }
 
 -- the least moves are the same: what no exact placement stays below, no valid one does
-pub least-same : {K : Case} (small : (n : ℕ) → n < 32 → K .setOf n < 16) {k : ℕ} → ((y : ℕ → ℕ) → Exact K y → k ≤ paid K y) → (y : ℕ → ℕ) → Valid K y → k ≤ paid K y
-least-same {K} small h y v = omega (arith, h (narrowed K y) (narrow K y small v), narrow-paid K y)
+pub least-same : {K : Case} (small : (n : ℕ) → n < 32 → K .setOf n < 16) (price : ℕ → ℕ → ℕ) {k : ℕ} → ((y : ℕ → ℕ) → Exact K y → k ≤ moves price y) →
+    (y : ℕ → ℕ) → Valid K y → k ≤ moves price y
+least-same {K} small price h y v = omega (arith, h (narrowed K y) (narrow K y small v), narrow-moves K y price)

@@ -9,3 +9,4 @@ pub mod Ranks
 pub mod Tables
 pub mod Tests
 pub mod Least
+pub mod Floor

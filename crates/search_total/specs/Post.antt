@@ -9,7 +9,7 @@ use Rattle.search_theory.specs.Tables.{ownersOf}
 use Rattle.search_theory.specs.Order.{First, None, From, Begun}
 use Rattle.search_total.specs.declared.Solution.{Solution}
 
--- owners of 32 nodes, 16 for a node that is hasOwner nowhere
+-- owners of 32 nodes, 16 for a node that is placed nowhere
 pub record Owners (o : List ℕ) : Type 0 where
   pub long : length o ≡ 32
   pub least : (n : ℕ) → n < 32 → ownersOf o n ≤ 16

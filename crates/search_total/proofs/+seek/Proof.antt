@@ -2,7 +2,7 @@
 -- end, nothing to hope for, the list ended, a pair that is barred, a pair taken with a placement found, and a pair left after
 -- none was found with it. Assumes nothing.
 use Prim.Native.Nat.{ℕ, _<_, _≤_, _-_, _+_, _*_}
-use mathlib.Core.Path.{_≡_, ap, refl}
+use mathlib.Core.Path.{_≡_, ap}
 use mathlib.Core.Bool.{Bool, true, false, cond, false≢true}
 use native.Mathlib.Numerals.{add-one-le}
 use native.Mathlib.Omega.{arith}
@@ -10,8 +10,7 @@ use borrow.Author.Needs.{needs}
 use borrow.Author.Tests.{not-true, not-false}
 use borrow.Fn.Kinds.{In}
 use borrow.Fn.PlainCycle.{Measures, is, falls, and}
-use Rattle.search_total.specs.Steps.{closing, sought-end, sought-hopeless, sought-leave, sought-found, sought-else, barred-none, ready-leave, ready-close, ready-stored, ready-restored, closed-found, closed-ready, closed-none, closed-else, none-later, restored-none}
-use Rattle.search_total.specs.Post.{ReadyFrom}
+use Rattle.search_total.specs.Steps.{closing, sought-end, sought-hopeless, sought-leave, sought-found, sought-else, barred-none, ready-leave, ready-stored, ready-restored, closed-found, closed-ready, closed-none, closed-else, none-later, restored-none}
 use Rattle.search_total.proofs.seek.Reads as seek
 use Rattle.search_total.proofs.seek.Kinds as seek-kinds
 use Rattle.search_total.proofs.+seek.Lts-seek as seek-lts
@@ -67,8 +66,8 @@ pub +seek-spec : {M : Type 1} → statement M
     seek.Post
     (λ c κs. search needs)
     (λ c. sought-end (c .before .before .if1 .taken) (c .before .before .before .pre .1 .1 .0) (c .within .ensures))
-    (λ c κs. (c .before .before .pre .1 .0, c .before .before .pre .1 .1 .0 .begun))
-    (λ c. sought-hopeless (c .before .before .before .before .pre .1 .1 .0) (c .if2 .taken) (c .before .hopeless .ensures))
+    (λ c κs. c .before .before .pre .1 .0)
+    (λ c. sought-hopeless (c .before .before .before .before .pre .1 .0) (c .before .before .before .before .pre .1 .1 .0) (c .if2 .taken) (c .before .hopeless .ensures))
     (λ c κs. below (c .before .before .before .before .before .if1 .left) (c .before .before .before .before .before .before .pre .1 .0))
     (λ c κs.
     let s = c .before .before .before .before .before .before .before in
