@@ -101,9 +101,11 @@ better-told few many m s r h =
     ⊎-elim (λ l. inl (ltb-true few m l))
     (λ e.
     let rest = ltb s many || (eqb s many && r) in
-    inr (eqb-true m few (and-left (eqb m few) rest e),
-    ⊎-elim (λ l. inl (ltb-true s many l)) (λ k. inr (eqb-true s many (and-left (eqb s many) r k), and-right (eqb s many) r k))
-    (or-holds (ltb s many) (eqb s many && r) (and-right (eqb m few) rest e))))
+    inr (
+      eqb-true m few (and-left (eqb m few) rest e),
+      ⊎-elim (λ l. inl (ltb-true s many l)) (λ k. inr (eqb-true s many (and-left (eqb s many) r k), and-right (eqb s many) r k))
+          (or-holds (ltb s many) (eqb s many && r) (and-right (eqb m few) rest e)),
+    ))
     (or-holds (ltb few m) (eqb m few && (ltb s many || (eqb s many && r))) h)
 
 module _ (σ : List ℕ) (old : ℕ → ℕ) (held : ℕ) (one : OneGroup σ) where
@@ -163,8 +165,8 @@ module _ (σ : List ℕ) (old : ℕ → ℕ) (held : ℕ) (one : OneGroup σ) wh
     module _ (few many : ℕ) (valid : groupValid σ held (three x y z) 0 ≡ true) (moves : groupMoves σ old (three x y z) 0 ≡ few)
         (stays : groupStays σ old (three x y z) 0 ≡ many)
         (test : everywhere σ held
-            (λ a b c. noBetter few many (groupMoves σ old (three a b c) 0) (groupStays σ old (three a b c) 0) (notAfter x y z a b c))
-            ≡ true) where
+        (λ a b c. noBetter few many (groupMoves σ old (three a b c) 0) (groupStays σ old (three a b c) 0) (notAfter x y z a b c))
+        ≡ true) where
       told : (P : ℕ → ℕ) → groupValid σ held P 0 ≡ true
           → (few < groupMoves σ old P 0)
           ⊎ ((groupMoves σ old P 0 ≡ few)
