@@ -49,14 +49,14 @@ pub record SettingsClauses : Type 0 where
   pub need-past : settingsOk (smallSettings 1 1 1 1 0 (2 ∷ [])) ≡ false
   -- a cap is 0, which stands for the need, or the need to 16, however large the word
   pub cap-none : cap (smallSettings 1 2 1 1 0 (2 ∷ [])) 0 ≡ 2
-  pub cap-given : cap (smallSettings 1 2 1 1 0 (3 * 65536 + 2 ∷ [])) 0 ≡ 3
-  pub cap-of-need : settingsOk (smallSettings 1 2 1 1 0 (2 * 65536 + 2 ∷ [])) ≡ true
-  pub cap-below : settingsOk (smallSettings 1 2 1 1 0 (65536 + 2 ∷ [])) ≡ false
-  pub cap-last : settingsOk (smallSettings 1 1 1 1 0 (16 * 65536 + 1 ∷ [])) ≡ true
-  pub cap-past : settingsOk (smallSettings 1 1 1 1 0 (17 * 65536 + 1 ∷ [])) ≡ false
-  pub cap-of-two-bytes : settingsOk (smallSettings 1 1 1 1 0 (256 * 65536 + 1 ∷ [])) ≡ false
-  pub cap-with-group : settingsOk (smallSettings 1 1 1 1 0 (16 * 65536 + 769 ∷ [])) ≡ true
-  pub cap-with-group-past : settingsOk (smallSettings 1 1 1 1 0 (16 * 65536 + 1025 ∷ [])) ≡ false
+  pub cap-given : cap (smallSettings 1 2 1 1 0 ((3 * 65536 + 2) ∷ [])) 0 ≡ 3
+  pub cap-of-need : settingsOk (smallSettings 1 2 1 1 0 ((2 * 65536 + 2) ∷ [])) ≡ true
+  pub cap-below : settingsOk (smallSettings 1 2 1 1 0 ((65536 + 2) ∷ [])) ≡ false
+  pub cap-last : settingsOk (smallSettings 1 1 1 1 0 ((16 * 65536 + 1) ∷ [])) ≡ true
+  pub cap-past : settingsOk (smallSettings 1 1 1 1 0 ((17 * 65536 + 1) ∷ [])) ≡ false
+  pub cap-of-two-bytes : settingsOk (smallSettings 1 1 1 1 0 ((256 * 65536 + 1) ∷ [])) ≡ false
+  pub cap-with-group : settingsOk (smallSettings 1 1 1 1 0 ((16 * 65536 + 769) ∷ [])) ≡ true
+  pub cap-with-group-past : settingsOk (smallSettings 1 1 1 1 0 ((16 * 65536 + 1025) ∷ [])) ≡ false
   pub last-word : settingsOk (smallSettings 1 1 1 1 0 (4294967295 ∷ [])) ≡ false
 
 pub settings-clauses : SettingsClauses

@@ -181,6 +181,10 @@ needsOne = 7 ∷ 3 ∷ 4 ∷ 3 ∷ 0 ∷ 0 ∷ 1 ∷ 1 ∷ 1 ∷ 2 ∷ 2 ∷ 1 �
 abbrev pub lastGroup : List ℕ
 lastGroup = 7 ∷ 3 ∷ 4 ∷ 3 ∷ 0 ∷ 0 ∷ 1 ∷ 1 ∷ 1 ∷ 2 ∷ 2 ∷ 2 ∷ 3 ∷ 769 ∷ []
 
+-- and with a cap of two
+abbrev pub lastCapped : List ℕ
+lastCapped = 7 ∷ 3 ∷ 4 ∷ 3 ∷ 0 ∷ 0 ∷ 1 ∷ 1 ∷ 1 ∷ 2 ∷ 2 ∷ 2 ∷ 3 ∷ 131841 ∷ []
+
 abbrev pub planUnheld : Plan
 planUnheld =
     planOf (viewOfParts 8 31 1 2 8 0) 1 (record { 0 = 0 } ∷ record { 0 = 1 } ∷ record { 0 = 32 } ∷ replicate 13 (record { 0 = 0 }))
@@ -212,6 +216,8 @@ pub record PlanClauses : Type 0 where
   pub invalid : planSound caseSettings view7 noTermination 63 caseSlots (planWith (viewOfParts 8 63 3 52 8 0) 3) ≡ false
   -- shard 2 is of subgroup 3 and gets two nodes where it needs one
   pub last-group : planSound lastGroup view7 noTermination 63 caseSlots (planWith (viewOfParts 8 63 5 50 9 0) 3) ≡ false
+  -- where its cap is two it may have them; stays are not asked again, and node 5 was its member
+  pub capped-group : planSound lastCapped view7 noTermination 63 caseSlots (planWith (viewOfParts 8 63 5 50 9 0) 3) ≡ true
   pub other-total : planSound caseSettings view7 noTermination 63 caseSlots (planWith (viewOfParts 8 63 5 50 8 0) 3) ≡ false
   -- a valid placement with more moves than need be: least moves are not asked again
   pub not-least : planSound caseSettings view7 noTermination 63 caseSlots (planWith (viewOfParts 8 63 9 50 4 0) 3) ≡ true
@@ -240,6 +246,7 @@ plan-clauses =
       target-past = refl;
       invalid = refl;
       last-group = refl;
+      capped-group = refl;
       other-total = refl;
       not-least = refl;
       waiting = refl;

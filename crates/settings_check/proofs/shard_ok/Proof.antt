@@ -13,15 +13,23 @@ returns c = rw (← (c .before .shard-word .ensures), lt-leb _ _ (c .if1 .taken)
 returns-2 : tie.Need-returns-2
 unfolding shardOk
 returns-2 c =
-    rw (← (c .before .before .before .before .shard-word .ensures), le-leb _ _ (c .before .before .before .if1 .left),
-    ← (c .before .from-to .ensures), not-true (c .before .from-to .result) (c .if2 .taken))
+    rw (
+      ← (c .before .before .before .before .shard-word .ensures),
+      le-leb _ _ (c .before .before .before .if1 .left),
+      ← (c .before .from-to .ensures),
+      not-true (c .before .from-to .result) (c .if2 .taken),
+    )
 
 returns-3 : tie.Need-returns-3
 unfolding shardOk
 returns-3 c =
-    rw (← (c .before .before .before .before .before .before .shard-word .ensures), le-leb _ _ (c .before .before .before .before .before .if1 .left),
-    ← (c .before .before .before .from-to .ensures), not-false (c .before .before .before .from-to .result) (c .before .before .if2 .left),
-    ← (c .before .cap .ensures)) (c .from-to2 .ensures)
+    rw (
+      ← (c .before .before .before .before .before .before .shard-word .ensures),
+      le-leb _ _ (c .before .before .before .before .before .if1 .left),
+      ← (c .before .before .before .from-to .ensures),
+      not-false (c .before .before .before .from-to .result) (c .before .before .if2 .left),
+      ← (c .before .cap .ensures),
+    ) (c .from-to2 .ensures)
 
 pub shard-ok-spec : {M : Type 1} → statement M
 shard-ok-spec =
