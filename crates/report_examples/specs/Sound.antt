@@ -226,6 +226,15 @@ pub record PlanClauses : Type 0 where
   -- no plan is none
   pub no-plan : planSound caseSettings view7 noTermination 63 caseSlots noPlan ≡ false
 
+-- plans of valid placements, one with a cap and one with more moves than need be
+capped-sound : planSound lastCapped view7 noTermination 63 caseSlots (planWith (viewOfParts 8 63 5 50 9 0) 3) ≡ true
+unfolding caseSlots ones onesIn allBelow anyBelow lowest tabulate pairNotAfter sumBelow place following bodyWord bodyOf contentsOf endOf reaches holds hasUpdate slot reportOf candidate greatest best target able holder majority firstUnheld quorumOf countBelow cap meetsSet setsIn shardValid shardApart groupValidAt groupValid groupMovesAt groupMoves allMoves layoutTidy layoutBlank planBlank isMet shardPlanned planSound
+capped-sound = refl
+
+more-moves-sound : planSound caseSettings view7 noTermination 63 caseSlots (planWith (viewOfParts 8 63 9 50 4 0) 3) ≡ true
+unfolding caseSlots ones onesIn allBelow anyBelow lowest tabulate pairNotAfter sumBelow place following bodyWord bodyOf contentsOf endOf reaches holds hasUpdate slot reportOf candidate greatest best target able holder majority firstUnheld quorumOf countBelow cap meetsSet setsIn shardValid shardApart groupValidAt groupValid groupMovesAt groupMoves allMoves layoutTidy layoutBlank planBlank isMet shardPlanned planSound
+more-moves-sound = refl
+
 pub plan-clauses : PlanClauses
 unfolding caseSlots ones onesIn allBelow anyBelow lowest tabulate pairNotAfter sumBelow place following bodyWord bodyOf contentsOf endOf reaches holds hasUpdate slot reportOf candidate greatest best target able holder majority firstUnheld quorumOf countBelow cap meetsSet setsIn shardValid shardApart groupValidAt groupValid groupMovesAt groupMoves allMoves layoutTidy layoutBlank planBlank isMet shardPlanned planSound
 plan-clauses =
@@ -246,9 +255,9 @@ plan-clauses =
       target-past = refl;
       invalid = refl;
       last-group = refl;
-      capped-group = refl;
+      capped-group = capped-sound;
       other-total = refl;
-      not-least = refl;
+      not-least = more-moves-sound;
       waiting = refl;
       no-plan = refl;
     }
