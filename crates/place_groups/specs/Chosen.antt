@@ -1,19 +1,20 @@
 -- The choice among placements of least moves: those in which the most nodes stay, and of those the first, shards ascending, each
 -- shard's nodes listed ascending, where at the first shard that differs the smaller list in dictionary order wins. The same choice
 -- serves a subgroup and the plan as a whole.
-use Prim.Native.Nat.{ℕ, _^_, _≤_, _<_}
+use Prim.Native.Nat.{ℕ, _+_, _^_, _≤_, _<_}
 use native.Mathlib.Omega.{arith}
-use mathlib.Core.Bool.{Bool, true, _&&_}
+use mathlib.Core.Bool.{Bool, true, false, cond, _&&_}
 use mathlib.Core.List.{List}
 use mathlib.Core.Logic.{_⊎_, inl, inr, ⊎-elim}
-use mathlib.Core.Path.{_≡_, sym, ap, subst}
+use mathlib.Core.Path.{_≡_, refl, sym, ap, _∙_, subst}
+use lib.Bits.{bitAnd}
 use lib.Dec.{eqb, ltb}
 use Rattle.base_laws.specs.Bools.{lt-or-le}
-use Rattle.base_laws.specs.Masks.{has, ext}
-use Rattle.base_sums.specs.Sums.{sumBelow}
+use Rattle.base_laws.specs.Masks.{has, count, minus, ext, count-and-minus}
+use Rattle.base_sums.specs.Sums.{sumBelow, sum-add, sum-cong}
 use Rattle.base_sums.specs.Lists.{listFrom, listBefore, before-self, before-both, list-cong, list-tells}
 use Rattle.settings_values.specs.Settings.{shards, subgroup}
-use Rattle.place_groups.specs.Placements.{groupValid, groupMoves, groupStays, Lowest, LeastMoves}
+use Rattle.place_groups.specs.Placements.{groupValid, groupMovesAt, groupMoves, groupStaysAt, groupStays, Lowest, LeastMoves}
 
 -- s is a shard
 unfoldable pub isShard : List ℕ → ℕ → Bool
@@ -81,6 +82,19 @@ lowest-one σ held g h a b =
     (λ l.
     ⊎-elim (λ m. let v = a .lower h m in absurd (b .none .none (v .0) (v .1))) (λ m. omega arith) (lt-or-le h g))
     (lt-or-le g h)
+
+-- a placed node moves or stays
+pub moves-stays : (σ : List ℕ) (old masks : ℕ → ℕ) (g : ℕ)
+    → groupMoves σ old masks g + groupStays σ old masks g ≡ sumBelow (shards σ) (λ s. cond (eqb (subgroup σ s) g) (count (masks s)) 0)
+unfolding groupMoves groupMovesAt groupStays groupStaysAt
+moves-stays σ old masks g =
+    sym (sum-add (shards σ) (groupMovesAt σ old masks g) (groupStaysAt σ old masks g))
+    ∙ sum-cong (shards σ) (λ s. groupMovesAt σ old masks g s + groupStaysAt σ old masks g s) (λ s. cond (eqb (subgroup σ s) g) (count (masks s)) 0)
+    (λ s l. both (eqb (subgroup σ s) g) (masks s) (old s))
+  where
+    both : (b : Bool) (new was : ℕ) → cond b (count (minus new was)) 0 + cond b (count (bitAnd new was)) 0 ≡ cond b (count new) 0
+    both true new was = omega (arith, count-and-minus new was)
+    both false new was = refl
 
 -- a mask is told by its list
 pub nodes-tell : (a b : ℕ) → a < 2 ^ 32 → b < 2 ^ 32 → nodesIn a ≡ nodesIn b → a ≡ b
