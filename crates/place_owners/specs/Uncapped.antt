@@ -10,7 +10,7 @@ use lib.Bits.{bitAnd}
 use lib.Dec.{eqb, ltb}
 use lib.ListN.{length, getD, List·getD-eq-default}
 use borrow.Author.Tests.{lt-ltb, le-ltb}
-use Rattle.base_laws.specs.Bools.{lt-or-le}
+use Rattle.base_laws.specs.Bools.{cond-of, lt-or-le}
 use Rattle.base_laws.specs.Below.{anyBelow, any-cong, count-cong}
 use Rattle.base_laws.specs.Masks.{has, count, minus}
 use Rattle.base_laws.specs.Picked.{maskBelow, mask-lt, mask-at}
@@ -47,16 +47,14 @@ module _ (σ : List ℕ) where
   unfolding uncapped uncappedWord
   word-at k =
       ⊎-elim (λ l. getD-tabulate (length σ) (uncappedWord σ) k 0 l)
-      (λ l. getD-tabulate-past (length σ) (uncappedWord σ) k 0 l ∙ sym (past (ltb k (4 + nodes σ)) (List·getD-eq-default σ 0 {n = k} l)))
+      (λ l.
+      let e : getD σ k 0 ≡ 0 = List·getD-eq-default σ 0 {n = k} l in
+      getD-tabulate-past (length σ) (uncappedWord σ) k 0 l ∙ sym (cond-of (λ (w : ℕ). w ≡ 0) (ltb k (4 + nodes σ)) (λ b. e) (λ b. omega arith)))
       (lt-or-le k (length σ))
-    where
-      past : (b : Bool) {w : ℕ} → w ≡ 0 → cond b w (w % 65536) ≡ 0
-      past true e = e
-      past false e = omega arith
 
   word-kept : (k : ℕ) → k < 4 + nodes σ → getD (uncapped σ) k 0 ≡ getD σ k 0
   unfolding uncappedWord
-  word-kept k l = word-at k ∙ ap (λ (b : Bool). cond b (getD σ k 0) (getD σ k 0 % 65536)) (lt-ltb k (4 + nodes σ) l)
+  word-kept k l = word-at k ∙ simp (lt-ltb k (4 + nodes σ) l)
 
   pub uncapped-nodes : nodes (uncapped σ) ≡ nodes σ
   uncapped-nodes = word-kept 0 (omega arith)
