@@ -36,7 +36,7 @@ GIVEN = {
     "a kind of record": "message_fields::kind",
     "the index of a record": "message_passes::kinds message_passes::shards message_passes::sequence message_passes::positions",
     "a mask, or one for each shard": "place_groups::sets_of message_records::shards_of message_records::carried_more message_records::carried_by message_records::masks_of state_rows::mark",
-    "bytes for the search, by node, shard or failure set": "place_sheet::sheet place_tables::sets place_tables::needs place_tables::prices",
+    "bytes for the search, by node, shard or failure set": "place_sheet::sheet place_tables::sets place_tables::needs place_tables::caps place_tables::move_cost place_tables::costs",
 }
 
 # What OTHERS and GIVEN do not cover, by its place, and why it is right.

@@ -3,21 +3,22 @@
 use mathlib.Core.Path.{_≡_, sym, ap, ap₂, _∙_, subst}
 use mathlib.Core.Bool.{Bool, true, false, cond, _&&_}
 use mathlib.Core.List.{List}
-use mathlib.Core.Logic.{⊎-elim}
+use mathlib.Core.Logic.{inl, inr, ⊎-elim}
 use Prim.Native.Nat.{ℕ, _+_, _/_, _%_, _^_, _≤_, _<_}
 use native.Mathlib.Omega.{arith}
+use lib.Bits.{bitAnd}
 use lib.Dec.{eqb, ltb}
 use lib.ListN.{length, getD, List·getD-eq-default}
 use borrow.Author.Tests.{lt-ltb, le-ltb}
-use Rattle.base_laws.specs.Bools.{lt-or-le}
+use Rattle.base_laws.specs.Bools.{cond-of, lt-or-le}
 use Rattle.base_laws.specs.Below.{anyBelow, any-cong, count-cong}
 use Rattle.base_laws.specs.Masks.{has, count, minus}
 use Rattle.base_laws.specs.Picked.{maskBelow, mask-lt, mask-at}
 use Rattle.base_laws.specs.Tables.{tabulate, length-tabulate, getD-tabulate, getD-tabulate-past}
 use Rattle.base_sums.specs.Sums.{sumBelow, sum-cong}
 use Rattle.settings_values.specs.Settings.{nodes, sets, least, shards, setOf, shardWord, subgroup, need, cap, Settings}
-use Rattle.place_groups.specs.Placements.{meetsSet, setsIn, groupValid, groupMovesAt, groupMoves, Impossible, Lowest, LeastMoves}
-use Rattle.place_groups.specs.Chosen.{ofGroup}
+use Rattle.place_groups.specs.Placements.{meetsSet, setsIn, groupValid, groupMovesAt, groupMoves, groupStaysAt, groupStays, Impossible, Lowest, LeastMoves}
+use Rattle.place_groups.specs.Chosen.{ofGroup, NotLater, Chosen}
 use Rattle.search_theory.specs.Case.{Case, Valid, moves}
 use Rattle.search_theory.specs.Lesser.{Exact, narrowed, narrow, narrow-moves, widen}
 use Rattle.place_owners.specs.Cases.{setIn, needIn, priceIn, CaseFor, group-shard, need-cap, set-small}
@@ -46,16 +47,14 @@ module _ (σ : List ℕ) where
   unfolding uncapped uncappedWord
   word-at k =
       ⊎-elim (λ l. getD-tabulate (length σ) (uncappedWord σ) k 0 l)
-      (λ l. getD-tabulate-past (length σ) (uncappedWord σ) k 0 l ∙ sym (past (ltb k (4 + nodes σ)) (List·getD-eq-default σ 0 {n = k} l)))
+      (λ l.
+      let e : getD σ k 0 ≡ 0 = List·getD-eq-default σ 0 {n = k} l in
+      getD-tabulate-past (length σ) (uncappedWord σ) k 0 l ∙ sym (cond-of (λ (w : ℕ). w ≡ 0) (ltb k (4 + nodes σ)) (λ b. e) (λ b. omega arith)))
       (lt-or-le k (length σ))
-    where
-      past : (b : Bool) {w : ℕ} → w ≡ 0 → cond b w (w % 65536) ≡ 0
-      past true e = e
-      past false e = omega arith
 
   word-kept : (k : ℕ) → k < 4 + nodes σ → getD (uncapped σ) k 0 ≡ getD σ k 0
   unfolding uncappedWord
-  word-kept k l = word-at k ∙ ap (λ (b : Bool). cond b (getD σ k 0) (getD σ k 0 % 65536)) (lt-ltb k (4 + nodes σ) l)
+  word-kept k l = word-at k ∙ simp (lt-ltb k (4 + nodes σ) l)
 
   pub uncapped-nodes : nodes (uncapped σ) ≡ nodes σ
   uncapped-nodes = word-kept 0 (omega arith)
@@ -146,6 +145,13 @@ module _ (σ : List ℕ) where
       ap (λ (n : ℕ). sumBelow n (groupMovesAt (uncapped σ) old masks g)) uncapped-shards
       ∙ sum-cong (shards σ) (groupMovesAt (uncapped σ) old masks g) (groupMovesAt σ old masks g)
       (λ s l. ap (λ (h : ℕ). cond (eqb h g) (count (minus (masks s) (old s))) 0) (uncapped-subgroup s))
+
+  pub uncapped-stays : (old masks : ℕ → ℕ) (g : ℕ) → groupStays (uncapped σ) old masks g ≡ groupStays σ old masks g
+  unfolding groupStays groupStaysAt
+  uncapped-stays old masks g =
+      ap (λ (n : ℕ). sumBelow n (groupStaysAt (uncapped σ) old masks g)) uncapped-shards
+      ∙ sum-cong (shards σ) (groupStaysAt (uncapped σ) old masks g) (groupStaysAt σ old masks g)
+      (λ s l. ap (λ (h : ℕ). cond (eqb h g) (count (bitAnd (masks s) (old s))) 0) (uncapped-subgroup s))
 
   set-same : (n : ℕ) → setIn (uncapped σ) n ≡ setIn σ n
   unfolding setIn
@@ -278,3 +284,50 @@ module _ (σ : List ℕ) where
             uncapped-moves old b g,
             uncapped-moves old (narrower σ held old g a) g,
           )
+
+    -- ---- where every cap is its need, nothing changes at all
+
+    module _ (held g : ℕ) (caps : CapsAtNeeds σ g) where
+      valid-low : (masks : ℕ → ℕ) → groupValid σ held masks g ≡ true → groupValid (uncapped σ) held masks g ≡ true
+      valid-low masks v =
+          group-valid-of (uncapped σ) held masks g
+          (λ s o.
+          let p : ofGroup σ g s ≡ true = sym (uncapped-group g s) ∙ o in
+          let w = shard-placed σ held masks g v s p in
+          record {
+            inside = w .inside;
+            sized = omega (arith, w .sized, uncapped-cap s, caps .at s p);
+            spreads = omega (arith, w .spreads, uncapped-need s, sets-in (masks s));
+            shares = λ t l e. w .shares t l (sym (uncapped-subgroup t) ∙ (e ∙ uncapped-subgroup s));
+          })
+
+      least-low : {old masks : ℕ → ℕ} → LeastMoves σ held old masks g → LeastMoves (uncapped σ) held old masks g
+      least-low {old} {masks} w =
+          record {
+            valid = valid-low masks (w .valid);
+            least = λ other v. omega (arith, w .least other (widened held other g v), uncapped-moves old masks g, uncapped-moves old other g);
+          }
+
+      -- the choice with every cap at its need is the choice
+      pub chosen-wide : {old masks : ℕ → ℕ} → Chosen (uncapped σ) held old masks g → Chosen σ held old masks g
+      chosen-wide {old} {masks} c =
+          record {
+            least =
+                record {
+                  valid = widened held masks g (c .least .valid);
+                  least = λ other v. omega (arith, c .least .least other (valid-low other v), uncapped-moves old masks g, uncapped-moves old other g);
+                };
+            most = λ other l. omega (arith, c .most other (least-low l), uncapped-stays old masks g, uncapped-stays old other g);
+            first = λ other l e. same-shards other (c .first other (least-low l) (uncapped-stays old other g ∙ (e ∙ sym (uncapped-stays old masks g))));
+          }
+        where
+          -- the subgroup's shards are the same
+          same-shards : (other : ℕ → ℕ) → NotLater (ofGroup (uncapped σ) g) masks other → NotLater (ofGroup σ g) masks other
+          same-shards other (inl e) = inl (record { alike = λ s o. e .alike s (uncapped-group g s ∙ o) })
+          same-shards other (inr f) =
+              inr (record {
+                shard = f .shard;
+                picked = sym (uncapped-group g (f .shard)) ∙ f .picked;
+                alike = λ s l o. f .alike s l (uncapped-group g s ∙ o);
+                smaller = f .smaller;
+              })
