@@ -1,6 +1,4 @@
 // The dual weights of the placement, counted from 16384 at nowhere.
-use crate::owners;
-use crate::start;
 ghost use mathlib.Core.Path.{_≡_};
 ghost use Prim.Native.Nat.{_≤_, _<_};
 ghost use lib.ListN.{length};
@@ -38,12 +36,12 @@ fn room_weight(mem: &[u32; 1024], i: u32) -> u32
     if hint_memory::number(mem, hint_memory::ROOM, i) == 0 {
         return BEYOND;
     }
-    if 0 < owners::free_room(mem, i) {
+    if 0 < hint_owners::free_room(mem, i) {
         return 0;
     }
-    owners::less(
+    hint_owners::less(
         zero(mem),
-        owners::held_level(
+        hint_owners::held_level(
             mem,
             hint_memory::lowest(hint_memory::nodes(mem, hint_memory::SPARE, i)),
         ),
@@ -54,17 +52,17 @@ fn room_weight(mem: &[u32; 1024], i: u32) -> u32
 fn need_level(mem: &[u32; 1024], i: u32) -> u32
     ensures { λ r. ⌜ r ≤ 131072 ⌝ }
 {
-    if owners::lack(mem, i) == 0 {
-        return owners::highest(mem, hint_memory::nodes(mem, hint_memory::OWED, i));
+    if hint_owners::lack(mem, i) == 0 {
+        return hint_owners::highest(mem, hint_memory::nodes(mem, hint_memory::OWED, i));
     }
-    let nodes = start::unused(mem, i);
+    let nodes = hint_owners::unused(mem, i);
     if nodes == 0 {
-        return owners::larger(
+        return hint_owners::larger(
             zero(mem) + BEYOND,
-            owners::highest(mem, hint_memory::nodes(mem, hint_memory::OWED, i)),
+            hint_owners::highest(mem, hint_memory::nodes(mem, hint_memory::OWED, i)),
         );
     }
-    start::least_level(mem, i, nodes)
+    hint_owners::least_level(mem, i, nodes)
 }
 
 // The weight of shard i's need.
@@ -74,7 +72,7 @@ fn need_weight(mem: &[u32; 1024], i: u32, room: u32) -> u32
     if hint_memory::number(mem, hint_memory::NEED, i) == 0 {
         return 0;
     }
-    owners::less(need_level(mem, i) + room % 65536, zero(mem))
+    hint_owners::less(need_level(mem, i) + room % 65536, zero(mem))
 }
 
 // The weight of node n.
@@ -82,13 +80,13 @@ fn node_weight(mem: &[u32; 1024], rooms: &[u16; 16], n: u32) -> u32
     ensures { λ r. ⌜ r < 131072 ⌝ }
 {
     if (hint_memory::nodes(mem, hint_memory::OPEN, 0) >> (n % 32)) % 2 == 1 {
-        return owners::less(
+        return hint_owners::less(
             BASE + hint_memory::number(mem, hint_memory::LEVEL, n),
             zero(mem),
         );
     }
     let i = hint_memory::number(mem, hint_memory::OWNER, n) % 16;
-    owners::less(BASE, wide(rooms[i as usize]) + owners::price(mem, i, n))
+    hint_owners::less(BASE, wide(rooms[i as usize]) + hint_owners::price(mem, i, n))
 }
 
 // Of all shards' rooms.
@@ -134,9 +132,9 @@ pub(crate) fn nodes(mem: &[u32; 1024], rooms: &[u16; 16]) -> [u16; 32]
 fn left(mem: &[u32; 1024], want: u32, room: u32, n: u32) -> u32
     ensures { λ r. ⌜ r < 262144 ⌝ }
 {
-    owners::less(
+    hint_owners::less(
         want % 65536 + zero(mem),
-        room % 65536 + owners::held_level(mem, n),
+        room % 65536 + hint_owners::held_level(mem, n),
     )
 }
 
