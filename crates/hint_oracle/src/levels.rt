@@ -86,7 +86,10 @@ fn node_weight(mem: &[u32; 1024], rooms: &[u16; 16], n: u32) -> u32
         );
     }
     let i = hint_memory::number(mem, hint_memory::OWNER, n) % 16;
-    hint_owners::less(BASE, wide(rooms[i as usize]) + hint_owners::price(mem, i, n))
+    hint_owners::less(
+        BASE,
+        wide(rooms[i as usize]) + hint_owners::price(mem, i, n),
+    )
 }
 
 // Of all shards' rooms.

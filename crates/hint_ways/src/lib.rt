@@ -60,14 +60,7 @@ fn reach(mem: &mut [u32; 1024], y: u32, from: u32, taker: u32, price: u32, level
 }
 
 // Ways to some nodes.
-fn reach_all(
-    mem: &mut [u32; 1024],
-    nodes: u32,
-    from: u32,
-    taker: u32,
-    price: u32,
-    level: u32,
-) {
+fn reach_all(mem: &mut [u32; 1024], nodes: u32, from: u32, taker: u32, price: u32, level: u32) {
     let mut m = nodes;
     while m != 0 {
         reach(mem, hint_memory::lowest(m), from, taker, price, level);
@@ -77,19 +70,11 @@ fn reach_all(
 
 // The nodes that may still be reached.
 fn fresh(mem: &[u32; 1024]) -> u32 {
-    hint_memory::nodes(mem, hint_memory::OPEN, 0)
-        & !hint_memory::nodes(mem, hint_memory::DONE, 0)
+    hint_memory::nodes(mem, hint_memory::OPEN, 0) & !hint_memory::nodes(mem, hint_memory::DONE, 0)
 }
 
 // Ways to nodes that shard i may have, those of a mask, by its need or room.
-fn shard_reaches(
-    mem: &mut [u32; 1024],
-    i: u32,
-    nodes: u32,
-    from: u32,
-    taker: u32,
-    level: u32,
-) {
+fn shard_reaches(mem: &mut [u32; 1024], i: u32, nodes: u32, from: u32, taker: u32, level: u32) {
     let m = fresh(mem) & nodes;
     let stay = hint_memory::nodes(mem, hint_memory::STAY, i);
     reach_all(mem, m & stay, from, taker, 0, level);
@@ -108,7 +93,14 @@ fn reach_place(mem: &mut [u32; 1024], v: u32, from: u32, further: u32) {
 fn room_reaches(mem: &mut [u32; 1024], i: u32, level: u32) {
     if 0 < hint_owners::free_room(mem, i) {
         let m = fresh(mem) & hint_memory::nodes(mem, hint_memory::STAY, i);
-        reach_all(mem, m, hint_memory::NOWHERE, hint_owners::room_of(i), 0, level);
+        reach_all(
+            mem,
+            m,
+            hint_memory::NOWHERE,
+            hint_owners::room_of(i),
+            0,
+            level,
+        );
     }
 }
 
