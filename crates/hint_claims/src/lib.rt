@@ -83,8 +83,7 @@ fn reroute(
         most % 65536,
         hint_memory::number(mem, hint_memory::WEIGHT, 0),
     );
-    let up = hint_memory::number(mem, hint_memory::LEVEL, n) + hint_owners::price(mem, i, n);
-    let d = hint_owners::less(up, aim);
+    let d = hint_owners::less(hint_owners::level_with(mem, i, n), aim);
     if slack < d {
         return EXCLUDED;
     }
@@ -116,7 +115,16 @@ fn claim_need(mem: &mut [u32; 1024], i: u32, n: u32, most: u32) -> u32
         return GRANTED;
     }
     let goal = rivals(mem, i, n);
-    reroute(mem, i, n, i, goal, 0, hint_owners::highest(mem, goal), most)
+    reroute(
+        mem,
+        i,
+        n,
+        i,
+        goal,
+        0,
+        hint_owners::highest(mem, i, goal),
+        most,
+    )
 }
 
 // Takes node n for the room of shard i.
@@ -139,7 +147,7 @@ fn claim_room(mem: &mut [u32; 1024], i: u32, n: u32, most: u32) -> u32
         hint_owners::room_of(i),
         goal,
         0,
-        hint_owners::highest(mem, goal),
+        hint_owners::highest(mem, i, goal),
         most,
     )
 }
@@ -198,6 +206,7 @@ fn shut(mem: &mut [u32; 1024], i: u32) {
     hint_memory::drop_nodes(mem, hint_memory::STAY, i, open);
     hint_memory::drop_nodes(mem, hint_memory::MOVED, i, open);
     hint_memory::set(mem, hint_memory::ROOM, i, 0);
+    hint_memory::set(mem, hint_memory::FREE, i, 0);
     hint_memory::add_nodes(mem, hint_memory::CLOSED, 0, hint_memory::bit(i));
 }
 

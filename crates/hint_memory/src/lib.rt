@@ -27,10 +27,15 @@ pub const OWNER: u32 = 96;
 
 pub const LEVEL: u32 = 128;
 
-// By shard: how many nodes it still needs, and has room for, beside those it has for good.
+// By shard: how many nodes its need asks for, and its room has place for, beside those it has for good.
 pub const NEED: u32 = 176;
 
 pub const ROOM: u32 = 192;
+
+// By shard: how many nodes its need lacks, and its room could take more.
+pub const LACK: u32 = 224;
+
+pub const FREE: u32 = 240;
 
 // One element each: the nodes that no shard has for good; those that are placed nowhere; those that have no owner at all; the shards
 // whose lists are ended; the weight of the placement; 1 where the copy is to be taken back.
@@ -46,12 +51,15 @@ pub const WEIGHT: u32 = 212;
 
 pub const STALE: u32 = 213;
 
-// By node: the nodes of its failure set. One each: the cost of a move, and of a node placed nowhere.
+// By node: the nodes of its failure set. One each: the cost of a move, and of a node placed nowhere; the
+// number of shards up to the last that may have nodes.
 pub const PEERS: u32 = 256;
 
 pub const MOVE_COST: u32 = 288;
 
 pub const IDLE_COST: u32 = 289;
+
+pub const SHARDS: u32 = 290;
 
 // Of the present search. By vertex (a node, nowhere, the end): its distance, the vertex before it, the owner that takes it from there.
 pub const DISTANCE: u32 = 320;

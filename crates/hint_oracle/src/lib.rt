@@ -51,7 +51,14 @@ pub fn weigh(mem: &[u32; 1024], sets: &[u8; 32], costs: &[u8; 512]) -> Weights
     let h = levels::rooms(mem);
     let u = levels::wants(mem, &h);
     let v = levels::nodes(mem, &h);
-    let w = levels::pairs(mem, sets, &u, &h);
+    let count = hint_owners::shards(mem);
+    let mut w = [0u16; 256];
+    let mut i: u32 = 0;
+    while i < count {
+        levels::weigh_row(&mut w, mem, sets, &u, &h, i);
+        i += 1;
+    }
+    levels::weigh_fixed(&mut w, mem, sets, &u);
     Weights {
         wants: u,
         rooms: h,

@@ -4,7 +4,7 @@ ghost use mathlib.Core.Path.{_≡_};
 ghost use Prim.Native.Nat.{_+_, _-_, _%_, _≤_, _<_, min, max};
 ghost use lib.ListN.{getD};
 ghost use lib.Bits.{bitAnd, bitOr};
-ghost use Rattle.hint_memory.specs.Places.{ownerPlace, stayPlace, movedPlace, usedPlace, openPlace};
+ghost use Rattle.hint_memory.specs.Places.{ownerPlace, stayPlace, movedPlace, usedPlace, openPlace, lackPlace, freePlace};
 
 // a - b, or 0 where b is the larger.
 pub fn less(a: u32, b: u32) -> u32
@@ -25,6 +25,13 @@ pub fn smaller(a: u32, b: u32) -> u32
     if a < b { a } else { b }
 }
 
+// The number of shards up to the last that may have nodes.
+pub fn shards(mem: &[u32; 1024]) -> u32
+    ensures { λ r. ⌜ r ≤ 16 ⌝ }
+{
+    smaller(hint_memory::number(mem, hint_memory::SHARDS, 0), 16)
+}
+
 // What shard i pays for node n.
 pub fn price(mem: &[u32; 1024], i: u32, n: u32) -> u32
     ensures { λ r. ⌜ r < 65536 ⌝ }
@@ -36,8 +43,15 @@ pub fn price(mem: &[u32; 1024], i: u32, n: u32) -> u32
     }
 }
 
+// The level at which shard i has node n, or would have it.
+pub fn level_with(mem: &[u32; 1024], i: u32, n: u32) -> u32
+    ensures { λ r. ⌜ r < 131072 ⌝ }
+{
+    hint_memory::number(mem, hint_memory::LEVEL, n) + price(mem, i, n)
+}
+
 // What owner o pays for node n.
-pub fn charge(mem: &[u32; 1024], o: u32, n: u32) -> u32
+fn charge(mem: &[u32; 1024], o: u32, n: u32) -> u32
     ensures { λ r. ⌜ r < 65536 ⌝ }
 {
     if o < hint_memory::NOWHERE {
@@ -62,6 +76,7 @@ fn leave_need(mem: &mut [u32; 1024], i: u32, n: u32) {
     hint_memory::drop_nodes(mem, hint_memory::OWED, i, hint_memory::bit(n));
     let peers = hint_memory::nodes(mem, hint_memory::PEERS, n);
     hint_memory::drop_nodes(mem, hint_memory::USED, i, peers);
+    hint_memory::add_number(mem, hint_memory::LACK, i, 1);
 }
 
 // And gets it.
@@ -69,6 +84,19 @@ fn enter_need(mem: &mut [u32; 1024], i: u32, n: u32) {
     hint_memory::add_nodes(mem, hint_memory::OWED, i, hint_memory::bit(n));
     let peers = hint_memory::nodes(mem, hint_memory::PEERS, n);
     hint_memory::add_nodes(mem, hint_memory::USED, i, peers);
+    hint_memory::add_number(mem, hint_memory::LACK, i, 65535);
+}
+
+// The room of shard i loses node n.
+fn leave_room(mem: &mut [u32; 1024], i: u32, n: u32) {
+    hint_memory::drop_nodes(mem, hint_memory::SPARE, i, hint_memory::bit(n));
+    hint_memory::add_number(mem, hint_memory::FREE, i, 1);
+}
+
+// And gets it.
+fn enter_room(mem: &mut [u32; 1024], i: u32, n: u32) {
+    hint_memory::add_nodes(mem, hint_memory::SPARE, i, hint_memory::bit(n));
+    hint_memory::add_number(mem, hint_memory::FREE, i, 65535);
 }
 
 // Owner o, a shard's need or room, loses node n.
@@ -76,7 +104,7 @@ fn leave(mem: &mut [u32; 1024], o: u32, n: u32) {
     if o < 16 {
         leave_need(mem, o, n);
     } else {
-        hint_memory::drop_nodes(mem, hint_memory::SPARE, o % 16, hint_memory::bit(n));
+        leave_room(mem, o % 16, n);
     }
 }
 
@@ -85,7 +113,7 @@ fn enter(mem: &mut [u32; 1024], o: u32, n: u32) {
     if o < 16 {
         enter_need(mem, o, n);
     } else {
-        hint_memory::add_nodes(mem, hint_memory::SPARE, o % 16, hint_memory::bit(n));
+        enter_room(mem, o % 16, n);
     }
 }
 
@@ -109,8 +137,8 @@ pub fn release(mem: &mut [u32; 1024], n: u32) -> u32
 pub fn give(mem: &mut [u32; 1024], n: u32, o: u32) -> u32
     ensures { λ r. ⌜ r < 65536 ⌝ }
 {
-    let c = charge(mem, o, n);
-    hint_memory::add_number(mem, hint_memory::WEIGHT, 0, c);
+    let cost = charge(mem, o, n);
+    hint_memory::add_number(mem, hint_memory::WEIGHT, 0, cost);
     if o < hint_memory::NOWHERE {
         enter(mem, o, n);
     } else {
@@ -118,27 +146,21 @@ pub fn give(mem: &mut [u32; 1024], n: u32, o: u32) -> u32
     }
     hint_memory::drop_nodes(mem, hint_memory::LOOSE, 0, hint_memory::bit(n));
     hint_memory::set(mem, hint_memory::OWNER, n, o);
-    c
+    cost
 }
 
-// How many nodes shard i lacks.
+// How many nodes the need of shard i lacks.
 pub fn lack(mem: &[u32; 1024], i: u32) -> u32
-    ensures { λ r. ⌜ r < 65536 ⌝ }
+    ensures { λ r. ⌜ (r ≡ getD (now (mem .entry)) (lackPlace i) 0 % 65536) × (r < 65536) ⌝ }
 {
-    less(
-        hint_memory::number(mem, hint_memory::NEED, i),
-        u32::count_ones(hint_memory::nodes(mem, hint_memory::OWED, i)),
-    )
+    hint_memory::number(mem, hint_memory::LACK, i)
 }
 
-// How many nodes more shard i has room for.
+// How many nodes more the room of shard i could take.
 pub fn free_room(mem: &[u32; 1024], i: u32) -> u32
-    ensures { λ r. ⌜ r < 65536 ⌝ }
+    ensures { λ r. ⌜ (r ≡ getD (now (mem .entry)) (freePlace i) 0 % 65536) × (r < 65536) ⌝ }
 {
-    less(
-        hint_memory::number(mem, hint_memory::ROOM, i),
-        u32::count_ones(hint_memory::nodes(mem, hint_memory::SPARE, i)),
-    )
+    hint_memory::number(mem, hint_memory::FREE, i)
 }
 
 // The owner that is shard i's room.
@@ -159,14 +181,14 @@ pub fn unused(mem: &[u32; 1024], i: u32) -> u32
         & !hint_memory::nodes(mem, hint_memory::USED, i)
 }
 
-// The highest level at which some nodes are held.
-pub fn highest(mem: &[u32; 1024], nodes: u32) -> u32
+// The highest level at which shard i has one of some nodes.
+pub fn highest(mem: &[u32; 1024], i: u32, nodes: u32) -> u32
     ensures { λ r. ⌜ r < 131072 ⌝ }
 {
     let mut top: u32 = 0;
     let mut m = nodes;
     while m != 0 {
-        top = larger(top, held_level(mem, hint_memory::lowest(m)));
+        top = larger(top, level_with(mem, i, hint_memory::lowest(m)));
         m = hint_memory::without_lowest(m);
     }
     top
@@ -179,11 +201,7 @@ pub fn least_level(mem: &[u32; 1024], i: u32, nodes: u32) -> u32
     let mut least: u32 = 131072;
     let mut m = nodes;
     while m != 0 {
-        let n = hint_memory::lowest(m);
-        least = smaller(
-            least,
-            hint_memory::number(mem, hint_memory::LEVEL, n) + price(mem, i, n),
-        );
+        least = smaller(least, level_with(mem, i, hint_memory::lowest(m)));
         m = hint_memory::without_lowest(m);
     }
     least

@@ -36,37 +36,33 @@ fn load_nodes(mem: &mut [u32; 1024], sets: &[u8; 32]) {
     }
 }
 
-// The greatest cost that is allowed: that of a move.
-fn move_cost(costs: &[u8; 512]) -> u32 {
-    let mut c: u32 = 0;
-    let mut x: usize = 0;
-    while x < 512 {
-        let d = hint_memory::wide(costs[x]);
-        if c < d && d < 255 {
-            c = d;
-        }
-        x += 1;
-    }
-    c
+// The mask of node n, if it is chosen.
+fn chosen(is: bool, n: u32) -> u32 {
+    if is { hint_memory::bit(n) } else { 0 }
 }
 
-// The nodes that shard i may have.
-fn load_row(mem: &mut [u32; 1024], costs: &[u8; 512], i: u32, w: u32) {
+// The nodes that shard i may have: those at no cost, and those at the cost of a move, which is the greatest below 255.
+fn load_row(mem: &mut [u32; 1024], costs: &[u8; 512], i: u32) {
     let mut stay: u32 = 0;
     let mut moved: u32 = 0;
+    let mut top: u32 = 0;
     let mut n: u32 = 0;
     while n < 32 {
         let c = hint_memory::wide(costs[(i % 16 * 32 + n) as usize]);
-        if c == 0 {
-            stay = stay | hint_memory::bit(n);
-        }
-        if c == w {
-            moved = moved | hint_memory::bit(n);
-        }
+        stay = stay | chosen(c == 0, n);
+        moved = moved | chosen(c % 255 != 0, n);
+        top = hint_owners::larger(top, c % 255);
         n += 1;
     }
     hint_memory::set(mem, hint_memory::STAY, i, stay);
-    hint_memory::set(mem, hint_memory::MOVED, i, moved & !stay);
+    hint_memory::set(mem, hint_memory::MOVED, i, moved);
+    let most = hint_memory::number(mem, hint_memory::MOVE_COST, 0);
+    hint_memory::set(
+        mem,
+        hint_memory::MOVE_COST,
+        0,
+        hint_owners::larger(most, top),
+    );
 }
 
 // A shard with no node.
@@ -76,7 +72,10 @@ fn load_shard(mem: &mut [u32; 1024], i: u32, need: u32, cap: u32) {
     hint_memory::set(mem, hint_memory::USED, i, 0);
     hint_memory::set(mem, hint_memory::COVERED, i, 0);
     hint_memory::set(mem, hint_memory::NEED, i, need);
-    hint_memory::set(mem, hint_memory::ROOM, i, hint_owners::less(cap, need));
+    hint_memory::set(mem, hint_memory::LACK, i, need);
+    let room = hint_owners::less(cap, need);
+    hint_memory::set(mem, hint_memory::ROOM, i, room);
+    hint_memory::set(mem, hint_memory::FREE, i, room);
 }
 
 // Shard i keeps nodes that stay, one of a set, for its need.
@@ -109,20 +108,20 @@ fn keep_room(mem: &mut [u32; 1024], i: u32) {
 }
 
 // A shard, with the nodes that it keeps for its need.
-fn enter_shard(mem: &mut [u32; 1024], costs: &[u8; 512], i: u32, need: u32, cap: u32, w: u32) {
+fn enter_shard(mem: &mut [u32; 1024], costs: &[u8; 512], i: u32, need: u32, cap: u32) {
     load_shard(mem, i, need, cap);
     if cap == 0 {
         hint_memory::set(mem, hint_memory::STAY, i, 0);
         hint_memory::set(mem, hint_memory::MOVED, i, 0);
         return;
     }
-    load_row(mem, costs, i, w);
+    hint_memory::set(mem, hint_memory::SHARDS, 0, i % 16 + 1);
+    load_row(mem, costs, i);
     keep_need(mem, i);
 }
 
 // All shards.
 fn enter_shards(mem: &mut [u32; 1024], needs: &[u8; 16], caps: &[u8; 16], costs: &[u8; 512]) {
-    let w = hint_memory::number(mem, hint_memory::MOVE_COST, 0);
     let mut i: u32 = 0;
     while i < 16 {
         enter_shard(
@@ -131,7 +130,6 @@ fn enter_shards(mem: &mut [u32; 1024], needs: &[u8; 16], caps: &[u8; 16], costs:
             i,
             hint_memory::wide(needs[i as usize]),
             hint_memory::wide(caps[i as usize]),
-            w,
         );
         i += 1;
     }
@@ -181,7 +179,7 @@ fn complete(mem: &mut [u32; 1024]) -> bool {
 }
 
 // Sets the memory up, whatever it held: all but the shards.
-fn load(mem: &mut [u32; 1024], sets: &[u8; 32], costs: &[u8; 512], idle: u8) {
+fn load(mem: &mut [u32; 1024], sets: &[u8; 32], idle: u8) {
     load_nodes(mem, sets);
     hint_memory::set(mem, hint_memory::LEVEL, hint_memory::NOWHERE, FIRST_LEVEL);
     hint_memory::set(mem, hint_memory::OPEN, 0, 0xffffffff);
@@ -190,7 +188,8 @@ fn load(mem: &mut [u32; 1024], sets: &[u8; 32], costs: &[u8; 512], idle: u8) {
     hint_memory::set(mem, hint_memory::CLOSED, 0, 0);
     hint_memory::set(mem, hint_memory::WEIGHT, 0, 0);
     hint_memory::set(mem, hint_memory::STALE, 0, 0);
-    hint_memory::set(mem, hint_memory::MOVE_COST, 0, move_cost(costs));
+    hint_memory::set(mem, hint_memory::MOVE_COST, 0, 0);
+    hint_memory::set(mem, hint_memory::SHARDS, 0, 0);
     hint_memory::set(mem, hint_memory::IDLE_COST, 0, hint_memory::wide(idle));
 }
 
@@ -205,7 +204,7 @@ pub fn start(
 ) -> u32
     ensures { λ r. ⌜ r ≤ 65535 ⌝ }
 {
-    load(mem, sets, costs, idle);
+    load(mem, sets, idle);
     enter_shards(mem, needs, caps, costs);
     enter_rooms(mem);
     hint_ways::settle(mem);

@@ -68,9 +68,11 @@ fn reach_all(mem: &mut [u32; 1024], nodes: u32, from: u32, taker: u32, price: u3
     }
 }
 
-// The nodes that may still be reached.
+// The nodes to which a way may still be shorter.
 fn fresh(mem: &[u32; 1024]) -> u32 {
-    hint_memory::nodes(mem, hint_memory::OPEN, 0) & !hint_memory::nodes(mem, hint_memory::DONE, 0)
+    let near = hint_memory::nodes(mem, hint_memory::DONE, 0)
+        | hint_memory::nodes(mem, hint_memory::FRONT, 0);
+    hint_memory::nodes(mem, hint_memory::OPEN, 0) & !near
 }
 
 // Ways to nodes that shard i may have, those of a mask, by its need or room.
@@ -91,8 +93,8 @@ fn reach_place(mem: &mut [u32; 1024], v: u32, from: u32, further: u32) {
 
 // What nowhere reaches by the room of shard i: only nodes that stay cost it less there.
 fn room_reaches(mem: &mut [u32; 1024], i: u32, level: u32) {
-    if 0 < hint_owners::free_room(mem, i) {
-        let m = fresh(mem) & hint_memory::nodes(mem, hint_memory::STAY, i);
+    let m = fresh(mem) & hint_memory::nodes(mem, hint_memory::STAY, i);
+    if m != 0 && 0 < hint_owners::free_room(mem, i) {
         reach_all(
             mem,
             m,
@@ -106,8 +108,9 @@ fn room_reaches(mem: &mut [u32; 1024], i: u32, level: u32) {
 
 // By all rooms.
 fn rooms_reach(mem: &mut [u32; 1024], level: u32) {
+    let count = hint_owners::shards(mem);
     let mut i: u32 = 0;
-    while i < 16 {
+    while i < count {
         room_reaches(mem, i, level);
         i += 1;
     }
@@ -375,8 +378,8 @@ pub fn from_shard(mem: &mut [u32; 1024], i: u32, nodes: u32, level: u32, limit: 
     let idle = hint_memory::nodes(mem, hint_memory::IDLE, 0);
     begin(mem, idle, 1, 0, limit);
     shard_reaches(mem, i, nodes, hint_memory::NO_VERTEX, i, level);
-    let v = search(mem);
-    change(mem, v)
+    let last = search(mem);
+    change(mem, last)
 }
 
 // A way from node n, which `taker` takes, to one of the goal, or to nowhere where that is asked for, the end being at level `aim`. Answers
@@ -395,8 +398,8 @@ pub fn from_node(
     begin(mem, goal, at_nowhere, aim, limit);
     hint_memory::set(mem, hint_memory::FRONT, 0, hint_memory::bit(n));
     note(mem, n, 0, hint_memory::NO_VERTEX, taker);
-    let v = search(mem);
-    change(mem, v)
+    let end = search(mem);
+    change(mem, end)
 }
 
 // A way from nowhere to one of some nodes.

@@ -5,10 +5,10 @@ use Rattle.hint_owners.proofs.highest.Statement.{statement}
 use Rattle.hint_owners.proofs.highest.Tie as tie
 
 abbrev Inv-loop : tie.InvT-loop
-Inv-loop mem nodes top₀ m₀ top m = top < 131072
+Inv-loop mem i nodes top₀ m₀ top m = top < 131072
 
 abbrev μ-loop : tie.MeasureT-loop
-μ-loop mem nodes top₀ m₀ top m = m
+μ-loop mem i nodes top₀ m₀ top m = m
 
 pub highest-spec : {M : Type 1} → statement M
 highest-spec =

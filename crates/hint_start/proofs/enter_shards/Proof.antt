@@ -5,14 +5,14 @@ use Rattle.hint_start.proofs.enter_shards.Statement.{statement}
 use Rattle.hint_start.proofs.enter_shards.Tie as tie
 
 abbrev Inv-loop : tie.InvT-loop
-Inv-loop mem₀ needs caps costs w i₀ mem i = i ≤ 16
+Inv-loop mem₀ needs caps costs i₀ mem i = i ≤ 16
 
 abbrev μ-loop : tie.MeasureT-loop
-μ-loop mem₀ needs caps costs w i₀ mem i = 16 - i
+μ-loop mem₀ needs caps costs i₀ mem i = 16 - i
 
 pub enter-shards-spec : {M : Type 1} → statement M
 enter-shards-spec =
     tie.close
-    (tie.spec Inv-loop μ-loop (λ c κs. search needs) (λ c. search needs) (λ c. search needs) (λ c. search needs) (λ c κs. search needs)
-    (λ c. search needs) (λ c. search needs) (λ c κs. search needs) (λ c κs. search needs) (λ c. search needs) (λ c. search needs) (λ c. search needs)
+    (tie.spec Inv-loop μ-loop (λ c. search needs) (λ c. search needs) (λ c. search needs) (λ c κs. search needs) (λ c. search needs)
+    (λ c. search needs) (λ c κs. search needs) (λ c κs. search needs) (λ c. search needs) (λ c. search needs) (λ c. search needs)
     (λ c. search needs))
