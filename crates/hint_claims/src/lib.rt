@@ -79,11 +79,11 @@ fn reroute(
 ) -> u32
     ensures { λ r. ⌜ r ≤ 3 ⌝ }
 {
-    let slack = hint_owners::less(
+    let slack = hint_memory::less(
         most % 65536,
         hint_memory::number(mem, hint_memory::WEIGHT, 0),
     );
-    let d = hint_owners::less(hint_owners::level_with(mem, i, n), aim);
+    let d = hint_memory::less(hint_owners::level_with(mem, i, n), aim);
     if slack < d {
         return EXCLUDED;
     }

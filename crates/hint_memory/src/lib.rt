@@ -1,7 +1,7 @@
 // What the placement oracle keeps: an array that the caller lends, in parts, some of masks and the others of numbers below 65536.
 // An element is named by its part and its index there; every place is taken modulo the array's length, so that no index is out of range.
 ghost use mathlib.Core.Path.{_≡_};
-ghost use Prim.Native.Nat.{_+_, _-_, _^_, _%_, _<_, max};
+ghost use Prim.Native.Nat.{_+_, _-_, _^_, _%_, _≤_, _<_, min, max};
 ghost use lib.ListN.{getD};
 ghost use lib.ListN as Lists;
 ghost use lib.Bits.{bitAnd, bitOr};
@@ -99,6 +99,25 @@ pub const NO_OWNER: u32 = 33;
 pub const END: u32 = 33;
 
 pub const NO_VERTEX: u32 = 34;
+
+// a - b, or 0 where b is the larger.
+pub fn less(a: u32, b: u32) -> u32
+    ensures { λ r. ⌜ (r ≡ a - b) × (r ≤ a) ⌝ }
+{
+    if b < a { a - b } else { 0 }
+}
+
+pub fn larger(a: u32, b: u32) -> u32
+    ensures { λ r. ⌜ r ≡ max a b ⌝ }
+{
+    if a < b { b } else { a }
+}
+
+pub fn smaller(a: u32, b: u32) -> u32
+    ensures { λ r. ⌜ r ≡ min a b ⌝ }
+{
+    if a < b { a } else { b }
+}
 
 // A byte as a number.
 pub fn wide(x: u8) -> u32

@@ -40,7 +40,7 @@ fn room_weight(mem: &[u32; 1024], i: u32) -> u32
         return 0;
     }
     let n = hint_memory::lowest(hint_memory::nodes(mem, hint_memory::SPARE, i));
-    hint_owners::less(zero(mem), hint_owners::level_with(mem, i, n))
+    hint_memory::less(zero(mem), hint_owners::level_with(mem, i, n))
 }
 
 // The level of shard i's need.
@@ -52,7 +52,7 @@ fn need_level(mem: &[u32; 1024], i: u32) -> u32
     }
     let nodes = hint_owners::unused(mem, i);
     if nodes == 0 {
-        return hint_owners::larger(
+        return hint_memory::larger(
             zero(mem) + BEYOND,
             hint_owners::highest(mem, i, hint_memory::nodes(mem, hint_memory::OWED, i)),
         );
@@ -67,7 +67,7 @@ fn need_weight(mem: &[u32; 1024], i: u32, room: u32) -> u32
     if hint_memory::number(mem, hint_memory::NEED, i) == 0 {
         return 0;
     }
-    hint_owners::less(need_level(mem, i) + room % 65536, zero(mem))
+    hint_memory::less(need_level(mem, i) + room % 65536, zero(mem))
 }
 
 // Of all shards' rooms, those of shards that may have no node among them.
@@ -106,7 +106,7 @@ fn open_nodes(mem: &[u32; 1024]) -> [u16; 32]
     let mut v = [0u16; 32];
     let mut n: u32 = 0;
     while n < 32 {
-        v[n as usize] = short(hint_owners::less(
+        v[n as usize] = short(hint_memory::less(
             BASE + hint_memory::number(mem, hint_memory::LEVEL, n),
             up,
         ));
@@ -117,12 +117,12 @@ fn open_nodes(mem: &[u32; 1024]) -> [u16; 32]
 
 // The weight of node n, which a shard has for good: what the shard's room and the node's cost leave.
 fn fixed_weight(mem: &[u32; 1024], rooms: &[u16; 16], n: u32) -> u32
-    ensures { λ r. ⌜ r ≤ 16384 ⌝ }
+    ensures { λ r. ⌜ r < 131072 ⌝ }
 {
     let i = hint_memory::number(mem, hint_memory::OWNER, n) % 16;
-    hint_owners::less(
-        BASE,
-        wide(rooms[i as usize]) + hint_owners::price(mem, i, n),
+    hint_memory::less(
+        BASE + hint_memory::number(mem, hint_memory::LEVEL, n),
+        wide(rooms[i as usize]) + hint_owners::level_with(mem, i, n),
     )
 }
 
@@ -151,7 +151,7 @@ fn set_of(sets: &[u8; 32], n: u32) -> u32
 fn level_left(mem: &[u32; 1024], wants: &[u16; 16], rooms: &[u16; 16], i: u32) -> u32
     ensures { λ r. ⌜ r < 131072 ⌝ }
 {
-    hint_owners::less(
+    hint_memory::less(
         wide(wants[(i % 16) as usize]) + zero(mem),
         wide(rooms[(i % 16) as usize]),
     )
@@ -173,7 +173,7 @@ pub(crate) fn weigh_row(
     while m != 0 {
         let n = hint_memory::lowest(m);
         let at = i % 16 * 16 + set_of(sets, n);
-        w[at as usize] = short(hint_owners::less(level, hint_owners::level_with(mem, i, n)));
+        w[at as usize] = short(hint_memory::less(level, hint_owners::level_with(mem, i, n)));
         m = hint_memory::without_lowest(m);
     }
 }

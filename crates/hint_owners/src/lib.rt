@@ -1,39 +1,21 @@
 // Single changes of the oracle's placement: what an owner pays for a node, at which level it has it, and one node that loses its owner or
 // gets one. The weight of the placement is kept along.
 ghost use mathlib.Core.Path.{_≡_};
-ghost use Prim.Native.Nat.{_+_, _-_, _%_, _≤_, _<_, min, max};
+ghost use Prim.Native.Nat.{_+_, _-_, _%_, _≤_, _<_};
 ghost use lib.ListN.{getD};
 ghost use lib.Bits.{bitAnd, bitOr};
 ghost use Rattle.hint_memory.specs.Places.{ownerPlace, stayPlace, movedPlace, usedPlace, openPlace, lackPlace, freePlace};
-
-// a - b, or 0 where b is the larger.
-pub fn less(a: u32, b: u32) -> u32
-    ensures { λ r. ⌜ (r ≡ a - b) × (r ≤ a) ⌝ }
-{
-    if b < a { a - b } else { 0 }
-}
-
-pub fn larger(a: u32, b: u32) -> u32
-    ensures { λ r. ⌜ r ≡ max a b ⌝ }
-{
-    if a < b { b } else { a }
-}
-
-pub fn smaller(a: u32, b: u32) -> u32
-    ensures { λ r. ⌜ r ≡ min a b ⌝ }
-{
-    if a < b { a } else { b }
-}
 
 // The number of shards up to the last that may have nodes.
 pub fn shards(mem: &[u32; 1024]) -> u32
     ensures { λ r. ⌜ r ≤ 16 ⌝ }
 {
-    smaller(hint_memory::number(mem, hint_memory::SHARDS, 0), 16)
+    let n = hint_memory::number(mem, hint_memory::SHARDS, 0);
+    if n < 16 { n } else { 16 }
 }
 
 // What shard i pays for node n.
-pub fn price(mem: &[u32; 1024], i: u32, n: u32) -> u32
+fn price(mem: &[u32; 1024], i: u32, n: u32) -> u32
     ensures { λ r. ⌜ r < 65536 ⌝ }
 {
     if (hint_memory::nodes(mem, hint_memory::MOVED, i % 16) >> (n % 32)) % 2 == 1 {
@@ -47,7 +29,8 @@ pub fn price(mem: &[u32; 1024], i: u32, n: u32) -> u32
 pub fn level_with(mem: &[u32; 1024], i: u32, n: u32) -> u32
     ensures { λ r. ⌜ r < 131072 ⌝ }
 {
-    hint_memory::number(mem, hint_memory::LEVEL, n) + price(mem, i, n)
+    let level = hint_memory::number(mem, hint_memory::LEVEL, n);
+    level + price(mem, i, n)
 }
 
 // What owner o pays for node n.
@@ -188,7 +171,11 @@ pub fn highest(mem: &[u32; 1024], i: u32, nodes: u32) -> u32
     let mut top: u32 = 0;
     let mut m = nodes;
     while m != 0 {
-        top = larger(top, level_with(mem, i, hint_memory::lowest(m)));
+        let n = hint_memory::lowest(m);
+        top = hint_memory::larger(
+            top,
+            hint_memory::number(mem, hint_memory::LEVEL, n) + price(mem, i, n),
+        );
         m = hint_memory::without_lowest(m);
     }
     top
@@ -201,7 +188,11 @@ pub fn least_level(mem: &[u32; 1024], i: u32, nodes: u32) -> u32
     let mut least: u32 = 131072;
     let mut m = nodes;
     while m != 0 {
-        least = smaller(least, level_with(mem, i, hint_memory::lowest(m)));
+        let n = hint_memory::lowest(m);
+        least = hint_memory::smaller(
+            least,
+            hint_memory::number(mem, hint_memory::LEVEL, n) + price(mem, i, n),
+        );
         m = hint_memory::without_lowest(m);
     }
     least

@@ -51,7 +51,7 @@ fn load_row(mem: &mut [u32; 1024], costs: &[u8; 512], i: u32) {
         let c = hint_memory::wide(costs[(i % 16 * 32 + n) as usize]);
         stay = stay | chosen(c == 0, n);
         moved = moved | chosen(c % 255 != 0, n);
-        top = hint_owners::larger(top, c % 255);
+        top = hint_memory::larger(top, c % 255);
         n += 1;
     }
     hint_memory::set(mem, hint_memory::STAY, i, stay);
@@ -61,7 +61,7 @@ fn load_row(mem: &mut [u32; 1024], costs: &[u8; 512], i: u32) {
         mem,
         hint_memory::MOVE_COST,
         0,
-        hint_owners::larger(most, top),
+        hint_memory::larger(most, top),
     );
 }
 
@@ -73,7 +73,7 @@ fn load_shard(mem: &mut [u32; 1024], i: u32, need: u32, cap: u32) {
     hint_memory::set(mem, hint_memory::COVERED, i, 0);
     hint_memory::set(mem, hint_memory::NEED, i, need);
     hint_memory::set(mem, hint_memory::LACK, i, need);
-    let room = hint_owners::less(cap, need);
+    let room = hint_memory::less(cap, need);
     hint_memory::set(mem, hint_memory::ROOM, i, room);
     hint_memory::set(mem, hint_memory::FREE, i, room);
 }

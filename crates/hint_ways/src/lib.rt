@@ -49,7 +49,7 @@ fn note(mem: &mut [u32; 1024], v: u32, d: u32, from: u32, taker: u32) -> bool {
 fn reach(mem: &mut [u32; 1024], y: u32, from: u32, taker: u32, price: u32, level: u32) {
     let at = hint_memory::number(mem, hint_memory::NOW, 0);
     let up = hint_memory::number(mem, hint_memory::LEVEL, y) + price % 65536;
-    let d = at + hint_owners::less(up, level);
+    let d = at + hint_memory::less(up, level);
     if note(mem, y, d, from, taker) {
         if d == at {
             hint_memory::add_nodes(mem, hint_memory::FRONT, 0, hint_memory::bit(y));
@@ -156,7 +156,7 @@ fn leave_need(mem: &mut [u32; 1024], x: u32, i: u32) {
 fn leave_room(mem: &mut [u32; 1024], x: u32, i: u32) {
     let level = hint_owners::held_level(mem, x);
     let up = hint_memory::number(mem, hint_memory::LEVEL, hint_memory::NOWHERE);
-    reach_place(mem, hint_memory::NOWHERE, x, hint_owners::less(up, level));
+    reach_place(mem, hint_memory::NOWHERE, x, hint_memory::less(up, level));
     shard_reaches(mem, i, 0xffffffff, x, hint_owners::room_of(i), level);
     hint_memory::add_nodes(
         mem,
@@ -186,7 +186,7 @@ fn leave_owner(mem: &mut [u32; 1024], x: u32) {
 fn leave_node(mem: &mut [u32; 1024], x: u32) {
     hint_memory::add_nodes(mem, hint_memory::DONE, 0, hint_memory::bit(x));
     if hint_memory::nodes(mem, hint_memory::GOAL, 0) & hint_memory::bit(x) != 0 {
-        let further = hint_owners::less(
+        let further = hint_memory::less(
             hint_memory::number(mem, hint_memory::AIM, 0),
             hint_owners::held_level(mem, x),
         );
@@ -205,7 +205,7 @@ fn least_distance(mem: &[u32; 1024], nodes: u32, first: u32) -> u32
     let mut d = first % 65536;
     let mut m = nodes;
     while m != 0 {
-        d = hint_owners::smaller(
+        d = hint_memory::smaller(
             d,
             hint_memory::number(mem, hint_memory::DISTANCE, hint_memory::lowest(m)),
         );
@@ -294,7 +294,7 @@ fn step(mem: &mut [u32; 1024]) -> u32 {
 // Raises vertex v, where it is nearer than `by`, by the difference.
 fn raise_vertex(mem: &mut [u32; 1024], v: u32, by: u32) {
     let d = hint_memory::number(mem, hint_memory::DISTANCE, v);
-    hint_memory::add_number(mem, hint_memory::LEVEL, v, hint_owners::less(by, d));
+    hint_memory::add_number(mem, hint_memory::LEVEL, v, hint_memory::less(by, d));
 }
 
 // Raises every vertex that is nearer than `by`.
