@@ -5,7 +5,7 @@ ghost use lib.ListN.{length};
 
 const BASE: u32 = 16384;
 
-// More than any weight of a placement.
+// More than any placement weighs.
 const BEYOND: u32 = 8300;
 
 // Below 65536.
@@ -70,7 +70,7 @@ fn need_weight(mem: &[u32; 1024], i: u32, room: u32) -> u32
     hint_memory::less(need_level(mem, i) + room % 65536, zero(mem))
 }
 
-// Of all shards' rooms, those of shards that may have no node among them.
+// Of all shards' rooms. A shard that may have no node has no room at all, and weighs as such.
 pub(crate) fn rooms(mem: &[u32; 1024]) -> [u16; 16]
     ensures { λ r. ⌜ length r ≡ 16 ⌝ }
 {
@@ -98,7 +98,7 @@ pub(crate) fn wants(mem: &[u32; 1024], rooms: &[u16; 16]) -> [u16; 16]
     u
 }
 
-// Of all nodes, as if none was had for good.
+// Of all nodes, as if no shard had any for good.
 fn open_nodes(mem: &[u32; 1024]) -> [u16; 32]
     ensures { λ r. ⌜ length r ≡ 32 ⌝ }
 {
@@ -147,7 +147,7 @@ fn set_of(sets: &[u8; 32], n: u32) -> u32
     hint_memory::wide(sets[(n % 32) as usize]) % 16
 }
 
-// The level of shard i's need, less its room's weight.
+// The level of shard i's need, as its weight has it.
 fn level_left(mem: &[u32; 1024], wants: &[u16; 16], rooms: &[u16; 16], i: u32) -> u32
     ensures { λ r. ⌜ r < 131072 ⌝ }
 {
@@ -157,7 +157,7 @@ fn level_left(mem: &[u32; 1024], wants: &[u16; 16], rooms: &[u16; 16], i: u32) -
     )
 }
 
-// Of the pairs of shard i and the sets that its need has, not for good: what the level of the node leaves.
+// Of the pairs of shard i and the sets of the open nodes that its need has: what the node's level leaves of the need's.
 pub(crate) fn weigh_row(
     w: &mut [u16; 256],
     mem: &[u32; 1024],
@@ -178,7 +178,7 @@ pub(crate) fn weigh_row(
     }
 }
 
-// Of the pairs of nodes that are had for good: all of the shard's weight.
+// Of the pairs of a shard and the set of a node that it has for good: all of the shard's weight.
 pub(crate) fn weigh_fixed(w: &mut [u16; 256], mem: &[u32; 1024], sets: &[u8; 32], wants: &[u16; 16])
     ensures { λ r. ⌜ length (now (w .exit)) ≡ length (now (w .entry)) ⌝ }
 {

@@ -1,4 +1,4 @@
-// The oracle of the placement with caps: it keeps a placement of least weight among those that have all pairs taken for good, and levels
+// The placement oracle: it keeps a placement of least weight among those that have all pairs taken for good, and levels
 // that say why it is the least, as a minimum cost flow by shortest ways. It is proved safe and ending, and its answers are claims: the
 // search that asks believes none of them, and proves each by the weights.
 mod levels; // levels.rt: the levels as weights
