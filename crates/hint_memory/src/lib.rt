@@ -1,7 +1,7 @@
 // What the placement oracle keeps: an array that the caller lends, in parts, some of masks and the others of numbers below 65536.
 // An element is named by its part and its index there; every place is taken modulo the array's length, so that no index is out of range.
 ghost use mathlib.Core.Path.{_≡_};
-ghost use Prim.Native.Nat.{_+_, _-_, _^_, _%_, _<_, max};
+ghost use Prim.Native.Nat.{_+_, _-_, _^_, _%_, _≤_, _<_, min, max};
 ghost use lib.ListN.{getD};
 ghost use lib.ListN as Lists;
 ghost use lib.Bits.{bitAnd, bitOr};
@@ -27,10 +27,15 @@ pub const OWNER: u32 = 96;
 
 pub const LEVEL: u32 = 128;
 
-// By shard: how many nodes it still needs, and has room for, beside those it has for good.
+// By shard: how many nodes its need asks for, and its room has place for, beside those it has for good.
 pub const NEED: u32 = 176;
 
 pub const ROOM: u32 = 192;
+
+// By shard: how many nodes its need lacks, and its room could take more.
+pub const LACK: u32 = 224;
+
+pub const FREE: u32 = 240;
 
 // One element each: the nodes that no shard has for good; those that are placed nowhere; those that have no owner at all; the shards
 // whose lists are ended; the weight of the placement; 1 where the copy is to be taken back.
@@ -46,12 +51,15 @@ pub const WEIGHT: u32 = 212;
 
 pub const STALE: u32 = 213;
 
-// By node: the nodes of its failure set. One each: the cost of a move, and of a node placed nowhere.
+// By node: the nodes of its failure set. One each: the cost of a move, and of a node placed nowhere; the
+// number of shards up to the last that may have nodes.
 pub const PEERS: u32 = 256;
 
 pub const MOVE_COST: u32 = 288;
 
 pub const IDLE_COST: u32 = 289;
+
+pub const SHARDS: u32 = 290;
 
 // Of the present search. By vertex (a node, nowhere, the end): its distance, the vertex before it, the owner that takes it from there.
 pub const DISTANCE: u32 = 320;
@@ -91,6 +99,25 @@ pub const NO_OWNER: u32 = 33;
 pub const END: u32 = 33;
 
 pub const NO_VERTEX: u32 = 34;
+
+// a - b, or 0 where b is the larger.
+pub fn less(a: u32, b: u32) -> u32
+    ensures { λ r. ⌜ (r ≡ a - b) × (r ≤ a) ⌝ }
+{
+    if b < a { a - b } else { 0 }
+}
+
+pub fn larger(a: u32, b: u32) -> u32
+    ensures { λ r. ⌜ r ≡ max a b ⌝ }
+{
+    if a < b { b } else { a }
+}
+
+pub fn smaller(a: u32, b: u32) -> u32
+    ensures { λ r. ⌜ r ≡ min a b ⌝ }
+{
+    if a < b { a } else { b }
+}
 
 // A byte as a number.
 pub fn wide(x: u8) -> u32

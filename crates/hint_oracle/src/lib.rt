@@ -1,10 +1,6 @@
-// The oracle of the placement with caps: it keeps a placement of least weight among those that have all pairs taken for good, and levels
+// The placement oracle: it keeps a placement of least weight among those that have all pairs taken for good, and levels
 // that say why it is the least, as a minimum cost flow by shortest ways. It is proved safe and ending, and its answers are claims: the
 // search that asks believes none of them, and proves each by the weights.
-mod owners; // owners.rt: single changes of the placement
-mod ways; // ways.rt: shortest ways, levels raised
-mod start; // start.rt: the first placement
-mod claims; // claims.rt: pairs taken, lists ended
 mod levels; // levels.rt: the levels as weights
 
 ghost use mathlib.Core.Path.{_≡_};
@@ -30,25 +26,21 @@ pub fn solve(
 ) -> u32
     ensures { λ r. ⌜ r ≤ 65535 ⌝ }
 {
-    start::start(mem, sets, needs, caps, costs, idle);
-    if start::complete(mem) {
-        return hint_memory::number(mem, hint_memory::WEIGHT, 0);
-    }
-    65535
+    hint_start::start(mem, sets, needs, caps, costs, idle)
 }
 
 // 0: the shard has the node for good. 1: claims that there is no room for it. 2: claims that the weights exclude it. 3: neither.
 pub fn take(mem: &mut [u32; 1024], shard: u32, node: u32, most: u32) -> u32
     ensures { λ r. ⌜ r ≤ 3 ⌝ }
 {
-    claims::claim(mem, shard % 16, node % 32, most)
+    hint_claims::claim(mem, shard % 16, node % 32, most)
 }
 
 // 0: the shard's list is ended for good. 2: claims that the weights exclude that. 3: neither.
 pub fn close(mem: &mut [u32; 1024], shard: u32, most: u32) -> u32
     ensures { λ r. ⌜ r ≤ 3 ⌝ }
 {
-    claims::close(mem, shard % 16, most)
+    hint_claims::close(mem, shard % 16, most)
 }
 
 // The present weights, or those of the list that could not be ended.
@@ -59,7 +51,14 @@ pub fn weigh(mem: &[u32; 1024], sets: &[u8; 32], costs: &[u8; 512]) -> Weights
     let h = levels::rooms(mem);
     let u = levels::wants(mem, &h);
     let v = levels::nodes(mem, &h);
-    let w = levels::pairs(mem, sets, &u, &h);
+    let count = hint_owners::shards(mem);
+    let mut w = [0u16; 256];
+    let mut i: u32 = 0;
+    while i < count {
+        levels::weigh_row(&mut w, mem, sets, &u, &h, i);
+        i += 1;
+    }
+    levels::weigh_fixed(&mut w, mem, sets, &u);
     Weights {
         wants: u,
         rooms: h,
