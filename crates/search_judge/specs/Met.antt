@@ -1,4 +1,4 @@
--- The failure sets from which a shard has nodes, as a mask.
+-- The failure sets of which a shard has nodes, as a mask.
 use mathlib.Core.Path.{_≡_, refl, sym, ap, _∙_, subst}
 use mathlib.Core.Bool.{Bool, true, false, _&&_, _||_, or-false}
 use mathlib.Core.List.{List, []}
@@ -8,7 +8,7 @@ use native.Mathlib.Omega.{arith}
 use lib.Dec.{eqb}
 use lib.ListN.{getD}
 use borrow.Author.Tests.{eq-eqb, ne-eqb}
-use Rattle.base_laws.specs.Below.{anyBelow, countBelow, any-none, any-step, count-cong}
+use Rattle.base_laws.specs.Below.{anyBelow, any-none, any-step, count-cong}
 use Rattle.base_laws.specs.Masks.{has, with, count, has-zero, has-with, with-lt, count-below}
 use Rattle.search_theory.specs.Case.{meets, spread}
 use Rattle.search_theory.specs.Tables.{caseOf, ownersOf}

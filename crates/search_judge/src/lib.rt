@@ -1,17 +1,17 @@
-// Tests on a subgroup's tables with caps: sets and owners by node, needs and caps by shard, costs at shard * 32 + node (from 255 up
-// not allowed). An owner below 16 is the node's shard; any other means that the node is hasOwner nowhere, which costs idle.
+// Tests on a subgroup's tables: sets and owners by node, needs and caps by shard, costs at shard * 32 + node (from 255 up
+// not allowed). An owner below 16 is the node's shard; any other means that the node is placed nowhere, which costs idle.
 ghost use mathlib.Core.Path.{_≡_};
-ghost use mathlib.Core.Bool.{cond, true, _&&_};
+ghost use mathlib.Core.Bool.{cond, true};
 ghost use mathlib.Core.List.{[]};
 ghost use Prim.Native.Nat.{_+_, _*_, _/_, _%_, _<_, _≤_};
 ghost use lib.ListN.{getD};
-ghost use lib.Dec.{eqb, ltb, leb};
+ghost use lib.Dec.{eqb, ltb};
 ghost use Rattle.base_laws.specs.Below.{allBelow, anyBelow};
 ghost use Rattle.search_theory.specs.Case.{size, spread, weight};
 ghost use Rattle.search_theory.specs.Tables.{caseOf, ownersOf};
-ghost use Rattle.search_theory.specs.Tests.{stands, fits};
+ghost use Rattle.search_theory.specs.Tests.{stands, needsMet};
 ghost use Rattle.search_theory.specs.Order.{Begun};
-ghost use Rattle.search_judge.specs.Post.{Judged, Barred, Hopeless};
+ghost use Rattle.search_judge.specs.Post.{Judged, Barred, hopelessFrom};
 ghost use Rattle.search_judge.specs.Met.{Joined, Met};
 
 // A byte as an index.
@@ -63,7 +63,7 @@ fn joined(m: u32, o: usize, i: usize, f: usize) -> u32
     m
 }
 
-// The failure sets from which shard i has nodes.
+// The failure sets of which shard i has nodes, as a mask.
 fn met(sets: &[u8; 32], owner: &[u8; 32], i: usize) -> u32
     ensures { λ r. ⌜ Met (now (owner .entry)) (now (sets .entry)) i 32 r ⌝ }
 {
@@ -76,7 +76,7 @@ fn met(sets: &[u8; 32], owner: &[u8; 32], i: usize) -> u32
     m
 }
 
-// From how many different sets shard i has nodes.
+// Of how many different sets shard i has nodes.
 pub fn spread(sets: &[u8; 32], owner: &[u8; 32], i: usize) -> usize
     ensures { λ r. ⌜ r ≡ spread (caseOf (now (sets .entry)) [] [] [] 0) (ownersOf (now (owner .entry))) i ⌝ }
 {
@@ -84,9 +84,9 @@ pub fn spread(sets: &[u8; 32], owner: &[u8; 32], i: usize) -> usize
 }
 
 // Shard i has no more nodes than its cap, and no fewer sets than its need.
-fn fits_at(sets: &[u8; 32], needs: &[u8; 16], caps: &[u8; 16], owner: &[u8; 32], i: usize) -> bool
+fn filled_at(sets: &[u8; 32], needs: &[u8; 16], caps: &[u8; 16], owner: &[u8; 32], i: usize) -> bool
     requires { ⌜ i < 16 ⌝ }
-    ensures { λ r. ⌜ r ≡ fits (caseOf (now (sets .entry)) (now (needs .entry)) (now (caps .entry)) [] 0) (ownersOf (now (owner .entry))) i ⌝ }
+    ensures { λ r. ⌜ r ≡ needsMet (caseOf (now (sets .entry)) (now (needs .entry)) (now (caps .entry)) [] 0) (ownersOf (now (owner .entry))) i ⌝ }
 {
     if size(owner, i) <= wide(caps[i]) {
         wide(needs[i]) <= spread(sets, owner, i)
@@ -95,13 +95,13 @@ fn fits_at(sets: &[u8; 32], needs: &[u8; 16], caps: &[u8; 16], owner: &[u8; 32],
     }
 }
 
-// Every shard.
-fn fits(sets: &[u8; 32], needs: &[u8; 16], caps: &[u8; 16], owner: &[u8; 32]) -> bool
-    ensures { λ r. ⌜ r ≡ allBelow 16 (fits (caseOf (now (sets .entry)) (now (needs .entry)) (now (caps .entry)) [] 0) (ownersOf (now (owner .entry)))) ⌝ }
+// Each shard has no more nodes than its cap, and no fewer sets than its need.
+fn filled(sets: &[u8; 32], needs: &[u8; 16], caps: &[u8; 16], owner: &[u8; 32]) -> bool
+    ensures { λ r. ⌜ r ≡ allBelow 16 (needsMet (caseOf (now (sets .entry)) (now (needs .entry)) (now (caps .entry)) [] 0) (ownersOf (now (owner .entry)))) ⌝ }
 {
     let mut i: usize = 0;
     while i < 16 {
-        if !fits_at(sets, needs, caps, owner, i) {
+        if !filled_at(sets, needs, caps, owner, i) {
             return false;
         }
         i += 1;
@@ -109,7 +109,7 @@ fn fits(sets: &[u8; 32], needs: &[u8; 16], caps: &[u8; 16], owner: &[u8; 32]) ->
     true
 }
 
-// Node n is hasOwner nowhere, or where it is allowed.
+// Node n is placed nowhere, or where it is allowed.
 fn stands_at(costs: &[u8; 512], o: usize, n: usize) -> bool
     requires { ⌜ n < 32 ⌝ }
     ensures { λ r. ⌜ r ≡ cond (ltb o 16) (ltb (getD (now (costs .entry)) (o * 32 + n) 0) 255) true ⌝ }
@@ -121,7 +121,7 @@ fn stands_at(costs: &[u8; 512], o: usize, n: usize) -> bool
     }
 }
 
-// Each node that is hasOwner is allowed there.
+// Each node that is placed is allowed there.
 fn stands(costs: &[u8; 512], owner: &[u8; 32]) -> bool
     ensures { λ r. ⌜ r ≡ allBelow 32 (stands (caseOf [] [] [] (now (costs .entry)) 0) (ownersOf (now (owner .entry)))) ⌝ }
 {
@@ -175,7 +175,7 @@ pub fn within(
     if !stands(costs, owner) {
         return false;
     }
-    if !fits(sets, needs, caps, owner) {
+    if !filled(sets, needs, caps, owner) {
         return false;
     }
     if weight(costs, owner, idle) > k {
@@ -227,7 +227,8 @@ fn thin(sets: &[u8; 32], needs: &[u8; 16], owner: &[u8; 32], t: usize) -> bool
     false
 }
 
-// Whether no valid placement of a weight of at most k agrees with the owners, as far as costs and decided shards tell.
+// Whether the owners' placed nodes cost more than k or a shard before pair t has too few sets: then no valid placement of a weight of at
+// most k agrees with them.
 pub fn hopeless(
     sets: &[u8; 32],
     needs: &[u8; 16],
@@ -239,8 +240,7 @@ pub fn hopeless(
     k: usize,
 ) -> bool
     requires { ⌜ t ≤ 512 ⌝ }
-    requires { ⌜ Begun (ownersOf (now owner)) t ⌝ }
-    ensures { λ r. ⌜ Hopeless (caseOf (now (sets .entry)) (now (needs .entry)) (now (caps .entry)) (now (costs .entry)) idle) k (ownersOf (now (owner .entry))) t r ⌝ }
+    ensures { λ r. ⌜ r ≡ hopelessFrom (caseOf (now (sets .entry)) (now (needs .entry)) (now (caps .entry)) (now (costs .entry)) idle) k (ownersOf (now (owner .entry))) t ⌝ }
 {
     if weight(costs, owner, 0) > k {
         return true;

@@ -1,6 +1,5 @@
--- One subgroup's case with caps, by functions: 32 nodes, 16 shards, 16 failure sets. A placement gives each node its owner:
--- below 16 the shard, anything else means that the node is hasOwner nowhere. So no node is in two shards.
-use mathlib.Core.Path.{_≡_}
+-- One subgroup's case by functions: 32 nodes, 16 shards, 16 failure sets. A placement gives each node its owner:
+-- below 16 the shard, anything else means that the node is placed nowhere. So no node is in two shards.
 use mathlib.Core.Bool.{Bool, cond, _&&_}
 use Prim.Native.Nat.{ℕ, _≤_, _<_}
 use lib.Dec.{eqb, ltb}
@@ -10,16 +9,16 @@ use Rattle.base_sums.specs.Sums.{sumBelow}
 pub record Case : Type 0 where
   -- a node's failure set
   pub setOf : ℕ → ℕ
-  -- from how many different sets a shard needs nodes
+  -- of how many different sets a shard needs nodes
   pub need : ℕ → ℕ
   -- how many nodes a shard may have
   pub cap : ℕ → ℕ
   -- of a shard and a node: what it costs to place the node there; from 255 up it is not allowed
   pub cost : ℕ → ℕ → ℕ
-  -- what a node costs that is hasOwner nowhere
+  -- what a node costs that is placed nowhere
   pub idle : ℕ
 
--- node n is hasOwner
+-- node n is placed
 abbrev pub hasOwner : (ℕ → ℕ) → ℕ → Bool
 hasOwner z n = ltb (z n) 16
 
@@ -31,15 +30,19 @@ size z i = countBelow 32 (λ n. eqb (z n) i)
 unfoldable pub meets : Case → (ℕ → ℕ) → ℕ → ℕ → Bool
 meets K z i f = anyBelow 32 (λ n. eqb (z n) i && eqb (K .setOf n) f)
 
--- from how many different sets shard i has nodes
+-- of how many different sets shard i has nodes
 unfoldable pub spread : Case → (ℕ → ℕ) → ℕ → ℕ
 spread K z i = countBelow 16 (meets K z i)
 
--- each placed node is allowed, and each shard has at most its cap of nodes, from at least its need of sets
+-- each placed node is allowed, and each shard has at most its cap of nodes, of at least its need of failure sets
 pub record Valid (K : Case) (z : ℕ → ℕ) : Type 0 where
   pub allowed : (n : ℕ) → n < 32 → z n < 16 → K .cost (z n) n < 255
   pub most : (i : ℕ) → i < 16 → size z i ≤ K .cap i
   pub sets : (i : ℕ) → i < 16 → K .need i ≤ spread K z i
+
+-- by a table of prices, what the placed nodes cost: the moves, where a price is 1 for a move and 0 for a stay
+unfoldable pub moves : (ℕ → ℕ → ℕ) → (ℕ → ℕ) → ℕ
+moves price z = sumBelow 32 (λ n. cond (hasOwner z n) (price (z n) n) 0)
 
 -- what a placement costs, counted by node
 unfoldable pub weight : Case → (ℕ → ℕ) → ℕ

@@ -1,18 +1,18 @@
 -- The order of placements by their lists: shards ascending, each shard's nodes listed ascending, and the smaller list in
 -- dictionary order wins at the first shard that differs; a proper prefix is smaller. What the search finds first is first in it.
-use mathlib.Core.Path.{_≡_, refl, sym, ap, _∙_, subst}
-use mathlib.Core.Bool.{Bool, true, false, cond, _&&_, _||_}
-use mathlib.Core.List.{List, [], _∷_}
+use mathlib.Core.Path.{_≡_, refl, sym, _∙_, subst}
+use mathlib.Core.Bool.{Bool, true, false, _&&_}
+use mathlib.Core.List.{List}
 use mathlib.Core.Logic.{_⊎_, inl, inr, ⊎-elim}
 use Prim.Native.Nat.{ℕ, zero, suc, _+_, _*_, _/_, _%_, _≤_, _<_}
 use native.Mathlib.Numerals.{add-one}
 use native.Mathlib.Omega.{arith}
 use lib.Dec.{eqb, ltb}
-use borrow.Author.Tests.{eqb-true, eq-eqb, lt-ltb, ltb-true}
-use Rattle.base_laws.specs.Bools.{clash, either, or-right, and-left, and-right, and-both, lt-or-le, eq-or-ne, no-true}
+use borrow.Author.Tests.{lt-ltb, ltb-true}
+use Rattle.base_laws.specs.Bools.{clash, either, and-left, and-right, and-both, eq-or-ne, no-true}
 use Rattle.base_laws.specs.Below.{anyBelow, any-witness, any-fails}
 use Rattle.base_sums.specs.Lists.{listFrom, listBefore, list-cong, list-before, list-prefix}
-use Rattle.search_theory.specs.Order.{takes, takes-at, Agree, Ends, Ahead, First, agree-start, agree-more, next}
+use Rattle.search_theory.specs.Order.{takes, takes-at, Agree, Ends, Ahead, First, agree-start, agree-more, shardEnd}
 
 -- the nodes of shard i, ascending
 unfoldable pub nodesOf : (ℕ → ℕ) → ℕ → List ℕ
@@ -71,7 +71,7 @@ module _ {z y : ℕ → ℕ} where
           }
       go false w = absurd (h (record { rest = ends }))
         where
-          ends : (s : ℕ) → t ≤ s → s < next t → takes y s ≡ false
+          ends : (s : ℕ) → t ≤ s → s < shardEnd t → takes y s ≡ false
           ends s p q =
               ⊎-elim (λ r. subst (λ (j : ℕ). takes y j ≡ false) r e)
               (λ r.

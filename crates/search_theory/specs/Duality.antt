@@ -1,17 +1,15 @@
--- Weak duality with caps: weights of shards for their needs and for their caps, of nodes, and of pairs of a shard and a set
+-- Weak duality: weights of shards for their needs and for their caps, of nodes, and of pairs of a shard and a set
 -- bound the weight of a valid placement from below. Node weights are counted from a base.
-use mathlib.Core.Path.{_≡_, refl, sym, ap, _∙_}
-use mathlib.Core.Bool.{Bool, true, false, cond, _&&_}
-use mathlib.Core.Logic.{⊎-elim}
-use Prim.Native.Nat.{ℕ, zero, suc, _+_, _*_, _-_, _≤_, _<_}
+use mathlib.Core.Path.{_≡_, refl}
+use mathlib.Core.Bool.{Bool, true, false, cond}
+use Prim.Native.Nat.{ℕ, _+_, _*_, _-_, _≤_, _<_}
 use native.Mathlib.Nat.{mul-le-mul-right}
 use native.Mathlib.Omega.{arith}
-use lib.Dec.{eqb, ltb}
-use borrow.Author.Tests.{ltb-true, ltb-false, lt-ltb, le-ltb, eqb-true, eq-eqb}
-use Rattle.base_laws.specs.Bools.{either, and-both, and-left, and-right, lt-or-le}
-use Rattle.base_laws.specs.Below.{countBelow, anyBelow, any-witness, count-pos}
-use Rattle.base_sums.specs.Sums.{sumBelow, sum-cong, sum-mono, sum-add, sum-swap, sum-single, sum-by-key, count-times}
+use lib.Dec.{eqb}
+use borrow.Author.Tests.{ltb-true, ltb-false, eqb-true}
+use Rattle.base_sums.specs.Sums.{sumBelow, sum-cong, sum-mono, sum-add, sum-by-key, count-times}
 use Rattle.search_theory.specs.Case.{Case, Valid, hasOwner, size, meets, spread, weight}
+use Rattle.search_theory.specs.Shards.{sizeIn, by-shard, by-set, met-nodes}
 
 -- the weights: of a shard for each set that it needs, of a shard for each node that it may have, of a node, and of shard i and set f
 pub record DualWeights : Type 0 where
@@ -42,45 +40,14 @@ gain K W = sumBelow 16 (λ i. K .need i * W .need i) + sumBelow 32 (λ n. W .bas
 unfoldable pub toll : Case → DualWeights → ℕ
 toll K W = sumBelow 16 (λ i. sumBelow 16 (W .pair i)) + sumBelow 16 (λ i. K .cap i * W .room i) + sumBelow 32 (W .node)
 
--- a sum over the placed nodes, shard by shard
-by-shard : (z : ℕ → ℕ) (g : ℕ → ℕ → ℕ) →
-    sumBelow 32 (λ n. cond (hasOwner z n) (g (z n) n) 0) ≡ sumBelow 16 (λ i. sumBelow 32 (λ n. cond (eqb (z n) i) (g i n) 0))
-by-shard z g =
-    sum-cong 32 (λ n. cond (hasOwner z n) (g (z n) n) 0) (λ n. sumBelow 16 (λ i. cond (eqb (z n) i) (g i n) 0))
-    (λ n l. sym (sum-single 16 (z n) (λ i. g i n)))
-    ∙ sum-swap 32 16 (λ n i. cond (eqb (z n) i) (g i n) 0)
-
 -- one shard: each set that it meets counts at least once
 module _ (K : Case) (z : ℕ → ℕ) (i u : ℕ) (w : ℕ → ℕ) (small : (n : ℕ) → n < 32 → z n ≡ i → K .setOf n < 16)
     (below : (f : ℕ) → f < 16 → w f ≤ u) where
-  -- the set of a node of the shard; past all sets for any other
-  key : ℕ → ℕ
-  key n = cond (eqb (z n) i) (K .setOf n) 16
-
-  key-at : (n : ℕ) → n < 32 → (g : ℕ → ℕ) → cond (ltb (key n) 16) (g (key n)) 0 ≡ cond (eqb (z n) i) (g (K .setOf n)) 0
-  unfolding key
-  key-at n l g = go (eqb (z n) i) refl
+  met : (f : ℕ) → f < 16 → cond (meets K z i f) (u - w f) 0 ≤ sizeIn K z i f * (u - w f)
+  met f l = go (meets K z i f) refl
     where
-      go : (b : Bool) → eqb (z n) i ≡ b → cond (ltb (cond (eqb (z n) i) (K .setOf n) 16) 16) (g (cond (eqb (z n) i) (K .setOf n) 16)) 0 ≡ cond (eqb (z n) i) (g (K .setOf n)) 0
-      go true e = simp (e, lt-ltb (K .setOf n) 16 (small n l (eqb-true (z n) i e)))
-      go false e = simp e
-
-  met : (f : ℕ) → f < 16 → cond (meets K z i f) (u - w f) 0 ≤ countBelow 32 (λ n. eqb (key n) f) * (u - w f)
-  unfolding meets key
-  met f l = go (anyBelow 32 (λ n. eqb (z n) i && eqb (K .setOf n) f)) refl
-    where
-      yes : anyBelow 32 (λ n. eqb (z n) i && eqb (K .setOf n) f) ≡ true → u - w f ≤ countBelow 32 (λ n. eqb (key n) f) * (u - w f)
-      yes e =
-          let (n, q, d) = any-witness 32 (λ n. eqb (z n) i && eqb (K .setOf n) f) e in
-          let here : eqb (z n) i ≡ true = and-left (eqb (z n) i) (eqb (K .setOf n) f) d in
-          let set : eqb (K .setOf n) f ≡ true = and-right (eqb (z n) i) (eqb (K .setOf n) f) d in
-          let at : eqb (key n) f ≡ true = ap (λ (b : Bool). eqb (cond b (K .setOf n) 16) f) here ∙ set in
-          let one : 1 ≤ countBelow 32 (λ n. eqb (key n) f) = count-pos 32 (λ n. eqb (key n) f) n q at in
-          omega (arith, mul-le-mul-right (u - w f) one)
-
-      go : (b : Bool) → anyBelow 32 (λ n. eqb (z n) i && eqb (K .setOf n) f) ≡ b →
-          cond (anyBelow 32 (λ n. eqb (z n) i && eqb (K .setOf n) f)) (u - w f) 0 ≤ countBelow 32 (λ n. eqb (key n) f) * (u - w f)
-      go true e = simp e (yes e)
+      go : (b : Bool) → meets K z i f ≡ b → cond (meets K z i f) (u - w f) 0 ≤ sizeIn K z i f * (u - w f)
+      go true e = simp e (omega (arith, mul-le-mul-right (u - w f) (met-nodes K z i f e)))
       go false e = simp e (omega arith)
 
   pub shard-cover : spread K z i * u + sumBelow 32 (λ n. cond (eqb (z n) i) (w (K .setOf n)) 0) ≤ size z i * u + sumBelow 16 w
@@ -90,9 +57,8 @@ module _ (K : Case) (z : ℕ → ℕ) (i u : ℕ) (w : ℕ → ℕ) (small : (n 
         arith,
         count-times 16 u (meets K z i),
         count-times 32 u (λ n. eqb (z n) i),
-        sum-mono 16 (λ f. cond (meets K z i f) (u - w f) 0) (λ f. countBelow 32 (λ n. eqb (key n) f) * (u - w f)) met,
-        sum-by-key 32 16 key (λ f. u - w f),
-        sum-cong 32 (λ n. cond (ltb (key n) 16) (u - w (key n)) 0) (λ n. cond (eqb (z n) i) (u - w (K .setOf n)) 0) (λ n l. key-at n l (λ f. u - w f)),
+        sum-mono 16 (λ f. cond (meets K z i f) (u - w f) 0) (λ f. sizeIn K z i f * (u - w f)) met,
+        by-set K z i small (λ f. u - w f),
         sum-add 32 (λ n. cond (eqb (z n) i) (u - w (K .setOf n)) 0) (λ n. cond (eqb (z n) i) (w (K .setOf n)) 0),
         sum-cong 32 (λ n. cond (eqb (z n) i) (u - w (K .setOf n)) 0 + cond (eqb (z n) i) (w (K .setOf n)) 0) (λ n. cond (eqb (z n) i) u 0) (λ n l. whole n l),
         sum-add 16 (λ f. cond (meets K z i f) (u - w f) 0) w,

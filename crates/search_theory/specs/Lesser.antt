@@ -3,18 +3,15 @@
 use mathlib.Core.Path.{_≡_, refl, sym, ap, _∙_, subst}
 use mathlib.Core.Bool.{Bool, true, false, cond, not, _&&_}
 use mathlib.Core.Logic.{⊎-elim}
-use Prim.Native.Nat.{ℕ, zero, suc, _+_, _*_, _≤_, _<_, min}
+use Prim.Native.Nat.{ℕ, zero, suc, _+_, _≤_, _<_, min}
 use native.Mathlib.Omega.{arith}
 use lib.Dec.{eqb, ltb}
-use borrow.Author.Tests.{eqb-true, eq-eqb, ne-eqb, ltb-true, ltb-false, lt-ltb, le-ltb}
-use Rattle.base_laws.specs.Bools.{clash, either, same, no-true, and-both, and-left, and-right, of-not-true, not-of-false, lt-or-le}
-use Rattle.base_laws.specs.Below.{countBelow, anyBelow, any-at, any-none-of, any-fails, any-witness, lowest, lowest-holds, lowest-below, lowest-first, count-cong, count-pos, count-none}
-use Rattle.base_sums.specs.Sums.{sumBelow, sum-cong, sum-mono, sum-by-key, count-sum, count-once}
-use Rattle.search_theory.specs.Case.{Case, Valid, hasOwner, size, meets, spread}
-
--- the placed nodes' costs: the moves, where a cost is 1 for a move and 0 for a stay
-unfoldable pub paid : Case → (ℕ → ℕ) → ℕ
-paid K z = sumBelow 32 (λ n. cond (hasOwner z n) (K .cost (z n) n) 0)
+use borrow.Author.Tests.{eqb-true, eq-eqb, ltb-true, ltb-false, lt-ltb, le-ltb}
+use Rattle.base_laws.specs.Bools.{clash, no-true, and-both, and-left, and-right, of-not-true, not-of-false, lt-or-le}
+use Rattle.base_laws.specs.Below.{countBelow, anyBelow, any-at, any-none-of, any-fails, lowest, lowest-holds, lowest-below, lowest-first, count-pos, count-none}
+use Rattle.base_sums.specs.Sums.{sum-cong, sum-mono, count-sum, count-once}
+use Rattle.search_theory.specs.Case.{Case, Valid, hasOwner, size, meets, spread, moves}
+use Rattle.search_theory.specs.Shards.{sizeIn, size-by-set, unmet-nodes}
 
 -- each placed node is allowed, each shard has exactly its need, and no two nodes of a shard are of one failure set
 pub record Exact (K : Case) (z : ℕ → ℕ) : Type 0 where
@@ -58,41 +55,35 @@ module _ (K : Case) (z : ℕ → ℕ) where
   narrow-same : (n : ℕ) → narrowed K z n < 16 → narrowed K z n ≡ z n
   narrow-same n l = narrow-of n (narrow-is n l)
 
-  pub narrow-paid : paid K (narrowed K z) ≤ paid K z
-  unfolding paid
-  narrow-paid = sum-mono 32 (λ n. cond (hasOwner (narrowed K z) n) (K .cost (narrowed K z n) n) 0) (λ n. cond (hasOwner z n) (K .cost (z n) n) 0) (λ n l. at n)
+  -- at no more moves, whatever the prices
+  pub narrow-moves : (price : ℕ → ℕ → ℕ) → moves price (narrowed K z) ≤ moves price z
+  unfolding moves
+  narrow-moves price = sum-mono 32 (λ n. cond (hasOwner (narrowed K z) n) (price (narrowed K z n) n) 0) (λ n. cond (hasOwner z n) (price (z n) n) 0) (λ n l. at n)
     where
-      at : (n : ℕ) → cond (hasOwner (narrowed K z) n) (K .cost (narrowed K z n) n) 0 ≤ cond (hasOwner z n) (K .cost (z n) n) 0
+      at : (n : ℕ) → cond (hasOwner (narrowed K z) n) (price (narrowed K z n) n) 0 ≤ cond (hasOwner z n) (price (z n) n) 0
       at n =
           ⊎-elim
-          (λ h. subst (λ (i : ℕ). cond (ltb i 16) (K .cost i n) 0 ≤ cond (hasOwner z n) (K .cost (z n) n) 0) (sym (narrow-same n h)) (omega arith))
+          (λ h. subst (λ (i : ℕ). cond (ltb i 16) (price i n) 0 ≤ cond (hasOwner z n) (price (z n) n) 0) (sym (narrow-same n h)) (omega arith))
           (λ h. simp (le-ltb (narrowed K z n) 16 h) (omega arith))
           (lt-or-le (narrowed K z n) 16)
 
-  module _ (small : (n : ℕ) → n < 32 → K .setOf n < 16) where
-    -- the set of a node that shard i keeps; past all sets for any other
-    key : ℕ → ℕ → ℕ
-    key i n = cond (eqb (narrowed K z n) i) (K .setOf n) 16
+  -- an exact placement has at most one node of a set in a shard
+  exact-once : Exact K z → (i f : ℕ) → i < 16 → sizeIn K z i f ≤ 1
+  unfolding sizeIn
+  exact-once x i f p =
+      count-once 32 (λ n. eqb (z n) i && eqb (K .setOf n) f)
+      (λ j k a b c d. x .apart j k a b (omega (arith, here j c)) (here j c ∙ sym (here k d)) (set j c ∙ sym (set k d)))
+    where
+      here : (n : ℕ) → (eqb (z n) i && eqb (K .setOf n) f) ≡ true → z n ≡ i
+      here n e = eqb-true (z n) i (and-left (eqb (z n) i) (eqb (K .setOf n) f) e)
 
+      set : (n : ℕ) → (eqb (z n) i && eqb (K .setOf n) f) ≡ true → K .setOf n ≡ f
+      set n e = eqb-true (K .setOf n) f (and-right (eqb (z n) i) (eqb (K .setOf n) f) e)
+
+  module _ (small : (n : ℕ) → n < 32 → K .setOf n < 16) where
     -- set f is among the first that shard i meets and needs
     among : ℕ → ℕ → Bool
     among i f = meets K z i f && ltb (countBelow f (meets K z i)) (K .need i)
-
-    key-low : (i n : ℕ) → n < 32 → ltb (key i n) 16 ≡ eqb (narrowed K z n) i
-    unfolding key
-    key-low i n l = go (eqb (narrowed K z n) i) refl
-      where
-        go : (b : Bool) → eqb (narrowed K z n) i ≡ b → ltb (cond (eqb (narrowed K z n) i) (K .setOf n) 16) 16 ≡ eqb (narrowed K z n) i
-        go true e = simp (e, lt-ltb (K .setOf n) 16 (small n l))
-        go false e = simp e
-
-    key-is : (i f n : ℕ) → f < 16 → eqb (key i n) f ≡ true → (narrowed K z n ≡ i) × (K .setOf n ≡ f)
-    unfolding key
-    key-is i f n l = go (eqb (narrowed K z n) i) refl
-      where
-        go : (b : Bool) → eqb (narrowed K z n) i ≡ b → eqb (cond (eqb (narrowed K z n) i) (K .setOf n) 16) f ≡ true → (narrowed K z n ≡ i) × (K .setOf n ≡ f)
-        go true e = simp e (λ h. (eqb-true (narrowed K z n) i e, eqb-true (K .setOf n) f h))
-        go false e = simp e (λ h. absurd (omega (arith, eqb-true 16 f h)))
 
     -- a node that is kept has no lower one of its shard and set
     alone : (n m : ℕ) → narrowed K z n < 16 → m < n → z m ≡ z n → K .setOf m ≡ K .setOf n → ⊥
@@ -111,53 +102,54 @@ module _ (K : Case) (z : ℕ → ℕ) where
         (λ h. ⊎-elim (λ g. absurd (alone n m p g (sym b ∙ (sym e ∙ a)) (sym d))) (λ g. omega arith) (lt-or-le m n)) (lt-or-le n m)
 
     -- shard i keeps one node of each set among the first that it needs, and none of another
-    keeps-one : (i f : ℕ) → i < 16 → f < 16 → countBelow 32 (λ n. eqb (key i n) f) ≡ cond (among i f) 1 0
-    unfolding key among kept meets
-    keeps-one i f p l = go (among i f) refl
+    keeps-one : (i f : ℕ) → i < 16 → sizeIn K (narrowed K z) i f ≡ cond (among i f) 1 0
+    unfolding among kept meets sizeIn
+    keeps-one i f p = go (among i f) refl
       where
-        once : countBelow 32 (λ n. eqb (key i n) f) ≤ 1
-        once =
-            count-once 32 (λ n. eqb (key i n) f)
-            (λ j k a b c d.
-            let x = key-is i f j l c in
-            let y = key-is i f k l d in
-            apart j k a b (omega (arith, x .0)) (x .0 ∙ sym (y .0)) (x .1 ∙ sym (y .1)))
+        test : ℕ → Bool
+        test n = eqb (narrowed K z n) i && eqb (K .setOf n) f
 
-        some : among i f ≡ true → 1 ≤ countBelow 32 (λ n. eqb (key i n) f)
+        here : (n : ℕ) → test n ≡ true → narrowed K z n ≡ i
+        here n e = eqb-true (narrowed K z n) i (and-left (eqb (narrowed K z n) i) (eqb (K .setOf n) f) e)
+
+        set : (n : ℕ) → test n ≡ true → K .setOf n ≡ f
+        set n e = eqb-true (K .setOf n) f (and-right (eqb (narrowed K z n) i) (eqb (K .setOf n) f) e)
+
+        once : countBelow 32 test ≤ 1
+        once = count-once 32 test (λ j k a b c d. apart j k a b (omega (arith, here j c)) (here j c ∙ sym (here k d)) (set j c ∙ sym (set k d)))
+
+        some : among i f ≡ true → 1 ≤ countBelow 32 test
         some e =
-            let test : ℕ → Bool = λ m. eqb (z m) i && eqb (K .setOf m) f in
-            let any : anyBelow 32 test ≡ true = and-left (meets K z i f) (ltb (countBelow f (meets K z i)) (K .need i)) e in
-            let n : ℕ = lowest 32 test in
-            let q : n < 32 = lowest-below 32 test any in
-            let at : test n ≡ true = lowest-holds 32 test any in
-            let here : z n ≡ i = eqb-true (z n) i (and-left (eqb (z n) i) (eqb (K .setOf n) f) at) in
-            let set : K .setOf n ≡ f = eqb-true (K .setOf n) f (and-right (eqb (z n) i) (eqb (K .setOf n) f) at) in
+            let was : ℕ → Bool = λ m. eqb (z m) i && eqb (K .setOf m) f in
+            let any : anyBelow 32 was ≡ true = and-left (meets K z i f) (ltb (countBelow f (meets K z i)) (K .need i)) e in
+            let n : ℕ = lowest 32 was in
+            let at : was n ≡ true = lowest-holds 32 was any in
+            let there : z n ≡ i = eqb-true (z n) i (and-left (eqb (z n) i) (eqb (K .setOf n) f) at) in
+            let with-set : K .setOf n ≡ f = eqb-true (K .setOf n) f (and-right (eqb (z n) i) (eqb (K .setOf n) f) at) in
             let lone : anyBelow n (λ m. eqb (z m) (z n) && eqb (K .setOf m) (K .setOf n)) ≡ false
-            = any-none-of n (λ m. eqb (z m) (z n) && eqb (K .setOf m) (K .setOf n)) (λ m h. subst (λ (j : ℕ). (eqb (z m) j && eqb (K .setOf m) (K .setOf n)) ≡ false) (sym here)
-            (subst (λ (j : ℕ). (eqb (z m) i && eqb (K .setOf m) j) ≡ false) (sym set) (lowest-first 32 test m h))) in
+            = any-none-of n (λ m. eqb (z m) (z n) && eqb (K .setOf m) (K .setOf n)) (λ m h. subst (λ (j : ℕ). (eqb (z m) j && eqb (K .setOf m) (K .setOf n)) ≡ false) (sym there)
+            (subst (λ (j : ℕ). (eqb (z m) i && eqb (K .setOf m) j) ≡ false) (sym with-set) (lowest-first 32 was m h))) in
             let rank : ltb (countBelow (K .setOf n) (meets K z (z n))) (K .need (z n)) ≡ true
-            = subst (λ (j : ℕ). ltb (countBelow (K .setOf n) (meets K z j)) (K .need j) ≡ true) (sym here)
-            (subst (λ (j : ℕ). ltb (countBelow j (meets K z i)) (K .need i) ≡ true) (sym set) (and-right (meets K z i f) (ltb (countBelow f (meets K z i)) (K .need i)) e)) in
-            let own : narrowed K z n ≡ i = narrow-of n (and-both (lt-ltb (z n) 16 (omega arith)) (and-both (not-of-false lone) rank)) ∙ here in
-            let hit : eqb (key i n) f ≡ true = ap (λ (b : Bool). eqb (cond b (K .setOf n) 16) f) (eq-eqb (narrowed K z n) i own) ∙ eq-eqb (K .setOf n) f set in
-            count-pos 32 (λ j. eqb (key i j) f) n q hit
+            = subst (λ (j : ℕ). ltb (countBelow (K .setOf n) (meets K z j)) (K .need j) ≡ true) (sym there)
+            (subst (λ (j : ℕ). ltb (countBelow j (meets K z i)) (K .need i) ≡ true) (sym with-set) (and-right (meets K z i f) (ltb (countBelow f (meets K z i)) (K .need i)) e)) in
+            let own : narrowed K z n ≡ i = narrow-of n (and-both (lt-ltb (z n) 16 (omega arith)) (and-both (not-of-false lone) rank)) ∙ there in
+            count-pos 32 test n (lowest-below 32 was any) (and-both (eq-eqb (narrowed K z n) i own) (eq-eqb (K .setOf n) f with-set))
 
-        none : among i f ≡ false → countBelow 32 (λ n. eqb (key i n) f) ≡ 0
-        none e = count-none 32 (λ n. eqb (key i n) f) (any-none-of 32 (λ n. eqb (key i n) f) (λ n q. no-true (eqb (key i n) f) (λ c. clash (has n q c) e)))
+        none : among i f ≡ false → countBelow 32 test ≡ 0
+        none e = count-none 32 test (any-none-of 32 test (λ n q. no-true (test n) (λ c. clash (has n q c) e)))
           where
-            has : (n : ℕ) → n < 32 → eqb (key i n) f ≡ true → among i f ≡ true
+            has : (n : ℕ) → n < 32 → test n ≡ true → among i f ≡ true
             has n q c =
-                let x = key-is i f n l c in
-                let a : narrowed K z n ≡ z n = narrow-same n (omega (arith, x .0)) in
-                let here : z n ≡ i = sym a ∙ x .0 in
-                let k : kept K z n ≡ true = and-right (hasOwner z n) (kept K z n) (narrow-is n (omega (arith, x .0))) in
+                let l : narrowed K z n < 16 = omega (arith, here n c) in
+                let there : z n ≡ i = sym (narrow-same n l) ∙ here n c in
+                let k : kept K z n ≡ true = and-right (hasOwner z n) (kept K z n) (narrow-is n l) in
                 let rank : ltb (countBelow (K .setOf n) (meets K z (z n))) (K .need (z n)) ≡ true
                 = and-right (not (anyBelow n (λ m. eqb (z m) (z n) && eqb (K .setOf m) (K .setOf n)))) (ltb (countBelow (K .setOf n) (meets K z (z n))) (K .need (z n))) k in
-                and-both (any-at 32 (λ m. eqb (z m) i && eqb (K .setOf m) f) n q (and-both (eq-eqb (z n) i here) (eq-eqb (K .setOf n) f (x .1))))
-                (subst (λ (j : ℕ). ltb (countBelow j (meets K z i)) (K .need i) ≡ true) (x .1)
-                (subst (λ (j : ℕ). ltb (countBelow (K .setOf n) (meets K z j)) (K .need j) ≡ true) here rank))
+                and-both (any-at 32 (λ m. eqb (z m) i && eqb (K .setOf m) f) n q (and-both (eq-eqb (z n) i there) (eq-eqb (K .setOf n) f (set n c))))
+                (subst (λ (j : ℕ). ltb (countBelow j (meets K z i)) (K .need i) ≡ true) (set n c)
+                (subst (λ (j : ℕ). ltb (countBelow (K .setOf n) (meets K z j)) (K .need j) ≡ true) there rank))
 
-        go : (b : Bool) → among i f ≡ b → countBelow 32 (λ n. eqb (key i n) f) ≡ cond (among i f) 1 0
+        go : (b : Bool) → among i f ≡ b → countBelow 32 test ≡ cond (among i f) 1 0
         go true e = simp e (omega (arith, once, some e))
         go false e = simp e (none e)
 
@@ -168,10 +160,8 @@ module _ (K : Case) (z : ℕ → ℕ) where
           arith,
           first-few 16 (K .need i) (meets K z i),
           count-sum 16 (among i),
-          count-sum 32 (λ n. eqb (narrowed K z n) i),
-          sum-by-key 32 16 (key i) (λ f. 1),
-          sum-cong 32 (λ n. cond (ltb (key i n) 16) 1 0) (λ n. cond (eqb (narrowed K z n) i) 1 0) (λ n l. ap (λ (b : Bool). cond b 1 0) (key-low i n l)),
-          sum-cong 16 (λ f. countBelow 32 (λ n. eqb (key i n) f) * 1) (λ f. cond (among i f) 1 0) (λ f l. omega (arith, keeps-one i f p l)),
+          size-by-set K (narrowed K z) i (λ n l e. small n l),
+          sum-cong 16 (sizeIn K (narrowed K z) i) (λ f. cond (among i f) 1 0) (λ f l. keeps-one i f p),
         )
 
     pub narrow : Valid K z → Exact K (narrowed K z)
@@ -184,46 +174,18 @@ module _ (K : Case) (z : ℕ → ℕ) where
 
     -- an exact placement is valid
     exact-spread : Exact K z → (i : ℕ) → i < 16 → size z i ≤ spread K z i
-    unfolding spread meets
+    unfolding spread
     exact-spread x i p =
         omega (
           arith,
           count-sum 16 (meets K z i),
-          count-sum 32 (λ n. eqb (z n) i),
-          sum-by-key 32 16 at (λ f. 1),
-          sum-cong 32 (λ n. cond (ltb (at n) 16) 1 0) (λ n. cond (eqb (z n) i) 1 0) (λ n l. ap (λ (b : Bool). cond b 1 0) (low n l (eqb (z n) i) refl)),
-          sum-mono 16 (λ f. countBelow 32 (λ n. eqb (at n) f) * 1) (λ f. cond (meets K z i f) 1 0) (λ f l. most f l (meets K z i f) refl),
+          size-by-set K z i (λ n l e. small n l),
+          sum-mono 16 (sizeIn K z i) (λ f. cond (meets K z i f) 1 0) (λ f l. most f (meets K z i f) refl),
         )
       where
-        at : ℕ → ℕ
-        at n = cond (eqb (z n) i) (K .setOf n) 16
-
-        low : (n : ℕ) → n < 32 → (b : Bool) → eqb (z n) i ≡ b → ltb (at n) 16 ≡ eqb (z n) i
-        low n l true e = simp (e, lt-ltb (K .setOf n) 16 (small n l))
-        low n l false e = simp e
-
-        is : (f n : ℕ) → f < 16 → (b : Bool) → eqb (z n) i ≡ b → eqb (at n) f ≡ true → (z n ≡ i) × (K .setOf n ≡ f)
-        is f n l true e = simp e (λ h. (eqb-true (z n) i e, eqb-true (K .setOf n) f h))
-        is f n l false e = simp e (λ h. absurd (omega (arith, eqb-true 16 f h)))
-
-        most : (f : ℕ) → f < 16 → (b : Bool) → meets K z i f ≡ b → countBelow 32 (λ n. eqb (at n) f) * 1 ≤ cond (meets K z i f) 1 0
-        most f l true e =
-            simp e
-            (omega (
-              arith,
-              count-once 32 (λ n. eqb (at n) f)
-                  (λ j k a b c d.
-                  let s = is f j l (eqb (z j) i) refl c in
-                  let t = is f k l (eqb (z k) i) refl d in
-                  x .apart j k a b (omega (arith, s .0)) (s .0 ∙ sym (t .0)) (s .1 ∙ sym (t .1))),
-            ))
-        most f l false e =
-            simp e
-            (omega (
-              arith,
-              count-none 32 (λ n. eqb (at n) f) (any-none-of 32 (λ n. eqb (at n) f) (λ n q. no-true (eqb (at n) f)
-                  (λ c. let s = is f n l (eqb (z n) i) refl c in clash (any-at 32 (λ m. eqb (z m) i && eqb (K .setOf m) f) n q (and-both (eq-eqb (z n) i (s .0)) (eq-eqb (K .setOf n) f (s .1)))) e))),
-            ))
+        most : (f : ℕ) → (b : Bool) → meets K z i f ≡ b → sizeIn K z i f ≤ cond (meets K z i f) 1 0
+        most f true e = simp e (exact-once x i f p)
+        most f false e = simp e (omega (arith, unmet-nodes K z i f e))
 
     pub widen : ((i : ℕ) → i < 16 → K .need i ≤ K .cap i) → Exact K z → Valid K z
     widen room x =
@@ -234,5 +196,6 @@ module _ (K : Case) (z : ℕ → ℕ) where
         }
 
 -- the least moves are the same: what no exact placement stays below, no valid one does
-pub least-same : {K : Case} (small : (n : ℕ) → n < 32 → K .setOf n < 16) {k : ℕ} → ((y : ℕ → ℕ) → Exact K y → k ≤ paid K y) → (y : ℕ → ℕ) → Valid K y → k ≤ paid K y
-least-same {K} small h y v = omega (arith, h (narrowed K y) (narrow K y small v), narrow-paid K y)
+pub least-same : {K : Case} (small : (n : ℕ) → n < 32 → K .setOf n < 16) (price : ℕ → ℕ → ℕ) {k : ℕ} → ((y : ℕ → ℕ) → Exact K y → k ≤ moves price y) →
+    (y : ℕ → ℕ) → Valid K y → k ≤ moves price y
+least-same {K} small price h y v = omega (arith, h (narrowed K y) (narrow K y small v), narrow-moves K y price)

@@ -4,7 +4,7 @@
 -- Then the laws of a search that decides the pairs one after another, for placements with any property P: at pair t it ends the
 -- shard's list, or takes the pair, or leaves it.
 use mathlib.Core.Path.{_≡_, refl, sym, ap, ap₂, _∙_, subst}
-use mathlib.Core.Bool.{Bool, true, false, true≢false}
+use mathlib.Core.Bool.{Bool, true, false}
 use Prim.Native.Nat.{ℕ, zero, suc, _+_, _*_, _/_, _%_, _≤_, _<_, min}
 use native.Mathlib.Numerals.{add-one}
 use native.Mathlib.Omega.{arith}
@@ -18,8 +18,8 @@ abbrev pub takes : (ℕ → ℕ) → ℕ → Bool
 takes z t = eqb (z (t % 32)) (t / 32)
 
 -- the first pair of the next shard
-abbrev pub next : ℕ → ℕ
-next t = (t / 32 + 1) * 32
+abbrev pub shardEnd : ℕ → ℕ
+shardEnd t = (t / 32 + 1) * 32
 
 -- z and y take the same pairs before t
 pub record Agree (z y : ℕ → ℕ) (t : ℕ) : Type 0 where
@@ -27,7 +27,7 @@ pub record Agree (z y : ℕ → ℕ) (t : ℕ) : Type 0 where
 
 -- z takes no pair of t's shard from t on
 pub record Ends (z : ℕ → ℕ) (t : ℕ) : Type 0 where
-  pub rest : (s : ℕ) → t ≤ s → s < next t → takes z s ≡ false
+  pub rest : (s : ℕ) → t ≤ s → s < shardEnd t → takes z s ≡ false
 
 -- y does not come before z
 pub record Ahead (z y : ℕ → ℕ) : Type 0 where
@@ -113,22 +113,22 @@ module _ {o : ℕ → ℕ} {t : ℕ} (l : t < 512) (b : Begun o t) where
   none-leave not f = record { none = λ y g. f .none y (by (takes y t) (λ e. absurd (not y g e)) (λ e. from-leave y g e)) }
 
   -- ending the shard's list
-  pub begun-close : Begun o (next t)
+  pub begun-close : Begun o (shardEnd t)
   begun-close = record { rest = λ s p q. b .rest s (omega arith) q }
 
-  pub from-closed : {P : (ℕ → ℕ) → Type 0} (y : ℕ → ℕ) → From P o (next t) y → From P o t y
+  pub from-closed : {P : (ℕ → ℕ) → Type 0} (y : ℕ → ℕ) → From P o (shardEnd t) y → From P o t y
   from-closed y f = record { has = f .has; agree = agree-less (omega arith) (f .agree) }
 
-  pub from-close : {P : (ℕ → ℕ) → Type 0} (y : ℕ → ℕ) → From P o t y → Ends y t → From P o (next t) y
+  pub from-close : {P : (ℕ → ℕ) → Type 0} (y : ℕ → ℕ) → From P o t y → Ends y t → From P o (shardEnd t) y
   from-close y f h =
       record { has = f .has; agree = record { same = λ s q. ⊎-elim (λ r. f .agree .same s r) (λ r. h .rest s r q ∙ sym (b .rest s r (omega arith))) (lt-or-le s t) } }
 
   -- what is first with the list ended is first
-  pub first-close : {P : (ℕ → ℕ) → Type 0} {z : ℕ → ℕ} → First (From P o (next t)) z → First (From P o t) z
+  pub first-close : {P : (ℕ → ℕ) → Type 0} {z : ℕ → ℕ} → First (From P o (shardEnd t)) z → First (From P o t) z
   first-close {P} {z} f = record { is = from-closed z (f .is); first = λ y g. record { leads = leads y g; longer = longer y g } }
     where
       -- z takes nothing of the rest of the shard
-      ended : (s : ℕ) → t ≤ s → s < next t → takes z s ≡ false
+      ended : (s : ℕ) → t ≤ s → s < shardEnd t → takes z s ≡ false
       ended s p q = f .is .agree .same s q ∙ b .rest s p (omega arith)
 
       -- before t both are as the owners say
@@ -136,24 +136,20 @@ module _ {o : ℕ → ℕ} {t : ℕ} (l : t < 512) (b : Begun o t) where
       before y g s p = f .is .agree .same s (omega arith) ∙ sym (g .agree .same s p)
 
       -- one that agrees with z up to the next shard has its list ended too
-      beyond : (y : ℕ → ℕ) → From P o t y → (s : ℕ) → next t ≤ s → Agree z y s → From P o (next t) y
+      beyond : (y : ℕ → ℕ) → From P o t y → (s : ℕ) → shardEnd t ≤ s → Agree z y s → From P o (shardEnd t) y
       beyond y g s p a = record { has = g .has; agree = agree-trans (agree-sym (agree-less p a)) (f .is .agree) }
 
       leads : (y : ℕ → ℕ) → From P o t y → (s : ℕ) → s < 512 → Agree z y s → takes z s ≡ false → takes y s ≡ true → Ends z s
       leads y g s q a d e =
           ⊎-elim (λ p. clash (before y g s p ∙ e) d)
-          (λ p. ⊎-elim (λ r. record { rest = λ j u v. ended j (omega arith) (omega arith) }) (λ r. f .first y (beyond y g s r a) .leads s q a d e) (lt-or-le s (next t)))
+          (λ p. ⊎-elim (λ r. record { rest = λ j u v. ended j (omega arith) (omega arith) }) (λ r. f .first y (beyond y g s r a) .leads s q a d e) (lt-or-le s (shardEnd t)))
           (lt-or-le s t)
 
       longer : (y : ℕ → ℕ) → From P o t y → (s : ℕ) → s < 512 → Agree z y s → takes z s ≡ true → takes y s ≡ false → Ends y s → ⊥
       longer y g s q a d e h =
           ⊎-elim (λ p. clash d (before y g s p ∙ e))
-          (λ p. ⊎-elim (λ r. clash d (ended s p r)) (λ r. f .first y (beyond y g s r a) .longer s q a d e h) (lt-or-le s (next t)))
+          (λ p. ⊎-elim (λ r. clash d (ended s p r)) (λ r. f .first y (beyond y g s r a) .longer s q a d e h) (lt-or-le s (shardEnd t)))
           (lt-or-le s t)
-
-  -- none with the list ended: none either once pair t is left within the shard
-  pub none-closed-leave : {P : (ℕ → ℕ) → Type 0} → next (t + 1) ≡ next t → None (From P o (next t)) → None (From P o (next (t + 1)))
-  none-closed-leave {P} e n = subst (λ (s : ℕ). None (From P o s)) (sym e) n
 
   module _ {p : ℕ → ℕ} (free : 16 ≤ o (t % 32)) (tk : TakesPair o t p) where
     -- taking it
@@ -184,7 +180,7 @@ module _ {o : ℕ → ℕ} {t : ℕ} (l : t < 512) (b : Begun o t) where
     from-taken y f = record { has = f .has; agree = agree-trans (agree-less (omega arith) (f .agree)) agree-taken }
 
     -- what is first with pair t taken is first, where none has the list ended before it
-    pub first-take : {P : (ℕ → ℕ) → Type 0} {z : ℕ → ℕ} → None (From P o (next t)) → First (From P p (t + 1)) z → First (From P o t) z
+    pub first-take : {P : (ℕ → ℕ) → Type 0} {z : ℕ → ℕ} → None (From P o (shardEnd t)) → First (From P p (t + 1)) z → First (From P o t) z
     first-take {P} {z} n f = record { is = from-taken z (f .is); first = λ y g. by (takes y t) (λ e. f .first y (from-take y g e)) (λ e. behind y g e) }
       where
         z-takes : takes z t ≡ true

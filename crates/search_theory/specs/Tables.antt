@@ -4,7 +4,7 @@ use Prim.Native.Nat.{ℕ, _+_, _*_}
 use lib.ListN.{getD}
 use Rattle.search_theory.specs.Case.{Case}
 
--- sets by node, needs and caps by shard, costs of shard i and node n at i * 32 + n, and the cost of a node hasOwner nowhere
+-- sets by node, needs and caps by shard, costs of shard i and node n at i * 32 + n, and the cost of a node placed nowhere
 abbrev pub caseOf : List ℕ → List ℕ → List ℕ → List ℕ → ℕ → Case
 caseOf sets needs caps costs idle =
     record {

@@ -2,31 +2,31 @@
 use mathlib.Core.Path.{_≡_, refl, sym, ap, _∙_, subst}
 use mathlib.Core.Bool.{Bool, true, false, cond, _&&_, _||_}
 use mathlib.Core.Logic.{⊎-elim}
-use Prim.Native.Nat.{ℕ, _+_, _*_, _/_, _%_, _≤_, _<_, min}
+use Prim.Native.Nat.{ℕ, _+_, _*_, _/_, _%_, _≤_, _<_}
 use native.Mathlib.Omega.{arith}
 use lib.Dec.{eqb, ltb, leb}
-use borrow.Author.Tests.{eqb-true, eqb-false, eq-eqb, ne-eqb, ltb-true, lt-ltb, le-ltb, leb-true, le-leb, lt-leb}
+use borrow.Author.Tests.{eqb-true, eq-eqb, ne-eqb, ltb-true, lt-ltb, le-ltb, leb-true, le-leb, lt-leb}
 use Rattle.base_laws.specs.Bools.{clash, same, lt-or-le, and-left, and-right, and-both, or-holds}
-use Rattle.base_laws.specs.Below.{allBelow, countBelow, anyBelow, all-at, all-of, count-mono, count-with, count-cong, any-cong}
-use Rattle.base_sums.specs.Sums.{sumBelow, sum-mono, sum-cong}
-use Rattle.search_theory.specs.Case.{Case, Valid, Within, hasOwner, size, meets, spread, weight}
+use Rattle.base_laws.specs.Below.{allBelow, all-at, all-of, count-mono, count-with, count-cong, any-cong}
+use Rattle.base_sums.specs.Sums.{sum-mono, sum-cong}
+use Rattle.search_theory.specs.Case.{Case, Valid, Within, hasOwner, size, meets, spread, moves, weight}
 use Rattle.search_theory.specs.Order.{takes, takes-at, Agree, From, Begun, None, Same}
-use Rattle.search_theory.specs.Cut.{keeps, decided}
+use Rattle.search_theory.specs.Cut.{keeps}
 
--- node n is hasOwner nowhere, or where it is allowed
+-- node n is placed nowhere, or where it is allowed
 abbrev pub stands : Case → (ℕ → ℕ) → ℕ → Bool
 stands K z n = cond (hasOwner z n) (ltb (K .cost (z n) n) 255) true
 
 -- shard i has no more nodes than its cap, and no fewer sets than its need
-abbrev pub fits : Case → (ℕ → ℕ) → ℕ → Bool
-fits K z i = leb (size z i) (K .cap i) && leb (K .need i) (spread K z i)
+abbrev pub needsMet : Case → (ℕ → ℕ) → ℕ → Bool
+needsMet K z i = leb (size z i) (K .cap i) && leb (K .need i) (spread K z i)
 
-pub valid-of : {K : Case} {z : ℕ → ℕ} → allBelow 32 (stands K z) ≡ true → allBelow 16 (fits K z) ≡ true → Valid K z
+pub valid-of : {K : Case} {z : ℕ → ℕ} → allBelow 32 (stands K z) ≡ true → allBelow 16 (needsMet K z) ≡ true → Valid K z
 valid-of {K} {z} s f =
     record {
       allowed = λ n q p. ltb-true (K .cost (z n) n) 255 (taken (hasOwner z n) (ltb (K .cost (z n) n) 255) (lt-ltb (z n) 16 p) (all-at 32 (stands K z) s n q));
-      most = λ i q. leb-true (size z i) (K .cap i) (and-left (leb (size z i) (K .cap i)) (leb (K .need i) (spread K z i)) (all-at 16 (fits K z) f i q));
-      sets = λ i q. leb-true (K .need i) (spread K z i) (and-right (leb (size z i) (K .cap i)) (leb (K .need i) (spread K z i)) (all-at 16 (fits K z) f i q));
+      most = λ i q. leb-true (size z i) (K .cap i) (and-left (leb (size z i) (K .cap i)) (leb (K .need i) (spread K z i)) (all-at 16 (needsMet K z) f i q));
+      sets = λ i q. leb-true (K .need i) (spread K z i) (and-right (leb (size z i) (K .cap i)) (leb (K .need i) (spread K z i)) (all-at 16 (needsMet K z) f i q));
     }
   where
     taken : (a b : Bool) → a ≡ true → cond a b true ≡ true → b ≡ true
@@ -36,8 +36,8 @@ valid-of {K} {z} s f =
 pub valid-stands : {K : Case} {z : ℕ → ℕ} → Valid K z → allBelow 32 (stands K z) ≡ true
 valid-stands {K} {z} v = all-of 32 (stands K z) (λ n l. ⊎-elim (λ h. simp (lt-ltb (z n) 16 h, lt-ltb (K .cost (z n) n) 255 (v .allowed n l h))) (λ h. simp (le-ltb (z n) 16 h)) (lt-or-le (z n) 16))
 
-pub valid-fits : {K : Case} {z : ℕ → ℕ} → Valid K z → allBelow 16 (fits K z) ≡ true
-valid-fits {K} {z} v = all-of 16 (fits K z) (λ i l. and-both (le-leb (size z i) (K .cap i) (v .most i l)) (le-leb (K .need i) (spread K z i) (v .sets i l)))
+pub valid-met : {K : Case} {z : ℕ → ℕ} → Valid K z → allBelow 16 (needsMet K z) ≡ true
+valid-met {K} {z} v = all-of 16 (needsMet K z) (λ i l. and-both (le-leb (size z i) (K .cap i) (v .most i l)) (le-leb (K .need i) (spread K z i) (v .sets i l)))
 
 -- ---- owners that place the same nodes in the same shards
 
@@ -123,8 +123,8 @@ decided-spread {K} {o} {y} a v i l q =
 pub none-thin : {K : Case} {k : ℕ} {o : ℕ → ℕ} {t : ℕ} (i : ℕ) → i < 16 → i * 32 + 32 ≤ t → spread K o i < K .need i → None (From (Within K k) o t)
 none-thin i l q h = record { none = λ y f. omega (arith, decided-spread (f .agree) (f .has .valid) i l q) }
 
-pub none-dear : {K : Case} {k : ℕ} {o : ℕ → ℕ} {t : ℕ} → Begun o t → k < sumBelow 32 (λ n. cond (hasOwner o n) (K .cost (o n) n) 0) → None (From (Within K k) o t)
-unfolding weight
+pub none-dear : {K : Case} {k : ℕ} {o : ℕ → ℕ} {t : ℕ} → Begun o t → k < moves (K .cost) o → None (From (Within K k) o t)
+unfolding weight moves
 none-dear {K} {k} {o} {t} b h =
     record { none = λ y f. omega (arith, f .has .cheap, sum-mono 32 (λ n. cond (hasOwner o n) (K .cost (o n) n) 0) (λ n. cond (hasOwner y n) (K .cost (y n) n) (K .idle)) (λ n l. at y f n l)) }
   where
@@ -136,9 +136,9 @@ none-dear {K} {k} {o} {t} b h =
         (lt-or-le (o n) 16)
 
 -- both tests of a shard, by the numbers that a program has
-pub fits-yes : {a a' b b' x x' y y' : ℕ} → a ≡ a' → b ≡ b' → x ≡ x' → y ≡ y' → a ≤ b → leb x y ≡ (leb a' b' && leb x' y')
-fits-yes {a} {a'} {b} {b'} {x} {x'} {y} {y'} p q r s h =
+pub met-yes : {a a' b b' x x' y y' : ℕ} → a ≡ a' → b ≡ b' → x ≡ x' → y ≡ y' → a ≤ b → leb x y ≡ (leb a' b' && leb x' y')
+met-yes {a} {a'} {b} {b'} {x} {x'} {y} {y'} p q r s h =
     ap (λ (u : ℕ). leb u y) r ∙ (ap (λ (u : ℕ). leb x' u) s ∙ sym (ap (λ (c : Bool). c && leb x' y') (le-leb a' b' (omega arith))))
 
-pub fits-no : {a a' b b' : ℕ} (x y : ℕ) → a ≡ a' → b ≡ b' → b < a → false ≡ (leb a' b' && leb x y)
-fits-no {a} {a'} {b} {b'} x y p q h = sym (ap (λ (c : Bool). c && leb x y) (lt-leb a' b' (omega arith)))
+pub met-no : {a a' b b' : ℕ} (x y : ℕ) → a ≡ a' → b ≡ b' → b < a → false ≡ (leb a' b' && leb x y)
+met-no {a} {a'} {b} {b'} x y p q h = sym (ap (λ (c : Bool). c && leb x y) (lt-leb a' b' (omega arith)))

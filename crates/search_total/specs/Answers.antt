@@ -1,4 +1,4 @@
--- From what a search found to the answer: the first placement, its moves, or that there is none.
+-- From what a search found to the answer: the first placement, its weight, or that there is none.
 use mathlib.Core.Path.{_≡_, sym, ap, _∙_, subst}
 use mathlib.Core.Bool.{true, false}
 use mathlib.Core.List.{List}
@@ -8,7 +8,7 @@ use lib.ListN.{length-replicate, getD-replicate}
 use Rattle.base_laws.specs.Bools.{clash}
 use Rattle.search_theory.specs.Case.{Case, Valid, Within, weight}
 use Rattle.search_theory.specs.Tables.{ownersOf}
-use Rattle.search_theory.specs.Order.{First, None, From, begun-start}
+use Rattle.search_theory.specs.Order.{First, None, begun-start}
 use Rattle.search_theory.specs.Least.{AtLeast, first-least, none-all}
 use Rattle.search_total.specs.declared.Solution.{Solution}
 use Rattle.search_total.specs.Post.{Owners, ReadyFrom, WithinAnswer, LeastAnswer, noOwners}

@@ -9,7 +9,7 @@ use Rattle.search_theory.specs.Tables.{ownersOf}
 use Rattle.search_theory.specs.Order.{First, None, From, Begun}
 use Rattle.search_total.specs.declared.Solution.{Solution}
 
--- owners of 32 nodes, 16 for a node that is hasOwner nowhere
+-- owners of 32 nodes, 16 for a node that is placed nowhere
 pub record Owners (o : List ℕ) : Type 0 where
   pub long : length o ≡ 32
   pub least : (n : ℕ) → n < 32 → ownersOf o n ≤ 16
@@ -30,7 +30,7 @@ pub record Sought (K : Case) (k : ℕ) (o : List ℕ) (t : ℕ) (p : List ℕ) (
 abbrev pub noOwners : List ℕ
 noOwners = replicate 32 16
 
--- the first valid placement of at most k moves with its moves, or that there is none
+-- the first valid placement of a weight of at most k with its weight, or that there is none
 pub record WithinAnswer (K : Case) (k : ℕ) (a : Solution) : Type 0 where
   pub found : a .exists ≡ true → First (Within K k) (ownersOf (a .owners))
   pub exact : a .exists ≡ true → a .weight ≡ weight K (ownersOf (a .owners))
@@ -38,7 +38,7 @@ pub record WithinAnswer (K : Case) (k : ℕ) (a : Solution) : Type 0 where
   pub empty : a .exists ≡ false → (a .weight ≡ 0) × (a .owners ≡ noOwners)
   pub owners : Owners (a .owners)
 
--- the first of the valid placements of least moves with its moves, or that there is none
+-- the first of the valid placements of least weight with its weight, or that there is none
 pub record LeastAnswer (K : Case) (a : Solution) : Type 0 where
   pub found : a .exists ≡ true → First (Least K) (ownersOf (a .owners))
   pub exact : a .exists ≡ true → a .weight ≡ weight K (ownersOf (a .owners))

@@ -22,14 +22,14 @@ same-answer : {a b : Solution} → a .exists ≡ b .exists → a .weight ≡ b .
 same-answer p q r = λ i. record { exists = p i; weight = q i; owners = r i }
 
 -- an answer that has the first placement with P, or says that none has Q
-record Kept (K : Case) (P Q : (ℕ → ℕ) → Type 0) (a : Solution) : Type 0 where
+record FirstOrNone (K : Case) (P Q : (ℕ → ℕ) → Type 0) (a : Solution) : Type 0 where
   found : a .exists ≡ true → First P (ownersOf (a .owners))
   exact : a .exists ≡ true → a .weight ≡ weight K (ownersOf (a .owners))
   none : a .exists ≡ false → None Q
   empty : a .exists ≡ false → (a .weight ≡ 0) × (a .owners ≡ noOwners)
   owners : Owners (a .owners)
 
-unique : {K : Case} {P Q : (ℕ → ℕ) → Type 0} → ((y : ℕ → ℕ) → P y → Q y) → {a b : Solution} → Kept K P Q a → Kept K P Q b → a ≡ b
+unique : {K : Case} {P Q : (ℕ → ℕ) → Type 0} → ((y : ℕ → ℕ) → P y → Q y) → {a b : Solution} → FirstOrNone K P Q a → FirstOrNone K P Q b → a ≡ b
 unique {K} q {a} {b} u w =
     ⊎-elim
     (λ e.
@@ -45,10 +45,10 @@ unique {K} q {a} {b} u w =
     (either (b .exists)))
     (either (a .exists))
 
-least-kept : {K : Case} {a : Solution} → LeastAnswer K a → Kept K (Least K) (Valid K) a
+least-kept : {K : Case} {a : Solution} → LeastAnswer K a → FirstOrNone K (Least K) (Valid K) a
 least-kept u = record { found = u .found; exact = u .exact; none = u .none; empty = u .empty; owners = u .owners }
 
-within-kept : {K : Case} {k : ℕ} {a : Solution} → WithinAnswer K k a → Kept K (Within K k) (Within K k) a
+within-kept : {K : Case} {k : ℕ} {a : Solution} → WithinAnswer K k a → FirstOrNone K (Within K k) (Within K k) a
 within-kept u = record { found = u .found; exact = u .exact; none = u .none; empty = u .empty; owners = u .owners }
 
 pub least-unique : {K : Case} {a b : Solution} → LeastAnswer K a → LeastAnswer K b → a ≡ b

@@ -1,11 +1,12 @@
-// The first valid placement of a subgroup with caps of a weight of at most k, and the first of least weight, or that there is none.
-// The tables are those of search_judge; shards ascending, the smaller list of nodes in dictionary order comes first, a prefix too.
+// The first valid placement of a subgroup of a weight of at most k, and the first of least weight, or that there is none. The tables are
+// those of search_judge; shards ascending, the smaller list of nodes in dictionary order comes first, and a list before a longer one.
 ghost use mathlib.Core.Path.{_≡_};
 ghost use mathlib.Core.Bool.{true};
 ghost use mathlib.Core.List.{[]};
 ghost use Prim.Native.Nat.{_+_, _≤_, _<_};
+ghost use lib.Dec.{eqb};
 ghost use Rattle.search_theory.specs.Case.{Within};
-ghost use Rattle.search_theory.specs.Order.{None, From, next};
+ghost use Rattle.search_theory.specs.Order.{None, From, shardEnd};
 ghost use Rattle.search_theory.specs.Tables.{caseOf, ownersOf};
 ghost use Rattle.search_total.specs.Post.{ReadyFrom, Sought, WithinAnswer, LeastAnswer};
 ghost use Rattle.search_total.specs.Answers.{HasOwners, Empty};
@@ -20,7 +21,7 @@ pub struct Solution {
 // The first pair of the next shard.
 pub fn next(t: usize) -> usize
     requires { ⌜ t < 512 ⌝ }
-    ensures { λ r. ⌜ (r ≡ next t) × (t < r) × (r ≤ 512) ⌝ }
+    ensures { λ r. ⌜ (r ≡ shardEnd t) × (t < r) × (r ≤ 512) ⌝ }
 {
     (t / 32 + 1) * 32
 }
@@ -28,13 +29,13 @@ pub fn next(t: usize) -> usize
 // Whether the pair after t is of the same shard.
 pub fn same_shard(t: usize) -> bool
     requires { ⌜ t < 512 ⌝ }
-    ensures { λ r. ⌜ (r ≡ true → next (t + 1) ≡ next t) ⌝ }
+    ensures { λ r. ⌜ r ≡ eqb (shardEnd (t + 1)) (shardEnd t) ⌝ }
 {
     t % 32 < 31
 }
 
 // Depth first over the pairs from t on: the shard's list is ended before a pair is taken, and a pair is taken before it is left.
-// tried: there is none with the list ended here.
+// Where `tried` says so there is none with the list ended here.
 fn seek(
     sets: &[u8; 32],
     needs: &[u8; 16],
@@ -48,7 +49,7 @@ fn seek(
 ) -> bool
     requires { ⌜ t ≤ 512 ⌝ }
     requires { ⌜ ReadyFrom (now owner) t ⌝ }
-    requires { ⌜ (tried ≡ true → None (From (Within (caseOf (now sets) (now needs) (now caps) (now costs) idle) k) (ownersOf (now owner)) (next t))) ⌝ }
+    requires { ⌜ (tried ≡ true → None (From (Within (caseOf (now sets) (now needs) (now caps) (now costs) idle) k) (ownersOf (now owner)) (shardEnd t))) ⌝ }
     ensures { λ r. ⌜ Sought (caseOf (now (sets .entry)) (now (needs .entry)) (now (caps .entry)) (now (costs .entry)) idle) k (now (owner .entry)) t (now (owner .exit)) r ⌝ }
 {
     if t == 512 {

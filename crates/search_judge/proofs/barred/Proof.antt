@@ -1,14 +1,9 @@
 -- Each test that bars the pair is a law of placements; none of them holds: its node is free. Assumes nothing.
 use borrow.Author.Needs.{needs}
-use Prim.Native.Nat.{ℕ, _≤_, _-_, _+_, _*_, _/_, _%_}
-use mathlib.Core.Path.{_≡_, sym, _∙_, ap, ap₂, subst}
-use mathlib.Core.Bool.{true, false, cond, _&&_}
-use mathlib.Core.List.{[]}
+use Prim.Native.Nat.{ℕ, _≤_, _+_, _*_, _/_, _%_}
+use mathlib.Core.Path.{_≡_, subst}
 use native.Mathlib.Omega.{arith}
-use borrow.Author.Tests.{not-true, not-false, lt-ltb, le-ltb, ltb-true, le-leb, lt-leb, eq-eqb}
-use lib.Dec.{eqb, ltb, leb}
 use lib.ListN.{getD}
-use Rattle.search_theory.specs.Tables.{caseOf, ownersOf}
 use Rattle.search_judge.proofs.barred.Statement.{statement}
 use Rattle.search_judge.proofs.barred.Tie as tie
 use Rattle.search_theory.specs.Tests.{owned, dearest, full}

@@ -1,33 +1,35 @@
--- The owners cost more than k, or a decided shard has too few sets. Assumes nothing.
+-- The definition's two tests, one after the other. Assumes nothing.
 use borrow.Author.Needs.{needs}
-use Prim.Native.Nat.{ℕ, _≤_, _-_, _+_, _*_, _/_, _%_}
-use mathlib.Core.Path.{_≡_, sym, _∙_, ap, ap₂, subst}
-use mathlib.Core.Bool.{true, false, cond, _&&_}
-use mathlib.Core.List.{[]}
+use mathlib.Core.Path.{sym, ap, _∙_}
+use mathlib.Core.Bool.{Bool, _||_}
+use Prim.Native.Nat.{_/_}
 use native.Mathlib.Omega.{arith}
-use borrow.Author.Tests.{not-true, not-false, lt-ltb, le-ltb, ltb-true, le-leb, lt-leb, eq-eqb}
-use lib.Dec.{eqb, ltb, leb}
-use lib.ListN.{getD}
+use lib.Dec.{ltb}
+use borrow.Author.Tests.{lt-ltb, le-ltb}
+use Rattle.base_laws.specs.Bools.{or-left}
+use Rattle.base_laws.specs.Below.{anyBelow}
+use Rattle.search_theory.specs.Case.{Case, spread, meets, moves, weight}
 use Rattle.search_theory.specs.Tables.{caseOf, ownersOf}
+use Rattle.search_judge.specs.Post.{hopelessFrom}
 use Rattle.search_judge.proofs.hopeless.Statement.{statement}
 use Rattle.search_judge.proofs.hopeless.Tie as tie
-use Rattle.base_laws.specs.Below.{any-witness}
-use Rattle.search_theory.specs.Case.{weight, spread, meets}
-use Rattle.search_theory.specs.Tests.{none-thin, none-dear}
 
 returns : tie.Need-returns
-unfolding weight
-returns c = record { yes = λ e. none-dear (c .before .before .pre .1) (omega (arith, c .if1 .taken, c .before .weight .ensures .0)) }
+unfolding hopelessFrom moves weight
+returns c =
+    let a = c .before .before .args in
+    let K : Case = caseOf (a .sets .now) (a .needs .now) (a .caps .now) (a .costs .now) (a .idle) in
+    sym (or-left (anyBelow (a .t / 32) (λ i. ltb (spread K (ownersOf (a .owner .now)) i) (K .need i)))
+    (lt-ltb (a .k) (moves (K .cost) (ownersOf (a .owner .now))) (omega (arith, c .if1 .taken, c .before .weight .ensures .0))))
 
 returns-2 : tie.Need-returns-2
-unfolding spread meets
+unfolding hopelessFrom moves weight spread meets
 returns-2 c =
-    record {
-      yes = λ e.
-          let s = c .before .before .before in
-          let (i, l, d) = any-witness (s .args .t / 32) _ (sym (c .thin .ensures) ∙ e) in
-          none-thin i (omega (arith, s .pre .0)) (omega arith) (ltb-true _ _ d);
-    }
+    let a = c .before .before .before .args in
+    let K : Case = caseOf (a .sets .now) (a .needs .now) (a .caps .now) (a .costs .now) (a .idle) in
+    c .thin .ensures
+    ∙ sym (ap (λ (b : Bool). b || anyBelow (a .t / 32) (λ i. ltb (spread K (ownersOf (a .owner .now)) i) (K .need i)))
+    (le-ltb (a .k) (moves (K .cost) (ownersOf (a .owner .now))) (omega (arith, c .before .if1 .left, c .before .before .weight .ensures .0))))
 
 pub hopeless-spec : {M : Type 1} → statement M
 hopeless-spec =

@@ -1,5 +1,4 @@
 -- Each branch by its law. Assumes nothing.
-use mathlib.Core.Path.{sym}
 use native.Mathlib.Omega.{arith}
 use borrow.Author.Needs.{needs}
 use Rattle.search_judge.specs.Met.{joined-with, joined-other, joined-past}

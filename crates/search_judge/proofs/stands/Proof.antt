@@ -1,4 +1,4 @@
--- The loop's invariant: every node below n is allowed where it is hasOwner. Assumes nothing.
+-- The loop's invariant: every node below n is allowed where it is placed. Assumes nothing.
 use borrow.Author.Needs.{needs}
 use Prim.Native.Nat.{ℕ, _≤_, _-_, _+_, _*_}
 use mathlib.Core.Path.{_≡_, sym, _∙_, ap}

@@ -1,19 +1,13 @@
 -- Each test that fails is one that a valid placement of a weight of at most k passes; all passed, the placement is one. Assumes nothing.
 use borrow.Author.Needs.{needs}
-use Prim.Native.Nat.{ℕ, _≤_, _-_, _+_, _*_, _/_, _%_}
-use mathlib.Core.Path.{_≡_, sym, _∙_, ap, ap₂, subst}
-use mathlib.Core.Bool.{true, false, cond, _&&_}
-use mathlib.Core.List.{[]}
+use mathlib.Core.Path.{sym, _∙_}
 use native.Mathlib.Omega.{arith}
-use borrow.Author.Tests.{not-true, not-false, lt-ltb, le-ltb, ltb-true, le-leb, lt-leb, eq-eqb}
-use lib.Dec.{eqb, ltb, leb}
-use lib.ListN.{getD}
-use Rattle.search_theory.specs.Tables.{caseOf, ownersOf}
+use borrow.Author.Tests.{not-true, not-false}
 use Rattle.search_judge.proofs.within.Statement.{statement}
 use Rattle.search_judge.proofs.within.Tie as tie
 use Rattle.base_laws.specs.Bools.{clash}
 use Rattle.search_theory.specs.Case.{weight, spread, meets}
-use Rattle.search_theory.specs.Tests.{valid-of, valid-stands, valid-fits}
+use Rattle.search_theory.specs.Tests.{valid-of, valid-stands, valid-met}
 use Rattle.search_judge.specs.Post.{judged, rejected}
 
 returns : tie.Need-returns
@@ -21,7 +15,7 @@ returns c = rejected (λ w. clash (c .before .stands .ensures ∙ valid-stands (
 
 returns-2 : tie.Need-returns-2
 unfolding spread meets
-returns-2 c = rejected (λ w. clash (c .before .fits2 .ensures ∙ valid-fits (w .valid)) (not-true (c .before .fits2 .result) (c .if2 .taken)))
+returns-2 c = rejected (λ w. clash (c .before .filled .ensures ∙ valid-met (w .valid)) (not-true (c .before .filled .result) (c .if2 .taken)))
 
 returns-3 : tie.Need-returns-3
 unfolding weight
@@ -34,7 +28,7 @@ returns-4 c =
     (record {
       valid =
           valid-of (sym (c .before .before .before .before .before .stands .ensures) ∙ not-false (c .before .before .before .before .before .stands .result) (c .before .before .before .before .if1 .left))
-          (sym (c .before .before .before .fits2 .ensures) ∙ not-false (c .before .before .before .fits2 .result) (c .before .before .if2 .left));
+          (sym (c .before .before .before .filled .ensures) ∙ not-false (c .before .before .before .filled .result) (c .before .before .if2 .left));
       cheap = omega (arith, c .if3 .left, c .before .weight .ensures .0);
     })
 

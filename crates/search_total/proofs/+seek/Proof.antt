@@ -2,7 +2,7 @@
 -- end, nothing to hope for, the list ended, a pair that is barred, a pair taken with a placement found, and a pair left after
 -- none was found with it. Assumes nothing.
 use Prim.Native.Nat.{ℕ, _<_, _≤_, _-_, _+_, _*_}
-use mathlib.Core.Path.{_≡_, ap, refl}
+use mathlib.Core.Path.{_≡_, ap}
 use mathlib.Core.Bool.{Bool, true, false, cond, false≢true}
 use native.Mathlib.Numerals.{add-one-le}
 use native.Mathlib.Omega.{arith}
@@ -10,8 +10,8 @@ use borrow.Author.Needs.{needs}
 use borrow.Author.Tests.{not-true, not-false}
 use borrow.Fn.Kinds.{In}
 use borrow.Fn.PlainCycle.{Measures, is, falls, and}
-use Rattle.search_total.specs.Steps.{closing, sought-end, sought-hopeless, sought-leave, sought-found, sought-else, barred-none, ready-leave, ready-close, ready-stored, ready-restored, closed-found, closed-ready, closed-none, closed-else, none-later, restored-none}
-use Rattle.search_total.specs.Post.{ReadyFrom}
+use Rattle.search_total.specs.Steps.{closing, sought-end, sought-hopeless, sought-leave, sought-found, sought-else, barred-none}
+use Rattle.search_total.specs.Steps.{ready-leave, ready-stored, ready-restored, closed-found, closed-ready, closed-none, closed-else, none-later, restored-none}
 use Rattle.search_total.proofs.seek.Reads as seek
 use Rattle.search_total.proofs.seek.Kinds as seek-kinds
 use Rattle.search_total.proofs.+seek.Lts-seek as seek-lts
@@ -67,8 +67,8 @@ pub +seek-spec : {M : Type 1} → statement M
     seek.Post
     (λ c κs. search needs)
     (λ c. sought-end (c .before .before .if1 .taken) (c .before .before .before .pre .1 .1 .0) (c .within .ensures))
-    (λ c κs. (c .before .before .pre .1 .0, c .before .before .pre .1 .1 .0 .begun))
-    (λ c. sought-hopeless (c .before .before .before .before .pre .1 .1 .0) (c .if2 .taken) (c .before .hopeless .ensures))
+    (λ c κs. c .before .before .pre .1 .0)
+    (λ c. sought-hopeless (c .before .before .before .before .pre .1 .0) (c .before .before .before .before .pre .1 .1 .0) (c .if2 .taken) (c .before .hopeless .ensures))
     (λ c κs. below (c .before .before .before .before .before .if1 .left) (c .before .before .before .before .before .before .pre .1 .0))
     (λ c κs.
     let s = c .before .before .before .before .before .before .before in
@@ -84,16 +84,24 @@ pub +seek-spec : {M : Type 1} → statement M
     let v = c .before .before .seek .ensures in
     let e = c .before .before .before .next .ensures .0 in
     let g = c .before .if4 .left in
-    (omega (arith, s .pre .0, one (s .args .tried) (not-true (s .args .tried) (c .before .before .before .before .before .if3 .taken))), (s .pre .1 .0, (closed-ready (s .args .t) e v (s .pre .1 .1 .0) g, λ d. closed-none (s .args .t) e v g))))
-    (λ c. closed-else (c .before .before .before .before .before .before .before .before .before .before .before .args .t) (c .before .before .before .before .next .ensures .0) (c .before .before .before .seek .ensures) (c .before .before .if4 .left) (c .seek2 .ensures))
-    (λ c κs. (below (c .before .before .before .before .before .if1 .left) (c .before .before .before .before .before .before .pre .1 .0), c .before .before .before .before .before .before .pre .1 .1 .0 .begun))
+    let u = one (s .args .tried) (not-true (s .args .tried) (c .before .before .before .before .before .if3 .taken)) in
+    (omega (arith, s .pre .0), (s .pre .1 .0, (closed-ready (s .args .t) e v (s .pre .1 .1 .0) g, λ d. closed-none (s .args .t) e v g))))
+    (λ c.
+    let s = c .before .before .before .before .before .before .before .before .before .before .before in
+    closed-else (s .args .t) (c .before .before .before .before .next .ensures .0) (c .before .before .before .seek .ensures) (c .before .before .if4 .left)
+    (c .seek2 .ensures))
+    (λ c κs.
+    let s = c .before .before .before .before .before .before in
+    (below (c .before .before .before .before .before .if1 .left) (s .pre .1 .0), s .pre .1 .1 .0 .begun))
     (λ c. search needs)
     (λ c κs. below (c .before .before .before .before .before .before .before .before .if1 .left) (c .before .before .before .before .before .before .before .before .before .pre .1 .0))
     (λ c κs.
     let s = c .before .before .before .before .before .before .before .before .before .before in
     let l = below (c .before .before .before .before .before .before .before .before .before .if1 .left) (s .pre .1 .0) in
-    let n = s .pre .1 .1 .1 (not-false (s .args .tried) (c .before .before .before .before .before .if3 .left)) in
-    (omega (arith, s .pre .0, low (c .same-shard .result)), (add-one-le l, (ready-leave l (s .pre .1 .1 .0), none-later (s .args .owner .now) (s .args .t) (c .same-shard .ensures) n))))
+    let n = s .pre .1 .1 .1 (not-false (s .args .tried) (c .before .before .before .before .before .if3 .left)) in (
+      omega (arith, s .pre .0, low (c .same-shard .result)),
+      (add-one-le l, (ready-leave l (s .pre .1 .1 .0), none-later (s .args .owner .now) (s .args .t) (c .same-shard .ensures) n)),
+    ))
     (λ c.
     let s = c .before .before .before .before .before .before .before .before .before .before .before in
     let l = below (c .before .before .before .before .before .before .before .before .before .before .if1 .left) (s .pre .1 .0) in
@@ -104,12 +112,14 @@ pub +seek-spec : {M : Type 1} → statement M
     (λ c κs.
     let s = c .before .before .before .before .before .before .before .before .before .before in
     let l = below (c .before .before .before .before .before .before .before .before .before .if1 .left) (s .pre .1 .0) in
-    (omega (arith, s .pre .0), (add-one-le l, (ready-stored l (s .pre .1 .1 .0) (c .before .shard .ensures) (c .before .before .before .barred .ensures .no (c .before .before .if5 .left)), λ e. absurd (false≢true e)))))
+    let f = c .before .before .before .barred .ensures .no (c .before .before .if5 .left) in
+    (omega (arith, s .pre .0), (add-one-le l, (ready-stored l (s .pre .1 .1 .0) (c .before .shard .ensures) f, λ e. absurd (false≢true e)))))
     (λ c.
     let s = c .before .before .before .before .before .before .before .before .before .before .before .before in
     let l = below (c .before .before .before .before .before .before .before .before .before .before .before .if1 .left) (s .pre .1 .0) in
     let n = s .pre .1 .1 .1 (not-false (s .args .tried) (c .before .before .before .before .before .before .before .if3 .left)) in
-    sought-found l (s .pre .1 .1 .0) (c .before .before .before .shard .ensures) (c .before .before .before .before .before .barred .ensures .no (c .before .before .before .before .if5 .left)) n (c .if6 .taken) (c .before .seek4 .ensures))
+    let f = c .before .before .before .before .before .barred .ensures .no (c .before .before .before .before .if5 .left) in
+    sought-found l (s .pre .1 .1 .0) (c .before .before .before .shard .ensures) f n (c .if6 .taken) (c .before .seek4 .ensures))
     (λ c. search needs)
     (λ c. search needs)
     (λ c κs. below (c .before .before .before .before .before .before .before .before .before .before .before .before .if1 .left) (c .before .before .before .before .before .before .before .before .before .before .before .before .before .pre .1 .0))
@@ -118,9 +128,15 @@ pub +seek-spec : {M : Type 1} → statement M
     let l = below (c .before .before .before .before .before .before .before .before .before .before .before .before .before .if1 .left) (s .pre .1 .0) in
     let n = s .pre .1 .1 .1 (not-false (s .args .tried) (c .before .before .before .before .before .before .before .before .before .if3 .left)) in
     let f = c .before .before .before .before .before .before .before .barred .ensures .no (c .before .before .before .before .before .before .if5 .left) in
-    (omega (arith, s .pre .0, low (c .same-shard2 .result)), (add-one-le l, (ready-restored l (s .pre .1 .1 .0) (c .before .before .before .before .before .shard .ensures) f (c .before .before .if6 .left) (c .before .before .before .seek4 .ensures), restored-none l (s .pre .1 .1 .0) (c .before .before .before .before .before .shard .ensures) f (c .before .before .if6 .left) (c .before .before .before .seek4 .ensures) n (c .same-shard2 .ensures)))))
+    let e = c .before .before .before .before .before .shard .ensures in
+    let g = c .before .before .if6 .left in
+    let v = c .before .before .before .seek4 .ensures in (
+      omega (arith, s .pre .0, low (c .same-shard2 .result)),
+      (add-one-le l, (ready-restored l (s .pre .1 .1 .0) e f g v, restored-none l (s .pre .1 .1 .0) e f g v n (c .same-shard2 .ensures))),
+    ))
     (λ c.
     let s = c .before .before .before .before .before .before .before .before .before .before .before .before .before .before .before in
     let l = below (c .before .before .before .before .before .before .before .before .before .before .before .before .before .before .if1 .left) (s .pre .1 .0) in
-    sought-else l (s .pre .1 .1 .0) (c .before .before .before .before .before .before .shard .ensures) (c .before .before .before .before .before .before .before .before .barred .ensures .no (c .before .before .before .before .before .before .before .if5 .left)) (c .before .before .before .if6 .left) (c .before .before .before .before .seek4 .ensures)
-    (c .seek5 .ensures))
+    let f = c .before .before .before .before .before .before .before .before .barred .ensures .no (c .before .before .before .before .before .before .before .if5 .left) in
+    sought-else l (s .pre .1 .1 .0) (c .before .before .before .before .before .before .shard .ensures) f (c .before .before .before .if6 .left)
+    (c .before .before .before .before .seek4 .ensures) (c .seek5 .ensures))

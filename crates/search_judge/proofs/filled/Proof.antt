@@ -1,22 +1,20 @@
 -- The loop's invariant: every shard below i fits. Assumes nothing.
 use borrow.Author.Needs.{needs}
-use Prim.Native.Nat.{ℕ, _≤_, _-_, _+_, _*_, _/_, _%_}
-use mathlib.Core.Path.{_≡_, sym, _∙_, ap, ap₂, subst}
-use mathlib.Core.Bool.{true, false, cond, _&&_}
+use Prim.Native.Nat.{_≤_, _-_}
+use mathlib.Core.Path.{_≡_, sym, _∙_}
+use mathlib.Core.Bool.{true}
 use mathlib.Core.List.{[]}
 use native.Mathlib.Omega.{arith}
-use borrow.Author.Tests.{not-true, not-false, lt-ltb, le-ltb, ltb-true, le-leb, lt-leb, eq-eqb}
-use lib.Dec.{eqb, ltb, leb}
-use lib.ListN.{getD}
+use borrow.Author.Tests.{not-true, not-false}
 use Rattle.search_theory.specs.Tables.{caseOf, ownersOf}
-use Rattle.search_judge.proofs.fits.Statement.{statement}
-use Rattle.search_judge.proofs.fits.Tie as tie
+use Rattle.search_judge.proofs.filled.Statement.{statement}
+use Rattle.search_judge.proofs.filled.Tie as tie
 use Rattle.base_laws.specs.Below.{allBelow, all-none, all-more, all-fails}
 use Rattle.base_laws.specs.Loops.{all-done}
-use Rattle.search_theory.specs.Tests.{fits}
+use Rattle.search_theory.specs.Tests.{needsMet}
 
 abbrev Inv-loop : tie.InvT-loop
-Inv-loop sets needs caps owner i₀ i = (i ≤ 16) × (allBelow i (fits (caseOf sets needs caps [] 0) (ownersOf owner)) ≡ true)
+Inv-loop sets needs caps owner i₀ i = (i ≤ 16) × (allBelow i (needsMet (caseOf sets needs caps [] 0) (ownersOf owner)) ≡ true)
 
 abbrev μ-loop : tie.MeasureT-loop
 μ-loop sets needs caps owner i₀ i = 16 - i
@@ -28,19 +26,19 @@ returns : tie.Need-returns Inv-loop μ-loop
 returns c =
     sym
     (all-fails 16 _ (c .before .before .before .loop .i) (omega arith)
-    (sym (c .before .fits-at .ensures) ∙ not-true (c .before .fits-at .result) (c .if1 .taken)))
+    (sym (c .before .filled-at .ensures) ∙ not-true (c .before .filled-at .result) (c .if1 .taken)))
 
 loop-again : tie.Need-loop-again Inv-loop μ-loop
 loop-again c = (
   omega arith,
   all-more _ _ (c .before .before .before .loop .inv .1)
-      (sym (c .before .fits-at .ensures) ∙ not-false (c .before .fits-at .result) (c .if1 .left)),
+      (sym (c .before .filled-at .ensures) ∙ not-false (c .before .filled-at .result) (c .if1 .left)),
 )
 
 returns-2 : tie.Need-returns-2 Inv-loop μ-loop
 returns-2 c = sym (all-done (c .before .loop .inv .0) (c .loop-test .left) true _ (c .before .loop .inv .1))
 
-pub fits-spec : {M : Type 1} → statement M
-fits-spec =
+pub filled-spec : {M : Type 1} → statement M
+filled-spec =
     tie.close
     (tie.spec Inv-loop μ-loop loop-holds (λ c κs. search needs) returns (λ c. search needs) (λ c. search needs) loop-again returns-2)
