@@ -213,7 +213,7 @@ fn all_steady(
 }
 
 // The mask m, with node n where that is so.
-fn added(m: u32, n: usize, yes: bool) -> u32
+pub fn added(m: u32, n: usize, yes: bool) -> u32
     requires { ⌜ n < 32 ⌝ }
     ensures { λ r. ⌜ r ≡ cond yes (with m n) m ⌝ }
 {

@@ -1,39 +1,58 @@
--- A pair is left where it is barred, or where a cut excludes it. Assumes nothing.
 use borrow.Author.Needs.{needs}
-use Prim.Native.Nat.{ℕ, _≤_, _<_, _-_, _+_, _*_, _/_, _%_}
-use mathlib.Core.Path.{_≡_, refl, sym, _∙_, ap, subst}
-use mathlib.Core.Bool.{Bool, true, false, false≢true}
-use mathlib.Core.List.{List}
-use mathlib.Core.Logic.{inl, inr}
-use native.Mathlib.Omega.{arith}
-use borrow.Author.Tests.{not-true, not-false, ltb-true, leb-true, eqb-true}
-use lib.ListN.{getD}
-use Rattle.base_laws.specs.Bools.{clash}
-use Rattle.search_theory.specs.Case.{Within, spread, meets, weight}
-use Rattle.search_theory.specs.Order.{None, From, next}
-use Rattle.search_theory.specs.Tests.{none-thin}
-use Rattle.search_theory.specs.Tables.{caseOf, ownersOf}
-use Rattle.search_hinted.specs.Stage.{Narrowed, Advanced, At, Moved, stage-cut, stage-shut, stage-close, stage-none, advance-leave, advance-take, moved-close, moved-on, moved-next, moved-passed, begun-at}
-use Rattle.search_hinted.specs.Post.{Sure, sure-start, sure-next, found-end, sound-none}
 use Rattle.search_hinted.proofs.leaves.Statement.{statement}
 use Rattle.search_hinted.proofs.leaves.Tie as tie
+use Rattle.search_hinted.proofs.leaves.Reads as reads
+use Rattle.search_hinted.proofs.leaves.Lts as lts
+use Rattle.base_masks.proofs.has.Reads as has-reads
+use Rattle.search_hinted.proofs.prune.Reads as prune-reads
+use Rattle.search_judge.proofs.barred.Reads as barred-reads
 
+-- src/lib.rt:239:9
+barred-requires : tie.Need-barred-requires
+barred-requires c κs = search needs
+
+-- src/lib.rt:239:9
 returns : tie.Need-returns
-returns c = λ e. advance-leave (c .before .before .pre .1 .1) (c .before .before .pre .0 .0) (λ y f d. c .barred .ensures .yes e y (f .has .valid) (f .agree) d)
+returns c = ?
 
+-- src/lib.rt:242:13
+prune-requires : tie.Need-prune-requires
+prune-requires c κs = ?
+
+-- src/lib.rt:244:37
+mul-has : tie.Need-mul-has
+mul-has c = search needs
+
+-- src/lib.rt:244:37
+element-copy-out-has : tie.Need-element-copy-out-has
+element-copy-out-has c = search needs
+
+-- src/lib.rt:244:21
+has-requires : tie.Need-has-requires
+has-requires c κs = search needs
+
+-- src/lib.rt:244:13
 returns-2 : tie.Need-returns-2
-returns-2 c =
-    λ e.
-    let s = c .before .before .before .before .before .before in
-    let after = stage-cut (s .pre .1 .1) (c .before .before .prune .ensures .1) (c .before .before .prune .ensures .0 (c .before .if3 .taken)) in
-    advance-leave after (s .pre .0 .0) (stage-shut after (s .pre .0 .0) (leb-true _ _ e))
+returns-2 c = ?
 
+-- src/lib.rt:220:1
 returns-3 : tie.Need-returns-3
-returns-3 c = λ e. absurd (false≢true e)
+returns-3 c = ?
 
+-- src/lib.rt:220:1
 returns-4 : tie.Need-returns-4
-returns-4 c = λ e. absurd (false≢true e)
+returns-4 c = ?
 
 pub leaves-spec : {M : Type 1} → statement M
 leaves-spec =
-    tie.close (tie.spec (λ c κs. search needs) returns (λ c κs. search needs) (λ c. search needs) returns-2 returns-3 returns-4)
+    tie.close
+    (tie.spec
+    barred-requires
+    returns
+    prune-requires
+    mul-has
+    element-copy-out-has
+    has-requires
+    returns-2
+    returns-3
+    returns-4)

@@ -10,7 +10,7 @@ use borrow.Author.Tests.{not-true, not-false, ltb-true, leb-true, eqb-true}
 use lib.ListN.{getD}
 use Rattle.base_laws.specs.Bools.{clash}
 use Rattle.search_theory.specs.Case.{Within, spread, meets, weight}
-use Rattle.search_theory.specs.Order.{None, From, next}
+use Rattle.search_theory.specs.Order.{None, From, shardEnd}
 use Rattle.search_theory.specs.Tests.{none-thin}
 use Rattle.search_theory.specs.Tables.{caseOf, ownersOf}
 use Rattle.search_hinted.specs.Stage.{Narrowed, Advanced, At, Moved, stage-cut, stage-shut, stage-close, stage-none, advance-leave, advance-take, moved-close, moved-on, moved-next, moved-passed, begun-at}
