@@ -296,13 +296,14 @@ fn decided(
     ensures { λ r. ⌜ (r ≤ 1024 → Moved (caseOf (now (sets .entry)) (now (needs .entry)) (now (caps .entry)) (now (prices .entry)) idle) k (now (owner .entry)) p (now (owner .exit)) (now (rows .exit)) r) ⌝ }
 {
     let t = p / 2;
-    if !base_masks::has(rows[t / 32], t % 32) {
+    let n = t % 32;
+    if !base_masks::has(rows[t / 32], n) {
         return passed(p);
     }
-    if owner[t % 32] < 16 {
+    if owner[n] < 16 {
         return passed(p);
     }
-    let hint = hint_oracle::take(mem, (t / 32) as u32, (t % 32) as u32, k as u32);
+    let hint = hint_oracle::take(mem, (t / 32) as u32, n as u32, k as u32);
     if hint == 0 {
         if take(owner, rows, t) {
             return p + 1;

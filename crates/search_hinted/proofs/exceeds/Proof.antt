@@ -1,21 +1,19 @@
+-- The floor is above k. Assumes nothing.
 use borrow.Author.Needs.{needs}
+use Prim.Native.Nat.{ℕ, _<_}
+use mathlib.Core.Bool.{false≢true}
+use borrow.Author.Tests.{ltb-true}
+use Rattle.search_hinted.specs.Post.{sound-none}
 use Rattle.search_hinted.proofs.exceeds.Statement.{statement}
 use Rattle.search_hinted.proofs.exceeds.Tie as tie
-use Rattle.search_hinted.proofs.exceeds.Reads as reads
-use Rattle.search_hinted.proofs.exceeds.Lts as lts
-use Rattle.search_hinted.proofs.prune.Reads as prune-reads
 
--- src/lib.rt:113:9
-prune-requires : tie.Need-prune-requires
-prune-requires c κs = search needs
-
--- src/lib.rt:115:9
 returns : tie.Need-returns
-returns c = ?
+returns c = λ e. sound-none (ltb-true _ _ e) (c .before .before .prune .ensures (c .before .if1 .taken))
 
--- src/lib.rt:94:1
 returns-2 : tie.Need-returns-2
-returns-2 c = ?
+returns-2 c = λ e. absurd (false≢true e)
 
 pub exceeds-spec : {M : Type 1} → statement M
-exceeds-spec = tie.close (tie.spec prune-requires returns returns-2)
+exceeds-spec =
+    tie.close
+    (tie.spec (λ c κs. search needs) returns returns-2)

@@ -1,77 +1,46 @@
+-- The loop's invariant: what is first from p is first of all. At the end the owners are tested. Assumes nothing.
 use borrow.Author.Needs.{needs}
+use Prim.Native.Nat.{ℕ, _≤_, _<_, _-_}
+use mathlib.Core.Path.{_≡_}
+use native.Mathlib.Omega.{arith}
+use Rattle.base_laws.specs.Bools.{clash}
+use Rattle.search_theory.specs.Case.{weight}
+use Rattle.search_theory.specs.Tables.{caseOf}
+use Rattle.search_hinted.specs.Post.{Sure, sure-start, sure-next, found-end}
 use Rattle.search_hinted.proofs.follow.Statement.{statement}
 use Rattle.search_hinted.proofs.follow.Tie as tie
-use Rattle.search_hinted.proofs.follow.Reads as reads
-use Rattle.search_hinted.proofs.follow.Lts as lts
-use Rattle.search_hinted.proofs.step.Reads as step-reads
-use Rattle.search_hinted.proofs.unsure.Reads as unsure-reads
-use Rattle.search_judge.proofs.within.Reads as within-reads
-use Rattle.search_total.proofs.some.Reads as some-reads
 
 abbrev Inv-loop : tie.InvT-loop
-Inv-loop sets needs caps prices rows₀ mem₀ idle k owner₀ p₀ rows mem owner p = ?
+Inv-loop sets needs caps prices rows₀ mem₀ idle k owner₀ p₀ rows mem owner p = (p ≤ 1024) × Sure (caseOf sets needs caps prices idle) k owner p rows
 
 abbrev μ-loop : tie.MeasureT-loop
-μ-loop sets needs caps prices rows₀ mem₀ idle k owner₀ p₀ rows mem owner p = ?
+μ-loop sets needs caps prices rows₀ mem₀ idle k owner₀ p₀ rows mem owner p = 1024 - p
 
--- src/lib.rt:410:5
 loop-holds : tie.Need-loop-holds Inv-loop μ-loop
-loop-holds c = search needs
+loop-holds c = (omega arith, sure-start (c .pre .1 .1))
 
--- src/lib.rt:411:13
 step-requires : tie.Need-step-requires Inv-loop μ-loop
-step-requires c κs = search needs
+step-requires c κs = ((c .before .before .before .loop-test .taken, c .before .before .before .before .before .pre .0), (c .before .before .before .before .before .pre .1 .0, c .before .before .before .before .loop .inv .1 .at))
 
--- src/lib.rt:424:13
-unsure-requires : tie.Need-unsure-requires Inv-loop μ-loop
-unsure-requires c κs = search needs
-
--- src/lib.rt:424:13
 returns : tie.Need-returns Inv-loop μ-loop
-returns c = search needs
+returns c = λ e. clash e (c .unsure .ensures)
 
--- src/lib.rt:410:5
 loop-less : tie.Need-loop-less Inv-loop μ-loop
-loop-less c = search needs
+loop-less c = omega (arith, c .before .step .ensures (c .if1 .left) .more, c .before .step .ensures (c .if1 .left) .most)
 
--- src/lib.rt:410:5
 loop-again : tie.Need-loop-again Inv-loop μ-loop
-loop-again c = search needs
+loop-again c = (c .before .step .ensures (c .if1 .left) .most, sure-next (c .before .before .before .before .before .before .loop .inv .1) (c .before .step .ensures (c .if1 .left)))
 
--- src/lib.rt:428:8
-within-requires : tie.Need-within-requires Inv-loop μ-loop
-within-requires c κs = search needs
-
--- src/lib.rt:431:21
-some-requires : tie.Need-some-requires Inv-loop μ-loop
-some-requires c κs = search needs
-
--- src/lib.rt:434:9
-unsure-requires-2 : tie.Need-unsure-requires-2 Inv-loop μ-loop
-unsure-requires-2 c κs = search needs
-
--- src/lib.rt:393:1
 returns-2 : tie.Need-returns-2 Inv-loop μ-loop
-returns-2 c = search needs
+unfolding weight
+returns-2 c = λ e.
+    found-end (c .before .before .before .before .before .loop .inv .0) (c .before .before .before .before .loop-test .left) (c .before .before .before .before .before .loop .inv .1) (c .before .before .within .ensures .yes (c .before .if2 .taken))
+    (record { exists = c .some .ensures .exists; weight = c .some .ensures .weight; owners = c .some .ensures .owners })
 
--- src/lib.rt:393:1
 returns-3 : tie.Need-returns-3 Inv-loop μ-loop
-returns-3 c = search needs
+returns-3 c = λ e. clash e (c .unsure2 .ensures)
 
 pub follow-spec : {M : Type 1} → statement M
 follow-spec =
     tie.close
-    (tie.spec
-    Inv-loop
-    μ-loop
-    loop-holds
-    step-requires
-    unsure-requires
-    returns
-    loop-less
-    loop-again
-    within-requires
-    some-requires
-    unsure-requires-2
-    returns-2
-    returns-3)
+    (tie.spec Inv-loop μ-loop loop-holds step-requires (λ c κs. search needs) returns loop-less loop-again (λ c κs. search needs) (λ c κs. search needs) (λ c κs. search needs) returns-2 returns-3)

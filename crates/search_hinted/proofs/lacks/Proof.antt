@@ -1,37 +1,23 @@
+-- A shard meets no more sets than it has nodes. Assumes nothing.
 use borrow.Author.Needs.{needs}
+use Prim.Native.Nat.{ℕ, _<_}
+use mathlib.Core.List.{[]}
+use native.Mathlib.Omega.{arith}
+use borrow.Author.Tests.{ltb-true}
+use Rattle.search_theory.specs.Tables.{caseOf, ownersOf}
+use Rattle.search_theory.specs.Ranks.{spread-size}
 use Rattle.search_hinted.proofs.lacks.Statement.{statement}
 use Rattle.search_hinted.proofs.lacks.Tie as tie
-use Rattle.search_hinted.proofs.lacks.Reads as reads
-use Rattle.search_hinted.proofs.lacks.Lts as lts
-use Rattle.search_judge.proofs.size.Reads as size-reads
-use Rattle.search_judge.proofs.spread.Reads as spread-reads
-use Rattle.search_judge.proofs.wide.Reads as wide-reads
 
--- src/lib.rt:152:35
-element-copy-out-wide : tie.Need-element-copy-out-wide
-element-copy-out-wide c = search needs
-
--- src/lib.rt:152:9
-wide-requires : tie.Need-wide-requires
-wide-requires c κs = search needs
-
--- src/lib.rt:153:8
-size-requires : tie.Need-size-requires
-size-requires c κs = search needs
-
--- src/lib.rt:154:9
 returns : tie.Need-returns
-returns c = ?
+returns c = λ e.
+    let s = c .before .before .before .before in
+    omega (arith, c .if1 .taken, c .before .size .ensures, c .before .before .wide .ensures .0, spread-size (caseOf (s .args .sets .now) [] [] [] 0) (s .pre .1 .below) (ownersOf (s .args .owner .now)) (s .args .i))
 
--- src/lib.rt:156:5
-spread-requires : tie.Need-spread-requires
-spread-requires c κs = search needs
-
--- src/lib.rt:147:1
 returns-2 : tie.Need-returns-2
-returns-2 c = ?
+returns-2 c = λ e. omega (arith, ltb-true (c .spread .result) (c .before .before .before .wide .result) e, c .spread .ensures, c .before .before .before .wide .ensures .0)
 
 pub lacks-spec : {M : Type 1} → statement M
 lacks-spec =
     tie.close
-    (tie.spec element-copy-out-wide wide-requires size-requires returns spread-requires returns-2)
+    (tie.spec (λ c. search needs) (λ c κs. search needs) (λ c κs. search needs) returns (λ c κs. search needs) returns-2)

@@ -1,58 +1,33 @@
+-- A pair is left where it is barred, or where a cut excludes it. Assumes nothing.
 use borrow.Author.Needs.{needs}
+use Prim.Native.Nat.{ℕ, _≤_, _<_}
+use mathlib.Core.Path.{_≡_, sym, _∙_}
+use mathlib.Core.Bool.{false≢true}
+use native.Mathlib.Omega.{arith}
+use Rattle.base_laws.specs.Bools.{of-not-true}
+use Rattle.search_hinted.specs.Stage.{stage-cut, stage-shut, advance-leave}
 use Rattle.search_hinted.proofs.leaves.Statement.{statement}
 use Rattle.search_hinted.proofs.leaves.Tie as tie
-use Rattle.search_hinted.proofs.leaves.Reads as reads
-use Rattle.search_hinted.proofs.leaves.Lts as lts
-use Rattle.base_masks.proofs.has.Reads as has-reads
-use Rattle.search_hinted.proofs.prune.Reads as prune-reads
-use Rattle.search_judge.proofs.barred.Reads as barred-reads
 
--- src/lib.rt:239:9
-barred-requires : tie.Need-barred-requires
-barred-requires c κs = search needs
-
--- src/lib.rt:239:9
 returns : tie.Need-returns
-returns c = ?
+returns c = λ e. advance-leave (c .before .before .pre .1 .1) (c .before .before .pre .0 .0) (λ y f d. c .barred .ensures .yes e y (f .has .valid) (f .agree) d)
 
--- src/lib.rt:242:13
 prune-requires : tie.Need-prune-requires
-prune-requires c κs = ?
+prune-requires c κs = let s = c .before .before .before in ((omega (arith, s .pre .0 .0), s .pre .0 .1), (s .pre .1 .0, (s .pre .1 .1 .long, s .pre .1 .1 .ready .begun)))
 
--- src/lib.rt:244:37
-mul-has : tie.Need-mul-has
-mul-has c = search needs
-
--- src/lib.rt:244:37
-element-copy-out-has : tie.Need-element-copy-out-has
-element-copy-out-has c = search needs
-
--- src/lib.rt:244:21
-has-requires : tie.Need-has-requires
-has-requires c κs = search needs
-
--- src/lib.rt:244:13
 returns-2 : tie.Need-returns-2
-returns-2 c = ?
+returns-2 c = λ e.
+    let s = c .before .before .before .before .before .before .before in
+    let after = stage-cut (s .pre .1 .1) (c .before .before .before .prune .ensures (c .before .before .if3 .taken)) in
+    advance-leave after (s .pre .0 .0) (stage-shut after (s .pre .0 .0) (sym (c .has .ensures) ∙ of-not-true (c .has .result) e))
 
--- src/lib.rt:220:1
 returns-3 : tie.Need-returns-3
-returns-3 c = ?
+returns-3 c = λ e. absurd (false≢true e)
 
--- src/lib.rt:220:1
 returns-4 : tie.Need-returns-4
-returns-4 c = ?
+returns-4 c = λ e. absurd (false≢true e)
 
 pub leaves-spec : {M : Type 1} → statement M
 leaves-spec =
     tie.close
-    (tie.spec
-    barred-requires
-    returns
-    prune-requires
-    mul-has
-    element-copy-out-has
-    has-requires
-    returns-2
-    returns-3
-    returns-4)
+    (tie.spec (λ c κs. search needs) returns prune-requires (λ c. search needs) (λ c. search needs) (λ c κs. search needs) returns-2 returns-3 returns-4)
