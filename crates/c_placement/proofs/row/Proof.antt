@@ -32,7 +32,7 @@ loop-again c =
     let e = c .before .entry in (
       omega arith,
       row-turn (w .wide .result % 16) (e .result) (c .lesser .result) (w .before .before .before .loop .inv .1) (ap (λ (x : ℕ). x % 16) (w .wide .ensures .0)) (e .ensures)
-      (c .lesser .ensures),
+          (c .lesser .ensures),
     )
 
 returns-2 : tie.Need-returns-2 Inv-loop μ-loop
