@@ -81,7 +81,7 @@ impl Subgroup<'_> {
             found.push(masks);
             return;
         };
-        for own in parts(free) {
+        for own in parts(free, self.settings.cap(shard)) {
             if self.good_members(shard, own) {
                 let mut longer = masks.clone();
                 longer[shard as usize] = own;
@@ -148,11 +148,12 @@ impl Subgroup<'_> {
     }
 }
 
-/// All masks within a mask.
-fn parts(whole: u32) -> Vec<u32> {
+/// All masks of up to `most` nodes within a mask.
+fn parts(whole: u32, most: u32) -> Vec<u32> {
     let mut all = vec![0];
     for node in mask::nodes(whole) {
-        let with: Vec<u32> = all.iter().map(|part| part | mask::only(node)).collect();
+        let shorter = all.iter().filter(|&&part| mask::count(part) < most);
+        let with: Vec<u32> = shorter.map(|part| part | mask::only(node)).collect();
         all.extend(with);
     }
     all

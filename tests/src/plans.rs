@@ -124,7 +124,7 @@ fn small_settings(random: &mut Random) -> Vec<u32> {
 
 /// How many placements `left` nodes have in some shards if each node is a
 /// failure set.
-fn placements(settings: &Settings, shards: &[u32], left: u32) -> u64 {
+pub fn placements(settings: &Settings, shards: &[u32], left: u32) -> u64 {
     let Some((&shard, others)) = shards.split_first() else {
         return 1;
     };

@@ -34,7 +34,10 @@ const UNUSED: usize = 154;
 pub fn state(random: &mut Random, settings: &Settings, words: &mut [u32]) -> &'static str {
     let shard = random.below(settings.shards as usize);
     let held = words[HELD];
-    match random.between(0, 25) {
+    if words[0] != 0 && random.chance(20) {
+        return plan_members(random, settings, words);
+    }
+    match random.between(0, 21) {
         0 => phase(random, words),
         1 => near(random, words, NUMBER, "kept number"),
         2 => any_mask(random, settings, words, MEMBERS, "kept members"),
@@ -72,7 +75,6 @@ pub fn state(random: &mut Random, settings: &Settings, words: &mut [u32]) -> &'s
             memory(random, words, node)
         }
         20 => earlier_release(words),
-        21..=24 => plan_members(random, settings, words, shard as u32),
         _ => {
             let index = random.below(STATE_WORDS);
             words[index] = random.word();
@@ -213,22 +215,15 @@ fn plan_mask(
 /// Other members of a plan's shard, with the total that they make: a node more
 /// or less or for another, as many as the cap or one more, or nodes of few sets.
 /// What comes of it is judged, so that its name says what it is.
-fn plan_members(
-    random: &mut Random,
-    settings: &Settings,
-    words: &mut [u32],
-    shard: u32,
-) -> &'static str {
+fn plan_members(random: &mut Random, settings: &Settings, words: &mut [u32]) -> &'static str {
     let held = words[HELD] & mask::below(settings.nodes);
-    if words[0] == 0 || held == 0 {
-        return any_mask(
-            random,
-            settings,
-            words,
-            MASKS + shard as usize,
-            "kept shard mask",
-        );
-    }
+    let any = random.between(0, settings.shards - 1);
+    let mut more: Vec<u32> = (0..settings.shards).collect();
+    more.retain(|&shard| mask::count(words[PLAN_MASKS + shard as usize]) > settings.need(shard));
+    let shard = match more.is_empty() || random.chance(60) {
+        true => any,
+        false => random.pick(&more),
+    };
     let at = PLAN_MASKS + shard as usize;
     let own = words[at] & held;
     let beside = settings.shards_of(settings.subgroup(shard)).into_iter();
@@ -238,8 +233,8 @@ fn plan_members(
     let mut members = mask::nodes(own);
     random.shuffle(&mut members);
     let (need, cap) = (settings.need(shard) as usize, settings.cap(shard) as usize);
-    match random.between(0, 5) {
-        0 => drop(members.pop()),
+    match random.between(0, 6) {
+        0 | 6 => drop(members.pop()),
         1 => members.extend(free.pop()),
         2 => {
             members.pop();

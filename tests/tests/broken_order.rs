@@ -1,7 +1,6 @@
-//! The comparison finds planners whose plans are valid and of the least moves,
-//! but not the first of them. Each stand-in below is the reference with another
-//! choice among placements of equal moves. (Masks compared as numbers come to
-//! the same placement, which the reference's own tests look at.)
+//! The comparison finds planners whose plans are valid, of the least moves and
+//! of the most stays, but not the first of them. Each stand-in below is the
+//! reference with another choice among placements that are as good.
 
 use differential::calls::{self, Asked, Outcome, Pages};
 use differential::library::{Planner, PLAN};
@@ -50,7 +49,8 @@ fn chosen(choice: Choice, asked: &Asked) -> Outcome {
     other
 }
 
-/// The other plan is a plan of equal moves, and not an earlier one.
+/// The other plan is a plan of equal moves, and not an earlier one. (Of its
+/// stays the choices below see to themselves.)
 fn assert_as_good(asked: &Asked, first: &Outcome, other: &Outcome) {
     let settings = settings::parse(&words::whole_words(&asked.table.settings)).unwrap();
     let plan = |outcome: &Outcome| {
@@ -109,8 +109,8 @@ fn the_reference_agrees_with_itself() {
     assert!(stored.is_ok());
 }
 
-/// The first of the placements of least moves by another order, where there are
-/// not too many; else the right one.
+/// The first of the best placements by another order, where there are not too
+/// many; else the right one.
 fn first_by<K: Ord>(subgroup: &Subgroup, key: impl Fn(&Placement) -> K) -> Option<Placement> {
     if many(subgroup) {
         return order::greedy(subgroup);
@@ -120,15 +120,9 @@ fn first_by<K: Ord>(subgroup: &Subgroup, key: impl Fn(&Placement) -> K) -> Optio
 
 /// Whether the placements are too many to go through.
 fn many(subgroup: &Subgroup) -> bool {
-    let mut left = u64::from(mask::count(subgroup.held));
-    let mut count = 1;
-    for shard in subgroup.settings.shards_of(subgroup.number) {
-        for taken in 1..=u64::from(subgroup.settings.need(shard)) {
-            count = (count * left / taken).min(1 << 40);
-            left = left.saturating_sub(1);
-        }
-    }
-    count > MOST
+    let nodes = mask::count(subgroup.held);
+    let shards = subgroup.settings.shards_of(subgroup.number);
+    nodes > 12 || plans::placements(subgroup.settings, &shards, nodes) > MOST
 }
 
 fn lists(masks: &[u32]) -> Vec<Vec<u32>> {

@@ -99,6 +99,11 @@ fn the_greedy_method_finds_the_first() {
             let first = first_of(best.clone());
             assert_eq!(exhaustive(&subgroup), first);
             assert_eq!(greedy(&subgroup), first);
+            // Where all lists are of one length, the least masks as numbers are
+            // the same ones.
+            if settings.cap_of == settings.need_of {
+                assert_eq!(first, best.iter().min().cloned());
+            }
             let Some(first) = first else { continue };
             assert!(subgroup.valid(&first));
             assert!(best
@@ -112,6 +117,25 @@ fn the_greedy_method_finds_the_first() {
     }
     println!("{found} placed, {equal} with another as good");
     assert!(found > 3000 && equal > 1500);
+}
+
+/// Lists are no numbers: 0 1 comes before 1, though its mask is greater. Shard 1
+/// needs a node of set 1, node 0 of shard 0 or node 3 or 4 of shard 2.
+#[test]
+fn lists_of_two_lengths_are_no_numbers() {
+    let wide = 2 * 65536 + 1;
+    let settings = settings::parse(&[5, 2, 1, 3, 1, 0, 0, 1, 1, wide, 2, wide]).unwrap();
+    let layout = Layout {
+        settings: &settings,
+        held: 0b11111,
+        old: &[0b00011, 0b00100, 0b11000],
+    };
+    let subgroup = layout.subgroup(0);
+    let first = vec![0b00011, 0b01100, 0b10000];
+    assert_eq!(greedy(&subgroup), Some(first.clone()));
+    assert_eq!(exhaustive(&subgroup), Some(first));
+    let least = vec![0b00010, 0b00101, 0b11000];
+    assert_eq!(all_best(&subgroup).into_iter().min(), Some(least));
 }
 
 /// One shard has lost its members, and every other node is a member of another

@@ -419,9 +419,10 @@ fn least_of_sheet(
     let row = sheet[shard as usize];
     let open = |&set: &u32| row[set as usize] < 2 && room[set as usize] > 0;
     let sets: u32 = (0..settings.sets).filter(open).map(mask::only).sum();
-    let choices = parts(sets).into_iter();
+    let need = settings.need(shard);
+    let choices = parts(sets, need).into_iter();
     choices
-        .filter(|&chosen| mask::count(chosen) == settings.need(shard))
+        .filter(|&chosen| mask::count(chosen) == need)
         .filter_map(|chosen| {
             let chosen = mask::nodes(chosen).into_iter().map(|set| set as usize);
             let mut room = room.clone();
