@@ -154,16 +154,29 @@ later!(
     })
 );
 
-later!(
-    /// Has those that stay first, then the others.
-    StaysFirst,
-    old_members_listed_first,
-    |subgroup| first_by(subgroup, |masks| {
-        let both = masks.iter().zip(subgroup.old);
-        let list = |(&own, &old): (&u32, &u32)| [mask::nodes(own & old), mask::nodes(own & !old)];
-        both.map(list).collect::<Vec<_>>()
-    })
-);
+/// Has those that stay first, then the others, which is seldom another order: a
+/// stored case has it.
+struct StaysFirst;
+
+impl Behaviour for StaysFirst {
+    fn event(asked: &Asked) -> Outcome {
+        let stays_first = |subgroup: &Subgroup| {
+            first_by(subgroup, |masks| {
+                let both = masks.iter().zip(subgroup.old);
+                both.map(|(own, old)| [own & old, own & !old].map(mask::nodes))
+                    .collect::<Vec<_>>()
+            })
+        };
+        chosen(stays_first, asked)
+    }
+}
+
+#[test]
+fn old_members_listed_first() {
+    let planner = mock::planner::<StaysFirst>();
+    let found = regressions::play_all(&planner, &mut Pages::new(false)).err();
+    assert!(found.is_some_and(|what| what.contains("who stays does not count in a list")));
+}
 
 later!(
     /// Has the first placement in subgroup 0 and any in the others.
