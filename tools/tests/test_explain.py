@@ -348,8 +348,8 @@ class AnswersThatDoNotFit(unittest.TestCase):
             ("moves 2", "moves 1", "the moves add up to 2"),
             ("holder 1", "holder 4", "shard 1 has another holder or target"),
             ("target 7 5", "target 7 4", "shard 1 has another holder or target"),
-            ("members 3", "members 6", "the members of shard 2 are not valid"),
-            ("members 0 2", "members 0 1", "the members of shard 0 are not valid"),
+            ("members 3", "members 6", "the members of shard 2 are not valid: machine 6 is not held"),
+            ("members 0 2", "members 0 1", "the members of shard 0 are not valid: they are of 1 failure set, it needs 2"),
             ("members 0 2", "members 0 4", "shards 0 and 1 share a machine"),
             ("shard 2 holder 5 target 0 0 members 3\n", "", "the plan has 2 shards, the settings have 3"),
         ):
