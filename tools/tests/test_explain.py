@@ -99,7 +99,7 @@ class Cases(unittest.TestCase):
             support.example("i"),
             "wait 5 0\n",
             "Subgroup 0 has no valid placement. Shards 0 and 1 together need 6 machines,"
-            " and a failure set can give each shard only one:\n"
+            " and a failure set counts only once for each shard:\n"
             "  failure set 0 can give 2: held 0 1, absent none\n"
             "  failure set 1 can give 2: held 2 3 4, absent none\n"
             "  failure set 2 can give 1, lacks 1: held 5, absent 6\n"
