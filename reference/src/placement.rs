@@ -5,7 +5,6 @@
 use crate::mask;
 use crate::settings::{Settings, MOST_NODES};
 use crate::weights::Weights;
-use std::collections::BTreeSet;
 
 /// One subgroup to be placed.
 #[derive(Clone, Debug)]
@@ -45,14 +44,14 @@ impl Subgroup<'_> {
     /// At most cap nodes from at least m sets.
     fn good_members(&self, shard: u32, nodes: u32) -> bool {
         mask::count(nodes) <= self.settings.cap(shard)
-            && self.sets_of(nodes) >= self.settings.need(shard) as usize
+            && self.sets_of(nodes) >= self.settings.need(shard)
     }
 
     /// The number of different sets that nodes are from.
-    fn sets_of(&self, nodes: u32) -> usize {
-        let nodes = mask::nodes(nodes).into_iter();
-        let sets: BTreeSet<u32> = nodes.map(|node| self.settings.set(node)).collect();
-        sets.len()
+    fn sets_of(&self, nodes: u32) -> u32 {
+        let all = self.settings.set_of.iter().zip(0..);
+        let own = all.filter(|&(_, node)| mask::has(nodes, node));
+        mask::count(own.fold(0, |sets, (&set, _)| sets | mask::only(set)))
     }
 
     /// The moves of this subgroup's part of `masks`: nodes in a shard of which
@@ -82,9 +81,7 @@ impl Subgroup<'_> {
             found.push(masks);
             return;
         };
-        let cap = self.settings.cap(shard) as usize;
-        for list in lists(&mask::nodes(free), cap) {
-            let own: u32 = list.into_iter().map(mask::only).sum();
+        for own in parts(free) {
             if self.good_members(shard, own) {
                 let mut longer = masks.clone();
                 longer[shard as usize] = own;
@@ -151,18 +148,12 @@ impl Subgroup<'_> {
     }
 }
 
-/// All ascending lists of up to `most` of the given ascending nodes, in
-/// dictionary order.
-fn lists(nodes: &[u32], most: usize) -> Vec<Vec<u32>> {
-    let mut all = vec![Vec::new()];
-    if most == 0 {
-        return all;
-    }
-    for (index, &first) in nodes.iter().enumerate() {
-        for mut list in lists(&nodes[index + 1..], most - 1) {
-            list.insert(0, first);
-            all.push(list);
-        }
+/// All masks within a mask.
+fn parts(whole: u32) -> Vec<u32> {
+    let mut all = vec![0];
+    for node in mask::nodes(whole) {
+        let with: Vec<u32> = all.iter().map(|part| part | mask::only(node)).collect();
+        all.extend(with);
     }
     all
 }

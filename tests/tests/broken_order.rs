@@ -115,7 +115,7 @@ fn first_by<K: Ord>(subgroup: &Subgroup, key: impl Fn(&Placement) -> K) -> Optio
     if many(subgroup) {
         return order::greedy(subgroup);
     }
-    order::all_least(subgroup).into_iter().min_by_key(key)
+    order::all_best(subgroup).into_iter().min_by_key(key)
 }
 
 /// Whether the placements are too many to go through.
@@ -139,7 +139,7 @@ later!(
     /// Takes the placement that the flow comes to.
     FromTheFlow,
     what_the_flow_comes_to,
-    |subgroup| subgroup.any_least()
+    |subgroup| subgroup.any_best()
 );
 
 later!(
@@ -177,7 +177,7 @@ later!(
     the_order_in_subgroup_0_alone,
     |subgroup| match subgroup.number {
         0 => order::greedy(subgroup),
-        _ => subgroup.any_least(),
+        _ => subgroup.any_best(),
     }
 );
 

@@ -1,5 +1,6 @@
 use super::*;
 use crate::{order, settings};
+use std::collections::BTreeSet;
 
 /// A small xorshift generator.
 struct Random(u64);
@@ -416,17 +417,16 @@ fn least_of_sheet(
         return Some(0);
     };
     let row = sheet[shard as usize];
-    let sets: Vec<u32> = (0..settings.sets)
-        .filter(|&set| row[set as usize] < 2 && room[set as usize] > 0)
-        .collect();
-    let need = settings.need(shard) as usize;
-    let costs = lists(&sets, need).into_iter();
-    costs
-        .filter(|list| list.len() == need)
-        .filter_map(|list| {
+    let open = |&set: &u32| row[set as usize] < 2 && room[set as usize] > 0;
+    let sets: u32 = (0..settings.sets).filter(open).map(mask::only).sum();
+    let choices = parts(sets).into_iter();
+    choices
+        .filter(|&chosen| mask::count(chosen) == settings.need(shard))
+        .filter_map(|chosen| {
+            let chosen = mask::nodes(chosen).into_iter().map(|set| set as usize);
             let mut room = room.clone();
-            list.iter().for_each(|&set| room[set as usize] -= 1);
-            let own: u32 = list.iter().map(|&set| row[set as usize]).sum();
+            chosen.clone().for_each(|set| room[set] -= 1);
+            let own: u32 = chosen.map(|set| row[set]).sum();
             least_of_sheet(settings, sheet, others, room).map(|rest| own + rest)
         })
         .min()
