@@ -125,6 +125,17 @@ class Plans(unittest.TestCase):
         self.assertIn("No other placement has as few moves and as many members that stay.", told.lines)
         self.assertFalse([line for line in told.lines if line.startswith("Not kept")])
 
+    def test_a_list_that_is_a_prefix(self):
+        """Shard 2 takes one of machines 0 to 3, and shards 0 and 1 keep the others: 0 comes before 0 1, so it takes machine 1."""
+        settings = [6, 5, 1, 3, 0, 1, 2, 3, 4, 4, 2 * 65536 + 1, 2 * 65536 + 1, 2]
+        reports = [[node, 7, 63, 1, 256, 3, 0, 2, 257, 12, 0, 3, 258, 48, 0, 0] for node in range(5)]
+        told = asked(inputs.Input([settings] + reports, []), Program(support.program(), 60))
+        self.assertEqual([sorted(shard.members) for shard in told.answer.shards], [[0], [2, 3], [1, 4]])
+        self.assertEqual(told.differing, [])
+        self.assertIn("Other placements with 1 move and 4 stays as well have other members in shards 0, 1 and 2. This is the first of them:"
+                      " shards ascending, the members of each listed ascending, the lower machine where two lists differ, a list before"
+                      " those that go on from it. The same reports give any leader this one.", told.lines)
+
     def test_plans_that_do_not_fit(self):
         for old, new, piece in (
             ("members 0 1 2 3", "members 0 1 2 3 5", "the members of shard 0 are not valid: they are 5, at most 4 are allowed"),
