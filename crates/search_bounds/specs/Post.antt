@@ -2,14 +2,15 @@
 use mathlib.Core.Path.{_≡_, sym, ap, ap₂, _∙_}
 use mathlib.Core.Bool.{Bool, true, cond}
 use mathlib.Core.List.{List}
+use mathlib.Core.Logic.{_⊎_}
 use Prim.Native.Nat.{ℕ, _+_, _*_, _≤_, _<_}
 use lib.Dec.{ltb, leb}
-use borrow.Author.Tests.{lt-ltb, le-ltb, leb-true}
-use Rattle.base_laws.specs.Below.{allBelow, all-at}
-use lib.ListN.{getD}
+use borrow.Author.Tests.{lt-ltb, le-ltb}
+use lib.ListN.{length, getD}
+use Rattle.base_laws.specs.Masks.{has}
 use Rattle.search_theory.specs.Case.{Case, Valid, weight}
 use Rattle.search_theory.specs.Order.{Agree}
-use Rattle.search_theory.specs.Duality.{DualWeights, Modest, asked}
+use Rattle.search_theory.specs.Duality.{DualWeights, asked}
 
 -- weights of shards' needs and rooms, of nodes, and of shard i and set f at i * 16 + f; those of nodes are counted from 16384
 abbrev pub weightsOf : List ℕ → List ℕ → List ℕ → List ℕ → DualWeights
@@ -30,15 +31,18 @@ pub record Small (sets : List ℕ) : Type 0 where
 abbrev pub steady : Case → DualWeights → (ℕ → ℕ) → ℕ → Bool
 steady K W o n = cond (ltb (o n) 16) (leb (W .need (o n) + W .base) (asked K W (o n) n)) (leb (W .base) (K .idle + W .node n))
 
--- each pair that y takes has its cost in the table
-pub record Uses (K : Case) (costs : List ℕ) (y : ℕ → ℕ) : Type 0 where
-  pub cost : (n : ℕ) → n < 32 → y n < 16 → getD costs (y n * 32 + n) 0 ≡ K .cost (y n) n
+-- each pair that y takes is open
+pub record OpenFor (rows : List ℕ) (y : ℕ → ℕ) : Type 0 where
+  pub bit : (n : ℕ) → n < 32 → y n < 16 → has (getD rows (y n) 0) n ≡ true
 
--- of each valid placement that agrees with the owners before t: it weighs at least floor, and if at most k,
--- it takes only pairs that the costs after the cut leave as they were
-pub record SoundBound (K : Case) (k floor : ℕ) (o : ℕ → ℕ) (t : ℕ) (after : List ℕ) : Type 0 where
-  pub bound : (y : ℕ → ℕ) → Valid K y → Agree y o t → floor ≤ weight K y
-  pub uses : (y : ℕ → ℕ) → Valid K y → Agree y o t → weight K y ≤ k → Uses K after y
+-- of each valid placement that agrees with the owners before t and takes open pairs only: it weighs at least floor, and if at most k,
+-- its pairs are still open after the cut, and it places each node that the cut marks
+pub record SoundBound (K : Case) (k floor : ℕ) (o : ℕ → ℕ) (t : ℕ) (rows after : List ℕ) : Type 0 where
+  pub long : length after ≡ 17
+  pub bound : (y : ℕ → ℕ) → Valid K y → Agree y o t → OpenFor rows y → floor ≤ weight K y
+  pub uses : (y : ℕ → ℕ) → Valid K y → Agree y o t → OpenFor rows y → weight K y ≤ k → OpenFor after y
+  pub marks : (n : ℕ) → n < 32 → has (getD after 16 0) n ≡ true →
+      (has (getD rows 16 0) n ≡ true) ⊎ ((16 ≤ o n) × ((y : ℕ → ℕ) → Valid K y → Agree y o t → OpenFor rows y → weight K y ≤ k → y n < 16))
 
 -- the same, of an owner that was read
 pub steady-there : (K : Case) (W : DualWeights) (o : ℕ → ℕ) (n x u a : ℕ) → x ≡ o n → x < 16 → u ≡ W .need x + W .base → a ≡ asked K W x n →
@@ -53,12 +57,3 @@ steady-nowhere K W o n x v e l d =
     ap (λ (j : ℕ). leb (W .base) j) d
     ∙ (sym (ap (λ (b : Bool). cond b (leb (W .need x + W .base) (asked K W x n)) (leb (W .base) (K .idle + W .node n))) (le-ltb x 16 l))
     ∙ ap (λ (i : ℕ). cond (ltb i 16) (leb (W .need i + W .base) (asked K W i n)) (leb (W .base) (K .idle + W .node n))) e)
-
--- the test of all pairs
-pub modest-by : (wants rooms nodes pairs : List ℕ) → allBelow 16 (λ i. allBelow 16 (λ f. leb (getD pairs (i * 16 + f) 0) (getD wants i 0))) ≡ true →
-    Modest (weightsOf wants rooms nodes pairs)
-modest-by wants rooms nodes pairs h =
-    record {
-      below = λ i f l q. leb-true (getD pairs (i * 16 + f) 0) (getD wants i 0)
-          (all-at 16 (λ f. leb (getD pairs (i * 16 + f) 0) (getD wants i 0)) (all-at 16 (λ i. allBelow 16 (λ f. leb (getD pairs (i * 16 + f) 0) (getD wants i 0))) h i l) f q);
-    }

@@ -1,27 +1,61 @@
-// The first valid placement with caps of a weight of at most k, and the first of least weight, or that there is none, by hints.
-// Every pair that is left, every list that goes on and every bound is proved by a cut, and the owners that are found are tested,
-// so no answer rests on the hints. Where a hint fails, the total search answers.
+// The first valid placement of a weight of at most k, and the first of least weight, or that there is none, by the hints of an oracle.
+// Every pair that is left, every list that goes on and every bound is proved, by a cut, by a node that must be placed or by the sheet, and
+// the owners that are found are tested, so no answer rests on the hints. Where a hint fails, the total search answers.
 ghost use mathlib.Core.Path.{_≡_};
 ghost use mathlib.Core.Bool.{true, false};
-ghost use Prim.Native.Nat.{_+_, _*_, _/_, _%_, _≤_, _<_, min};
+ghost use mathlib.Core.List.{[]};
 ghost use mathlib.Core.Logic.{_⊎_};
-ghost use lib.ListN.{length, set};
-ghost use Rattle.search_theory.specs.Case.{Within};
+ghost use Prim.Native.Nat.{_+_, _*_, _/_, _%_, _≤_, _<_, min};
+ghost use lib.Dec.{ltb};
+ghost use lib.ListN.{length, getD, set};
+ghost use Rattle.base_laws.specs.Masks.{without};
+ghost use Rattle.base_laws.specs.Picked.{maskBelow};
+ghost use Rattle.search_theory.specs.Case.{Within, spread};
 ghost use Rattle.search_theory.specs.Tables.{caseOf, ownersOf};
-ghost use Rattle.search_theory.specs.Order.{Begun, None, From, next};
+ghost use Rattle.search_theory.specs.Order.{Begun, None, From, shardEnd};
+ghost use Rattle.search_theory.specs.Floor.{SheetFor};
 ghost use Rattle.search_bounds.specs.Post.{Small, SoundBound};
 ghost use Rattle.search_total.specs.Post.{WithinAnswer, LeastAnswer, noOwners};
-ghost use Rattle.search_hinted.specs.Stage.{Narrowed, Advanced, At, Moved};
+ghost use Rattle.search_total.specs.Answers.{Empty};
+ghost use Rattle.search_hinted.specs.Stage.{Narrowed, Advanced, Exceeded, Later, Stuck, OpenBelow, At, Moved};
 ghost use Rattle.search_hinted.specs.Post.{Found};
 use search_bounds::Bound;
 use search_total::Solution;
+
+// The pairs of shard i that are allowed.
+fn allowed(prices: &[u8; 512], i: usize) -> u32
+    requires { ⌜ i < 16 ⌝ }
+    ensures { λ r. ⌜ r ≡ maskBelow 32 (λ n. ltb (getD (now (prices .entry)) (i * 32 + n) 0) 255) ⌝ }
+{
+    let mut m: u32 = 0;
+    let mut n: usize = 0;
+    while n < 32 {
+        m = search_bounds::added(m, n, prices[i * 32 + n] < 255);
+        n += 1;
+    }
+    m
+}
+
+// All pairs that are allowed, and no node that must be placed.
+fn all_allowed(prices: &[u8; 512]) -> [u32; 17]
+    ensures { λ r. ⌜ OpenBelow (now (prices .entry)) 16 r ⌝ }
+{
+    let mut rows = [0u32; 17];
+    let mut i: usize = 0;
+    while i < 16 {
+        rows[i] = allowed(prices, i);
+        i += 1;
+    }
+    rows
+}
 
 // Cuts with the present weights.
 fn prune(
     sets: &[u8; 32],
     needs: &[u8; 16],
     caps: &[u8; 16],
-    costs: &mut [u8; 512],
+    prices: &[u8; 512],
+    rows: &mut [u32; 17],
     owner: &[u8; 32],
     mem: &[u32; 1024],
     idle: u8,
@@ -30,12 +64,11 @@ fn prune(
 ) -> Bound
     requires { ⌜ (t ≤ 512) × (k ≤ 8192) ⌝ }
     requires { ⌜ Small (now sets) ⌝ }
-    requires { ⌜ length (now costs) ≡ 512 ⌝ }
+    requires { ⌜ length (now rows) ≡ 17 ⌝ }
     requires { ⌜ Begun (ownersOf (now owner)) t ⌝ }
-    ensures { λ r. ⌜ (r .good ≡ true → SoundBound (caseOf (now (sets .entry)) (now (needs .entry)) (now (caps .entry)) (now (costs .entry)) idle) k (r .floor) (ownersOf (now (owner .entry))) t (now (costs .exit))) ⌝ }
-    ensures { λ r. ⌜ length (now (costs .exit)) ≡ 512 ⌝ }
+    ensures { λ r. ⌜ (r .good ≡ true → SoundBound (caseOf (now (sets .entry)) (now (needs .entry)) (now (caps .entry)) (now (prices .entry)) idle) k (r .floor) (ownersOf (now (owner .entry))) t (now (rows .entry)) (now (rows .exit))) ⌝ }
 {
-    let q = hint_oracle::weigh(mem, sets, costs);
+    let q = hint_oracle::weigh(mem, sets, prices);
     let wants = q.wants;
     let rooms = q.rooms;
     let nodes = q.nodes;
@@ -44,7 +77,8 @@ fn prune(
         sets,
         needs,
         caps,
-        costs,
+        prices,
+        rows,
         owner,
         &wants,
         &rooms,
@@ -56,12 +90,13 @@ fn prune(
     )
 }
 
-// Whether the bound by the present weights is above k. The costs stay as they are.
+// Whether the bound by the present weights is above k. The masks stay as they are.
 fn exceeds(
     sets: &[u8; 32],
     needs: &[u8; 16],
     caps: &[u8; 16],
-    costs: &[u8; 512],
+    prices: &[u8; 512],
+    rows: &[u32; 17],
     owner: &[u8; 32],
     mem: &[u32; 1024],
     idle: u8,
@@ -70,16 +105,55 @@ fn exceeds(
 ) -> bool
     requires { ⌜ (t ≤ 512) × (k ≤ 8192) ⌝ }
     requires { ⌜ Small (now sets) ⌝ }
-    requires { ⌜ length (now costs) ≡ 512 ⌝ }
+    requires { ⌜ length (now rows) ≡ 17 ⌝ }
     requires { ⌜ Begun (ownersOf (now owner)) t ⌝ }
-    ensures { λ r. ⌜ (r ≡ true → None (From (Within (caseOf (now (sets .entry)) (now (needs .entry)) (now (caps .entry)) (now (costs .entry)) idle) k) (ownersOf (now (owner .entry))) t)) ⌝ }
+    ensures { λ r. ⌜ (r ≡ true → Exceeded (caseOf (now (sets .entry)) (now (needs .entry)) (now (caps .entry)) (now (prices .entry)) idle) k (ownersOf (now (owner .entry))) t (now (rows .entry))) ⌝ }
 {
-    let mut scratch = *costs;
-    let v = prune(sets, needs, caps, &mut scratch, owner, mem, idle, t, k);
+    let mut scratch = *rows;
+    let v = prune(sets, needs, caps, prices, &mut scratch, owner, mem, idle, t, k);
     if v.good {
         return v.floor > k;
     }
     false
+}
+
+// The nodes that are open for a shard past i.
+fn later(rows: &[u32; 17], i: usize) -> u32
+    requires { ⌜ i < 16 ⌝ }
+    ensures { λ r. ⌜ Later (now (rows .entry)) i 16 r ⌝ }
+{
+    let mut m: u32 = 0;
+    let mut j = i + 1;
+    while j < 16 {
+        m = m | rows[j];
+        j += 1;
+    }
+    m
+}
+
+// Whether a node that must be placed is open for no shard past i.
+fn stuck(rows: &[u32; 17], i: usize) -> bool
+    requires { ⌜ i < 16 ⌝ }
+    ensures { λ r. ⌜ (r ≡ true → Stuck (now (rows .entry)) i) ⌝ }
+{
+    let m = base_masks::minus(rows[16], later(rows, i));
+    if m == 0 {
+        return false;
+    }
+    true
+}
+
+// Whether shard i has too few sets.
+fn lacks(sets: &[u8; 32], needs: &[u8; 16], owner: &[u8; 32], i: usize) -> bool
+    requires { ⌜ i < 16 ⌝ }
+    requires { ⌜ Small (now sets) ⌝ }
+    ensures { λ r. ⌜ (r ≡ true → spread (caseOf (now (sets .entry)) [] [] [] 0) (ownersOf (now (owner .entry))) i < getD (now (needs .entry)) i 0) ⌝ }
+{
+    let need = search_judge::wide(needs[i]);
+    if search_judge::size(owner, i) < need {
+        return true;
+    }
+    search_judge::spread(sets, owner, i) < need
 }
 
 // Whether shard t / 32 can't end its list at pair t. 0: no proof was found. 1: its list is ended. 2: it can't be.
@@ -88,7 +162,7 @@ fn ends(
     needs: &[u8; 16],
     caps: &[u8; 16],
     prices: &[u8; 512],
-    costs: &[u8; 512],
+    rows: &[u32; 17],
     owner: &[u8; 32],
     mem: &mut [u32; 1024],
     idle: u8,
@@ -97,11 +171,14 @@ fn ends(
 ) -> u32
     requires { ⌜ (t < 512) × (k ≤ 8192) ⌝ }
     requires { ⌜ Small (now sets) ⌝ }
-    requires { ⌜ Narrowed (caseOf (now sets) (now needs) (now caps) (now prices) idle) k (now owner) t (now costs) ⌝ }
-    ensures { λ r. ⌜ (r ≡ 2 → None (From (Within (caseOf (now (sets .entry)) (now (needs .entry)) (now (caps .entry)) (now (prices .entry)) idle) k) (ownersOf (now (owner .entry))) (next t))) ⌝ }
+    requires { ⌜ Narrowed (caseOf (now sets) (now needs) (now caps) (now prices) idle) k (now owner) t (now rows) ⌝ }
+    ensures { λ r. ⌜ (r ≡ 2 → None (From (Within (caseOf (now (sets .entry)) (now (needs .entry)) (now (caps .entry)) (now (prices .entry)) idle) k) (ownersOf (now (owner .entry))) (shardEnd t))) ⌝ }
     ensures { λ r. ⌜ r ≤ 2 ⌝ }
 {
-    if search_judge::spread(sets, owner, t / 32) < search_judge::wide(needs[t / 32]) {
+    if stuck(rows, t / 32) {
+        return 2;
+    }
+    if lacks(sets, needs, owner, t / 32) {
         return 2;
     }
     let hint = hint_oracle::close(mem, (t / 32) as u32, k as u32);
@@ -112,7 +189,8 @@ fn ends(
         sets,
         needs,
         caps,
-        costs,
+        prices,
+        rows,
         owner,
         mem,
         idle,
@@ -124,25 +202,27 @@ fn ends(
     0
 }
 
-// Takes pair t, unless its node has an owner.
-fn take(owner: &mut [u8; 32], t: usize) -> bool
+// Takes pair t, unless its node has an owner. The node need not be placed any more.
+fn take(owner: &mut [u8; 32], rows: &mut [u32; 17], t: usize) -> bool
     requires { ⌜ t < 512 ⌝ }
     ensures { λ r. ⌜ (r ≡ true → (16 ≤ ownersOf (now (owner .entry)) (t % 32)) × (now (owner .exit) ≡ set (now (owner .entry)) (t % 32) (t / 32))) ⌝ }
+    ensures { λ r. ⌜ (r ≡ true → now (rows .exit) ≡ set (now (rows .entry)) 16 (without (getD (now (rows .entry)) 16 0) (t % 32))) ⌝ }
 {
     if owner[t % 32] < 16 {
         return false;
     }
     owner[t % 32] = search_judge::shard(t);
+    rows[16] = base_masks::without(rows[16], t % 32);
     true
 }
 
-// Whether pair t is left for good: excluded, barred, or excluded by a cut.
+// Whether pair t is left for good: barred, or excluded by a cut.
 fn leaves(
     sets: &[u8; 32],
     needs: &[u8; 16],
     caps: &[u8; 16],
     prices: &[u8; 512],
-    costs: &mut [u8; 512],
+    rows: &mut [u32; 17],
     owner: &[u8; 32],
     mem: &[u32; 1024],
     idle: u8,
@@ -152,16 +232,16 @@ fn leaves(
 ) -> bool
     requires { ⌜ (t < 512) × (k ≤ 8192) ⌝ }
     requires { ⌜ Small (now sets) ⌝ }
-    requires { ⌜ Narrowed (caseOf (now sets) (now needs) (now caps) (now prices) idle) k (now owner) t (now costs) ⌝ }
-    ensures { λ r. ⌜ (r ≡ true → Advanced (caseOf (now (sets .entry)) (now (needs .entry)) (now (caps .entry)) (now (prices .entry)) idle) k (now (owner .entry)) t (now (owner .entry)) (now (costs .exit))) ⌝ }
+    requires { ⌜ Narrowed (caseOf (now sets) (now needs) (now caps) (now prices) idle) k (now owner) t (now rows) ⌝ }
+    ensures { λ r. ⌜ (r ≡ true → Advanced (caseOf (now (sets .entry)) (now (needs .entry)) (now (caps .entry)) (now (prices .entry)) idle) k (now (owner .entry)) t (now (owner .entry)) (now (rows .exit))) ⌝ }
 {
     if hint == 1 {
         return search_judge::barred(sets, needs, caps, prices, owner, idle, t);
     }
     if hint == 2 {
-        let v = prune(sets, needs, caps, costs, owner, mem, idle, t, k);
+        let v = prune(sets, needs, caps, prices, rows, owner, mem, idle, t, k);
         if v.good {
-            return costs[t] >= 255;
+            return !base_masks::has(rows[t / 32], t % 32);
         }
     }
     false
@@ -173,7 +253,7 @@ fn ended(
     needs: &[u8; 16],
     caps: &[u8; 16],
     prices: &[u8; 512],
-    costs: &[u8; 512],
+    rows: &[u32; 17],
     owner: &[u8; 32],
     mem: &mut [u32; 1024],
     idle: u8,
@@ -183,10 +263,10 @@ fn ended(
     requires { ⌜ (p < 1024) × (k ≤ 8192) ⌝ }
     requires { ⌜ p % 2 ≡ 0 ⌝ }
     requires { ⌜ Small (now sets) ⌝ }
-    requires { ⌜ At (caseOf (now sets) (now needs) (now caps) (now prices) idle) k (now owner) p (now costs) ⌝ }
-    ensures { λ r. ⌜ (r ≤ 1024 → Moved (caseOf (now (sets .entry)) (now (needs .entry)) (now (caps .entry)) (now (prices .entry)) idle) k (now (owner .entry)) p (now (owner .entry)) (now (costs .entry)) r) ⌝ }
+    requires { ⌜ At (caseOf (now sets) (now needs) (now caps) (now prices) idle) k (now owner) p (now rows) ⌝ }
+    ensures { λ r. ⌜ (r ≤ 1024 → Moved (caseOf (now (sets .entry)) (now (needs .entry)) (now (caps .entry)) (now (prices .entry)) idle) k (now (owner .entry)) p (now (owner .entry)) (now (rows .entry)) r) ⌝ }
 {
-    let e = ends(sets, needs, caps, prices, costs, owner, mem, idle, p / 2, k);
+    let e = ends(sets, needs, caps, prices, rows, owner, mem, idle, p / 2, k);
     if e == 1 {
         return 2 * search_total::next(p / 2);
     }
@@ -202,7 +282,7 @@ fn decided(
     needs: &[u8; 16],
     caps: &[u8; 16],
     prices: &[u8; 512],
-    costs: &mut [u8; 512],
+    rows: &mut [u32; 17],
     owner: &mut [u8; 32],
     mem: &mut [u32; 1024],
     idle: u8,
@@ -212,16 +292,20 @@ fn decided(
     requires { ⌜ (p < 1024) × (k ≤ 8192) ⌝ }
     requires { ⌜ p % 2 ≡ 1 ⌝ }
     requires { ⌜ Small (now sets) ⌝ }
-    requires { ⌜ At (caseOf (now sets) (now needs) (now caps) (now prices) idle) k (now owner) p (now costs) ⌝ }
-    ensures { λ r. ⌜ (r ≤ 1024 → Moved (caseOf (now (sets .entry)) (now (needs .entry)) (now (caps .entry)) (now (prices .entry)) idle) k (now (owner .entry)) p (now (owner .exit)) (now (costs .exit)) r) ⌝ }
+    requires { ⌜ At (caseOf (now sets) (now needs) (now caps) (now prices) idle) k (now owner) p (now rows) ⌝ }
+    ensures { λ r. ⌜ (r ≤ 1024 → Moved (caseOf (now (sets .entry)) (now (needs .entry)) (now (caps .entry)) (now (prices .entry)) idle) k (now (owner .entry)) p (now (owner .exit)) (now (rows .exit)) r) ⌝ }
 {
     let t = p / 2;
-    if costs[t] >= 255 {
+    let n = t % 32;
+    if !base_masks::has(rows[t / 32], n) {
         return passed(p);
     }
-    let hint = hint_oracle::take(mem, (t / 32) as u32, (t % 32) as u32, k as u32);
+    if owner[n] < 16 {
+        return passed(p);
+    }
+    let hint = hint_oracle::take(mem, (t / 32) as u32, n as u32, k as u32);
     if hint == 0 {
-        if take(owner, t) {
+        if take(owner, rows, t) {
             return p + 1;
         }
         return 2000;
@@ -231,7 +315,7 @@ fn decided(
         needs,
         caps,
         prices,
-        costs,
+        rows,
         owner,
         mem,
         idle,
@@ -247,7 +331,7 @@ fn decided(
 // Past a pair that is left: the list's end need not be tried again within the shard.
 fn passed(p: usize) -> usize
     requires { ⌜ p < 1024 ⌝ }
-    ensures { λ r. ⌜ (r ≡ p + 1) ⊎ ((r ≡ p + 2) × (next (p / 2 + 1) ≡ next (p / 2))) ⌝ }
+    ensures { λ r. ⌜ (r ≡ p + 1) ⊎ ((r ≡ p + 2) × (shardEnd (p / 2 + 1) ≡ shardEnd (p / 2))) ⌝ }
 {
     if search_total::same_shard(p / 2) {
         p + 2
@@ -262,7 +346,7 @@ fn step(
     needs: &[u8; 16],
     caps: &[u8; 16],
     prices: &[u8; 512],
-    costs: &mut [u8; 512],
+    rows: &mut [u32; 17],
     owner: &mut [u8; 32],
     mem: &mut [u32; 1024],
     idle: u8,
@@ -271,19 +355,19 @@ fn step(
 ) -> usize
     requires { ⌜ (p < 1024) × (k ≤ 8192) ⌝ }
     requires { ⌜ Small (now sets) ⌝ }
-    requires { ⌜ At (caseOf (now sets) (now needs) (now caps) (now prices) idle) k (now owner) p (now costs) ⌝ }
-    ensures { λ r. ⌜ (r ≤ 1024 → Moved (caseOf (now (sets .entry)) (now (needs .entry)) (now (caps .entry)) (now (prices .entry)) idle) k (now (owner .entry)) p (now (owner .exit)) (now (costs .exit)) r) ⌝ }
+    requires { ⌜ At (caseOf (now sets) (now needs) (now caps) (now prices) idle) k (now owner) p (now rows) ⌝ }
+    ensures { λ r. ⌜ (r ≤ 1024 → Moved (caseOf (now (sets .entry)) (now (needs .entry)) (now (caps .entry)) (now (prices .entry)) idle) k (now (owner .entry)) p (now (owner .exit)) (now (rows .exit)) r) ⌝ }
 {
     if p % 2 == 0 {
-        return ended(sets, needs, caps, prices, costs, owner, mem, idle, p, k);
+        return ended(sets, needs, caps, prices, rows, owner, mem, idle, p, k);
     }
-    decided(sets, needs, caps, prices, costs, owner, mem, idle, p, k)
+    decided(sets, needs, caps, prices, rows, owner, mem, idle, p, k)
 }
 
 // An answer, if it is sure.
-pub struct Quick {
-    pub sure: bool,
-    pub answer: Solution,
+struct Quick {
+    sure: bool,
+    answer: Solution,
 }
 
 // No answer.
@@ -296,20 +380,30 @@ fn unsure() -> Quick
     }
 }
 
+// Surely none.
+fn none() -> Quick
+    ensures { λ r. ⌜ (r .sure ≡ true) × Empty (r .answer) ⌝ }
+{
+    Quick {
+        sure: true,
+        answer: search_total::nothing(),
+    }
+}
+
 // The first valid placement of a weight of at most k, where the hints lead to it.
 fn follow(
     sets: &[u8; 32],
     needs: &[u8; 16],
     caps: &[u8; 16],
     prices: &[u8; 512],
-    costs: &mut [u8; 512],
+    rows: &mut [u32; 17],
     mem: &mut [u32; 1024],
     idle: u8,
     k: usize,
 ) -> Quick
     requires { ⌜ k ≤ 8192 ⌝ }
     requires { ⌜ Small (now sets) ⌝ }
-    requires { ⌜ Narrowed (caseOf (now sets) (now needs) (now caps) (now prices) idle) k noOwners 0 (now costs) ⌝ }
+    requires { ⌜ Narrowed (caseOf (now sets) (now needs) (now caps) (now prices) idle) k noOwners 0 (now rows) ⌝ }
     ensures { λ r. ⌜ (r .sure ≡ true → Found (caseOf (now (sets .entry)) (now (needs .entry)) (now (caps .entry)) (now (prices .entry)) idle) k (r .answer)) ⌝ }
 {
     let mut owner = [16u8; 32];
@@ -320,7 +414,7 @@ fn follow(
             needs,
             caps,
             prices,
-            costs,
+            rows,
             &mut owner,
             mem,
             idle,
@@ -342,13 +436,10 @@ fn follow(
     }
 }
 
-// Every failure set is below 16, and the prices are 512.
-fn fit(sets: &[u8; 32], prices: &[u8]) -> bool
-    ensures { λ r. ⌜ (r ≡ true → Small (now (sets .entry)) × (length (now (prices .entry)) ≡ 512)) ⌝ }
+// Every failure set is below 16.
+fn fit(sets: &[u8; 32]) -> bool
+    ensures { λ r. ⌜ (r ≡ true → Small (now (sets .entry))) ⌝ }
 {
-    if prices.len() != 512 {
-        return false;
-    }
     let mut n: usize = 0;
     while n < 32 {
         if sets[n] >= 16 {
@@ -367,7 +458,7 @@ fn capped(k: usize) -> usize
 }
 
 // The first valid placement of a weight of at most k, or that there is none, where the hints lead to it.
-pub fn quick_within(
+fn quick_within(
     sets: &[u8; 32],
     needs: &[u8; 16],
     caps: &[u8; 16],
@@ -377,59 +468,72 @@ pub fn quick_within(
 ) -> Quick
     ensures { λ r. ⌜ (r .sure ≡ true → WithinAnswer (caseOf (now (sets .entry)) (now (needs .entry)) (now (caps .entry)) (now (prices .entry)) idle) k (r .answer)) ⌝ }
 {
-    if !fit(sets, prices) {
+    if !fit(sets) {
         return unsure();
     }
     let most = capped(k);
     let mut mem = [0u32; 1024];
-    let mut costs = *prices;
+    let mut rows = all_allowed(prices);
     let owner = [16u8; 32];
     hint_oracle::solve(&mut mem, sets, needs, caps, prices, idle);
-    let v = prune(sets, needs, caps, &mut costs, &owner, &mem, idle, 0, most);
+    let v = prune(sets, needs, caps, prices, &mut rows, &owner, &mem, idle, 0, most);
     if !v.good {
         return unsure();
     }
     if most < v.floor {
-        return Quick {
-            sure: true,
-            answer: search_total::nothing(),
-        };
+        return none();
     }
-    follow(sets, needs, caps, prices, &mut costs, &mut mem, idle, most)
+    follow(sets, needs, caps, prices, &mut rows, &mut mem, idle, most)
 }
 
 // The first of the valid placements of least weight, or that there is none, where the hints lead to it.
-pub fn quick_least(
+fn by_claim(
     sets: &[u8; 32],
     needs: &[u8; 16],
     caps: &[u8; 16],
     prices: &[u8; 512],
     idle: u8,
 ) -> Quick
+    requires { ⌜ Small (now sets) ⌝ }
     ensures { λ r. ⌜ (r .sure ≡ true → LeastAnswer (caseOf (now (sets .entry)) (now (needs .entry)) (now (caps .entry)) (now (prices .entry)) idle) (r .answer)) ⌝ }
 {
-    if !fit(sets, prices) {
-        return unsure();
-    }
     let mut mem = [0u32; 1024];
-    let mut costs = *prices;
+    let mut rows = all_allowed(prices);
     let owner = [16u8; 32];
     let claim = hint_oracle::solve(&mut mem, sets, needs, caps, prices, idle);
     let most = capped(claim as usize);
-    let v = prune(sets, needs, caps, &mut costs, &owner, &mem, idle, 0, most);
+    let v = prune(sets, needs, caps, prices, &mut rows, &owner, &mem, idle, 0, most);
     if !v.good {
         return unsure();
     }
     if v.floor > 8192 {
-        return Quick {
-            sure: true,
-            answer: search_total::nothing(),
-        };
+        return none();
     }
     if v.floor != most {
         return unsure();
     }
-    follow(sets, needs, caps, prices, &mut costs, &mut mem, idle, most)
+    follow(sets, needs, caps, prices, &mut rows, &mut mem, idle, most)
+}
+
+// The same from the sheet, which tells of some cases that there is none.
+fn quick_least(
+    sets: &[u8; 32],
+    needs: &[u8; 16],
+    caps: &[u8; 16],
+    prices: &[u8; 512],
+    idle: u8,
+    sheet: &[[u8; 16]; 16],
+) -> Quick
+    requires { ⌜ SheetFor (caseOf (now sets) (now needs) (now caps) (now prices) idle) (now sheet) ⌝ }
+    ensures { λ r. ⌜ (r .sure ≡ true → LeastAnswer (caseOf (now (sets .entry)) (now (needs .entry)) (now (caps .entry)) (now (prices .entry)) idle) (r .answer)) ⌝ }
+{
+    if !fit(sets) {
+        return unsure();
+    }
+    if search_floor::short(needs, sheet) {
+        return none();
+    }
+    by_claim(sets, needs, caps, prices, idle)
 }
 
 // The first valid placement of a weight of at most k, or that there is none.
@@ -450,17 +554,20 @@ pub fn first_within(
     search_total::plain_within(sets, needs, caps, prices, idle, k)
 }
 
-// The first of the valid placements of least weight, or that there is none.
+// The first of the valid placements of least weight, or that there is none. The sheet has for each shard and failure set 2 where no node
+// of the set is allowed there, and 1 only where none stays.
 pub fn least(
     sets: &[u8; 32],
     needs: &[u8; 16],
     caps: &[u8; 16],
     prices: &[u8; 512],
     idle: u8,
+    sheet: &[[u8; 16]; 16],
 ) -> Solution
+    requires { ⌜ SheetFor (caseOf (now sets) (now needs) (now caps) (now prices) idle) (now sheet) ⌝ }
     ensures { λ r. ⌜ LeastAnswer (caseOf (now (sets .entry)) (now (needs .entry)) (now (caps .entry)) (now (prices .entry)) idle) r ⌝ }
 {
-    let q = quick_least(sets, needs, caps, prices, idle);
+    let q = quick_least(sets, needs, caps, prices, idle, sheet);
     if q.sure {
         return q.answer;
     }

@@ -1,18 +1,9 @@
 -- Each part by its contract. Assumes nothing.
 use borrow.Author.Needs.{needs}
-use Prim.Native.Nat.{ℕ, _≤_, _<_, _-_, _+_, _*_, _/_, _%_}
-use mathlib.Core.Path.{_≡_, refl, sym, _∙_, ap, ap₂, subst}
-use mathlib.Core.Bool.{Bool, true, false, cond, _&&_, false≢true}
-use mathlib.Core.List.{[]}
+use Prim.Native.Nat.{ℕ, _+_, _*_, _<_}
+use mathlib.Core.Path.{_≡_, _∙_, ap}
 use native.Mathlib.Omega.{arith}
-use borrow.Author.Tests.{not-true, not-false, lt-ltb, le-ltb, ltb-true, le-leb, lt-leb}
-use lib.Dec.{eqb, ltb, leb}
-use lib.ListN.{getD, length-set}
-use Rattle.base_sums.specs.Sums.{sumBelow, sum-zero, sum-turn, sum-done, sum-const}
-use Rattle.base_laws.specs.Below.{allBelow, all-none, all-more, all-fails, all-at}
-use Rattle.base_laws.specs.Loops.{all-done}
-use Rattle.search_theory.specs.Tables.{caseOf, ownersOf}
-use Rattle.search_bounds.specs.Post.{weightsOf, steady-there, steady-nowhere}
+use lib.ListN.{getD}
 use Rattle.search_bounds.proofs.asks.Statement.{statement}
 use Rattle.search_bounds.proofs.asks.Tie as tie
 
@@ -21,19 +12,16 @@ place : (i f : ℕ) → i < 16 → f < 16 → i * 16 + f < 256
 place i f l h = omega arith
 
 element-copy-out-large : tie.Need-element-copy-out-large
-element-copy-out-large c =
-    place (c .before .before .before .args .i) (c .wide2 .result) (c .before .before .before .pre .0 .0)
+element-copy-out-large c = place (c .before .before .before .args .i) (c .wide2 .result) (c .before .before .before .pre .0 .0)
     (omega (arith, c .wide2 .ensures .0, c .before .before .before .pre .1 .below (c .before .before .before .args .n) (c .before .before .before .pre .0 .1)))
 
 returns : tie.Need-returns
-returns c =
-    let s = c .before .before .before .before .before .before .before .before .before in (
+returns c = let s = c .before .before .before .before .before .before .before in (
       omega (
         arith,
-        c .before .before .before .before .before .before .before .before .wide .ensures .0,
-        c .large3 .ensures .0,
-        c .before .before .large2 .ensures .0,
-        c .before .before .before .before .large .ensures .0 ∙ ap (λ (f : ℕ). getD (s .args .pairs .now) (s .args .i * 16 + f) 0) (c .before .before .before .before .before .before .wide2 .ensures .0),
+        c .before .before .before .before .before .before .wide .ensures .0,
+        c .large2 .ensures .0,
+        c .before .before .large .ensures .0 ∙ ap (λ (f : ℕ). getD (s .args .pairs .now) (s .args .i * 16 + f) 0) (c .before .before .before .before .wide2 .ensures .0),
       ),
       omega arith,
     )
@@ -41,4 +29,4 @@ returns c =
 pub asks-spec : {M : Type 1} → statement M
 asks-spec =
     tie.close
-    (tie.spec (λ c κs. search needs) (λ c. search needs) (λ c. search needs) (λ c κs. search needs) (λ c. search needs) (λ c. search needs) element-copy-out-large (λ c κs. search needs) (λ c. search needs) (λ c. search needs) (λ c. search needs) (λ c κs. search needs) (λ c. search needs) (λ c. search needs) (λ c. search needs) (λ c κs. search needs) (λ c. search needs) returns)
+    (tie.spec (λ c κs. search needs) (λ c. search needs) (λ c. search needs) (λ c κs. search needs) (λ c. search needs) (λ c. search needs) element-copy-out-large (λ c κs. search needs) (λ c. search needs) (λ c. search needs) (λ c. search needs) (λ c κs. search needs) (λ c. search needs) returns)

@@ -1,20 +1,8 @@
 -- The list is ended, or goes on. Assumes nothing.
 use borrow.Author.Needs.{needs}
-use Prim.Native.Nat.{ℕ, _≤_, _<_, _-_, _+_, _*_, _/_, _%_}
-use mathlib.Core.Path.{_≡_, refl, sym, _∙_, ap, subst}
-use mathlib.Core.Bool.{Bool, true, false, false≢true}
-use mathlib.Core.List.{List}
-use mathlib.Core.Logic.{inl, inr}
+use Prim.Native.Nat.{ℕ, _≤_, _<_}
 use native.Mathlib.Omega.{arith}
-use borrow.Author.Tests.{not-true, not-false, ltb-true, leb-true, eqb-true}
-use lib.ListN.{getD}
-use Rattle.base_laws.specs.Bools.{clash}
-use Rattle.search_theory.specs.Case.{Within, spread, meets, weight}
-use Rattle.search_theory.specs.Order.{None, From, next}
-use Rattle.search_theory.specs.Tests.{none-thin}
-use Rattle.search_theory.specs.Tables.{caseOf, ownersOf}
-use Rattle.search_hinted.specs.Stage.{Narrowed, Advanced, At, Moved, stage-cut, stage-shut, stage-close, stage-none, advance-leave, advance-take, moved-close, moved-on, moved-next, moved-passed, begun-at}
-use Rattle.search_hinted.specs.Post.{Sure, sure-start, sure-next, found-end, sound-none}
+use Rattle.search_hinted.specs.Stage.{moved-close, moved-on}
 use Rattle.search_hinted.proofs.ended.Statement.{statement}
 use Rattle.search_hinted.proofs.ended.Tie as tie
 

@@ -1,29 +1,19 @@
 -- The floor is above k. Assumes nothing.
 use borrow.Author.Needs.{needs}
-use Prim.Native.Nat.{ℕ, _≤_, _<_, _-_, _+_, _*_, _/_, _%_}
-use mathlib.Core.Path.{_≡_, refl, sym, _∙_, ap, subst}
-use mathlib.Core.Bool.{Bool, true, false, false≢true}
-use mathlib.Core.List.{List}
-use mathlib.Core.Logic.{inl, inr}
-use native.Mathlib.Omega.{arith}
-use borrow.Author.Tests.{not-true, not-false, ltb-true, leb-true, eqb-true}
-use lib.ListN.{getD}
-use Rattle.base_laws.specs.Bools.{clash}
-use Rattle.search_theory.specs.Case.{Within, spread, meets, weight}
-use Rattle.search_theory.specs.Order.{None, From, next}
-use Rattle.search_theory.specs.Tests.{none-thin}
-use Rattle.search_theory.specs.Tables.{caseOf, ownersOf}
-use Rattle.search_hinted.specs.Stage.{Narrowed, Advanced, At, Moved, stage-cut, stage-shut, stage-close, stage-none, advance-leave, advance-take, moved-close, moved-on, moved-next, moved-passed, begun-at}
-use Rattle.search_hinted.specs.Post.{Sure, sure-start, sure-next, found-end, sound-none}
+use Prim.Native.Nat.{ℕ, _<_}
+use mathlib.Core.Bool.{false≢true}
+use borrow.Author.Tests.{ltb-true}
+use Rattle.search_hinted.specs.Post.{sound-none}
 use Rattle.search_hinted.proofs.exceeds.Statement.{statement}
 use Rattle.search_hinted.proofs.exceeds.Tie as tie
 
 returns : tie.Need-returns
-returns c = λ e. sound-none (ltb-true _ _ e) (c .before .before .prune .ensures .0 (c .before .if1 .taken))
+returns c = λ e. sound-none (ltb-true _ _ e) (c .before .before .prune .ensures (c .before .if1 .taken))
 
 returns-2 : tie.Need-returns-2
 returns-2 c = λ e. absurd (false≢true e)
 
 pub exceeds-spec : {M : Type 1} → statement M
 exceeds-spec =
-    tie.close (tie.spec (λ c κs. search needs) returns returns-2)
+    tie.close
+    (tie.spec (λ c κs. search needs) returns returns-2)

@@ -1,28 +1,20 @@
 -- The loop's invariant: what is first from p is first of all. At the end the owners are tested. Assumes nothing.
 use borrow.Author.Needs.{needs}
-use Prim.Native.Nat.{ℕ, _≤_, _<_, _-_, _+_, _*_, _/_, _%_}
-use mathlib.Core.Path.{_≡_, refl, sym, _∙_, ap, subst}
-use mathlib.Core.Bool.{Bool, true, false, false≢true}
-use mathlib.Core.List.{List}
-use mathlib.Core.Logic.{inl, inr}
+use Prim.Native.Nat.{ℕ, _≤_, _<_, _-_}
+use mathlib.Core.Path.{_≡_}
 use native.Mathlib.Omega.{arith}
-use borrow.Author.Tests.{not-true, not-false, ltb-true, leb-true, eqb-true}
-use lib.ListN.{getD}
 use Rattle.base_laws.specs.Bools.{clash}
-use Rattle.search_theory.specs.Case.{Within, spread, meets, weight}
-use Rattle.search_theory.specs.Order.{None, From, next}
-use Rattle.search_theory.specs.Tests.{none-thin}
-use Rattle.search_theory.specs.Tables.{caseOf, ownersOf}
-use Rattle.search_hinted.specs.Stage.{Narrowed, Advanced, At, Moved, stage-cut, stage-shut, stage-close, stage-none, advance-leave, advance-take, moved-close, moved-on, moved-next, moved-passed, begun-at}
-use Rattle.search_hinted.specs.Post.{Sure, sure-start, sure-next, found-end, sound-none}
+use Rattle.search_theory.specs.Case.{weight}
+use Rattle.search_theory.specs.Tables.{caseOf}
+use Rattle.search_hinted.specs.Post.{Sure, sure-start, sure-next, found-end}
 use Rattle.search_hinted.proofs.follow.Statement.{statement}
 use Rattle.search_hinted.proofs.follow.Tie as tie
 
 abbrev Inv-loop : tie.InvT-loop
-Inv-loop sets needs caps prices costs₀ mem₀ idle k owner₀ p₀ costs mem owner p = (p ≤ 1024) × Sure (caseOf sets needs caps prices idle) k owner p costs
+Inv-loop sets needs caps prices rows₀ mem₀ idle k owner₀ p₀ rows mem owner p = (p ≤ 1024) × Sure (caseOf sets needs caps prices idle) k owner p rows
 
 abbrev μ-loop : tie.MeasureT-loop
-μ-loop sets needs caps prices costs₀ mem₀ idle k owner₀ p₀ costs mem owner p = 1024 - p
+μ-loop sets needs caps prices rows₀ mem₀ idle k owner₀ p₀ rows mem owner p = 1024 - p
 
 loop-holds : tie.Need-loop-holds Inv-loop μ-loop
 loop-holds c = (omega arith, sure-start (c .pre .1 .1))
@@ -41,8 +33,7 @@ loop-again c = (c .before .step .ensures (c .if1 .left) .most, sure-next (c .bef
 
 returns-2 : tie.Need-returns-2 Inv-loop μ-loop
 unfolding weight
-returns-2 c =
-    λ e.
+returns-2 c = λ e.
     found-end (c .before .before .before .before .before .loop .inv .0) (c .before .before .before .before .loop-test .left) (c .before .before .before .before .before .loop .inv .1) (c .before .before .within .ensures .yes (c .before .if2 .taken))
     (record { exists = c .some .ensures .exists; weight = c .some .ensures .weight; owners = c .some .ensures .owners })
 
