@@ -4,11 +4,11 @@ use mathlib.Core.Path.{_≡_, sym, _∙_}
 use mathlib.Core.Bool.{true, false}
 use mathlib.Core.List.{List}
 use mathlib.Core.Logic.{⊎-elim}
-use Prim.Native.Nat.{ℕ, _^_, _≤_, _<_}
+use Prim.Native.Nat.{ℕ, _^_, _<_}
 use native.Mathlib.Omega.{arith}
 use Rattle.base_laws.specs.Bools.{either}
 use Rattle.base_sums.specs.Sums.{sum-cong}
-use Rattle.settings_values.specs.Settings.{nodes, shards, Settings}
+use Rattle.settings_values.specs.Settings.{nodes, Settings}
 use Rattle.place_groups.specs.Placements.{groupMoves}
 use Rattle.place_groups.specs.Chosen.{lowest-one}
 use Rattle.place_owners.specs.Adding.{masksOf}
