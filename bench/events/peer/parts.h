@@ -10,7 +10,7 @@
 #error "words are read as they lie in memory, lowest byte first"
 #endif
 
-enum { NODES = 32, SETS = 16, SHARDS = 16, GROUPS = 4, RECORDS = 128 };
+enum { NODES = 32, SETS = 16, SHARDS = 16, GROUPS = 4, CAP = 16, RECORDS = 128 };
 enum { STATE_BYTES = 640, DESK_BYTES = 65536, SLOT_BYTES = 2048, BUFFER_BYTES = 2048 };
 enum { GATHERING, ORDERED, PREPARING, COMMITTED };
 enum { MEMBERS = 1, POSITION, RUN, HOLDER, CUT };
@@ -97,7 +97,7 @@ static inline int has(uint32_t mask, uint32_t bit)
 
 struct settings {
     uint32_t nodes, sets, least, shards;
-    uint8_t set[NODES], group[SHARDS], need[SHARDS];
+    uint8_t set[NODES], group[SHARDS], need[SHARDS], cap[SHARDS];
 };
 
 /* Whether the settings are right; fills in what they say. */

@@ -5,7 +5,8 @@
  * the library and the reference.
  *
  * It was written from the specification and its requests, not from the library. Where the library
- * gives the first of the placements of least moves, the peer gives any of them.
+ * gives the first of the placements of least moves in which most old members stay, the peer gives any
+ * of least moves, and old members that it has not placed stay where their shard has room.
  */
 #ifndef PEER_H
 #define PEER_H

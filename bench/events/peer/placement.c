@@ -4,7 +4,8 @@
  * A node was a member of at most one shard of a subgroup, so nodes of one set differ only in that:
  * it is enough to say which shard takes a node of which set. A shard takes the sets of its old
  * members first, which never crowds a set. Each node that it still lacks is one move where a set has
- * room, and else the end of a cheapest chain of exchanges.
+ * room, and else the end of a cheapest chain of exchanges. Then old members that are left stay up to
+ * their shard's cap.
  */
 #include "parts.h"
 
@@ -19,7 +20,7 @@ int moves_of(const struct restart *restart, const uint8_t *masks)
         moves += bits(mask & ~word(restart->state, KEPT_MASKS + s));
         for (; mask && !wrong; mask &= mask - 1, ++count)
             sets |= UINT32_C(1) << settings->set[lowest(mask)];
-        wrong |= count != settings->need[s] || bits(sets) != count;
+        wrong |= count > settings->cap[s] || bits(sets) < settings->need[s];
     }
     return wrong ? -1 : (int)moves;
 }
@@ -188,6 +189,19 @@ static int name_nodes(struct subgroup *sub, uint32_t *masks)
     return (int)moves;
 }
 
+/* Old members that are left stay where their shard has room. */
+static void keep(const struct subgroup *sub, const struct settings *settings, uint32_t *masks)
+{
+    uint32_t left = 0;
+    for (uint32_t f = 0; f < settings->sets; ++f)
+        left |= sub->nodes[f];
+    for (uint32_t k = 0; k < sub->count; ++k) {
+        uint32_t *mask = &masks[sub->shard[k]], cap = settings->cap[sub->shard[k]];
+        for (uint32_t old = left & sub->old[k]; old && bits(*mask) < cap; old &= old - 1)
+            *mask |= old & -old;
+    }
+}
+
 int place(const struct restart *restart, uint32_t *masks, uint32_t group)
 {
     struct subgroup sub;
@@ -196,5 +210,7 @@ int place(const struct restart *restart, uint32_t *masks, uint32_t group)
         for (; sub.lacks[k]; --sub.lacks[k])
             if (!move(&sub, k))
                 return -1;
-    return name_nodes(&sub, masks);
+    int moves = name_nodes(&sub, masks);
+    keep(&sub, &restart->settings, masks);
+    return moves;
 }

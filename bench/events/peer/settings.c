@@ -18,10 +18,12 @@ int read_settings(struct settings *to, const uint8_t *bytes, size_t length)
         to->set[n] = (uint8_t)set;
     }
     for (uint32_t s = 0; s < shards; ++s) {
-        uint32_t shard = word(bytes, 4 + nodes + s), need = shard & 255;
-        wrong |= shard >= 256 * GROUPS || need - 1 >= sets;
-        to->group[s] = (uint8_t)(shard >> 8);
+        uint32_t shard = word(bytes, 4 + nodes + s), need = shard & 255, group = shard >> 8 & 255;
+        uint32_t cap = shard >> 16 ? shard >> 16 : need;
+        wrong |= group >= GROUPS || need - 1 >= sets || cap < need || cap > CAP;
+        to->group[s] = (uint8_t)group;
         to->need[s] = (uint8_t)need;
+        to->cap[s] = (uint8_t)cap;
     }
     to->nodes = nodes;
     to->sets = sets;
