@@ -391,7 +391,7 @@ const WANTED: [(&str, u64); 11] = [
     ),
     ("plans with another placement of equal moves and stays", 25),
     ("plans with a cap above m", 50),
-    ("plans with caps at m alone", 25),
+    ("plans with caps at m alone", 15),
     ("plans that keep more members than are needed", 15),
     ("plans that leave out a held member for a cap above m", 2),
     ("plans where a set is twice in a shard", 10),
@@ -399,18 +399,19 @@ const WANTED: [(&str, u64); 11] = [
 /// And of small ones.
 const WANTED_SMALL: (&str, u64) = ("plans compared over all shards at once", 50);
 /// And of all cases, in a thousand.
-const WANTED_CASES: [(&str, u64); 7] = [
+const WANTED_CASES: [(&str, u64); 6] = [
     ("wait 4", 2),
     ("wait 5", 5),
     ("refused for a fault", 10),
     ("a plan in spite of a fault", 1),
     ("a plan with every node held", 30),
     ("a plan with a node absent", 100),
-    (
-        "plans with as good a placement by lists of other lengths",
-        2,
-    ),
 ];
+/// And of large ones.
+const WANTED_LARGE: (&str, u64) = (
+    "plans with as good a placement by lists of other lengths",
+    10,
+);
 
 impl Tally {
     fn put(&mut self, holds: bool, name: &str) {
@@ -460,10 +461,7 @@ impl Tally {
             "plans with another placement of equal moves and stays",
         );
         let other = shifted(&layout, masks);
-        self.put(
-            other,
-            "plans with as good a placement by lists of other lengths",
-        );
+        self.put(other, WANTED_LARGE.0);
         self.caps(&layout, masks);
     }
 
@@ -513,8 +511,10 @@ impl Tally {
             .iter()
             .chain(wanted_small)
             .filter(|(name, least)| times(name) * 100 < self.plans * least);
+        let wanted_large = (size == Size::Large).then_some(&WANTED_LARGE);
         let of_cases = WANTED_CASES
             .iter()
+            .chain(wanted_large)
             .filter(|(name, least)| times(name) * 1000 < self.cases * least);
         of_plans.chain(of_cases).map(|&(name, _)| name).collect()
     }
