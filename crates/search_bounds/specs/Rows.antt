@@ -191,9 +191,9 @@ module _ {K : Case} {W : DualWeights} {free t low high : ℕ} where
       marks j n q a =
           ⊎-elim
           (λ d. ⊎-elim
-              (λ b. inl (ap (λ (z : ℕ). has (getD (set rows i (v .kept)) z 0) n) d ∙ (ap (λ (z : ℕ). has z n) at ∙ b)))
-              (λ b. inr (b .0, subst (λ (z : ℕ). low + W .need z + W .base < high + asked K W z n) (sym d) (b .1)))
-              (v .marks n q (now j n d a)))
+          (λ b. inl (ap (λ (z : ℕ). has (getD (set rows i (v .kept)) z 0) n) d ∙ (ap (λ (z : ℕ). has z n) at ∙ b)))
+          (λ b. inr (b .0, subst (λ (z : ℕ). low + W .need z + W .base < high + asked K W z n) (sym d) (b .1)))
+          (v .marks n q (now j n d a)))
           (λ d. ⊎-elim (λ b. inl (ap (λ (z : ℕ). has z n) (else j d) ∙ b)) (λ b. inr b) (p .marks j n q a))
           (eq-or-ne j i)
 
@@ -218,8 +218,8 @@ mustOf K W low high = maskBelow 32 (λ n. ltb (low + W .base) (high + (K .idle +
 
 module _ (K : Case) (W : DualWeights) (o : ℕ → ℕ) (t k : ℕ) (first rows : List ℕ) where
   -- the masks with the nodes that must be placed
-  abbrev pub marked : List ℕ
-  marked = set rows 16 (bitOr (getD rows 16 0) (bitAnd (mustOf K W (k + toll K W) (gain K W)) (freeOf o)))
+  abbrev pub withMarks : List ℕ
+  withMarks = set rows 16 (bitOr (getD rows 16 0) (bitAnd (mustOf K W (k + toll K W) (gain K W)) (freeOf o)))
 
   module _ (small : (n : ℕ) → n < 32 → K .setOf n < 16) (modest : Modest W) (b : Begun o t) (s : allBelow 32 (steady K W o) ≡ true)
       (p : RowsPassed K W (freeOf o) t (k + toll K W) (gain K W) 16 first rows) where
@@ -239,20 +239,20 @@ module _ (K : Case) (W : DualWeights) (o : ℕ → ℕ) (t k : ℕ) (first rows 
     unowned : (n : ℕ) → n < 32 → has (freeOf o) n ≡ true → 16 ≤ o n
     unowned n l h = leb-true 16 (o n) (sym (mask-at 32 (λ m. leb 16 (o m)) n l) ∙ h)
 
-    kept-rows : (j : ℕ) → j < 16 → getD marked j 0 ≡ getD rows j 0
+    kept-rows : (j : ℕ) → j < 16 → getD withMarks j 0 ≡ getD rows j 0
     kept-rows j l = getD-set-other rows 16 j (bitOr (getD rows 16 0) (bitAnd (mustOf K W (k + toll K W) (gain K W)) (freeOf o))) 0 (λ e. omega arith)
 
-    last : getD marked 16 0 ≡ bitOr (getD rows 16 0) (bitAnd (mustOf K W (k + toll K W) (gain K W)) (freeOf o))
+    last : getD withMarks 16 0 ≡ bitOr (getD rows 16 0) (bitAnd (mustOf K W (k + toll K W) (gain K W)) (freeOf o))
     last = getD-set-same rows 16 (bitOr (getD rows 16 0) (bitAnd (mustOf K W (k + toll K W) (gain K W)) (freeOf o))) 0 (omega (arith, p .long))
 
-    uses : (y : ℕ → ℕ) → Valid K y → Agree y o t → OpenFor first y → weight K y ≤ k → OpenFor marked y
+    uses : (y : ℕ → ℕ) → Valid K y → Agree y o t → OpenFor first y → weight K y ≤ k → OpenFor withMarks y
     uses y v a u c =
         record {
           bit = λ n l h. ap (λ (z : ℕ). has z n) (kept-rows (y n) h)
               ∙ ⊎-elim (λ e. e) (λ r. absurd (omega (arith, dear {K = K} {W = W} small b fair v a u n l h, r .1))) (p .marks (y n) n l (u .bit n l h));
         }
 
-    marks : (n : ℕ) → n < 32 → has (getD marked 16 0) n ≡ true →
+    marks : (n : ℕ) → n < 32 → has (getD withMarks 16 0) n ≡ true →
         (has (getD first 16 0) n ≡ true) ⊎ ((16 ≤ o n) × ((y : ℕ → ℕ) → Valid K y → Agree y o t → OpenFor first y → weight K y ≤ k → y n < 16))
     marks n l h = ⊎-elim (λ e. inl (ap (λ (z : ℕ). has z n) (sym (p .later 16 (omega arith))) ∙ e)) (λ e. inr (new e)) (or-holds _ _ (sym (has-or (getD rows 16 0) must n) ∙ (ap (λ (z : ℕ). has z n) (sym last) ∙ h)))
       where
@@ -263,13 +263,13 @@ module _ (K : Case) (W : DualWeights) (o : ℕ → ℕ) (t k : ℕ) (first rows 
         new e =
             let both : (has (mustOf K W (k + toll K W) (gain K W)) n && has (freeOf o) n) ≡ true = sym (has-and (mustOf K W (k + toll K W) (gain K W)) (freeOf o) n) ∙ e in
             let above : k + toll K W + W .base < gain K W + (K .idle + W .node n) =
-                ltb-true (k + toll K W + W .base) (gain K W + (K .idle + W .node n))
-                (sym (mask-at 32 (λ m. ltb (k + toll K W + W .base) (gain K W + (K .idle + W .node m))) n l) ∙ and-left (has (mustOf K W (k + toll K W) (gain K W)) n) (has (freeOf o) n) both) in (
+            ltb-true (k + toll K W + W .base) (gain K W + (K .idle + W .node n))
+            (sym (mask-at 32 (λ m. ltb (k + toll K W + W .base) (gain K W + (K .idle + W .node m))) n l) ∙ and-left (has (mustOf K W (k + toll K W) (gain K W)) n) (has (freeOf o) n) both) in (
               unowned n l (and-right (has (mustOf K W (k + toll K W) (gain K W)) n) (has (freeOf o) n) both),
               λ y v a u c. ⊎-elim (λ q. q) (λ q. absurd (omega (arith, above, c, away {K = K} {W = W} small b fair v a u n l q))) (lt-or-le (y n) 16),
             )
 
-    pub sound : SoundBound K k (gain K W - toll K W) o t first marked
+    pub sound : SoundBound K k (gain K W - toll K W) o t first withMarks
     sound =
         record {
           long = length-set rows 16 (bitOr (getD rows 16 0) (bitAnd (mustOf K W (k + toll K W) (gain K W)) (freeOf o))) ∙ p .long;
@@ -285,6 +285,6 @@ pub sound-by : (K : Case) (W : DualWeights) (o : ℕ → ℕ) (t k low high most
     SoundBound K k most o t first (set rows 16 (bitOr (getD rows 16 0) (bitAnd must free)))
 sound-by K W o t k low high most free must first rows small modest b s l h e f m p =
     subst₂ (λ (x y : ℕ). SoundBound K k most o t first (set rows 16 (bitOr (getD rows 16 0) (bitAnd x y)))) (sym (m ∙ ap₂ (λ (x y : ℕ). mustOf K W x y) l h)) (sym f)
-    (subst (λ (x : ℕ). SoundBound K k x o t first (marked K W o t k first rows)) (sym (e ∙ omega arith))
+    (subst (λ (x : ℕ). SoundBound K k x o t first (withMarks K W o t k first rows)) (sym (e ∙ omega arith))
     (sound K W o t k first rows small modest b s
     (subst₂ (λ (x y : ℕ). RowsPassed K W (freeOf o) t x y 16 first rows) l h (subst (λ (x : ℕ). RowsPassed K W x t low high 16 first rows) f p))))

@@ -58,25 +58,39 @@ fn all_nodes(nodes: &[u16; 32]) -> usize
     sum
 }
 
+// A weight in 32 bits.
+fn word(x: u16) -> u32
+    ensures { λ r. ⌜ (r ≡ x) × (r < 65536) ⌝ }
+{
+    x as u32
+}
+
+// Such a sum as a number.
+fn counted(x: u32) -> usize
+    ensures { λ r. ⌜ r ≡ x ⌝ }
+{
+    x as usize
+}
+
 // The sum of shard i's pairs.
-fn row(pairs: &[u16; 256], i: usize) -> usize
+fn row(pairs: &[u16; 256], i: usize) -> u32
     requires { ⌜ i < 16 ⌝ }
     ensures { λ r. ⌜ (r ≡ sumBelow 16 (λ f. getD (now (pairs .entry)) (i * 16 + f) 0)) × (r ≤ 1048576) ⌝ }
 {
-    let mut sum: usize = 0;
+    let mut sum: u32 = 0;
     let mut f: usize = 0;
     while f < 16 {
-        sum += large(pairs[i * 16 + f]);
+        sum += word(pairs[i * 16 + f]);
         f += 1;
     }
     sum
 }
 
 // The sum of all pairs.
-fn all_pairs(pairs: &[u16; 256]) -> usize
+fn all_pairs(pairs: &[u16; 256]) -> u32
     ensures { λ r. ⌜ (r ≡ sumBelow 16 (λ i. sumBelow 16 (λ f. getD (now (pairs .entry)) (i * 16 + f) 0))) × (r ≤ 16777216) ⌝ }
 {
-    let mut sum: usize = 0;
+    let mut sum: u32 = 0;
     let mut i: usize = 0;
     while i < 16 {
         sum += row(pairs, i);
@@ -96,7 +110,7 @@ fn grants(needs: &[u8; 16], wants: &[u16; 16]) -> usize
 fn takes(caps: &[u8; 16], rooms: &[u16; 16], nodes: &[u16; 32], pairs: &[u16; 256]) -> usize
     ensures { λ r. ⌜ (r ≡ toll (caseOf [] [] (now (caps .entry)) [] 0) (weightsOf [] (now (rooms .entry)) (now (nodes .entry)) (now (pairs .entry)))) × (r ≤ 536870912) ⌝ }
 {
-    all_pairs(pairs) + weighted(caps, rooms) + all_nodes(nodes)
+    counted(all_pairs(pairs)) + weighted(caps, rooms) + all_nodes(nodes)
 }
 
 // The larger of two weights.
@@ -135,14 +149,7 @@ fn modest(wants: &[u16; 16], pairs: &[u16; 256]) -> bool
 }
 
 // What node n at cost c asks of shard i, its room not counted.
-fn asks(
-    sets: &[u8; 32],
-    nodes: &[u16; 32],
-    pairs: &[u16; 256],
-    c: u8,
-    i: usize,
-    n: usize,
-) -> usize
+fn asks(sets: &[u8; 32], nodes: &[u16; 32], pairs: &[u16; 256], c: u8, i: usize, n: usize) -> usize
     requires { ⌜ (i < 16) × (n < 32) ⌝ }
     requires { ⌜ Small (now sets) ⌝ }
     ensures { λ r. ⌜ (r ≡ c + getD (now (pairs .entry)) (i * 16 + getD (now (sets .entry)) n 0) 0 + getD (now (nodes .entry)) n 0) × (r ≤ 196608) ⌝ }
@@ -282,7 +289,7 @@ fn lowest(m: u32) -> usize
 }
 
 // A row of open pairs, and whether its inequalities hold.
-struct Kept {
+struct OpenRow {
     good: bool,
     row: u32,
 }
@@ -298,7 +305,7 @@ fn sift(
     from: u32,
     least: usize,
     most: usize,
-) -> Kept
+) -> OpenRow
     requires { ⌜ i < 16 ⌝ }
     requires { ⌜ Small (now sets) ⌝ }
     ensures { λ r. ⌜ (r .good ≡ true → Sifted (λ n. getD (now (costs .entry)) (i * 32 + n) 0 + getD (now (pairs .entry)) (i * 16 + getD (now (sets .entry)) n 0) 0 + getD (now (nodes .entry)) n 0) row from least most (r .row)) ⌝ }
@@ -309,7 +316,7 @@ fn sift(
         let n = lowest(m);
         let x = asks(sets, nodes, pairs, costs[i * 32 + n], i, n);
         if x < least {
-            return Kept {
+            return OpenRow {
                 good: false,
                 row: 0,
             };
@@ -317,7 +324,7 @@ fn sift(
         kept = dropped(kept, n, x > most);
         m = base_masks::without(m, n);
     }
-    Kept {
+    OpenRow {
         good: true,
         row: kept,
     }
@@ -418,7 +425,18 @@ pub fn cut(
     let mut i = t / 32;
     while i < 16 {
         if !cut_row(
-            sets, costs, rows, wants, rooms, nodes, pairs, free, t, i, low, high,
+            sets,
+            costs,
+            rows,
+            wants,
+            rooms,
+            nodes,
+            pairs,
+            free,
+            t,
+            i,
+            low,
+            high,
         ) {
             return bad();
         }

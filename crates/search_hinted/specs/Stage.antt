@@ -9,14 +9,15 @@ use native.Mathlib.Omega.{arith}
 use lib.Dec.{eqb, ltb}
 use lib.ListN.{length, getD, set, length-set}
 use lib.Seq.{getD-set-same, getD-set-other}
-use borrow.Author.Tests.{eqb-true, eqb-false, eq-eqb, lt-ltb}
+use borrow.Author.Tests.{eqb-true, eqb-false, eq-eqb, lt-ltb, le-ltb}
 use lib.Bits.{bitOr}
-use Rattle.base_laws.specs.Bools.{lt-or-le, eq-or-ne, clash, and-left, and-right, of-not-true, no-true, or-left, or-right}
+use Rattle.base_laws.specs.Bools.{lt-or-le, eq-or-ne, clash, and-both, and-left, and-right, and-fails-right, of-not-true, no-true, or-left, or-right}
+use Rattle.base_laws.specs.Below.{count-mono, count-past, count-le}
 use Rattle.base_laws.specs.Masks.{has, without, minus, has-without, has-minus, has-or, has-zero, some-bit}
 use Rattle.base_laws.specs.Picked.{maskBelow, mask-at}
-use Rattle.search_theory.specs.Case.{Case, Valid, Within}
+use Rattle.search_theory.specs.Case.{Case, Valid, Within, size}
 use Rattle.search_theory.specs.Tables.{ownersOf}
-use Rattle.search_theory.specs.Order.{takes, shardEnd, Begun, First, None, From, TakesPair, from-left, from-closed, from-taken, begun-close, first-leave, first-close, first-take}
+use Rattle.search_theory.specs.Order.{takes, shardEnd, Begun, First, None, From, TakesPair, from-left, from-closed, from-taken, begun-close, pair-takes, first-leave, first-close, first-take}
 use Rattle.search_theory.specs.Cut.{keeps, decided}
 use Rattle.search_bounds.specs.Post.{OpenFor, SoundBound}
 use Rattle.search_total.specs.Post.{ReadyFrom}
@@ -43,7 +44,7 @@ pub record Later (rows : List ℕ) (i k m : ℕ) : Type 0 where
   pub has-all : (j n : ℕ) → i < j → j < k → has (getD rows j 0) n ≡ true → has m n ≡ true
 
 -- a node that must be placed, and is open for no shard past i
-pub record Stuck (rows : List ℕ) (i : ℕ) : Type 0 where
+pub record OnlyHere (rows : List ℕ) (i : ℕ) : Type 0 where
   pub node : ℕ
   pub below : node < 32
   pub must : has (getD rows 16 0) node ≡ true
@@ -54,6 +55,22 @@ pub record OpenBelow (prices : List ℕ) (k : ℕ) (rows : List ℕ) : Type 0 wh
   pub long : length rows ≡ 17
   pub bit : (i n : ℕ) → i < k → n < 32 → getD prices (i * 32 + n) 0 < 255 → has (getD rows i 0) n ≡ true
   pub none : getD rows 16 0 ≡ 0
+
+-- before pair t a shard has no more nodes than were looked at
+pub few-nodes : {o : ℕ → ℕ} (t : ℕ) → t < 512 → Begun o t → size o (t / 32) ≤ t % 32
+few-nodes {o} t l b =
+    omega (
+      arith,
+      count-mono 32 (λ n. eqb (o n) (t / 32)) (λ n. eqb (o n) (t / 32) && ltb n (t % 32)) (λ n q p. and-both p (lt-ltb n (t % 32) (past n q p))),
+      count-past (t % 32) 32 (λ n. eqb (o n) (t / 32) && ltb n (t % 32)) (omega arith) (λ n h. and-fails-right (eqb (o n) (t / 32)) (le-ltb n (t % 32) h)),
+      count-le (t % 32) (λ n. eqb (o n) (t / 32) && ltb n (t % 32)),
+    )
+  where
+    past : (n : ℕ) → n < 32 → eqb (o n) (t / 32) ≡ true → n < t % 32
+    past n q p =
+        ⊎-elim (λ h. h)
+        (λ h. clash (pair-takes o n (t / 32) q (eqb-true (o n) (t / 32) p)) (b .rest (t / 32 * 32 + n) (omega arith) (omega arith)))
+        (lt-or-le n (t % 32))
 
 -- ---- the masks
 
@@ -67,8 +84,8 @@ later-more {rows} {i} {k} {m} s =
           ∙ ⊎-elim (λ e. or-right (has m n) (subst (λ (x : ℕ). has (getD rows x 0) n ≡ true) e p)) (λ e. or-left (has (getD rows k 0) n) (s .has-all j n l (omega arith) p)) (eq-or-ne j k);
     }
 
-pub stuck-by : {rows : List ℕ} {i m r : ℕ} → Later rows i 16 m → r ≡ minus (getD rows 16 0) m → r < 2 ^ 32 → (r ≡ 0 → ⊥) → Stuck rows i
-stuck-by {rows} {i} {m} {r} s e l h =
+pub only-here-by : {rows : List ℕ} {i m r : ℕ} → Later rows i 16 m → r ≡ minus (getD rows 16 0) m → r < 2 ^ 32 → (r ≡ 0 → ⊥) → OnlyHere rows i
+only-here-by {rows} {i} {m} {r} s e l h =
     let (n, q, p) = some-bit 32 r l h in
     let both = sym (has-minus (getD rows 16 0) m n) ∙ (ap (λ (x : ℕ). has x n) (sym e) ∙ p) in
     record {
@@ -88,9 +105,9 @@ open-more {prices} {rows} {k} {m} l s e =
       long = length-set rows k m ∙ s .long;
       bit = λ i n h q p. ⊎-elim
           (λ d. ap (λ (x : ℕ). has (getD (set rows k m) x 0) n) d
-              ∙ (ap (λ (x : ℕ). has x n) (getD-set-same rows k m 0 (omega (arith, s .long)) ∙ e)
-              ∙ (mask-at 32 (λ j. ltb (getD prices (k * 32 + j) 0) 255) n q
-              ∙ lt-ltb (getD prices (k * 32 + n) 0) 255 (subst (λ (x : ℕ). getD prices (x * 32 + n) 0 < 255) d p))))
+          ∙ (ap (λ (x : ℕ). has x n) (getD-set-same rows k m 0 (omega (arith, s .long)) ∙ e)
+          ∙ (mask-at 32 (λ j. ltb (getD prices (k * 32 + j) 0) 255) n q
+          ∙ lt-ltb (getD prices (k * 32 + n) 0) 255 (subst (λ (x : ℕ). getD prices (x * 32 + n) 0 < 255) d p))))
           (λ d. ap (λ (x : ℕ). has x n) (getD-set-other rows k i m 0 d) ∙ s .bit i n (omega arith) q p)
           (eq-or-ne i k);
       none = getD-set-other rows k 16 m 0 (λ d. omega arith) ∙ s .none;
@@ -188,8 +205,8 @@ module _ {K : Case} {k t : ℕ} {o rows : List ℕ} (s : Narrowed K k o t rows) 
   stage-none n = record { none = λ y f. n .none y f (s .uses y f) }
 
   -- a node that must be placed can't be placed once the list is ended
-  pub stage-stuck : t < 512 → Stuck rows (t / 32) → None (From (Within K k) (ownersOf o) (shardEnd t))
-  stage-stuck l u =
+  pub stage-only-here : t < 512 → OnlyHere rows (t / 32) → None (From (Within K k) (ownersOf o) (shardEnd t))
+  stage-only-here l u =
       record {
         none = λ y f.
             let n = u .node in

@@ -17,7 +17,7 @@ ghost use Rattle.search_theory.specs.Floor.{SheetFor};
 ghost use Rattle.search_bounds.specs.Post.{Small, SoundBound};
 ghost use Rattle.search_total.specs.Post.{WithinAnswer, LeastAnswer, noOwners};
 ghost use Rattle.search_total.specs.Answers.{Empty};
-ghost use Rattle.search_hinted.specs.Stage.{Narrowed, Advanced, Exceeded, Later, Stuck, OpenBelow, At, Moved};
+ghost use Rattle.search_hinted.specs.Stage.{Narrowed, Advanced, Exceeded, Later, OnlyHere, OpenBelow, At, Moved};
 ghost use Rattle.search_hinted.specs.Post.{Found};
 use search_bounds::Bound;
 use search_total::Solution;
@@ -110,7 +110,18 @@ fn exceeds(
     ensures { λ r. ⌜ (r ≡ true → Exceeded (caseOf (now (sets .entry)) (now (needs .entry)) (now (caps .entry)) (now (prices .entry)) idle) k (ownersOf (now (owner .entry))) t (now (rows .entry))) ⌝ }
 {
     let mut scratch = *rows;
-    let v = prune(sets, needs, caps, prices, &mut scratch, owner, mem, idle, t, k);
+    let v = prune(
+        sets,
+        needs,
+        caps,
+        prices,
+        &mut scratch,
+        owner,
+        mem,
+        idle,
+        t,
+        k,
+    );
     if v.good {
         return v.floor > k;
     }
@@ -134,7 +145,7 @@ fn later(rows: &[u32; 17], i: usize) -> u32
 // Whether a node that must be placed is open for no shard past i.
 fn stuck(rows: &[u32; 17], i: usize) -> bool
     requires { ⌜ i < 16 ⌝ }
-    ensures { λ r. ⌜ (r ≡ true → Stuck (now (rows .entry)) i) ⌝ }
+    ensures { λ r. ⌜ (r ≡ true → OnlyHere (now (rows .entry)) i) ⌝ }
 {
     let m = base_masks::minus(rows[16], later(rows, i));
     if m == 0 {
@@ -143,17 +154,24 @@ fn stuck(rows: &[u32; 17], i: usize) -> bool
     true
 }
 
-// Whether shard i has too few sets.
-fn lacks(sets: &[u8; 32], needs: &[u8; 16], owner: &[u8; 32], i: usize) -> bool
-    requires { ⌜ i < 16 ⌝ }
+// Whether shard t / 32 has too few sets: it has none of the nodes from t on.
+fn lacks(sets: &[u8; 32], needs: &[u8; 16], owner: &[u8; 32], t: usize) -> bool
+    requires { ⌜ t < 512 ⌝ }
     requires { ⌜ Small (now sets) ⌝ }
-    ensures { λ r. ⌜ (r ≡ true → spread (caseOf (now (sets .entry)) [] [] [] 0) (ownersOf (now (owner .entry))) i < getD (now (needs .entry)) i 0) ⌝ }
+    requires { ⌜ Begun (ownersOf (now owner)) t ⌝ }
+    ensures { λ r. ⌜ (r ≡ true → spread (caseOf (now (sets .entry)) [] [] [] 0) (ownersOf (now (owner .entry))) (t / 32) < getD (now (needs .entry)) (t / 32) 0) ⌝ }
 {
-    let need = search_judge::wide(needs[i]);
-    if search_judge::size(owner, i) < need {
+    let need = search_judge::wide(needs[t / 32]);
+    if need == 0 {
+        return false;
+    }
+    if t % 32 < need {
         return true;
     }
-    search_judge::spread(sets, owner, i) < need
+    if search_judge::size(owner, t / 32) < need {
+        return true;
+    }
+    search_judge::spread(sets, owner, t / 32) < need
 }
 
 // Whether shard t / 32 can't end its list at pair t. 0: no proof was found. 1: its list is ended. 2: it can't be.
@@ -178,7 +196,7 @@ fn ends(
     if stuck(rows, t / 32) {
         return 2;
     }
-    if lacks(sets, needs, owner, t / 32) {
+    if lacks(sets, needs, owner, t) {
         return 2;
     }
     let hint = hint_oracle::close(mem, (t / 32) as u32, k as u32);
@@ -409,18 +427,7 @@ fn follow(
     let mut owner = [16u8; 32];
     let mut p: usize = 0;
     while p < 1024 {
-        let r = step(
-            sets,
-            needs,
-            caps,
-            prices,
-            rows,
-            &mut owner,
-            mem,
-            idle,
-            p,
-            k,
-        );
+        let r = step(sets, needs, caps, prices, rows, &mut owner, mem, idle, p, k);
         if r > 1024 {
             return unsure();
         }
@@ -476,7 +483,18 @@ fn quick_within(
     let mut rows = all_allowed(prices);
     let owner = [16u8; 32];
     hint_oracle::solve(&mut mem, sets, needs, caps, prices, idle);
-    let v = prune(sets, needs, caps, prices, &mut rows, &owner, &mem, idle, 0, most);
+    let v = prune(
+        sets,
+        needs,
+        caps,
+        prices,
+        &mut rows,
+        &owner,
+        &mem,
+        idle,
+        0,
+        most,
+    );
     if !v.good {
         return unsure();
     }
@@ -502,7 +520,18 @@ fn by_claim(
     let owner = [16u8; 32];
     let claim = hint_oracle::solve(&mut mem, sets, needs, caps, prices, idle);
     let most = capped(claim as usize);
-    let v = prune(sets, needs, caps, prices, &mut rows, &owner, &mem, idle, 0, most);
+    let v = prune(
+        sets,
+        needs,
+        caps,
+        prices,
+        &mut rows,
+        &owner,
+        &mem,
+        idle,
+        0,
+        most,
+    );
     if !v.good {
         return unsure();
     }

@@ -17,14 +17,14 @@ element-copy-out-large c = place (c .before .before .before .args .i) (c .wide2 
 
 returns : tie.Need-returns
 returns c = let s = c .before .before .before .before .before .before .before in (
-      omega (
-        arith,
-        c .before .before .before .before .before .before .wide .ensures .0,
-        c .large2 .ensures .0,
-        c .before .before .large .ensures .0 ∙ ap (λ (f : ℕ). getD (s .args .pairs .now) (s .args .i * 16 + f) 0) (c .before .before .before .before .wide2 .ensures .0),
-      ),
-      omega arith,
-    )
+  omega (
+    arith,
+    c .before .before .before .before .before .before .wide .ensures .0,
+    c .large2 .ensures .0,
+    c .before .before .large .ensures .0 ∙ ap (λ (f : ℕ). getD (s .args .pairs .now) (s .args .i * 16 + f) 0) (c .before .before .before .before .wide2 .ensures .0),
+  ),
+  omega arith,
+)
 
 pub asks-spec : {M : Type 1} → statement M
 asks-spec =

@@ -6,12 +6,12 @@ use native.Mathlib.Omega.{arith}
 use Rattle.search_theory.specs.Case.{spread, meets}
 use Rattle.search_theory.specs.Tests.{none-thin}
 use Rattle.search_theory.specs.Tables.{caseOf, ownersOf}
-use Rattle.search_hinted.specs.Stage.{Exceeded, stage-close, stage-none, stage-stuck, begun-at}
+use Rattle.search_hinted.specs.Stage.{Exceeded, stage-close, stage-none, stage-only-here, begun-at}
 use Rattle.search_hinted.proofs.ends.Statement.{statement}
 use Rattle.search_hinted.proofs.ends.Tie as tie
 
 returns : tie.Need-returns
-returns c = let s = c .before .before in (λ e. stage-stuck (s .pre .1 .1) (s .pre .0 .0) (c .before .stuck .ensures (c .if1 .taken)), omega arith)
+returns c = let s = c .before .before in (λ e. stage-only-here (s .pre .1 .1) (s .pre .0 .0) (c .before .stuck .ensures (c .if1 .taken)), omega arith)
 
 returns-2 : tie.Need-returns-2
 unfolding spread meets
@@ -24,11 +24,11 @@ exceeds-requires c κs = let s = c .before .before .before .before .before .befo
 
 returns-4 : tie.Need-returns-4
 returns-4 c = let s = c .before .before .before .before .before .before .before .before .before .before .before in (
-      λ e.
-          stage-none (stage-close (s .pre .1 .1) (s .pre .0 .0))
-          (subst (λ (j : ℕ). Exceeded (caseOf (s .args .sets .now) (s .args .needs .now) (s .args .caps .now) (s .args .prices .now) (s .args .idle)) (s .args .k) (ownersOf (s .args .owner .now)) j (s .args .rows .now)) (c .before .before .next .ensures .0) (c .before .exceeds .ensures (c .if4 .taken))),
-      omega arith,
-    )
+  λ e.
+      stage-none (stage-close (s .pre .1 .1) (s .pre .0 .0))
+      (subst (λ (j : ℕ). Exceeded (caseOf (s .args .sets .now) (s .args .needs .now) (s .args .caps .now) (s .args .prices .now) (s .args .idle)) (s .args .k) (ownersOf (s .args .owner .now)) j (s .args .rows .now)) (c .before .before .next .ensures .0) (c .before .exceeds .ensures (c .if4 .taken))),
+  omega arith,
+)
 
 pub ends-spec : {M : Type 1} → statement M
 ends-spec =

@@ -1,6 +1,5 @@
 -- A sure answer is given as it is. Assumes nothing.
 use borrow.Author.Needs.{needs}
-
 use Rattle.search_hinted.proofs.first_within.Statement.{statement}
 use Rattle.search_hinted.proofs.first_within.Tie as tie
 

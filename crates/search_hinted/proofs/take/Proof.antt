@@ -12,9 +12,9 @@ returns c = (λ e. absurd (false≢true e), λ e. absurd (false≢true e))
 
 returns-2 : tie.Need-returns-2
 returns-2 c = let s = c .before .before .before .before .before in (
-      λ e. (c .before .before .before .if1 .left, ap (λ (v : ℕ). set (s .args .owner .now) (s .args .t % 32) v) (c .before .before .shard .ensures)),
-      λ e. ap (λ (v : ℕ). set (s .args .rows .now) 16 v) (c .without .ensures),
-    )
+  λ e. (c .before .before .before .if1 .left, ap (λ (v : ℕ). set (s .args .owner .now) (s .args .t % 32) v) (c .before .before .shard .ensures)),
+  λ e. ap (λ (v : ℕ). set (s .args .rows .now) 16 v) (c .without .ensures),
+)
 
 pub take-spec : {M : Type 1} → statement M
 take-spec =
