@@ -18,6 +18,11 @@ pub record Joined (m o i f r : ℕ) : Type 0 where
   pub small : r < 65536
   pub bits : (g : ℕ) → g < 16 → has r g ≡ (has m g || (eqb o i && eqb f g))
 
+-- bit f of m: a node below n is shard i's and of set f
+pub record Met (owner sets : List ℕ) (i n m : ℕ) : Type 0 where
+  pub small : m < 65536
+  pub bits : (f : ℕ) → f < 16 → has m f ≡ anyBelow n (λ k. eqb (getD owner k 0) i && eqb (getD sets k 0) f)
+
 and-no : (a : Bool) → (a && false) ≡ false
 and-no true = refl
 and-no false = refl
@@ -39,11 +44,6 @@ joined-past m o i f s l = record {
   small = s;
   bits = λ g h. sym (ap (λ (b : Bool). has m g || (eqb o i && b)) (ne-eqb f g (λ e. omega arith)) ∙ ap (λ (b : Bool). has m g || b) (and-no (eqb o i)) ∙ or-false (has m g));
 }
-
--- bit f of m: a node below n is shard i's and of set f
-pub record Met (owner sets : List ℕ) (i n m : ℕ) : Type 0 where
-  pub small : m < 65536
-  pub bits : (f : ℕ) → f < 16 → has m f ≡ anyBelow n (λ k. eqb (getD owner k 0) i && eqb (getD sets k 0) f)
 
 module _ (owner sets : List ℕ) (i : ℕ) where
   pub met-none : Met owner sets i 0 0

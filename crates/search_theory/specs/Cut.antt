@@ -13,6 +13,13 @@ use Rattle.search_theory.specs.Case.{Case, Valid, weight}
 use Rattle.search_theory.specs.Order.{Agree, Begun, pair-takes, takes-pair}
 use Rattle.search_theory.specs.Duality.{DualWeights, Modest, Bounds, asked, gain, toll, weak}
 
+-- the inequalities hold for each node that has an owner, for each that has none and stays so, and for each open pair
+pub record Fair (K : Case) (W : DualWeights) (o : ℕ → ℕ) (t : ℕ) : Type 0 where
+  pub modest : Modest W
+  pub given : (n : ℕ) → n < 32 → o n < 16 → W .need (o n) + W .base ≤ asked K W (o n) n
+  pub free : (n : ℕ) → n < 32 → 16 ≤ o n → W .base ≤ K .idle + W .node n
+  pub rest : (i n : ℕ) → i < 16 → n < 32 → t ≤ i * 32 + n → K .cost i n < 255 → 16 ≤ o n → W .need i + W .base ≤ asked K W i n
+
 -- what the owners given so far say of a placement that agrees with them
 module _ {o y : ℕ → ℕ} {t : ℕ} (b : Begun o t) (a : Agree y o t) where
   -- a node that has an owner keeps it
@@ -30,13 +37,6 @@ module _ {o y : ℕ → ℕ} {t : ℕ} (b : Begun o t) (a : Agree y o t) where
   -- a pair that the placement takes, of a node without an owner, is open
   pub open-pair : (n : ℕ) → n < 32 → y n < 16 → 16 ≤ o n → t ≤ y n * 32 + n
   open-pair n l p q = ⊎-elim (λ h. absurd (omega (arith, decided n l p h))) (λ h. h) (lt-or-le (y n * 32 + n) t)
-
--- the inequalities hold for each node that has an owner, for each that has none and stays so, and for each open pair
-pub record Fair (K : Case) (W : DualWeights) (o : ℕ → ℕ) (t : ℕ) : Type 0 where
-  pub modest : Modest W
-  pub given : (n : ℕ) → n < 32 → o n < 16 → W .need (o n) + W .base ≤ asked K W (o n) n
-  pub free : (n : ℕ) → n < 32 → 16 ≤ o n → W .base ≤ K .idle + W .node n
-  pub rest : (i n : ℕ) → i < 16 → n < 32 → t ≤ i * 32 + n → K .cost i n < 255 → 16 ≤ o n → W .need i + W .base ≤ asked K W i n
 
 module _ {K : Case} {W : DualWeights} {o y : ℕ → ℕ} {t : ℕ} (sets : (n : ℕ) → n < 32 → K .setOf n < 16) (b : Begun o t) (f : Fair K W o t)
     (v : Valid K y) (a : Agree y o t) where

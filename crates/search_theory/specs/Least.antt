@@ -1,13 +1,17 @@
 -- Least weight: the first placement within a bound that no valid placement stays below is the first of least weight.
 use mathlib.Core.Bool.{cond}
 use mathlib.Core.Logic.{⊎-elim}
-use Prim.Native.Nat.{ℕ, _+_, _≤_, _<_}
+use Prim.Native.Nat.{ℕ, _-_, _≤_, _<_}
 use native.Mathlib.Omega.{arith}
 use borrow.Author.Tests.{lt-ltb, le-ltb}
 use Rattle.base_laws.specs.Bools.{lt-or-le}
 use Rattle.base_sums.specs.Sums.{sum-bound}
 use Rattle.search_theory.specs.Case.{Case, Valid, Within, Least, hasOwner, weight}
 use Rattle.search_theory.specs.Order.{First, None}
+
+-- every valid placement weighs at least k
+pub record AtLeast (K : Case) (k : ℕ) : Type 0 where
+  pub bound : (y : ℕ → ℕ) → Valid K y → k ≤ weight K y
 
 -- a valid placement weighs at most 8192, where nowhere costs less than 256
 pub weight-most : {K : Case} {z : ℕ → ℕ} → K .idle < 256 → Valid K z → weight K z ≤ 8192
@@ -19,16 +23,13 @@ weight-most {K} {z} d v = omega (arith, sum-bound 32 256 (λ n. cond (hasOwner z
         ⊎-elim (λ h. simp (lt-ltb (z n) 16 h) (omega (arith, v .allowed n l h))) (λ h. simp (le-ltb (z n) 16 h) (omega arith))
         (lt-or-le (z n) 16)
 
--- every valid placement weighs at least k
-pub record AtLeast (K : Case) (k : ℕ) : Type 0 where
-  pub bound : (y : ℕ → ℕ) → Valid K y → k ≤ weight K y
+-- where none weighs less than k: k is 0, or there is none within k - 1
+pub at-least-zero : {K : Case} {k : ℕ} → k ≤ 0 → AtLeast K k
+at-least-zero l = record { bound = λ y v. omega arith }
 
-pub at-least-none : {K : Case} → AtLeast K 0
-at-least-none = record { bound = λ y v. omega arith }
-
-pub at-least-more : {K : Case} {k : ℕ} → None (Within K k) → AtLeast K (k + 1)
-at-least-more {K} {k} n =
-    record { bound = λ y v. ⊎-elim (λ h. omega arith) (λ h. absurd (n .none y (record { valid = v; cheap = h }))) (lt-or-le k (weight K y)) }
+pub at-least-next : {K : Case} {k : ℕ} → None (Within K (k - 1)) → AtLeast K k
+at-least-next {K} {k} n =
+    record { bound = λ y v. ⊎-elim (λ h. absurd (n .none y (record { valid = v; cheap = omega arith }))) (λ h. h) (lt-or-le (weight K y) k) }
 
 pub first-least : {K : Case} {k : ℕ} {z : ℕ → ℕ} → AtLeast K k → First (Within K k) z → First (Least K) z
 first-least {K} {k} {z} a f =

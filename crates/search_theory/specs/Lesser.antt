@@ -19,6 +19,15 @@ pub record Exact (K : Case) (z : ℕ → ℕ) : Type 0 where
   pub sized : (i : ℕ) → i < 16 → size z i ≡ K .need i
   pub apart : (n m : ℕ) → n < 32 → m < 32 → z n < 16 → z n ≡ z m → K .setOf n ≡ K .setOf m → n ≡ m
 
+-- node n is kept: no lower node of its shard is of its set, and its set is among the first that the shard needs
+unfoldable pub kept : Case → (ℕ → ℕ) → ℕ → Bool
+kept K z n =
+    not (anyBelow n (λ m. eqb (z m) (z n) && eqb (K .setOf m) (K .setOf n))) && ltb (countBelow (K .setOf n) (meets K z (z n))) (K .need (z n))
+
+-- the nodes that are kept where they are, and no other
+unfoldable pub narrowed : Case → (ℕ → ℕ) → ℕ → ℕ
+narrowed K z n = cond (hasOwner z n && kept K z n) (z n) 16
+
 -- the first k numbers of which f holds
 first-few : (n k : ℕ) (f : ℕ → Bool) → countBelow n (λ j. f j && ltb (countBelow j f) k) ≡ min k (countBelow n f)
 unfolding countBelow
@@ -30,14 +39,6 @@ first-few (suc n) k f = go (first-few n k f) (f n) (ltb (countBelow n f) k) refl
     go h true true e = omega (arith, ltb-true (countBelow n f) k e)
     go h true false e = omega (arith, ltb-false (countBelow n f) k e)
     go h false b e = omega arith
-
--- node n is kept: no lower node of its shard is of its set, and its set is among the first that the shard needs
-unfoldable pub kept : Case → (ℕ → ℕ) → ℕ → Bool
-kept K z n =
-    not (anyBelow n (λ m. eqb (z m) (z n) && eqb (K .setOf m) (K .setOf n))) && ltb (countBelow (K .setOf n) (meets K z (z n))) (K .need (z n))
-
-unfoldable pub narrowed : Case → (ℕ → ℕ) → ℕ → ℕ
-narrowed K z n = cond (hasOwner z n && kept K z n) (z n) 16
 
 module _ (K : Case) (z : ℕ → ℕ) where
   narrow-is : (n : ℕ) → narrowed K z n < 16 → (hasOwner z n && kept K z n) ≡ true

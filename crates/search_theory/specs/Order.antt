@@ -57,6 +57,10 @@ pub record TakesPair (o : ℕ → ℕ) (t : ℕ) (p : ℕ → ℕ) : Type 0 wher
   pub there : p (t % 32) ≡ t / 32
   pub else : (n : ℕ) → n < 32 → (n ≡ t % 32 → ⊥) → p n ≡ o n
 
+-- owners that place the same nodes in the same shards
+pub record Same (y o : ℕ → ℕ) : Type 0 where
+  pub owner : (n : ℕ) → n < 32 → min (y n) 16 ≡ min (o n) 16
+
 -- Bool by cases, with the equation
 by : {A : Type 0} (b : Bool) → (b ≡ true → A) → (b ≡ false → A) → A
 by true f g = f refl
@@ -207,10 +211,6 @@ module _ {o : ℕ → ℕ} {t : ℕ} (l : t < 512) (b : Begun o t) where
     -- none with pair t taken: no placement from here takes it
     pub none-take : {P : (ℕ → ℕ) → Type 0} → None (From P p (t + 1)) → (y : ℕ → ℕ) → From P o t y → takes y t ≡ true → ⊥
     none-take f y g e = f .none y (from-take y g e)
-
--- owners that place the same nodes in the same shards
-pub record Same (y o : ℕ → ℕ) : Type 0 where
-  pub owner : (n : ℕ) → n < 32 → min (y n) 16 ≡ min (o n) 16
 
 -- every pair decided: the owners are the placement
 pub agree-all : {y o : ℕ → ℕ} → Agree y o 512 → Same y o

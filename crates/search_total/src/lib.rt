@@ -137,7 +137,7 @@ pub fn plain_within(
     }
 }
 
-// The first of the valid placements of least weight.
+// The first of the valid placements of least weight: from the first of all, each time one of less weight, until there is none.
 pub fn plain_least(
     sets: &[u8; 32],
     needs: &[u8; 16],
@@ -147,13 +147,17 @@ pub fn plain_least(
 ) -> Solution
     ensures { λ r. ⌜ LeastAnswer (caseOf (now (sets .entry)) (now (needs .entry)) (now (caps .entry)) (now (costs .entry)) idle) r ⌝ }
 {
-    let mut k: usize = 0;
-    while k < 8192 {
-        let a = plain_within(sets, needs, caps, costs, idle, k);
-        if a.exists {
-            return a;
+    let start = plain_within(sets, needs, caps, costs, idle, 8192);
+    if !start.exists {
+        return start;
+    }
+    let mut k = start.weight;
+    while k > 0 {
+        let a = plain_within(sets, needs, caps, costs, idle, k - 1);
+        if !a.exists {
+            return plain_within(sets, needs, caps, costs, idle, k);
         }
-        k += 1;
+        k = a.weight;
     }
     plain_within(sets, needs, caps, costs, idle, k)
 }

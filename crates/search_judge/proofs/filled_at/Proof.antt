@@ -10,7 +10,9 @@ use Rattle.search_judge.proofs.filled_at.Tie as tie
 
 returns : tie.Need-returns
 unfolding spread meets
-returns c = met-yes (c .before .before .before .before .before .before .size .ensures) (c .before .before .before .before .wide .ensures .0) (c .before .wide2 .ensures .0) (c .spread .ensures) (c .before .before .before .if1 .taken)
+returns c =
+    met-yes (c .before .before .before .before .before .before .size .ensures) (c .before .before .before .before .wide .ensures .0) (c .before .wide2 .ensures .0)
+    (c .spread .ensures) (c .before .before .before .if1 .taken)
 
 returns-2 : tie.Need-returns-2
 returns-2 c =

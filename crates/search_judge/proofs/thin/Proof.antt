@@ -28,7 +28,8 @@ loop-holds c = (omega arith, omega arith, any-none _)
 returns : tie.Need-returns Inv-loop μ-loop
 returns c =
     sym
-    (any-at _ _ (c .before .before .before .before .before .loop .i) (omega (arith, c .before .before .before .before .loop-test .taken, c .before .before .before .before .before .loop .inv .0))
+    (any-at _ _ (c .before .before .before .before .before .loop .i)
+    (omega (arith, c .before .before .before .before .loop-test .taken, c .before .before .before .before .before .loop .inv .0))
     (ap₂ (λ (a b : ℕ). ltb a b) (sym (c .before .before .before .spread .ensures)) (sym (c .before .wide .ensures .0)) ∙ lt-ltb _ _ (c .if1 .taken)))
 
 loop-again : tie.Need-loop-again Inv-loop μ-loop
@@ -40,7 +41,9 @@ loop-again c = (
 )
 
 returns-2 : tie.Need-returns-2 Inv-loop μ-loop
-returns-2 c = sym (any-done (omega (arith, c .before .loop .inv .0, c .before .loop .inv .1)) (omega (arith, c .before .loop .inv .0, c .loop-test .left)) false _ (c .before .loop .inv .2))
+returns-2 c =
+    let v = c .before .loop .inv in
+    sym (any-done (omega (arith, v .0, v .1)) (omega (arith, v .0, c .loop-test .left)) false _ (v .2))
 
 pub thin-spec : {M : Type 1} → statement M
 thin-spec =

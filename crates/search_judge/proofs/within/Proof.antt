@@ -27,8 +27,10 @@ returns-4 c =
     judged
     (record {
       valid =
-          valid-of (sym (c .before .before .before .before .before .stands .ensures) ∙ not-false (c .before .before .before .before .before .stands .result) (c .before .before .before .before .if1 .left))
-          (sym (c .before .before .before .filled .ensures) ∙ not-false (c .before .before .before .filled .result) (c .before .before .if2 .left));
+          let s = c .before .before .before .before .before .stands in
+          let f = c .before .before .before .filled in
+          valid-of (sym (s .ensures) ∙ not-false (s .result) (c .before .before .before .before .if1 .left))
+          (sym (f .ensures) ∙ not-false (f .result) (c .before .before .if2 .left));
       cheap = omega (arith, c .if3 .left, c .before .weight .ensures .0);
     })
 
