@@ -37,7 +37,7 @@ pub record FrontTold (w : List ℕ) (count view m : ℕ) : Type 0 where
   pub positions : (m ≡ count) ⊎ ((m ≡ count + count) × ((s : ℕ) → s < count → PositionTold w view (count + s) s))
 
 -- a record as the rows ask for it: tag, word 1 and word 2
-pub record Told (count view a b c : ℕ) : Type 0 where
+pub record RecordTold (count view a b c : ℕ) : Type 0 where
   pub known : (a / 256 ≡ 1) ⊎ ((a / 256 ≡ 2) ⊎ (a / 256 ≡ 3))
   pub below : a % 256 < count
   pub zero : a / 256 ≡ 1 → c ≡ 0
@@ -54,7 +54,7 @@ where-none f b (suc n) h = rw (h n (omega arith)) (where-none f b n (λ j l. h j
 full-less : (w : ℕ) → 2 ^ w - 1 < 2 ^ w
 full-less w = omega (arith, pow-pos w)
 
-module _ {count view a b c : ℕ} (t : Told count view a b c) where
+module _ {count view a b c : ℕ} (t : RecordTold count view a b c) where
   told-kind : (kindOk Report (a / 256) && plain (a / 256) c) ≡ true
   unfolding kindOk plain
   told-kind =
@@ -78,32 +78,32 @@ module _ {count view a b c : ℕ} (t : Told count view a b c) where
   told-low = ⊎-elim (λ e. omega arith) (λ k. ⊎-elim (λ e. omega arith) (λ e. omega arith) k) (t .known)
 
 module _ (σ : List ℕ) (w : List ℕ) (view m n : ℕ) (right : Settings σ) (f : FrontTold w (shards σ) view m) (r : RunsTold w m (shards σ) view n) where
-  -- S, for short
-  abbrev S : ℕ
-  S = shards σ
+  -- the number of shards
+  abbrev many : ℕ
+  many = shards σ
 
-  few : S ≤ 16
+  few : many ≤ 16
   few = right .sizes .shards-to
 
-  some : 1 ≤ S
+  some : 1 ≤ many
   some = right .sizes .shards-from
 
-  low : S ≤ m
+  low : many ≤ m
   low = ⊎-elim (λ e. omega arith) (λ e. omega (arith, e .0)) (f .positions)
 
   -- the three zones
-  zone : {A : Type 0} (j : ℕ) → j < n → (j < S → MemberTold w j → A) → ((s : ℕ) → j ≡ S + s → j < m → s < S → PositionTold w view j s → A) → (m ≤ j → RunTold w S view j → A) → A
+  zone : {A : Type 0} (j : ℕ) → j < n → (j < many → MemberTold w j → A) → ((s : ℕ) → j ≡ many + s → j < m → s < many → PositionTold w view j s → A) → (m ≤ j → RunTold w many view j → A) → A
   zone j l one two three =
       ⊎-elim (λ h. one h (f .members j h))
       (λ h.
       ⊎-elim
       (λ k. ⊎-elim (λ e. absurd (omega arith))
-      (λ e. let i : j ≡ S + (j - S) = omega arith in
-      two (j - S) i k (omega (arith, e .0)) (subst (λ (x : ℕ). PositionTold w view x (j - S)) (sym i) (e .1 (j - S) (omega (arith, e .0)))))
+      (λ e. let i : j ≡ many + (j - many) = omega arith in
+      two (j - many) i k (omega (arith, e .0)) (subst (λ (x : ℕ). PositionTold w view x (j - many)) (sym i) (e .1 (j - many) (omega (arith, e .0)))))
       (f .positions))
       (λ k. three k (r .each j k l))
       (lt-or-le j m))
-      (lt-or-le j S)
+      (lt-or-le j many)
 
   on : (i : ℕ) → i < n → next w i ≡ i + 1
   on i l = zone i l (λ h t. t .linked) (λ s e q h t. t .linked) (λ h t. t .linked)
@@ -123,7 +123,7 @@ module _ (σ : List ℕ) (w : List ℕ) (view m n : ℕ) (right : Settings σ) (
   pub front-row8 : length w ≡ 512 → row8 w ≡ true
   front-row8 e = straight-row8 w n on (r .end) (r .few) (omega (arith, r .few))
 
-  told : (j : ℕ) → j < n → Told S view (tag (bodyOf w) j) (word1 (bodyOf w) j) (word2 (bodyOf w) j)
+  told : (j : ℕ) → j < n → RecordTold many view (tag (bodyOf w) j) (word1 (bodyOf w) j) (word2 (bodyOf w) j)
   told j l =
       zone j l
       (λ h t. record {
@@ -154,7 +154,7 @@ module _ (σ : List ℕ) (w : List ℕ) (view m n : ℕ) (right : Settings σ) (
 
   pub front-shards : allBelow n (shardAt σ (bodyOf w)) ≡ true
   unfolding shardAt
-  front-shards = all-of n (shardAt σ (bodyOf w)) (λ j l. lt-ltb (shard (bodyOf w) j) S (told j l .below))
+  front-shards = all-of n (shardAt σ (bodyOf w)) (λ j l. lt-ltb (shard (bodyOf w) j) many (told j l .below))
 
   pub front-positions : (members : ℕ) → allBelow n (row11At Report view members (bodyOf w)) ≡ true
   unfolding row11At
@@ -196,9 +196,9 @@ module _ (σ : List ℕ) (w : List ℕ) (view m n : ℕ) (right : Settings σ) (
           or-right (eqb (suc j) 0) (subst (λ (x : ℕ). precedes (bodyOf w) x (suc j) ≡ true) d (subst (λ (x : ℕ). precedes (bodyOf w) j x ≡ true) (sym e) (follows j (omega arith))))
 
   -- every shard has a record of kind k
-  every : (k base : ℕ) → ((s : ℕ) → s < S → (base + s < n) × (tag (bodyOf w) (base + s) ≡ k * 256 + s)) → subset (everyShard σ) (shardsOf k (bodyOf w) n) ≡ true
+  every : (k base : ℕ) → ((s : ℕ) → s < many → (base + s < n) × (tag (bodyOf w) (base + s) ≡ k * 256 + s)) → subset (everyShard σ) (shardsOf k (bodyOf w) n) ≡ true
   every k base h =
-      subset-of S (everyShard σ) (shardsOf k (bodyOf w) n) (full-less S) (λ s l p.
+      subset-of many (everyShard σ) (shardsOf k (bodyOf w) n) (full-less many) (λ s l p.
       let e = h s l in
       subst (λ (x : ℕ). has (shardsOf k (bodyOf w) n) x ≡ true) (let g : shard (bodyOf w) (base + s) ≡ s = omega (arith, e .1, few) in g)
       (where-at (λ j. eqb (kind (bodyOf w) j) k) (bodyOf w) n (base + s) (e .0) (eq-eqb (kind (bodyOf w) (base + s)) k (omega (arith, e .1, few)))))
@@ -211,21 +211,21 @@ module _ (σ : List ℕ) (w : List ℕ) (view m n : ℕ) (right : Settings σ) (
   front-complete node =
       and-both (every 1 0 (λ s l. (omega (arith, low, within-all), ap (tag (bodyOf w)) (omega arith) ∙ (tag-is s (omega (arith, low, within-all)) ∙ (f .members s l .tagged ∙ omega arith)))))
       (⊎-elim (λ e. or-left (subset (everyShard σ) (shardsOf 2 (bodyOf w) n)) (eq-eqb (shardsOf 2 (bodyOf w) n) 0 (where-none (λ j. eqb (kind (bodyOf w) j) 2) (bodyOf w) n (λ j l. ne-eqb (kind (bodyOf w) j) 2 (none e j l)))))
-      (λ e. or-right (eqb (shardsOf 2 (bodyOf w) n) 0) (every 2 S (λ s l. (omega (arith, e .0, within-all), tag-is (S + s) (omega (arith, e .0, within-all)) ∙ (e .1 s l .tagged ∙ omega arith)))))
+      (λ e. or-right (eqb (shardsOf 2 (bodyOf w) n) 0) (every 2 many (λ s l. (omega (arith, e .0, within-all), tag-is (many + s) (omega (arith, e .0, within-all)) ∙ (e .1 s l .tagged ∙ omega arith)))))
       (f .positions))
     where
-      none : m ≡ S → (j : ℕ) → j < n → kind (bodyOf w) j ≡ 2 → ⊥
+      none : m ≡ many → (j : ℕ) → j < n → kind (bodyOf w) j ≡ 2 → ⊥
       none e j l k =
           zone j l (λ h t. omega (arith, tag-is j l, t .tagged, few)) (λ s i q h t. omega arith)
           (λ h t. omega (arith, tag-is j l, t .fits .low, t .fits .high, few))
 
-  -- record S is of kind 2 only where positions stand
-  no-end : m ≡ S → (ltb S n && eqb (kind (bodyOf w) S) 2) ≡ false
+  -- record many is of kind 2 only where positions stand
+  no-end : m ≡ many → (ltb many n && eqb (kind (bodyOf w) many) 2) ≡ false
   no-end e =
-      ⊎-elim (λ l. and-fails-right (ltb S n) (ne-eqb (kind (bodyOf w) S) 2 (λ k. let t = r .each S (omega arith) l in omega (arith, tag-is S l, t .fits .low, t .fits .high, few))))
-      (λ l. and-fails-left _ (le-ltb S n l)) (lt-or-le S n)
+      ⊎-elim (λ l. and-fails-right (ltb many n) (ne-eqb (kind (bodyOf w) many) 2 (λ k. let t = r .each many (omega arith) l in omega (arith, tag-is many l, t .fits .low, t .fits .high, few))))
+      (λ l. and-fails-left _ (le-ltb many n l)) (lt-or-le many n)
 
-  front-mask : (s : ℕ) → s < S → membersOf (bodyOf w) s ≡ maskTold w s
+  front-mask : (s : ℕ) → s < many → membersOf (bodyOf w) s ≡ maskTold w s
   front-mask s l = word1-is s (omega (arith, low, within-all))
 
   -- rows 5 to 11
@@ -254,32 +254,32 @@ module _ (σ : List ℕ) (w : List ℕ) (view m n : ℕ) (right : Settings σ) (
     front-row12 k =
         ⊎-elim
         (λ e. or-right (not (eqb (getD w 1 0) (v .number .0))) (let d = eqb-true (getD w 1 0) (v .number .0) e in
-        and-both (eq-eqb (getD w 2 0) (v .members) (k .members d)) (all-of S (λ s. eqb (membersOf (bodyOf w) s) (maskAt v s)) (λ s l. eq-eqb (membersOf (bodyOf w) s) (maskAt v s) (front-mask s l ∙ k .masks d s l)))))
+        and-both (eq-eqb (getD w 2 0) (v .members) (k .members d)) (all-of many (λ s. eqb (membersOf (bodyOf w) s) (maskAt v s)) (λ s l. eq-eqb (membersOf (bodyOf w) s) (maskAt v s) (front-mask s l ∙ k .masks d s l)))))
         (λ e. or-left _ (not-of-false e))
         (either (eqb (getD w 1 0) (v .number .0)))
 
     -- a report of the kept view with a termination has the kept one
     Ending : Type 0
-    Ending = (m ≡ S) ⊎ ((m ≡ S + S) × EndFits σ v t w)
+    Ending = (m ≡ many) ⊎ ((m ≡ many + many) × EndFits σ v t w)
 
     front-row13 : Ending → row13 σ v t (contentsOf w) ≡ true
     unfolding row13 sameTermination contentsOf Ending
     front-row13 (inl e) =
-        or-left _ (not-of-false (and-fails-left (t .made) (and-fails-right (eqb (getD w 1 0) (v .number .0)) (subst (λ (k : ℕ). (ltb S k && eqb (kind (bodyOf w) S) 2) ≡ false) (sym front-following) (no-end e)))))
+        or-left _ (not-of-false (and-fails-left (t .made) (and-fails-right (eqb (getD w 1 0) (v .number .0)) (subst (λ (k : ℕ). (ltb many k && eqb (kind (bodyOf w) many) 2) ≡ false) (sym front-following) (no-end e)))))
     front-row13 (inr e) =
         ⊎-elim
-        (λ d. or-right (not (eqb (getD w 1 0) (v .number .0) && (ltb S (following w) && eqb (kind (bodyOf w) S) 2) && t .made)) (all-of S (λ s. samePosition (terminatedAt σ (contentsOf w) s) (positionAt t s)) (λ s l.
+        (λ d. or-right (not (eqb (getD w 1 0) (v .number .0) && (ltb many (following w) && eqb (kind (bodyOf w) many) 2) && t .made)) (all-of many (λ s. samePosition (terminatedAt σ (contentsOf w) s) (positionAt t s)) (λ s l.
         let q = e .1 .positions (eqb-true (getD w 1 0) (v .number .0) d) s l in
-        and-both (eq-eqb _ _ (word1-is (S + s) (omega (arith, e .0, within-all)) ∙ q .view)) (eq-eqb _ _ (word2-is (S + s) (omega (arith, e .0, within-all)) ∙ q .k)))))
+        and-both (eq-eqb _ _ (word1-is (many + s) (omega (arith, e .0, within-all)) ∙ q .view)) (eq-eqb _ _ (word2-is (many + s) (omega (arith, e .0, within-all)) ∙ q .k)))))
         (λ d. or-left _ (not-of-false (and-fails-left (t .made) (and-fails-left _ d))))
         (either (eqb (getD w 1 0) (v .number .0)))
 
     front-kept : Ending → termKept σ v t (contentsOf w) ≡ true
     unfolding termKept contentsOf Ending
     front-kept (inl e) =
-        or-left (t .made) (not-of-false (and-fails-right (eqb (getD w 1 0) (v .number .0)) (subst (λ (k : ℕ). (ltb S k && eqb (kind (bodyOf w) S) 2) ≡ false) (sym front-following) (no-end e))))
+        or-left (t .made) (not-of-false (and-fails-right (eqb (getD w 1 0) (v .number .0)) (subst (λ (k : ℕ). (ltb many k && eqb (kind (bodyOf w) many) 2) ≡ false) (sym front-following) (no-end e))))
     front-kept (inr e) =
-        ⊎-elim (λ d. or-right (not (eqb (getD w 1 0) (v .number .0) && (ltb S (following w) && eqb (kind (bodyOf w) S) 2))) (e .1 .made (eqb-true (getD w 1 0) (v .number .0) d))) (λ d. or-left (t .made) (not-of-false (and-fails-left _ d)))
+        ⊎-elim (λ d. or-right (not (eqb (getD w 1 0) (v .number .0) && (ltb many (following w) && eqb (kind (bodyOf w) many) 2))) (e .1 .made (eqb-true (getD w 1 0) (v .number .0) d))) (λ d. or-left (t .made) (not-of-false (and-fails-left _ d)))
         (either (eqb (getD w 1 0) (v .number .0)))
 
 -- a slot of a desk is 512 words long

@@ -134,7 +134,15 @@ fn runs_told(w: &[u32], at: usize, count: u32, view: u32) -> usize
         if w[4 * i + 3] != i as u32 + 1 {
             return 128;
         }
-        if !run_fits(tag, word, w[4 * i + 4], w[4 * i + 5], w[4 * i + 6], count, view) {
+        if !run_fits(
+            tag,
+            word,
+            w[4 * i + 4],
+            w[4 * i + 5],
+            w[4 * i + 6],
+            count,
+            view,
+        ) {
             return 128;
         }
         tag = w[4 * i + 4];
@@ -275,7 +283,14 @@ fn rest_fits(settings: &[u32], v: Layout, t: Termination, w: &[u32], count: usiz
 }
 
 // The words of a node's slot are sound, as far as is seen at once.
-fn words_fit(settings: &[u32], v: Layout, t: Termination, sound: bool, w: &[u32], node: Node) -> bool
+fn words_fit(
+    settings: &[u32],
+    v: Layout,
+    t: Termination,
+    sound: bool,
+    w: &[u32],
+    node: Node,
+) -> bool
     requires { ⌜ Settings (now settings) ⌝ }
     requires { ⌜ length (now w) ≡ 512 ⌝ }
     requires { ⌜ (sound ≡ true → row10 (now settings) (v .members) (maskAt v) ≡ true) ⌝ }
@@ -295,7 +310,14 @@ fn words_fit(settings: &[u32], v: Layout, t: Termination, sound: bool, w: &[u32]
 }
 
 // A node's slot is sound, as far as is seen at once. sound: the kept view passes row 10.
-pub fn accepts(settings: &[u32], v: Layout, t: Termination, sound: bool, desk: &[u32], node: Node) -> bool
+pub fn accepts(
+    settings: &[u32],
+    v: Layout,
+    t: Termination,
+    sound: bool,
+    desk: &[u32],
+    node: Node,
+) -> bool
     requires { ⌜ Settings (now settings) ⌝ }
     requires { ⌜ (length (now desk) ≡ 16384) × (node .0 < 32) ⌝ }
     requires { ⌜ (sound ≡ true → row10 (now settings) (v .members) (maskAt v) ≡ true) ⌝ }

@@ -64,7 +64,14 @@ fn slot_read(settings: &[u32], v: Layout, t: Termination, desk: &[u32], node: No
 }
 
 // The same, seen at once where the records stand one after another; else the slot is read. sound: the kept view passes row 10.
-fn slot_ok(settings: &[u32], v: Layout, t: Termination, sound: bool, desk: &[u32], node: Node) -> bool
+fn slot_ok(
+    settings: &[u32],
+    v: Layout,
+    t: Termination,
+    sound: bool,
+    desk: &[u32],
+    node: Node,
+) -> bool
     requires { ⌜ Settings (now settings) ⌝ }
     requires { ⌜ (length (now desk) ≡ 16384) × (node .0 < 32) ⌝ }
     requires { ⌜ (sound ≡ true → row10 (now settings) (v .members) (Reports.maskAt v) ≡ true) ⌝ }

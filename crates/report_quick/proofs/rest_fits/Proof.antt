@@ -38,8 +38,11 @@ returns-4 c =
       front = shards (c .before .before .before .before .before .before .before .before .before .before .before .args .settings .now) + shards (c .before .before .before .before .before .before .before .before .before .before .before .args .settings .now);
       last = c .runs-told2 .result;
       ending = inr (refl, c .before .before .before .end-fits .ensures (of-not-false (c .before .before .before .end-fits .result) (c .before .before .if3 .left)));
-      positions = inr (refl, λ s l. subst (λ (x : ℕ). PositionTold (c .before .before .before .before .before .before .before .before .before .before .before .args .w .now) (getD (c .before .before .before .before .before .before .before .before .before .before .before .args .w .now) 1 0) (x + s) s) (c .before .before .before .before .before .before .before .before .before .before .before .pre .1 .1)
-          (c .before .before .before .before .before .positions-told .ensures (of-not-false (c .before .before .before .before .before .positions-told .result) (c .before .before .before .before .if2 .left)) s (omega (arith, c .before .before .before .before .before .before .before .before .before .before .before .pre .1 .1))));
+      positions = inr (
+        refl,
+        λ s l. subst (λ (x : ℕ). PositionTold (c .before .before .before .before .before .before .before .before .before .before .before .args .w .now) (getD (c .before .before .before .before .before .before .before .before .before .before .before .args .w .now) 1 0) (x + s) s) (c .before .before .before .before .before .before .before .before .before .before .before .pre .1 .1)
+            (c .before .before .before .before .before .positions-told .ensures (of-not-false (c .before .before .before .before .before .positions-told .result) (c .before .before .before .before .if2 .left)) s (omega (arith, c .before .before .before .before .before .before .before .before .before .before .before .pre .1 .1))),
+      );
       runs = subst (λ (x : ℕ). RunsTold (c .before .before .before .before .before .before .before .before .before .before .before .args .w .now) (x + x) x (getD (c .before .before .before .before .before .before .before .before .before .before .before .args .w .now) 1 0) (c .runs-told2 .result)) (c .before .before .before .before .before .before .before .before .before .before .before .pre .1 .1) (c .runs-told2 .ensures (leb-true _ _ e));
     }
 

@@ -34,15 +34,20 @@ returns-3 c =
     λ h. absurd (omega arith)
 
 loop-again : tie.Need-loop-again Inv-loop μ-loop
-loop-again c =
-    (omega arith, omega arith, ap (λ (k : ℕ). getD (c .before .before .before .before .before .before .before .before .before .before .before .before .before .before .before .before .args .w .now) k 0) (omega arith), ap (λ (k : ℕ). getD (c .before .before .before .before .before .before .before .before .before .before .before .before .before .before .before .before .args .w .now) k 0) (omega arith), λ j k l. ⊎-elim
-    (λ e. subst (RunTold (c .before .before .before .before .before .before .before .before .before .before .before .before .before .before .before .before .args .w .now) (c .before .before .before .before .before .before .before .before .before .before .before .before .before .before .before .before .args .count) (c .before .before .before .before .before .before .before .before .before .before .before .before .before .before .before .before .args .view)) (sym e) (record {
-      linked = c .before .before .before .before .before .before .before .if2 .left;
-      fits = subst (λ (x : ℕ). RunFits x (getD (c .before .before .before .before .before .before .before .before .before .before .before .before .before .before .before .before .args .w .now) (4 * c .before .before .before .before .before .before .before .before .before .before .before .before .loop .i + 1) 0) (getD (c .before .before .before .before .before .before .before .before .before .before .before .before .before .before .before .before .args .w .now) (4 * c .before .before .before .before .before .before .before .before .before .before .before .before .loop .i + 4) 0) (getD (c .before .before .before .before .before .before .before .before .before .before .before .before .before .before .before .before .args .w .now) (4 * c .before .before .before .before .before .before .before .before .before .before .before .before .loop .i + 5) 0) (getD (c .before .before .before .before .before .before .before .before .before .before .before .before .before .before .before .before .args .w .now) (4 * c .before .before .before .before .before .before .before .before .before .before .before .before .loop .i + 6) 0) (c .before .before .before .before .before .before .before .before .before .before .before .before .before .before .before .before .args .count) (c .before .before .before .before .before .before .before .before .before .before .before .before .before .before .before .before .args .view)) (c .before .before .before .before .before .before .before .before .before .before .before .before .loop .inv .2)
-          (subst (λ (x : ℕ). RunFits (c .before .before .before .before .before .before .before .before .before .before .before .before .loop .tag) x (getD (c .before .before .before .before .before .before .before .before .before .before .before .before .before .before .before .before .args .w .now) (4 * c .before .before .before .before .before .before .before .before .before .before .before .before .loop .i + 4) 0) (getD (c .before .before .before .before .before .before .before .before .before .before .before .before .before .before .before .before .args .w .now) (4 * c .before .before .before .before .before .before .before .before .before .before .before .before .loop .i + 5) 0) (getD (c .before .before .before .before .before .before .before .before .before .before .before .before .before .before .before .before .args .w .now) (4 * c .before .before .before .before .before .before .before .before .before .before .before .before .loop .i + 6) 0) (c .before .before .before .before .before .before .before .before .before .before .before .before .before .before .before .before .args .count) (c .before .before .before .before .before .before .before .before .before .before .before .before .before .before .before .before .args .view)) (c .before .before .before .before .before .before .before .before .before .before .before .before .loop .inv .3)
-          (c .before .before .before .run-fits .ensures (of-not-false (c .before .before .before .run-fits .result) (c .before .before .if3 .left))));
-    }))
-    (λ e. c .before .before .before .before .before .before .before .before .before .before .before .before .loop .inv .4 j k (omega arith)) (eq-or-ne j (c .before .before .before .before .before .before .before .before .before .before .before .before .loop .i)))
+loop-again c = (
+  omega arith,
+  omega arith,
+  ap (λ (k : ℕ). getD (c .before .before .before .before .before .before .before .before .before .before .before .before .before .before .before .before .args .w .now) k 0) (omega arith),
+  ap (λ (k : ℕ). getD (c .before .before .before .before .before .before .before .before .before .before .before .before .before .before .before .before .args .w .now) k 0) (omega arith),
+  λ j k l. ⊎-elim
+      (λ e. subst (RunTold (c .before .before .before .before .before .before .before .before .before .before .before .before .before .before .before .before .args .w .now) (c .before .before .before .before .before .before .before .before .before .before .before .before .before .before .before .before .args .count) (c .before .before .before .before .before .before .before .before .before .before .before .before .before .before .before .before .args .view)) (sym e) (record {
+        linked = c .before .before .before .before .before .before .before .if2 .left;
+        fits = subst (λ (x : ℕ). RunFits x (getD (c .before .before .before .before .before .before .before .before .before .before .before .before .before .before .before .before .args .w .now) (4 * c .before .before .before .before .before .before .before .before .before .before .before .before .loop .i + 1) 0) (getD (c .before .before .before .before .before .before .before .before .before .before .before .before .before .before .before .before .args .w .now) (4 * c .before .before .before .before .before .before .before .before .before .before .before .before .loop .i + 4) 0) (getD (c .before .before .before .before .before .before .before .before .before .before .before .before .before .before .before .before .args .w .now) (4 * c .before .before .before .before .before .before .before .before .before .before .before .before .loop .i + 5) 0) (getD (c .before .before .before .before .before .before .before .before .before .before .before .before .before .before .before .before .args .w .now) (4 * c .before .before .before .before .before .before .before .before .before .before .before .before .loop .i + 6) 0) (c .before .before .before .before .before .before .before .before .before .before .before .before .before .before .before .before .args .count) (c .before .before .before .before .before .before .before .before .before .before .before .before .before .before .before .before .args .view)) (c .before .before .before .before .before .before .before .before .before .before .before .before .loop .inv .2)
+            (subst (λ (x : ℕ). RunFits (c .before .before .before .before .before .before .before .before .before .before .before .before .loop .tag) x (getD (c .before .before .before .before .before .before .before .before .before .before .before .before .before .before .before .before .args .w .now) (4 * c .before .before .before .before .before .before .before .before .before .before .before .before .loop .i + 4) 0) (getD (c .before .before .before .before .before .before .before .before .before .before .before .before .before .before .before .before .args .w .now) (4 * c .before .before .before .before .before .before .before .before .before .before .before .before .loop .i + 5) 0) (getD (c .before .before .before .before .before .before .before .before .before .before .before .before .before .before .before .before .args .w .now) (4 * c .before .before .before .before .before .before .before .before .before .before .before .before .loop .i + 6) 0) (c .before .before .before .before .before .before .before .before .before .before .before .before .before .before .before .before .args .count) (c .before .before .before .before .before .before .before .before .before .before .before .before .before .before .before .before .args .view)) (c .before .before .before .before .before .before .before .before .before .before .before .before .loop .inv .3)
+            (c .before .before .before .run-fits .ensures (of-not-false (c .before .before .before .run-fits .result) (c .before .before .if3 .left))));
+      }))
+      (λ e. c .before .before .before .before .before .before .before .before .before .before .before .before .loop .inv .4 j k (omega arith)) (eq-or-ne j (c .before .before .before .before .before .before .before .before .before .before .before .before .loop .i)),
+)
 
 returns-4 : tie.Need-returns-4 Inv-loop μ-loop
 returns-4 c =
