@@ -100,7 +100,7 @@ static void plans(void)
 /* An order to each machine of the plan of four names them, and carries the shard to them alone. */
 static void orders(void)
 {
-    uint8_t buffer[RESTART_BUFFER_BYTES];
+    uint8_t buffer[RESTART_BUFFER_BYTES] = {0};
     planned(CAP(4) + 2, 63, 15, 0, 15);
     pieces[3] = (struct piece){buffer, sizeof buffer};
     for (uint32_t node = 0; node < 6; node++) {

@@ -298,13 +298,13 @@ static void caps(struct world *world)
         check_word("a wrong cap", restart_decide(LENT), RESTART_WRONG_SETTINGS);
     }
     restart_put_word(world->settings, 11, 1);
-    check_word("without a cap", restart_is_plan(restart_decide(LENT)), 1);
+    check_word("without a cap", (uint32_t)restart_is_plan(restart_decide(LENT)), 1);
     check_word("it keeps one", restart_get_word(world->state, RESTART_PLAN_MASKS), 1);
     check_word("and moves two", restart_get_word(world->state, RESTART_PLAN_MOVES), 2);
 
     world_gathered(world);
     restart_put_word(world->settings, 11, 2 * 65536 + 1);
-    check_word("with a cap", restart_is_plan(restart_decide(LENT)), 1);
+    check_word("with a cap", (uint32_t)restart_is_plan(restart_decide(LENT)), 1);
     expect_state("the state with a plan beyond the need", world, RESTART_ORDERED, 63, 63, 0, 0);
     check_word("it is sound", restart_check_state(LENT), RESTART_ACCEPTED);
     restart_put_word(world->settings, 11, 16 * 65536 + 1);

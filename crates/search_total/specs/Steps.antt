@@ -10,8 +10,8 @@ use native.Mathlib.Omega.{arith}
 use lib.ListN.{getD, set, length-set}
 use lib.Dec.{eqb}
 use lib.Seq.{getD-set-same, getD-set-other, set-set, set-getD}
-use borrow.Author.Tests.{eqb-true}
-use Rattle.base_laws.specs.Bools.{eq-or-ne}
+use borrow.Author.Tests.{eqb-true, eqb-false}
+use Rattle.base_laws.specs.Bools.{eq-or-ne, lt-or-le}
 use Rattle.search_theory.specs.Case.{Case, Within}
 use Rattle.search_theory.specs.Tables.{ownersOf}
 use Rattle.search_theory.specs.Order.{takes, shardEnd, None, From, TakesPair, begun-leave, begun-close, begun-take, first-leave, none-leave, first-close, first-take, none-take, first-end, none-end}
@@ -41,6 +41,17 @@ taken {o} {t} w =
 pub none-later : {K : Case} {k : ℕ} (o : List ℕ) (t : ℕ) {b : Bool} → b ≡ eqb (shardEnd (t + 1)) (shardEnd t) → None (From (Within K k) (ownersOf o) (shardEnd t)) →
     b ≡ true → None (From (Within K k) (ownersOf o) (shardEnd (t + 1)))
 none-later {K} {k} o t h n e = subst (λ (j : ℕ). None (From (Within K k) (ownersOf o) j)) (sym (eqb-true (shardEnd (t + 1)) (shardEnd t) (sym h ∙ e))) n
+
+-- the shard's last pair: none with the list ended is none with the pair left
+pub none-last : {K : Case} {k : ℕ} (o : List ℕ) (t : ℕ) {d : Bool} → d ≡ eqb (shardEnd (t + 1)) (shardEnd t) → d ≡ false →
+    None (From (Within K k) (ownersOf o) (shardEnd t)) → None (From (Within K k) (ownersOf o) (t + 1))
+none-last {K} {k} o t h e n =
+    let far : (shardEnd (t + 1) ≡ shardEnd t → ⊥) = eqb-false (shardEnd (t + 1)) (shardEnd t) (sym h ∙ e) in
+    subst (λ (s : ℕ). None (From (Within K k) (ownersOf o) s)) (⊎-elim (λ z. absurd (far (omega arith))) (λ z. omega arith) (lt-or-le (t % 32) 31)) n
+
+-- nothing is found where the last pair is left
+pub sought-last : {K : Case} {k : ℕ} {o : List ℕ} {t : ℕ} → ReadyFrom o t → None (From (Within K k) (ownersOf o) (t + 1)) → Sought K k o (t + 1) o false
+sought-last r n = record { yes = λ e. absurd (false≢true e); no = λ e. n; kept = λ e. refl; owners = r .owners }
 
 module _ {o : List ℕ} {t : ℕ} (l : t < 512) (r : ReadyFrom o t) where
   pub ready-leave : ReadyFrom o (t + 1)
@@ -122,6 +133,10 @@ module _ {o : List ℕ} {t : ℕ} (l : t < 512) (r : ReadyFrom o t) where
       sought-else {p} {d} h =
           sought-leave (taken-none f (subst (λ (a : ℕ). None (From (Within K k) (ownersOf (set o (t % 32) a)) (t + 1))) e (s .no g)))
           (subst (λ (w : List ℕ). Sought K k w (t + 1) p d) restored h)
+
+      -- the shard's last pair is put back
+      pub restored-last : None (From (Within K k) (ownersOf o) (t + 1)) → Sought K k o t (set q (t % 32) 16) false
+      restored-last n = sought-else (subst (λ (w : List ℕ). Sought K k w (t + 1) w false) (sym restored) (sought-last r n))
 
 -- the list ended, as the code has it
 pub closing : {o : List ℕ} {t j : ℕ} → t < 512 → ReadyFrom o t → j ≡ shardEnd t → ReadyFrom o j

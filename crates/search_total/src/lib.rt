@@ -65,34 +65,20 @@ fn seek(
         return seek(sets, needs, caps, costs, owner, idle, t, k, true);
     }
     if search_judge::barred(sets, needs, caps, costs, owner, idle, t) {
-        return seek(
-            sets,
-            needs,
-            caps,
-            costs,
-            owner,
-            idle,
-            t + 1,
-            k,
-            same_shard(t),
-        );
+        if !same_shard(t) {
+            return false;
+        }
+        return seek(sets, needs, caps, costs, owner, idle, t + 1, k, true);
     }
     owner[t % 32] = search_judge::shard(t);
     if seek(sets, needs, caps, costs, owner, idle, t + 1, k, false) {
         return true;
     }
     owner[t % 32] = 16;
-    seek(
-        sets,
-        needs,
-        caps,
-        costs,
-        owner,
-        idle,
-        t + 1,
-        k,
-        same_shard(t),
-    )
+    if !same_shard(t) {
+        return false;
+    }
+    seek(sets, needs, caps, costs, owner, idle, t + 1, k, true)
 }
 
 // The owners that were found, with their weight.

@@ -2,7 +2,9 @@
 //! `placements [SEED [SMALL [LARGE]]]`.
 //!
 //! Small cases against the search through all placements, large ones (up to 32
-//! nodes, 16 shards) against the greedy method over the flow of least cost.
+//! nodes, 16 shards) against the greedy method over the flow of least cost. Only
+//! small ones, a tenth of them, have any costs and any failure sets: these go to
+//! the total search, which answers everything but is quick in small cases alone.
 //! Whether there is a placement, its weight and each node's owner must agree. A
 //! case depends on the seed and its index alone.
 
@@ -17,8 +19,10 @@ use std::process::ExitCode;
 
 const SMALL: u64 = 20_000;
 const LARGE: u64 = 5_000;
-/// A small case has at most so many ways to place its nodes.
+/// A small case has at most so many ways to place its nodes; one with any costs
+/// fewer, since the total search answers it.
 const MOST_WAYS: u64 = 3000;
+const MOST_WAYS_ANY: u64 = 100;
 /// From this many cases on, rare ones are a failure.
 const JUDGED: u64 = 10_000;
 
@@ -83,7 +87,7 @@ fn main() -> ExitCode {
                 let name = format!("{costs:?}, {asked}, {placed}");
                 let times = counts.get(&name).copied().unwrap_or(0);
                 println!("  {name}: {times}");
-                good &= all < JUDGED || times * 50 >= all;
+                good &= all < JUDGED || times * 500 >= all;
             }
         }
     }
@@ -132,10 +136,21 @@ struct Shape {
     most: u32,
     /// Of a hundred pairs how many are allowed.
     allowed: u32,
+    /// What the costs mean.
+    costs: Costs,
 }
 
 /// Up to 9 nodes and 3 shards; of all pairs few enough are allowed.
 fn small_case(random: &mut Random) -> (Costs, Task) {
+    let costs = match random.chance(10) {
+        true => Costs::Any,
+        false => random.pick(&[Costs::MovesThenStays, Costs::Moves]),
+    };
+    let most = if costs == Costs::Any {
+        MOST_WAYS_ANY
+    } else {
+        MOST_WAYS
+    };
     loop {
         let shards = random.between(1, 3);
         let shape = Shape {
@@ -144,9 +159,10 @@ fn small_case(random: &mut Random) -> (Costs, Task) {
             shards: shards as usize,
             most: 3,
             allowed: random.pick(&[40, 70, 90, 100]),
+            costs,
         };
         let case = case_of(random, &shape);
-        if case.1.ways() <= MOST_WAYS {
+        if case.1.ways() <= most {
             return case;
         }
     }
@@ -163,6 +179,7 @@ fn large_case(random: &mut Random) -> (Costs, Task) {
         shards: shards as usize,
         most: (nodes / shards).clamp(1, sets) + 1,
         allowed: random.pick(&[60, 90, 100]),
+        costs: random.pick(&[Costs::MovesThenStays, Costs::Moves]),
     };
     case_of(random, &shape)
 }
@@ -176,16 +193,20 @@ fn case_of(random: &mut Random, shape: &Shape) -> (Costs, Task) {
         idle: 0,
         limit: None,
     };
-    let without = random.chance(10);
+    let costs = shape.costs;
+    let without = costs == Costs::Any && random.chance(30);
     for set in &mut task.sets {
         *set = random.between(0, shape.sets - 1) as u8;
         if without && random.chance(20) {
             *set = random.pick(&[16, 17, 31, 255]);
         }
     }
-    // The shards lie anywhere among the sixteen, and the nodes among the 32.
+    // The shards lie anywhere among the sixteen, and the nodes among the 32; of
+    // a case with any costs the shards are the first ones.
     let mut shards: Vec<usize> = (0..SHARDS).collect();
-    random.shuffle(&mut shards);
+    if costs != Costs::Any {
+        random.shuffle(&mut shards);
+    }
     shards.truncate(shape.shards);
     let mut nodes: Vec<usize> = (0..NODES).collect();
     random.shuffle(&mut nodes);
@@ -199,10 +220,9 @@ fn case_of(random: &mut Random, shape: &Shape) -> (Costs, Task) {
         };
         (task.needs[shard], task.caps[shard]) = (need as u8, cap as u8);
     }
-    let costs = random.pick(&[Costs::MovesThenStays, Costs::Moves, Costs::Any]);
     put_costs(random, &mut task, costs, &shards, &nodes, shape.allowed);
     if costs == Costs::Any && random.chance(15) {
-        let shard = random.below(SHARDS);
+        let shard = random.below(4);
         task.needs[shard] = random.pick(&[0, 0, 1, 16, 17, 255]);
         task.caps[shard] = random.pick(&[0, 1, 2, 16, 17, 32, 255]);
     }

@@ -10,8 +10,8 @@ use borrow.Author.Needs.{needs}
 use borrow.Author.Tests.{not-true, not-false}
 use borrow.Fn.Kinds.{In}
 use borrow.Fn.PlainCycle.{Measures, is, falls, and}
-use Rattle.search_total.specs.Steps.{closing, sought-end, sought-hopeless, sought-leave, sought-found, sought-else, barred-none}
-use Rattle.search_total.specs.Steps.{ready-leave, ready-stored, ready-restored, closed-found, closed-ready, closed-none, closed-else, none-later, restored-none}
+use Rattle.search_total.specs.Steps.{closing, sought-end, sought-hopeless, sought-leave, sought-last, sought-found, sought-else, barred-none}
+use Rattle.search_total.specs.Steps.{ready-leave, ready-stored, ready-restored, closed-found, closed-ready, closed-none, closed-else, none-later, none-last, restored-none, restored-last}
 use Rattle.search_total.proofs.seek.Reads as seek
 use Rattle.search_total.proofs.seek.Kinds as seek-kinds
 use Rattle.search_total.proofs.+seek.Lts-seek as seek-lts
@@ -35,10 +35,6 @@ seek-below t = and 5 seek-kinds.ps (falls 5 seek-kinds.ps _<_ μ-seek t) seek.Pr
 
 below : {t : ℕ} → (t ≡ 512 → ⊥) → t ≤ 512 → t < 512
 below e l = omega arith
-
-low : (b : Bool) → _≤_ (cond b 0 1) 1
-low true = omega arith
-low false = omega arith
 
 one : (b : Bool) → b ≡ false → _≡_ {A = ℕ} (cond b 0 1) 1
 one b e = ap (λ (d : Bool). cond d 0 1) e
@@ -93,19 +89,26 @@ pub +seek-spec : {M : Type 1} → statement M
     (λ c κs.
     let s = c .before .before .before .before .before .before in
     (below (c .before .before .before .before .before .if1 .left) (s .pre .1 .0), s .pre .1 .1 .0 .begun))
-    (λ c. search needs)
-    (λ c κs. below (c .before .before .before .before .before .before .before .before .if1 .left) (c .before .before .before .before .before .before .before .before .before .pre .1 .0))
-    (λ c κs.
+    (λ c κs. below (c .before .before .before .before .before .before .before .if1 .left) (c .before .before .before .before .before .before .before .before .pre .1 .0))
+    (λ c.
     let s = c .before .before .before .before .before .before .before .before .before .before in
     let l = below (c .before .before .before .before .before .before .before .before .before .if1 .left) (s .pre .1 .0) in
-    let n = s .pre .1 .1 .1 (not-false (s .args .tried) (c .before .before .before .before .before .if3 .left)) in (
-      omega (arith, s .pre .0, low (c .same-shard .result)),
-      (add-one-le l, (ready-leave l (s .pre .1 .1 .0), none-later (s .args .owner .now) (s .args .t) (c .same-shard .ensures) n)),
-    ))
-    (λ c.
+    let n = s .pre .1 .1 .1 (not-false (s .args .tried) (c .before .before .before .before .before .if3 .left)) in
+    sought-leave l (s .pre .1 .1 .0) (barred-none (c .before .before .if5 .taken) (c .before .before .before .barred .ensures))
+    (sought-last (s .pre .1 .1 .0) (none-last (s .args .owner .now) (s .args .t) (c .before .same-shard .ensures) (not-true (c .before .same-shard .result) (c .if6 .taken)) n)))
+    (λ c. search needs)
+    (λ c κs.
     let s = c .before .before .before .before .before .before .before .before .before .before .before in
     let l = below (c .before .before .before .before .before .before .before .before .before .before .if1 .left) (s .pre .1 .0) in
-    sought-leave l (s .pre .1 .1 .0) (barred-none (c .before .before .before .if5 .taken) (c .before .before .before .before .barred .ensures)) (c .seek3 .ensures))
+    let n = s .pre .1 .1 .1 (not-false (s .args .tried) (c .before .before .before .before .before .before .if3 .left)) in
+    let h = c .before .before .same-shard in (
+      omega (arith, s .pre .0),
+      (add-one-le l, (ready-leave l (s .pre .1 .1 .0), λ e. none-later (s .args .owner .now) (s .args .t) (h .ensures) n (not-false (h .result) (c .before .if6 .left)))),
+    ))
+    (λ c.
+    let s = c .before .before .before .before .before .before .before .before .before .before .before .before in
+    let l = below (c .before .before .before .before .before .before .before .before .before .before .before .if1 .left) (s .pre .1 .0) in
+    sought-leave l (s .pre .1 .1 .0) (barred-none (c .before .before .before .before .if5 .taken) (c .before .before .before .before .before .barred .ensures)) (c .seek3 .ensures))
     (λ c κs. search needs)
     (λ c. search needs)
     (λ c. search needs)
@@ -119,24 +122,31 @@ pub +seek-spec : {M : Type 1} → statement M
     let l = below (c .before .before .before .before .before .before .before .before .before .before .before .if1 .left) (s .pre .1 .0) in
     let n = s .pre .1 .1 .1 (not-false (s .args .tried) (c .before .before .before .before .before .before .before .if3 .left)) in
     let f = c .before .before .before .before .before .barred .ensures .no (c .before .before .before .before .if5 .left) in
-    sought-found l (s .pre .1 .1 .0) (c .before .before .before .shard .ensures) f n (c .if6 .taken) (c .before .seek4 .ensures))
+    sought-found l (s .pre .1 .1 .0) (c .before .before .before .shard .ensures) f n (c .if7 .taken) (c .before .seek4 .ensures))
     (λ c. search needs)
-    (λ c. search needs)
-    (λ c κs. below (c .before .before .before .before .before .before .before .before .before .before .before .before .if1 .left) (c .before .before .before .before .before .before .before .before .before .before .before .before .before .pre .1 .0))
-    (λ c κs.
+    (λ c κs. below (c .before .before .before .before .before .before .before .before .before .before .before .if1 .left) (c .before .before .before .before .before .before .before .before .before .before .before .before .pre .1 .0))
+    (λ c.
     let s = c .before .before .before .before .before .before .before .before .before .before .before .before .before .before in
     let l = below (c .before .before .before .before .before .before .before .before .before .before .before .before .before .if1 .left) (s .pre .1 .0) in
     let n = s .pre .1 .1 .1 (not-false (s .args .tried) (c .before .before .before .before .before .before .before .before .before .if3 .left)) in
     let f = c .before .before .before .before .before .before .before .barred .ensures .no (c .before .before .before .before .before .before .if5 .left) in
-    let e = c .before .before .before .before .before .shard .ensures in
-    let g = c .before .before .if6 .left in
-    let v = c .before .before .before .seek4 .ensures in (
-      omega (arith, s .pre .0, low (c .same-shard2 .result)),
-      (add-one-le l, (ready-restored l (s .pre .1 .1 .0) e f g v, restored-none l (s .pre .1 .1 .0) e f g v n (c .same-shard2 .ensures))),
-    ))
-    (λ c.
+    restored-last l (s .pre .1 .1 .0) (c .before .before .before .before .before .shard .ensures) f (c .before .before .if7 .left) (c .before .before .before .seek4 .ensures)
+    (none-last (s .args .owner .now) (s .args .t) (c .before .same-shard2 .ensures) (not-true (c .before .same-shard2 .result) (c .if8 .taken)) n))
+    (λ c. search needs)
+    (λ c κs.
     let s = c .before .before .before .before .before .before .before .before .before .before .before .before .before .before .before in
     let l = below (c .before .before .before .before .before .before .before .before .before .before .before .before .before .before .if1 .left) (s .pre .1 .0) in
+    let n = s .pre .1 .1 .1 (not-false (s .args .tried) (c .before .before .before .before .before .before .before .before .before .before .if3 .left)) in
     let f = c .before .before .before .before .before .before .before .before .barred .ensures .no (c .before .before .before .before .before .before .before .if5 .left) in
-    sought-else l (s .pre .1 .1 .0) (c .before .before .before .before .before .before .shard .ensures) f (c .before .before .before .if6 .left)
-    (c .before .before .before .before .seek4 .ensures) (c .seek5 .ensures))
+    let e = c .before .before .before .before .before .before .shard .ensures in
+    let g = c .before .before .before .if7 .left in
+    let v = c .before .before .before .before .seek4 .ensures in
+    let h = c .before .before .same-shard2 in (
+      omega (arith, s .pre .0),
+      (add-one-le l, (ready-restored l (s .pre .1 .1 .0) e f g v, λ d. restored-none l (s .pre .1 .1 .0) e f g v n (h .ensures) (not-false (h .result) (c .before .if8 .left)))),
+    ))
+    (λ c.
+    let s = c .before .before .before .before .before .before .before .before .before .before .before .before .before .before .before .before in
+    let l = below (c .before .before .before .before .before .before .before .before .before .before .before .before .before .before .before .if1 .left) (s .pre .1 .0) in
+    let f = c .before .before .before .before .before .before .before .before .before .barred .ensures .no (c .before .before .before .before .before .before .before .before .if5 .left) in
+    sought-else l (s .pre .1 .1 .0) (c .before .before .before .before .before .before .before .shard .ensures) f (c .before .before .before .before .if7 .left) (c .before .before .before .before .before .seek4 .ensures) (c .seek5 .ensures))
