@@ -1,5 +1,6 @@
-// Counts how often the placement enters its total search: never, over at least 100,000 seeded
-// instances of every kind, for the least moves and for at most k moves at a random k and at 32.
+// Counts how often the placement enters its total search: never, over seeded instances of every
+// kind, for the least weight, for a weight of at most a random k, and for at most 32 moves where a
+// move costs 1 and a node placed nowhere nothing.
 //     fallback [instances a kind] [seed]
 // No call tells it, so a trap stands at the total search's first instruction (the Makefile gives that
 // place a name): a call that comes there is left at once and counted. That the trap works is tried
@@ -48,16 +49,16 @@ template <class F> static bool enters(F call) {
 static bool least_enters(const Instance &x) {
     std::array<uint8_t, NODES> owners{};
     return enters([&] {
-        placement_least(x.sets.data(), x.sets.size(), x.needs.data(), x.needs.size(), x.prices.data(), x.prices.size(), owners.data(),
-                        owners.size());
+        placement_least(x.sets.data(), x.sets.size(), x.needs.data(), x.needs.size(), x.caps.data(), x.caps.size(), x.costs.data(),
+                        x.costs.size(), x.idle, owners.data(), owners.size());
     });
 }
 
 static bool within_enters(const Instance &x, uint32_t k) {
     std::array<uint8_t, NODES> owners{};
     return enters([&] {
-        placement_within(x.sets.data(), x.sets.size(), x.needs.data(), x.needs.size(), x.prices.data(), x.prices.size(), k, owners.data(),
-                         owners.size());
+        placement_within(x.sets.data(), x.sets.size(), x.needs.data(), x.needs.size(), x.caps.data(), x.caps.size(), x.costs.data(),
+                         x.costs.size(), x.idle, k, owners.data(), owners.size());
     });
 }
 
@@ -69,6 +70,11 @@ static bool trap_works() {
     return least_enters(x) && within_enters(x, NODES) && least_enters(x);
 }
 
+// The weight of a random number of moves and of nodes placed nowhere.
+static uint32_t random_weight(Random &r, const Instance &x) {
+    return static_cast<uint32_t>(r.below(NODES + 1) * move_cost(x) + r.below(NODES + 1));
+}
+
 // What the instances of one kind come to: how often the search is entered, and at which instance first.
 struct Entered {
     long times = 0, first = -1;
@@ -78,8 +84,9 @@ static Entered tried(int kind, long count, uint64_t seed) {
     Random r(seed * 1000 + 500 + static_cast<uint64_t>(kind));
     Entered e;
     for (long k = 0; k < count; ++k) {
-        Instance x = make(kind, r);
-        int missed = least_enters(x) + within_enters(x, static_cast<uint32_t>(r.below(NODES + 1))) + within_enters(x, NODES);
+        Draft d = draft(kind, r);
+        Instance x = finished(d);
+        int missed = least_enters(x) + within_enters(x, random_weight(r, x)) + within_enters(finished(d, true), NODES);
         if (missed && e.times == 0) e.first = k;
         e.times += missed;
     }
@@ -87,7 +94,7 @@ static Entered tried(int kind, long count, uint64_t seed) {
 }
 
 int main(int argc, char **argv) {
-    long count = argc > 1 ? atol(argv[1]) : 100000;
+    long count = argc > 1 ? atol(argv[1]) : 40000;
     uint64_t seed = argc > 2 ? strtoull(argv[2], nullptr, 10) : 1;
     if (!set_trap() || !trap_works()) {
         printf("fallback: the trap at the total search does not work\n");
@@ -105,8 +112,8 @@ int main(int argc, char **argv) {
     long sum = 0;
     for (int kind = 0; kind < KINDS; ++kind) {
         const Entered &e = all[static_cast<size_t>(kind)];
-        if (e.times) printf("%s: the search is entered at instance %ld\n", name(kind), e.first);
-        printf("%-28s %ld instances, %ld times in the search\n", name(kind), count, e.times);
+        if (e.times) printf("%s: the search is entered at instance %ld\n", name(kind).c_str(), e.first);
+        printf("%-38s %ld instances, %ld times in the search\n", name(kind).c_str(), count, e.times);
         sum += e.times;
     }
     printf("fallback: %ld instances, %ld times in the search\n", count * KINDS, sum);

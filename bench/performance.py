@@ -1,9 +1,9 @@
-"""Measure the library and write docs/PERFORMANCE.md: performance.py [mock | mondays].
+"""Measure the library and write docs/PERFORMANCE.md: performance.py [mock | mondays | placement].
 
 Times of every call beside the reference's, of events beside a peer in C, instructions by callgrind, stack by painting, the placement beside LEMON's network
 simplex, and the program mondays beside a plain C program. With `mock` the reference stands in for the library and for mondays, the
-placement is left out and the page goes to target/performance.md; with `mondays` that section alone is measured and written anew. It
-needs valgrind and, for the placement, LEMON (Debian: liblemon-dev)."""
+placement is left out and the page goes to target/performance.md; with `mondays` or `placement` that section alone is measured and written
+anew. It needs valgrind and, for the placement, LEMON (Debian: liblemon-dev)."""
 import os
 import re
 import subprocess
@@ -18,6 +18,8 @@ ENVIRONMENT = dict(os.environ, CARGO_TARGET_DIR=CARGO, RESTART_LIB_DIR=os.path.j
 SLOWEST = re.compile(r'^greatest ratio ([\d.]+): ([\d.]+) to ([\d.]+), seed (\d+), instance (\d+) of "(.+)"$', re.M)
 EVENT = re.compile(r"### Beside a peer.*?^\| report \| ([\d.]+)", re.M | re.S)
 RUNS = 15
+# Instances of a kind whose instructions are counted.
+SOLVED = 200
 COUNTED = re.compile(r"Collected : (\d+)")
 ROW = re.compile(r"^(.+?)\s+(\d+)%\s+([\d.]+) \|\s+([\d.]+)\s+([\d.]+) \|\s+([\d.]+)\s+([\d.]+) \|\s+([\d.]+)\s+([\d.]+) \| (\d+)$")
 
@@ -78,15 +80,24 @@ def placement():
     """The placement's table from bench/bench.cpp, and a sentence about the instance with the greatest ratio."""
     printed = said("make", "--no-print-directory", "-C", "bench", "bench")
     rows = [row for row in map(ROW.match, printed.splitlines()) if row]
-    lines = ["| kind | median | worst | LEMON, median | worst | ratio of medians |", "|---|---|---|---|---|---|"]
-    for row in rows:
-        name, _, _, median, worst, lemon, lemon_worst, ratio, _, _ = row.groups()
-        lines.append("| %s | %s | %s | %s | %s | %s |" % (name, median, worst, lemon, lemon_worst, ratio))
+    lines = ["| kind | median | worst | instructions | LEMON, median | worst | instructions | ratio of medians | greatest ratio |", "|---" * 9 + "|"]
+    for kind, row in enumerate(rows):
+        name, _, _, median, worst, lemon, lemon_worst, ratio, greatest, _ = row.groups()
+        own, lemons = ("{:,}".format(solving(solver, kind)) for solver in ("ours", "lemon"))
+        lines.append("| %s |" % " | ".join((name, median, worst, own, lemon, lemon_worst, lemons, ratio, greatest)))
     ratio, own, lemon, seed, index, kind = SLOWEST.search(printed).groups()
     differ = sum(int(row.group(10)) for row in rows)
     lines.append("\nThe greatest ratio on a single instance is %s: %s to %s microseconds, on instance %s of the kind" % (ratio, own, lemon, index))
     lines.append("\"%s\" (counted from 0, seed %s). %d answers differ." % (kind, seed, differ))
     return "\n".join(lines)
+
+
+def solving(solver, kind):
+    """The instructions that an instance of a kind takes, the mean over some."""
+    bench = os.path.join(TARGET, "bench", "bench")
+    command = ["valgrind", "--tool=callgrind", "--toggle-collect=measured", "--callgrind-out-file=/dev/null", bench, solver, str(kind), str(SOLVED), "1"]
+    done = subprocess.run(command, stdout=subprocess.PIPE, stderr=subprocess.STDOUT, text=True, check=True)
+    return int(COUNTED.search(done.stdout).group(1)) // SOLVED
 
 
 def mondays(mock):
@@ -157,8 +168,9 @@ APART = " Measured apart from the rest of this page, on\n{machine}"
 PLACEMENT = """
 ### Placement
 
-The placement of one subgroup (the first of least moves, or that none exists) against LEMON's network simplex (least moves alone,
-graph building included) on the same seeded instances; microseconds, each the least of 15 runs. `bench/README.md` describes the kinds.
+The placement of one subgroup (the first of least moves and then most stays, or that none exists) against LEMON's network simplex
+(least weight alone, graph building included) on the same seeded instances; microseconds, each the least of 15 runs, and the
+instructions of an instance by callgrind, the mean over {solved}. `bench/README.md` describes the kinds.{apart}
 
 {table}
 """
@@ -167,7 +179,8 @@ graph building included) on the same seeded instances; microseconds, each the le
 def main():
     mock = "mock" in sys.argv[1:]
     path = os.path.join(TARGET, "performance.md") if mock else os.path.join(ROOT, "docs", "PERFORMANCE.md")
-    page = with_mondays(path) if "mondays" in sys.argv[1:] else whole(mock)
+    apart = [name for name in SECTIONS if name in sys.argv[1:]]
+    page = with_section(path, apart[0]) if apart else whole(mock)
     with open(path, "w") as out:
         out.write(page)
     print("written: %s" % os.path.relpath(path, ROOT))
@@ -190,17 +203,31 @@ def whole(mock):
         instructions=instructions(counted_inputs),
         stack=said(BENCH, "stack", str(stacks)),
         needs="" if mock else needs(),
-        placement="" if mock else PLACEMENT.format(table=placement()),
+        placement="" if mock else PLACEMENT.format(solved=SOLVED, apart="", table=placement()),
         mondays=MONDAYS.format(apart="", table=mondays(mock)),
     )
 
 
-def with_mondays(path):
-    """The page as it stands, with the section of the program mondays measured anew."""
+def placement_apart():
+    subprocess.run(["rt", "staticlib", "c_placement"], cwd=ROOT, env=ENVIRONMENT, check=True, stdout=subprocess.DEVNULL)
+    return PLACEMENT.format(solved=SOLVED, apart=APART.format(machine=machine()), table=placement())
+
+
+def mondays_apart():
+    return MONDAYS.format(apart=APART.format(machine=machine()), table=mondays(False))
+
+
+# The sections that can be measured without the others.
+SECTIONS = {"placement": placement_apart, "mondays": mondays_apart}
+
+
+def with_section(path, name):
+    """The page as it stands, with one section measured anew."""
     with open(path) as file:
         page = file.read()
-    section = re.compile(r"\n### Mondays\n.*?(?=\n### |\Z)", re.S)
-    return section.sub("", page) + MONDAYS.format(apart=APART.format(machine=machine()), table=mondays(False))
+    section = re.compile(r"\n### %s\n.*?(?=\n### |\Z)" % name.capitalize(), re.S)
+    text = SECTIONS[name]()
+    return section.sub(lambda _: text, page) if section.search(page) else page + text
 
 
 main()

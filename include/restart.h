@@ -45,10 +45,10 @@ extern "C" {
 /* ---- Version ---- */
 
 #define RESTART_VERSION_MAJOR 0
-#define RESTART_VERSION_MINOR 3
+#define RESTART_VERSION_MINOR 4
 #define RESTART_VERSION_PATCH 0
-#define RESTART_VERSION "0.3.0"
-#define RESTART_VERSION_NUMBER 300 /* major * 10000 + minor * 100 + patch */
+#define RESTART_VERSION "0.4.0"
+#define RESTART_VERSION_NUMBER 400 /* major * 10000 + minor * 100 + patch */
 
 /* Of the settings, the messages and the state. It is raised when any of their words changes its
  * meaning; save it beside a state, and start fresh where it differs. */
@@ -79,6 +79,7 @@ extern "C" {
 #define RESTART_SETS 16           /* most failure sets */
 #define RESTART_SHARDS 16         /* most shards */
 #define RESTART_SUBGROUPS 4       /* subgroups are numbered 0 to 3 */
+#define RESTART_CAP 16            /* greatest cap of a shard */
 #define RESTART_RECORDS 128       /* most records of a message, its head among them */
 #define RESTART_RECORD_WORDS 4    /* words of a record */
 #define RESTART_SETTINGS_WORDS 52 /* longest settings; their length is 4 + nodes + shards words */
@@ -98,6 +99,14 @@ extern "C" {
 
 #define RESTART_STACK_BYTES 131072 /* stack that is enough for any call */
 
+/* ---- The settings' words ----
+ * Nodes, failure sets, least group size, shards; for each node its failure set; for each shard
+ *   cap * 65536 + subgroup * 256 + need
+ * In a placement the shard has nodes from at least `need` different failure sets, 1 to the number of
+ * sets, and at most `cap` nodes, need to RESTART_CAP. A cap of 0 stands for the need: then the shard
+ * has exactly as many nodes as it needs. A greater cap lets old members stay that are not needed.
+ */
+
 /* ---- Numbers of refusals, in the order in which they are checked ----
  * Numbers 8, 9, 16 and 17 have an index, that of the record looked at (restart_has_index). Within
  * one number the first bad record on the chain is told.
@@ -106,7 +115,7 @@ extern "C" {
 enum restart_number {
     /* desk not 65536 bytes; buffer or contents to be written not 2048 */
     RESTART_WRONG_LENT = 1,
-    /* the settings, or their length */
+    /* the settings, or their length; also a cap that is neither 0 nor from the need to 16 */
     RESTART_WRONG_SETTINGS = 2,
     /* state not 640 bytes, words that are no state, or one that settings and desk contradict */
     RESTART_UNSOUND_STATE = 3,
@@ -439,9 +448,11 @@ uint32_t restart_drop(const uint8_t *settings, size_t settings_len, uint8_t *sta
 /*
  * Decides, while gathering: a plan, or a wait with its reason. A plan leads to ordered and stands
  * in the state. A wait changes nothing.
- * Of the placements with the fewest moves the plan has the first: shards ascending, each shard's
- * nodes listed ascending, the smaller list in dictionary order wins at the first shard that
- * differs. So the same settings, kept view, termination and held reports give the same plan.
+ * In each subgroup the placement has the fewest moves; of those with as few, as many old members
+ * stay as can; of those with as many, it is the first: shards ascending, each shard's nodes listed
+ * ascending, the smaller list in dictionary order wins at the first shard that differs, and a list
+ * comes before those that go on from it. So the same settings, kept view, termination and held
+ * reports give the same plan.
  * Answers class 2 (a plan) or class 3 (a wait), or one of the numbers 1 to 4.
  * Changes the state where there is a plan.
  */

@@ -134,6 +134,7 @@ def more_plans():
     up = [report(node, view=5, members=7, masks=[5]) for node in (1, 2)]
     yield "moves by node", blocks(by_node, *up), "view 6\nmoves 1\nshard 0 holder 2 target 0 0 members 1 2\n"
     yield from first_plans()
+    yield from kept_members()
     # The greatest view and run, and 16 members.
     wide = [32, 16, 1, 1] + [n % 16 for n in range(32)] + [16]
     great = [report(n, runs(0, (LARGEST - 1, LARGEST)), view=LARGEST - 1, members=LARGEST, masks=[0xFFFF]) for n in range(32)]
@@ -165,6 +166,43 @@ def first_plans():
     for nodes in (range(6), (5, 0, 4, 1, 3, 2)):
         told = [report(node, view=5, members=63, masks=[16, 16, 32]) for node in nodes]
         yield "first by shards, from %s" % list(nodes), blocks(around, *told), "view 6\nmoves 3\n" + lines
+
+
+def capped(need, cap, subgroup=0):
+    """A shard's settings word."""
+    return cap * 65536 + subgroup * 256 + need
+
+
+def kept_members():
+    """A shard keeps as many old members as its cap allows, of a failure set any number, and needs no fewer sets for it."""
+
+    def plan(moves, *rows):
+        return "view 8\nmoves %d\n" % moves + "".join("shard %d holder %d target 0 0 members %s\n" % (s, *row) for s, row in enumerate(rows))
+
+    def restart(sets, words, masks, nodes=None):
+        count = len(sets)
+        told = [report(n, members=2**count - 1, masks=masks) for n in (range(count) if nodes is None else nodes)]
+        return blocks([count, max(sets) + 1, 1, len(words)] + sets + words, *told)
+
+    # A shard that needs two members and had 0, 1, 2 and 3.
+    six = [0, 1, 2, 0, 1, 2]
+    for cap, members in ((0, "0 1"), (2, "0 1"), (3, "0 1 2"), (4, "0 1 2 3"), (5, "0 1 2 3"), (16, "0 1 2 3")):
+        yield "four members, cap %d" % cap, restart(six, [capped(2, cap)], [15]), plan(0, (0, members))
+    yield "four members, one down", restart(six, [capped(2, 4)], [15], (0, 2, 3, 4, 5)), plan(0, (0, "0 2 3"))
+    yield "four members, two sets down", restart(six, [capped(2, 4)], [9]), plan(1, (0, "0 1 3"))
+    yield "three of one set", restart([0, 0, 0, 1], [capped(2, 4)], [7]), plan(1, (0, "0 1 2 3"))
+    yield "caps are no cure of wait 5", restart([0, 0, 0, 1], [capped(2, 16)], [7], (0, 1, 2)), "wait 5 0\n"
+    # Of one move each: shard 1 takes node 2, which leaves no shard, and not node 1; without a cap node 1, which is lower.
+    yield "stays before the order", restart([0, 1, 2, 3], [capped(1, 2), 2], [3, 8]), plan(1, (0, "0 1"), (3, "2 3"))
+    yield "the order alone", restart([0, 1, 2, 3], [1, 2], [3, 8]), plan(1, (0, "0"), (3, "1 3"))
+    # Shard 0 or shard 2 loses one of two: 0 comes before 0 1, and 0 1 before 1.
+    three = [capped(1, 2), 2, capped(1, 2)]
+    yield "a beginning first", restart([0, 1, 2, 3, 4], three, [3, 4, 24]), plan(1, (0, "0"), (2, "1 2"), (3, "3 4"))
+    yield "not by numbers", restart([1, 0, 0, 1, 1], three, [3, 4, 24]), plan(1, (0, "0 1"), (2, "2 3"), (3, "4"))
+    yield "A with caps at m", case(ALL, SETTINGS[:11] + [capped(2, 2), capped(3, 3), capped(1, 1)]), PLAN
+    yield "A with caps of 16", case(ALL, SETTINGS[:11] + [capped(2, 16), capped(3, 16), capped(1, 16)]), PLAN
+    yield "I with a cap", case(ALL, changed(SETTINGS, 11, capped(3, 16))), "wait 5 0\n"
+    yield "caps in subgroup 3", restart(six, [capped(2, 4, 3), capped(1, 16, 0)], [15, 48]), plan(0, (0, "0 1 2 3"), (4, "4 5"))
 
 
 def cures():
@@ -205,6 +243,11 @@ def refused():
     yield "number 2: no nodes", blocks(changed(SETTINGS, 0, 0)), 2
     yield "number 2: no words", blocks([]), 2
     yield "number 2: a word too many", blocks(SETTINGS + [0]), 2
+    for need, cap in ((2, 1), (2, 17), (2, 18), (2, 256 + 2), (2, 65535), (3, 2), (1, 17)):
+        yield "number 2: m %d, cap %d" % (need, cap), blocks(changed(SETTINGS, 12, capped(need, cap)), good), 2
+    yield "number 2: a cap and no m", blocks(changed(SETTINGS, 11, capped(0, 4)), good), 2
+    yield "number 2: a cap and m above F", blocks(changed(SETTINGS, 11, capped(4, 4)), good), 2
+    yield "number 2: a cap and subgroup 4", blocks(changed(SETTINGS, 11, capped(2, 4, 4)), good), 2
     yield "number 2 before 5", blocks(changed(SETTINGS, 0, 0), good[:6]), 2
     yield "number 5: 6 words", after(good[:6]), 5
     yield "number 5: no words", after([]), 5

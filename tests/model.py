@@ -2,7 +2,8 @@
 
 The example's text, turned into words, gives PROGRAM's answer as it stands in the page, and waits 2 before the last report; the report's
 words are those of the text; the order's words are those that LIBRARY writes; with a termination the target is its position. The two logs
-of the page's cut, reported by two machines, give an order with that cut. The last line is `N passed, M failed`."""
+of the page's cut, reported by two machines, give an order with that cut; the page's shards get the members that it names, with a cap and
+without. The last line is `N passed, M failed`."""
 import ctypes
 import itertools
 import os
@@ -90,6 +91,22 @@ def cut_of_two_logs(lines, library):
     check("the target, the holder and the cut", found[8:11] + found[12:15] + found[16:19], [512, *target, 1024, 0, 0, 1280, *shared[-1]])
 
 
+def with_caps(page, program):
+    """The answer for the page's shards, which all machines but the last report, beside what the page says of it."""
+    numbers, sets, *shards = [line[28:] for line in example(page, "caps").splitlines()]
+    carried = [[str(node) for node, mark in enumerate(line[::3]) if mark == "x"] for line in shards]
+    text = ["settings", "failure sets 3", "least group size 1"]
+    text += ["node %s set %s" % both for both in zip(numbers.split(), sets.split())]
+    caps, members = [" cap 4", ""], ["shard %d members %s" % (shard, " ".join(nodes)) for shard, nodes in enumerate(carried)]
+    reports = ["\n".join(["report node %s view 5" % node, "members 0-5", *members]) for node in numbers.split()[:-1]]
+    said = re.search(r"first placement is ([\d ]+) for shard 0 and ([\d ]+) for shard 1\. Without a cap it is ([\d ]+) and ([\d ]+)\.", page)
+    for cap, expected in zip(caps, (said.groups()[:2], said.groups()[2:])):
+        settings = "\n".join(text + ["shard 0 subgroup 0 needs 2%s" % cap, "shard 1 subgroup 0 needs 2"])
+        found = answer(program, blocks("\n\n".join([settings, *reports]))).splitlines()
+        check("the moves%s" % cap, found[1], "moves 1")
+        check("the members%s" % cap, tuple(line.partition(" members ")[2] for line in found[2:]), expected)
+
+
 def main():
     path, program, library = sys.argv[1:]
     with open(path) as file:
@@ -107,6 +124,7 @@ def main():
     thrown_out = order(library, with_termination[0], with_termination[1:], 2)
     check("what machine 2 throws out", thrown_out[-4:-1], [1280, 4, 1])
     cut_of_two_logs(example(page, "cut"), library)
+    with_caps(page, program)
     print("%d passed, %d failed" % (COUNTS[True], COUNTS[False]))
     sys.exit(1 if COUNTS[False] else 0)
 

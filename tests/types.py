@@ -30,13 +30,13 @@ OTHERS = {
 
 # The functions that give a plain number.
 GIVEN = {
-    "how many": "settings_values::nodes settings_values::sets settings_values::least settings_values::shards settings_values::need place_check::group_moves",
+    "how many": "settings_values::nodes settings_values::sets settings_values::least settings_values::shards settings_values::need settings_values::cap place_check::group_moves",
     "a failure set or a subgroup": "settings_values::set_of settings_values::subgroup",
     "a word": "settings_values::shard_word message_fields::tag message_fields::word1 message_fields::word2",
     "a kind of record": "message_fields::kind",
     "the index of a record": "message_passes::kinds message_passes::shards message_passes::sequence message_passes::positions",
-    "a mask, or one for each shard": "message_records::shards_of message_records::carried_more message_records::carried_by message_records::masks_of state_rows::mark",
-    "bytes for the search, by node, shard or failure set": "place_sheet::sheet place_tables::sets place_tables::needs place_tables::prices",
+    "a mask, or one for each shard": "place_groups::sets_of message_records::shards_of message_records::carried_more message_records::carried_by message_records::masks_of state_rows::mark",
+    "bytes for the search, by node, shard or failure set": "place_sheet::sheet place_tables::sets place_tables::needs place_tables::caps place_tables::move_cost place_tables::costs",
 }
 
 # What OTHERS and GIVEN do not cover, by its place, and why it is right.

@@ -157,8 +157,9 @@ pub fn decide_by(
     }
 }
 
-/// The plan, or the first reason to wait. Of the placements of least moves the
-/// first in request One's order is taken, if `choice` does so in a subgroup.
+/// The plan, or the first reason to wait. Of the placements of least moves and
+/// then most stays the first in request One's order is taken, if `choice` does so
+/// in a subgroup.
 fn plan(opened: &Opened, choice: Choice) -> Result<Plan, Wait> {
     let Opened {
         settings,

@@ -12,6 +12,7 @@
 //! - `message`: reading and writing reports and orders
 //! - `log`: logs, positions and cuts
 //! - `flow`: flow of least cost, for placements
+//! - `weights`: placements by weight, where there are many
 //! - `placement`: placing held nodes in shards
 //! - `order`: request One's order of placements, and which is the first
 //! - `state`, `desk`: what the planner keeps between events
@@ -40,4 +41,5 @@ pub mod quorum;
 pub mod settings;
 pub mod soundness;
 pub mod state;
+pub mod weights;
 pub mod words;

@@ -1,4 +1,5 @@
-//! Request One's order of placements, and the placement that it puts first.
+//! Request One's order of placements, and the placement that it puts first of
+//! those that request Six leaves: least moves, then most stays.
 //!
 //! This is the definition: it goes through all placements, asks no flow, and
 //! does not rest on the order in which placements are found. It is for small
@@ -11,7 +12,7 @@ use std::cmp::Ordering;
 
 /// Which of two placements comes first: shards ascending, each shard's nodes
 /// listed ascending, the smaller list in dictionary order wins at the first
-/// shard that differs.
+/// shard that differs. A list is smaller than one that goes on after it.
 pub fn compare(one: &[u32], other: &[u32]) -> Ordering {
     let mut shards = one.iter().zip(other);
     match shards.find(|(one, other)| one != other) {
@@ -26,25 +27,34 @@ pub fn first_of(placements: Vec<Placement>) -> Option<Placement> {
     placements.min_by(|one, other| compare(one, other))
 }
 
-/// A subgroup's valid placements of least moves, all of them.
-pub fn all_least(subgroup: &Subgroup) -> Vec<Placement> {
-    least(subgroup.all(), |masks| subgroup.moves(masks))
+/// A subgroup's valid placements of least moves, and of these those in which
+/// most old members stay, all of them.
+pub fn all_best(subgroup: &Subgroup) -> Vec<Placement> {
+    let moves = |masks: &Placement| subgroup.moves(masks);
+    most(least(subgroup.all(), moves), |masks| subgroup.stays(masks))
 }
 
-/// The first placement of least moves of a subgroup, of all that there are.
+/// The first of these, of all that there are.
 pub fn exhaustive(subgroup: &Subgroup) -> Option<Placement> {
-    first_of(all_least(subgroup))
+    first_of(all_best(subgroup))
 }
 
 /// The same by the greedy method over the flow of least cost.
 pub fn greedy(subgroup: &Subgroup) -> Option<Placement> {
-    subgroup.first_least()
+    subgroup.first_best()
 }
 
 /// Those with the least moves.
 fn least(mut all: Vec<Placement>, moves: impl Fn(&Placement) -> u32) -> Vec<Placement> {
     let least = all.iter().map(&moves).min();
     all.retain(|masks| Some(moves(masks)) == least);
+    all
+}
+
+/// Those with the most stays.
+fn most(mut all: Vec<Placement>, stays: impl Fn(&Placement) -> u32) -> Vec<Placement> {
+    let most = all.iter().map(&stays).max();
+    all.retain(|masks| Some(stays(masks)) == most);
     all
 }
 
@@ -82,6 +92,11 @@ impl<'a> Layout<'a> {
         self.subgroups().map(|subgroup| subgroup.moves(masks)).sum()
     }
 
+    /// The old members that stay in all subgroups.
+    pub fn stays(&self, masks: &[u32]) -> u32 {
+        self.subgroups().map(|subgroup| subgroup.stays(masks)).sum()
+    }
+
     /// All placements that are valid in every subgroup.
     pub fn all(&self) -> Vec<Placement> {
         let mut all = vec![vec![0; self.settings.shards as usize]];
@@ -95,9 +110,11 @@ impl<'a> Layout<'a> {
         all
     }
 
-    /// The first placement of least moves over all shards at once.
-    pub fn first_least(&self) -> Option<Placement> {
-        first_of(least(self.all(), |masks| self.moves(masks)))
+    /// The first placement of least moves, then most stays, over all shards at
+    /// once.
+    pub fn first_best(&self) -> Option<Placement> {
+        let least = least(self.all(), |masks| self.moves(masks));
+        first_of(most(least, |masks| self.stays(masks)))
     }
 
     /// The placement that has in every subgroup the one that is chosen there,

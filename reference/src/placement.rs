@@ -1,9 +1,10 @@
 //! Placement of the held nodes in the shards of one subgroup (document 01,
-//! section "Quorum and plan"; request One of document 02 for the order).
+//! section "Quorum and plan"; of document 02 request Six for caps and stays, and
+//! request One for the order).
 
-use crate::flow::Network;
 use crate::mask;
-use crate::settings::{Settings, MOST_SETS, MOST_SHARDS};
+use crate::settings::{Settings, MOST_NODES};
+use crate::weights::Weights;
 
 /// One subgroup to be placed.
 #[derive(Clone, Debug)]
@@ -19,36 +20,18 @@ pub struct Subgroup<'a> {
 /// For each shard of all subgroups a mask; 0 in the other subgroups' shards.
 pub type Placement = Vec<u32>;
 
-/// A node in a shard.
-#[derive(Clone, Copy, Debug, PartialEq, Eq)]
-struct Pair {
-    shard: u32,
-    node: u32,
-}
-
 impl Subgroup<'_> {
     fn shards(&self) -> Vec<u32> {
         self.settings.shards_of(self.number)
     }
 
-    fn empty(&self) -> Placement {
-        vec![0; self.settings.shards as usize]
-    }
-
-    /// A placed node that was no member of the shard is a move.
-    fn is_move(&self, pair: Pair) -> bool {
-        !mask::has(self.old[pair.shard as usize], pair.node)
-    }
-
     /// Whether this subgroup's part of `masks` is a valid placement: each shard
-    /// has exactly m held nodes of m different sets, no node is in two shards.
+    /// has at most cap held nodes from at least m sets, no node is in two shards.
     pub fn valid(&self, masks: &[u32]) -> bool {
         let shards = self.shards();
         let alone = |&shard: &u32| {
             let own = masks[shard as usize];
-            mask::within(own, self.held)
-                && mask::count(own) == self.settings.need(shard)
-                && self.different_sets(own)
+            mask::within(own, self.held) && self.good_members(shard, own)
         };
         let apart = |&shard: &u32| {
             shards
@@ -58,25 +41,37 @@ impl Subgroup<'_> {
         shards.iter().all(alone) && shards.iter().all(apart)
     }
 
-    fn different_sets(&self, nodes: u32) -> bool {
-        let mut sets: Vec<u32> = mask::nodes(nodes)
-            .into_iter()
-            .map(|node| self.settings.set(node))
-            .collect();
-        sets.sort_unstable();
-        sets.windows(2).all(|pair| pair[0] != pair[1])
+    /// At most cap nodes from at least m sets.
+    fn good_members(&self, shard: u32, nodes: u32) -> bool {
+        mask::count(nodes) <= self.settings.cap(shard)
+            && self.sets_of(nodes) >= self.settings.need(shard)
     }
 
-    /// The moves of this subgroup's part of `masks`.
+    /// The number of different sets that nodes are from.
+    fn sets_of(&self, nodes: u32) -> u32 {
+        let all = self.settings.set_of.iter().zip(0..);
+        let own = all.filter(|&(_, node)| mask::has(nodes, node));
+        mask::count(own.fold(0, |sets, (&set, _)| sets | mask::only(set)))
+    }
+
+    /// The moves of this subgroup's part of `masks`: nodes in a shard of which
+    /// they were no members in the kept view.
     pub fn moves(&self, masks: &[u32]) -> u32 {
         let of_shard = |shard: u32| mask::count(masks[shard as usize] & !self.old[shard as usize]);
+        self.shards().into_iter().map(of_shard).sum()
+    }
+
+    /// How many old members stay: nodes in a shard of which they were members.
+    pub fn stays(&self, masks: &[u32]) -> u32 {
+        let of_shard = |shard: u32| mask::count(masks[shard as usize] & self.old[shard as usize]);
         self.shards().into_iter().map(of_shard).sum()
     }
 
     /// All valid placements. For small cases only.
     pub fn all(&self) -> Vec<Placement> {
         let mut found = Vec::new();
-        self.extend(&self.shards(), self.empty(), self.held, &mut found);
+        let none = vec![0; self.settings.shards as usize];
+        self.extend(&self.shards(), none, self.held, &mut found);
         found
     }
 
@@ -86,10 +81,8 @@ impl Subgroup<'_> {
             found.push(masks);
             return;
         };
-        let need = self.settings.need(shard) as usize;
-        for list in lists(&mask::nodes(free), need) {
-            let own: u32 = list.into_iter().map(mask::only).sum();
-            if self.different_sets(own) {
+        for own in parts(free, self.settings.cap(shard)) {
+            if self.good_members(shard, own) {
                 let mut longer = masks.clone();
                 longer[shard as usize] = own;
                 self.extend(others, longer, free & !own, found);
@@ -99,18 +92,18 @@ impl Subgroup<'_> {
 
     /// The least moves of a valid placement, if there is one.
     pub fn least_moves(&self) -> Option<u32> {
-        self.cheapest(&[]).map(|(_, moves)| moves)
+        self.moves_weigh(1, 0).least()
     }
 
-    /// Some valid placement of least moves.
-    pub fn any_least(&self) -> Option<Placement> {
-        self.cheapest(&[]).map(|(masks, _)| masks)
+    /// Some valid placement of least moves, and of these of most stays.
+    pub fn any_best(&self) -> Option<Placement> {
+        self.moves_then_stays().any_least()
     }
 
-    /// The first placement of least moves in request One's order, which
-    /// `order::exhaustive` defines.
-    pub fn first_least(&self) -> Option<Placement> {
-        self.first_within(self.least_moves()?)
+    /// Of the placements of least moves, and of these of most stays, the first
+    /// in request One's order, which `order::exhaustive` defines.
+    pub fn first_best(&self) -> Option<Placement> {
+        self.moves_then_stays().first_least()
     }
 
     /// The first valid placement in request One's order, whatever its moves.
@@ -119,124 +112,49 @@ impl Subgroup<'_> {
     }
 
     /// The first valid placement of at most `most` moves in request One's order.
-    /// Pairs are decided by shard, then node: a pair is taken if what was taken
-    /// before can be completed together with it. The last placement that was
-    /// found has all that was taken; what it has besides need not be asked.
     pub fn first_within(&self, most: u32) -> Option<Placement> {
-        let within = |taken: &[Pair]| self.cheapest(taken).filter(|&(_, moves)| moves <= most);
-        let (mut found, _) = within(&[])?;
-        let mut taken: Vec<Pair> = Vec::new();
+        self.moves_weigh(1, 0).first_within(most)
+    }
+
+    /// Weights by which fewer moves are less, and then more stays: a node placed
+    /// nowhere weighs 1, which are at most 32 together, and one that stays
+    /// nothing.
+    fn moves_then_stays(&self) -> Weights {
+        self.moves_weigh(2 * MOST_NODES, 1)
+    }
+
+    /// The subgroup's shards and held nodes, where a move weighs `weight`, a
+    /// node placed nowhere `nowhere`, and one that stays nothing.
+    fn moves_weigh(&self, weight: u32, nowhere: u32) -> Weights {
+        let settings = self.settings;
+        let (shards, nodes) = (settings.shards as usize, settings.nodes as usize);
+        let mut weights = Weights {
+            set_of: settings.set_of.iter().copied().map(Some).collect(),
+            need_of: vec![0; shards],
+            cap_of: vec![0; shards],
+            pairs: vec![vec![None; nodes]; shards],
+            nowhere,
+        };
         for shard in self.shards() {
+            let at = shard as usize;
+            weights.need_of[at] = settings.need(shard);
+            weights.cap_of[at] = settings.cap(shard);
             for node in mask::nodes(self.held) {
-                taken.push(Pair { shard, node });
-                if mask::has(found[shard as usize], node) {
-                    continue;
-                }
-                let completed = self.possible(&taken).then(|| within(&taken)).flatten();
-                match completed {
-                    Some((masks, _)) => found = masks,
-                    None => drop(taken.pop()),
-                }
+                let stays = mask::has(self.old[at], node);
+                weights.pairs[at][node as usize] = Some(if stays { 0 } else { weight });
             }
         }
-        Some(self.masks_of(&taken))
-    }
-
-    fn masks_of(&self, taken: &[Pair]) -> Placement {
-        let mut masks = self.empty();
-        for pair in taken {
-            masks[pair.shard as usize] |= mask::only(pair.node);
-        }
-        masks
-    }
-
-    /// Whether pairs alone break no rule of a valid placement but the number of
-    /// members, of which there are not too many.
-    fn possible(&self, taken: &[Pair]) -> bool {
-        let mut nodes = 0;
-        for pair in taken {
-            if mask::has(nodes, pair.node) {
-                return false;
-            }
-            nodes |= mask::only(pair.node);
-        }
-        let masks = self.masks_of(taken);
-        self.shards().into_iter().all(|shard| {
-            let own = masks[shard as usize];
-            mask::count(own) <= self.settings.need(shard) && self.different_sets(own)
-        })
-    }
-
-    /// A valid placement with all the pairs of `taken`, which are possible, and,
-    /// of those, the least moves; with its moves.
-    ///
-    /// The rest is a flow: from the source to each shard, as many as it still
-    /// needs; from a shard to each failure set that it doesn't use yet, one;
-    /// from there to each free held node of the set, one, at the cost of the
-    /// move; from a node to the sink, one.
-    fn cheapest(&self, taken: &[Pair]) -> Option<(Placement, u32)> {
-        let (source, sink) = (0, 1);
-        let shard_place = |shard: u32| 2 + shard as usize;
-        let set_place = |shard: u32, set: u32| 18 + (shard * MOST_SETS + set) as usize;
-        let node_place = |node: u32| 18 + (MOST_SHARDS * MOST_SETS) as usize + node as usize;
-        let mut network = Network::new(node_place(32));
-        let mut masks = self.masks_of(taken);
-        let used = masks.iter().fold(0, |all, &own| all | own);
-        let free = mask::nodes(self.held & !used);
-
-        let mut wanted = 0;
-        let mut pairs = Vec::new();
-        for shard in self.shards() {
-            let own = masks[shard as usize];
-            let left = self.settings.need(shard) - mask::count(own);
-            wanted += left;
-            network.add(source, shard_place(shard), left, 0);
-            for set in 0..self.settings.sets {
-                if !self.uses(own, set) {
-                    network.add(shard_place(shard), set_place(shard, set), 1, 0);
-                }
-            }
-            for &node in &free {
-                let pair = Pair { shard, node };
-                let from = set_place(shard, self.settings.set(node));
-                let cost = i64::from(self.is_move(pair));
-                pairs.push((network.add(from, node_place(node), 1, cost), pair));
-            }
-        }
-        for &node in &free {
-            network.add(node_place(node), sink, 1, 0);
-        }
-        if network.fill(source, sink).amount != wanted {
-            return None;
-        }
-        for (arc, pair) in pairs {
-            if network.through(arc) == 1 {
-                masks[pair.shard as usize] |= mask::only(pair.node);
-            }
-        }
-        let moves = self.moves(&masks);
-        Some((masks, moves))
-    }
-
-    /// Whether a node of `nodes` is in `set`.
-    fn uses(&self, nodes: u32, set: u32) -> bool {
-        let sets = mask::nodes(nodes).into_iter();
-        sets.map(|node| self.settings.set(node)).any(|s| s == set)
+        weights
     }
 }
 
-/// All ascending lists of `length` of the given ascending nodes, in dictionary
-/// order.
-fn lists(nodes: &[u32], length: usize) -> Vec<Vec<u32>> {
-    if length == 0 {
-        return vec![Vec::new()];
-    }
-    let mut all = Vec::new();
-    for (index, &first) in nodes.iter().enumerate() {
-        for mut list in lists(&nodes[index + 1..], length - 1) {
-            list.insert(0, first);
-            all.push(list);
-        }
+/// All masks of up to `most` nodes within a mask.
+fn parts(whole: u32, most: u32) -> Vec<u32> {
+    let mut all = vec![0];
+    for node in mask::nodes(whole) {
+        let shorter = all.iter().filter(|&&part| mask::count(part) < most);
+        let with: Vec<u32> = shorter.map(|part| part | mask::only(node)).collect();
+        all.extend(with);
     }
     all
 }

@@ -1,4 +1,5 @@
-//! The settings (document 01, section "Settings").
+//! The settings (document 01, section "Settings"; document 02, request Six for
+//! the caps).
 
 use crate::mask;
 use crate::number::{self, Number};
@@ -8,6 +9,8 @@ pub const MOST_SETS: u32 = 16;
 pub const MOST_SHARDS: u32 = 16;
 /// Subgroups are numbered 0 to 3.
 pub const SUBGROUPS: u32 = 4;
+/// The greatest cap of a shard.
+pub const MOST_CAP: u32 = 16;
 /// The longest settings: four words, a word for each node and each shard.
 pub const MOST_WORDS: usize = 4 + MOST_NODES as usize + MOST_SHARDS as usize;
 
@@ -25,8 +28,12 @@ pub struct Settings {
     pub set_of: Vec<u32>,
     /// For each shard its subgroup.
     pub subgroup_of: Vec<u32>,
-    /// For each shard m, the number of members from different sets it needs.
+    /// For each shard m, the number of different sets its members are from, at
+    /// least.
     pub need_of: Vec<u32>,
+    /// For each shard its cap, the most members it has: m where the settings say
+    /// 0.
+    pub cap_of: Vec<u32>,
 }
 
 impl Settings {
@@ -43,6 +50,11 @@ impl Settings {
     /// The need of a shard below S.
     pub fn need(&self, shard: u32) -> u32 {
         self.need_of[shard as usize]
+    }
+
+    /// The cap of a shard below S.
+    pub fn cap(&self, shard: u32) -> u32 {
+        self.cap_of[shard as usize]
     }
 
     /// The shards of a subgroup, ascending.
@@ -78,10 +90,8 @@ fn parts(words: &[u32]) -> Option<Settings> {
     }
     let (set_words, shard_words) = words[4..].split_at(nodes as usize);
     let sets_ok = set_words.iter().all(|&set| set < sets);
-    let shards_ok = shard_words
-        .iter()
-        .all(|&word| word / 256 < SUBGROUPS && (1..=sets).contains(&(word % 256)));
-    if !sets_ok || !shards_ok {
+    let words: Vec<ShardWord> = shard_words.iter().copied().map(ShardWord::of).collect();
+    if !sets_ok || !words.iter().all(|word| word.good(sets)) {
         return None;
     }
     Some(Settings {
@@ -90,9 +100,39 @@ fn parts(words: &[u32]) -> Option<Settings> {
         least_group_size,
         shards,
         set_of: set_words.to_vec(),
-        subgroup_of: shard_words.iter().map(|&word| word / 256).collect(),
-        need_of: shard_words.iter().map(|&word| word % 256).collect(),
+        subgroup_of: words.iter().map(|word| word.subgroup).collect(),
+        need_of: words.iter().map(|word| word.need).collect(),
+        cap_of: words.iter().map(|word| word.cap).collect(),
     })
+}
+
+/// What a shard's word says: cap × 65536 + subgroup × 256 + m, where cap 0 means
+/// m.
+struct ShardWord {
+    subgroup: u32,
+    need: u32,
+    cap: u32,
+}
+
+impl ShardWord {
+    fn of(word: u32) -> ShardWord {
+        let need = word % 256;
+        ShardWord {
+            subgroup: word / 256 % 256,
+            need,
+            cap: match word / 65536 {
+                0 => need,
+                cap => cap,
+            },
+        }
+    }
+
+    /// The subgroup is 0 to 3, m from 1 to F, and the cap from m to 16.
+    fn good(&self, sets: u32) -> bool {
+        self.subgroup < SUBGROUPS
+            && (1..=sets).contains(&self.need)
+            && (self.need..=MOST_CAP).contains(&self.cap)
+    }
 }
 
 #[cfg(test)]
@@ -119,6 +159,7 @@ mod tests {
         assert_eq!(settings.set_of, vec![0, 0, 1, 1, 1, 2, 2]);
         assert_eq!(settings.subgroup_of, vec![0, 0, 0]);
         assert_eq!(settings.need_of, vec![2, 3, 1]);
+        assert_eq!(settings.cap_of, vec![2, 3, 1]);
     }
 
     #[test]
@@ -152,7 +193,43 @@ mod tests {
         assert!(refused_with(11, 4));
         assert!(!refused_with(11, 3 * 256 + 3));
         assert!(refused_with(11, 4 * 256 + 3));
-        assert!(refused_with(11, 65536 + 1));
+        assert!(refused_with(11, 255 * 256 + 3));
+    }
+
+    /// Caps from m to 16, and 0 for m, whatever N and F are.
+    #[test]
+    fn row_2_caps() {
+        let with = |cap: u32, need: u32| refused_with(11, cap * 65536 + 2 * 256 + need);
+        for need in 1..=3 {
+            for cap in 0..=20 {
+                let good = cap == 0 || (need..=16).contains(&cap);
+                assert_eq!(with(cap, need), !good, "cap {cap}, m {need}");
+            }
+            for cap in [32, 255, 256, 257, 32768, 65535] {
+                assert!(with(cap, need), "cap {cap}, m {need}");
+            }
+        }
+        // A good cap is no cure for the rest, and no rest for a cap.
+        assert!(refused_with(11, 4 * 65536));
+        assert!(refused_with(11, 4 * 65536 + 4));
+        assert!(refused_with(11, 4 * 65536 + 4 * 256 + 2));
+        assert!(refused_with(11, 17 * 65536 + 2));
+        assert!(refused_with(11, u32::MAX));
+        assert!(refused_with(13, 17 * 65536 + 1));
+    }
+
+    #[test]
+    fn what_a_cap_says() {
+        let mut words = RUN;
+        words[11] = 4 * 65536 + 256 + 2;
+        words[12] = 3 * 65536 + 3;
+        words[13] = 16 * 65536 + 3 * 256 + 1;
+        let settings = parse(&words).unwrap();
+        assert_eq!(settings.cap_of, vec![4, 3, 16]);
+        assert_eq!(settings.need_of, vec![2, 3, 1]);
+        assert_eq!(settings.subgroup_of, vec![1, 0, 3]);
+        words[12] = 3;
+        assert_eq!(parse(&words), Ok(settings));
     }
 
     #[test]

@@ -1,5 +1,5 @@
 //! When a state is sound (document 01, section "State, desk, events"; document
-//! 02, request Eight).
+//! 02, requests Six and Eight).
 
 use crate::desk;
 use crate::log::Position;
@@ -142,8 +142,8 @@ pub fn gathered<'a>(
 }
 
 /// Outside gathering, no wait applies and the plan's number, members, holders,
-/// targets, total and validity are right. Least moves are not checked. Wait 5
-/// does not apply because the plan's own placement is valid.
+/// targets, total and validity are right. Least moves, stays and order are not
+/// checked. Wait 5 does not apply because the plan's own placement is valid.
 fn sound_plan(settings: &Settings, state: &State, reports: &Reports) -> bool {
     let Some(plan) = &state.plan else {
         return true;

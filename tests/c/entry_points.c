@@ -283,6 +283,36 @@ static void carrying_out(struct world *world)
     check_word("a drop after commit", restart_drop(LENT, 0), RESTART_WRONG_PHASE);
 }
 
+/* Case A where shard 0 needs one member and may keep two: with the cap it keeps both. */
+static void caps(struct world *world)
+{
+    static const uint32_t right[4] = {65536 + 1, 2 * 65536 + 2, RESTART_CAP * 65536 + 1, 3};
+    static const uint32_t wrong[4] = {65536 + 2, (RESTART_CAP + 1) * 65536 + 1,
+                                      UINT32_MAX / 65536 * 65536 + 1, 2 * 65536 + 4 * 256 + 1};
+    world_gathered(world);
+    for (size_t k = 0; k < 4; k++) {
+        restart_put_word(world->settings, 11, right[k]);
+        check_word("a right cap", restart_check_settings(world->settings, sizeof world->settings),
+                   RESTART_ACCEPTED);
+        restart_put_word(world->settings, 11, wrong[k]);
+        check_word("a wrong cap", restart_decide(LENT), RESTART_WRONG_SETTINGS);
+    }
+    restart_put_word(world->settings, 11, 1);
+    check_word("without a cap", (uint32_t)restart_is_plan(restart_decide(LENT)), 1);
+    check_word("it keeps one", restart_get_word(world->state, RESTART_PLAN_MASKS), 1);
+    check_word("and moves two", restart_get_word(world->state, RESTART_PLAN_MOVES), 2);
+
+    world_gathered(world);
+    restart_put_word(world->settings, 11, 2 * 65536 + 1);
+    check_word("with a cap", (uint32_t)restart_is_plan(restart_decide(LENT)), 1);
+    expect_state("the state with a plan beyond the need", world, RESTART_ORDERED, 63, 63, 0, 0);
+    check_word("it is sound", restart_check_state(LENT), RESTART_ACCEPTED);
+    restart_put_word(world->settings, 11, 16 * 65536 + 1);
+    check_word("under a greater cap too", restart_check_state(LENT), RESTART_ACCEPTED);
+    restart_put_word(world->settings, 11, 65536 + 1);
+    check_word("but not under a lower one", restart_check_state(LENT), RESTART_UNSOUND_STATE);
+}
+
 int main(void)
 {
     static struct world world;
@@ -293,5 +323,6 @@ int main(void)
     messages(&world);
     reporting(&world);
     carrying_out(&world);
+    caps(&world);
     return summary();
 }

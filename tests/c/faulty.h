@@ -182,4 +182,31 @@ static inline uint32_t faulty(SETTINGS, STATE, uint8_t *desk, size_t desk_len,
     return restart_report(PASSED_ON, message, message_len);
 }
 #define restart_report faulty
+
+#elif FAULT == 18 /* a cap above 16 is taken */
+static inline uint32_t faulty(SETTINGS)
+{
+    uint8_t copy[RESTART_SETTINGS_BYTES];
+    if (settings_len < 16 || settings_len > sizeof copy)
+        return restart_check_settings(settings, settings_len);
+    memcpy(copy, settings, settings_len);
+    for (size_t at = 4 + restart_get_word(copy, 0); at < settings_len / 4; at++)
+        if (restart_get_word(copy, at) >> 16 > 16)
+            restart_put_word(copy, at, restart_get_word(copy, at) & 65535);
+    return restart_check_settings(copy, settings_len);
+}
+#define restart_check_settings faulty
+
+#elif FAULT == 19 /* a plan keeps no more members than are needed */
+static inline uint32_t faulty(EVENT)
+{
+    uint8_t copy[RESTART_SETTINGS_BYTES];
+    if (settings_len < 16 || restart_check_settings(settings, settings_len) != RESTART_ACCEPTED)
+        return restart_decide(PASSED_ON);
+    memcpy(copy, settings, settings_len);
+    for (size_t at = 4 + restart_get_word(copy, 0); at < settings_len / 4; at++)
+        restart_put_word(copy, at, restart_get_word(copy, at) & 65535);
+    return restart_decide(copy, settings_len, state, state_len, desk, desk_len);
+}
+#define restart_decide faulty
 #endif

@@ -107,7 +107,8 @@ static uint8_t settings[RESTART_SETTINGS_BYTES], state[RESTART_STATE_BYTES];
 static uint8_t desk[RESTART_DESK_BYTES], message[RESTART_MESSAGE_BYTES];
 static uint8_t contents[RESTART_CONTENTS_BYTES], buffer[RESTART_BUFFER_BYTES];
 
-/* Four subgroups of four shards that need seven members each: 28 of the 31 held nodes. */
+/* Four subgroups of four shards that need seven members each, 28 of the 31 held nodes, and keep up
+ * to eight. */
 static void put_settings(void)
 {
     const uint32_t head[4] = {NODES, RESTART_SETS, NODES / 2, SHARDS};
@@ -116,7 +117,7 @@ static void put_settings(void)
     for (uint32_t node = 0; node < NODES; node++)
         restart_put_word(settings, 4 + node, node % RESTART_SETS);
     for (uint32_t shard = 0; shard < SHARDS; shard++)
-        restart_put_word(settings, 4 + NODES + shard, shard / 4 * 256 + 7);
+        restart_put_word(settings, 4 + NODES + shard, 8 * 65536 + shard / 4 * 256 + 7);
 }
 
 /* A shard's members in the kept view: eight nodes of eight sets. */

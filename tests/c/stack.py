@@ -7,8 +7,9 @@ import re
 import subprocess
 import sys
 
-# The total search goes on to the next pair of shard and node, of 512, with each turn; the last turn only looks at what was found.
-TURNS = {"search_total::seek": 513}
+# The total search calls itself where it ends one of 16 lists or takes one of 32 nodes; the last turn only looks at what was found. Every
+# other way on is a jump: each call of itself passes a flag of 0, the last of its arguments, and `untried` looks for it.
+TURNS = {"search_total::seek": 49}
 # What comes from outside, with what the loader does at a first call.
 OUTSIDE = {"memcpy": 8192, "memset": 8192, "memmove": 8192, "memcmp": 8192}
 FUNCTION = re.compile(r"^[0-9a-f]+ <(.*)>:$")
@@ -91,6 +92,14 @@ def depths(code):
     return deepest
 
 
+def untried(name, code):
+    """Every call of itself passes 0 as its last argument."""
+    for index, item in enumerate(code):
+        pushed = [before.operands for before in code[max(0, index - 8):index] if before.name == "push"]
+        if item.callee == name and (not pushed or pushed[0] != "$0x0"):
+            sys.exit("a call of itself with a flag that is not known to be 0 in " + name)
+
+
 def bounds(found):
     """The stack of each function with all that it calls."""
     known, entered = {}, set()
@@ -105,6 +114,7 @@ def bounds(found):
             own = depths(found[name]) + PUSHED
             below = [bound(callee) for callee in {item.callee for item in found[name] if item.callee} if callee != name]
             itself = any(item.callee == name for item in found[name])
+            untried(name, found[name])
             known[name] = own * (TURNS[name] if itself else 1) + max(below, default=0)
         return known[name]
 

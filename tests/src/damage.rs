@@ -13,7 +13,7 @@ pub fn settings(random: &mut Random, words: &mut Vec<u32>) {
     let (nodes, sets, shards) = (words[0], words[1], words[3]);
     let set = 4 + random.below(nodes as usize);
     let shard = 4 + nodes as usize + random.below(shards as usize);
-    match random.between(0, 11) {
+    match random.between(0, 13) {
         0 => words[0] = random.pick(&[0, 33, 64, nodes - 1, nodes + 1, u32::MAX]),
         1 => words[1] = random.pick(&[0, 17, 256, u32::MAX]),
         2 => words[2] = random.pick(&[0, nodes + 1, nodes, u32::MAX]),
@@ -21,6 +21,7 @@ pub fn settings(random: &mut Random, words: &mut Vec<u32>) {
         4 => words[set] = random.pick(&[sets, sets + 1, 256, u32::MAX]),
         5 => words[shard] = words[shard] / 256 * 256 + random.pick(&[0, sets + 1, 255]),
         6 => words[shard] += 256 * random.pick(&[4, 8, 256, 65536]),
+        12 | 13 => cap(random, &mut words[shard]),
         7 => words.truncate(random.below(words.len())),
         8 => words.extend(vec![random.pick(&[0, 1]); random.pick(&[1, 2, 4])]),
         9 => words[random.pick(&[0, 1, 2, 3, set, shard])] = random.word(),
@@ -30,6 +31,26 @@ pub fn settings(random: &mut Random, words: &mut Vec<u32>) {
             words.remove(at);
         }
     }
+}
+
+/// Makes the cap of a shard's word another one: below m or above 16, or just
+/// inside.
+fn cap(random: &mut Random, word: &mut u32) {
+    let need = *word % 256;
+    let below = random.between(0, need - 1);
+    let choices = [
+        need - 1,
+        below,
+        need,
+        16,
+        17,
+        17,
+        18,
+        255,
+        256 + need,
+        65535,
+    ];
+    *word = random.pick(&choices) * 65536 + *word % 65536;
 }
 
 /// Damages contents.

@@ -30,7 +30,32 @@ pub fn settings_words(random: &mut Random) -> Vec<u32> {
     for subgroup in subgroups(random, nodes, shards) {
         words.push(subgroup * 256 + random.number(sets));
     }
+    let wide = random.chance(WIDE);
+    put_caps(random, wide, &mut words);
     words
+}
+
+/// In so many of a hundred settings shards are to have caps above m.
+pub const WIDE: u32 = 60;
+
+/// Gives the shards of good settings, which have none, their caps: 0 or m, and
+/// in wide settings mostly above m, which may be above N.
+pub fn put_caps(random: &mut Random, wide: bool, words: &mut [u32]) {
+    let first_shard = 4 + words[0] as usize;
+    for word in &mut words[first_shard..] {
+        let need = *word % 256;
+        let above = match random.between(0, 3) {
+            0 => need + 1,
+            1 => need + 2,
+            2 => 16,
+            _ => random.between(need, 16),
+        };
+        let cap = match wide && random.chance(75) {
+            true => above.min(16),
+            false => random.pick(&[0, need]),
+        };
+        *word += cap * 65536;
+    }
 }
 
 /// A subgroup for each shard: alone, in blocks, interleaved or sparse.

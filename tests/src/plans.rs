@@ -1,6 +1,7 @@
 //! The cases of the `plans` program: decisions whose plan must be the first of
-//! least moves, mask for mask. Small ones are compared with the search through
-//! all placements, large ones with the greedy method over the flow.
+//! least moves and then most stays, mask for mask. Small ones are compared with
+//! the search through all placements, large ones with the greedy method over the
+//! flow.
 //!
 //! A case depends on the seed, its size and its index alone.
 
@@ -17,11 +18,13 @@ use reference::order::{self, Choice, Layout};
 use reference::settings::{self, Settings, SUBGROUPS};
 use reference::state::{self, State, View};
 use reference::{mask, words};
-use std::collections::BTreeMap;
+use std::collections::{BTreeMap, BTreeSet};
 
 /// A small case has at most so many placements of a subgroup, by a bound that
 /// leaves failure sets out.
 const MOST_PLACEMENTS: u64 = 3000;
+/// In so many of a hundred cases shards are to have caps above m.
+const WIDE: u32 = 75;
 /// Up to so many placements over all shards are gone through at once.
 const MOST_WHOLE: usize = 1500;
 
@@ -101,29 +104,41 @@ pub fn case(seed: u64, size: Size, index: u64) -> Case {
 
 /// Up to 9 nodes and 8 shards.
 fn small_settings(random: &mut Random) -> Vec<u32> {
+    let wide = random.chance(WIDE);
     loop {
-        let nodes = random.pick(&[1, 2, 3, 4, 5, 6, 7, 8, 8, 9, 9, 9]);
+        let nodes = random.pick(&[1, 2, 3, 4, 5, 6, 7, 8, 8, 9, 9, 9, 9, 9]);
         let sets = random.between(1, nodes).max(random.between(1, nodes));
         let shards = random.between(1, 8).min(nodes);
-        let words = settings_of(random, nodes, sets, shards, 3);
+        let mut words = settings_of(random, nodes, sets, shards, 3);
+        generate::put_caps(random, wide, &mut words);
         let settings = settings::parse(&words).expect("generated settings are good");
-        if (0..SUBGROUPS).all(|number| placements(&settings, number) <= MOST_PLACEMENTS) {
+        let few = |number| {
+            let shards = settings.shards_of(number);
+            placements(&settings, &shards, settings.nodes) <= MOST_PLACEMENTS
+        };
+        if (0..SUBGROUPS).all(few) {
             return words;
         }
     }
 }
 
-/// How many placements a subgroup has if each node is a failure set.
-fn placements(settings: &Settings, number: u32) -> u64 {
-    let mut left = u64::from(settings.nodes);
-    let mut count = 1;
-    for shard in settings.shards_of(number) {
-        for taken in 1..=u64::from(settings.need(shard)) {
-            count = count * left / taken;
-            left = left.saturating_sub(1);
-        }
-    }
-    count
+/// How many placements `left` nodes have in some shards if each node is a
+/// failure set.
+pub fn placements(settings: &Settings, shards: &[u32], left: u32) -> u64 {
+    let Some((&shard, others)) = shards.split_first() else {
+        return 1;
+    };
+    let sizes = settings.need(shard)..=settings.cap(shard).min(left);
+    sizes
+        .map(|size| ways(left, size) * placements(settings, others, left - size))
+        .sum()
+}
+
+/// How many ways there are to take `size` of `left`.
+fn ways(left: u32, size: u32) -> u64 {
+    (1..=u64::from(size)).fold(1, |ways, taken| {
+        ways * (u64::from(left) + 1 - taken) / taken
+    })
 }
 
 /// 20 to 32 nodes and up to 16 shards.
@@ -131,7 +146,10 @@ fn large_settings(random: &mut Random) -> Vec<u32> {
     let nodes = random.pick(&[20, 24, 27, 31, 32, 32, 32]);
     let sets = random.between(4, 16);
     let shards = random.between(2, 16).max(random.between(2, 16));
-    settings_of(random, nodes, sets, shards, sets)
+    let mut words = settings_of(random, nodes, sets, shards, sets);
+    let wide = random.chance(WIDE);
+    generate::put_caps(random, wide, &mut words);
+    words
 }
 
 /// Settings whose shards, of up to four subgroups that lie between one another,
@@ -164,10 +182,39 @@ fn settings_of(random: &mut Random, nodes: u32, sets: u32, shards: u32, most: u3
 fn view(random: &mut Random, settings: &Settings) -> View {
     let members = generate::members(random, settings);
     let node = random.pick(&mask::nodes(members));
+    let mut masks = generate::shard_masks(random, settings, members, node);
+    if random.chance(25) {
+        crowd(random, settings, members, &mut masks);
+    }
     View {
         number: random.pick(&[2, 7, 100, u32::MAX - 1]),
         members,
-        masks: generate::shard_masks(random, settings, members, node),
+        masks,
+    }
+}
+
+/// In each subgroup of several shards one that needs most has one member, and
+/// all other nodes are members of the others, so that it takes from them.
+fn crowd(random: &mut Random, settings: &Settings, members: u32, masks: &mut [u32]) {
+    for number in 0..SUBGROUPS {
+        let mut shards = settings.shards_of(number);
+        if shards.len() < 2 {
+            continue;
+        }
+        random.shuffle(&mut shards);
+        shards.sort_by_key(|&shard| settings.need(shard));
+        let poor = shards.pop().unwrap_or(0);
+        let mut nodes = mask::nodes(members);
+        random.shuffle(&mut nodes);
+        masks[poor as usize] = nodes.pop().map_or(0, mask::only);
+        shards.iter().for_each(|&shard| masks[shard as usize] = 0);
+        for (index, node) in nodes.into_iter().enumerate() {
+            let shard = match shards.get(index) {
+                Some(&shard) => shard,
+                None => random.pick(&shards),
+            };
+            masks[shard as usize] |= mask::only(node);
+        }
     }
 }
 
@@ -295,7 +342,7 @@ fn compare_whole(asked: &Asked, outcome: &Outcome) -> Result<bool, String> {
     if all.product::<usize>() > MOST_WHOLE {
         return Ok(false);
     }
-    let first = layout.first_least();
+    let first = layout.first_best();
     if first.as_ref() != Some(masks) {
         return Err(format!(
             "the masks are {masks:x?}, over all shards the first are {first:x?}"
@@ -333,7 +380,7 @@ pub struct Tally {
 }
 
 /// What must be found among a hundred plans at least, and how often.
-const WANTED: [(&str, u64); 6] = [
+const WANTED: [(&str, u64); 11] = [
     ("plans with moves", 30),
     ("plans of as many nodes as there can be", 15),
     ("plans of two subgroups or more", 30),
@@ -342,7 +389,12 @@ const WANTED: [(&str, u64); 6] = [
         "plans of shards that lie between those of another subgroup",
         20,
     ),
-    ("plans with another placement of equal moves", 40),
+    ("plans with another placement of equal moves and stays", 25),
+    ("plans with a cap above m", 50),
+    ("plans with caps at m alone", 15),
+    ("plans that keep more members than are needed", 15),
+    ("plans that leave out a held member for a cap above m", 2),
+    ("plans where a set is twice in a shard", 10),
 ];
 /// And of small ones.
 const WANTED_SMALL: (&str, u64) = ("plans compared over all shards at once", 50);
@@ -355,6 +407,11 @@ const WANTED_CASES: [(&str, u64); 6] = [
     ("a plan with every node held", 30),
     ("a plan with a node absent", 100),
 ];
+/// And of large ones.
+const WANTED_LARGE: (&str, u64) = (
+    "plans with as good a placement by lists of other lengths",
+    10,
+);
 
 impl Tally {
     fn put(&mut self, holds: bool, name: &str) {
@@ -399,7 +456,38 @@ impl Tally {
             "plans of shards that lie between those of another subgroup",
         );
         let equal = exchangeable(&layout, masks);
-        self.put(equal, "plans with another placement of equal moves");
+        self.put(
+            equal,
+            "plans with another placement of equal moves and stays",
+        );
+        let other = shifted(&layout, masks);
+        self.put(other, WANTED_LARGE.0);
+        self.caps(&layout, masks);
+    }
+
+    fn caps(&mut self, layout: &Layout, masks: &[u32]) {
+        let settings = layout.settings;
+        let any = |holds: &dyn Fn(u32, u32) -> bool| {
+            (0..settings.shards).any(|shard| holds(shard, masks[shard as usize]))
+        };
+        let wide = |shard: u32, _: u32| settings.cap(shard) > settings.need(shard);
+        self.put(any(&wide), "plans with a cap above m");
+        self.put(!any(&wide), "plans with caps at m alone");
+        let more = |shard: u32, own: u32| mask::count(own) > settings.need(shard);
+        self.put(any(&more), "plans that keep more members than are needed");
+        let full = |shard: u32, own: u32| {
+            let out = layout.old[shard as usize] & layout.held & !own;
+            wide(shard, own) && mask::count(own) == settings.cap(shard) && out != 0
+        };
+        self.put(
+            any(&full),
+            "plans that leave out a held member for a cap above m",
+        );
+        let twice = |_: u32, own: u32| {
+            let sets = mask::nodes(own).into_iter().map(|node| settings.set(node));
+            sets.collect::<BTreeSet<u32>>().len() < mask::count(own) as usize
+        };
+        self.put(any(&twice), "plans where a set is twice in a shard");
     }
 
     /// Prints all counts.
@@ -423,23 +511,60 @@ impl Tally {
             .iter()
             .chain(wanted_small)
             .filter(|(name, least)| times(name) * 100 < self.plans * least);
+        let wanted_large = (size == Size::Large).then_some(&WANTED_LARGE);
         let of_cases = WANTED_CASES
             .iter()
+            .chain(wanted_large)
             .filter(|(name, least)| times(name) * 1000 < self.cases * least);
         of_plans.chain(of_cases).map(|&(name, _)| name).collect()
     }
 }
 
+/// Whether a placement is valid and has the moves and stays of a plan.
+fn as_good(layout: &Layout, masks: &[u32], other: &[u32]) -> bool {
+    layout.moves(other) == layout.moves(masks)
+        && layout.stays(other) == layout.stays(masks)
+        && layout.valid(other)
+}
+
 /// Whether one node for another, or two nodes of two shards for each other, give
-/// a valid placement of equal moves.
+/// as good a placement.
 fn exchangeable(layout: &Layout, masks: &[u32]) -> bool {
-    let moves = layout.moves(masks);
-    let equal = |other: &[u32]| layout.moves(other) == moves && layout.valid(other);
+    let equal = |other: &[u32]| as_good(layout, masks, other);
     for shard in 0..layout.settings.shards {
         let own = masks[shard as usize];
         for out in mask::nodes(own) {
             for node in mask::nodes(layout.held & !own) {
                 if equal(&exchanged(layout.settings, masks, shard, [out, node])) {
+                    return true;
+                }
+            }
+        }
+    }
+    false
+}
+
+/// Whether one node that moved can go back to a shard that has room, and a node
+/// that stays in a third shard move in its place, for as good a placement.
+fn shifted(layout: &Layout, masks: &[u32]) -> bool {
+    let settings = layout.settings;
+    let pairs = |own: fn(u32, u32) -> u32| {
+        let nodes =
+            |shard: u32| mask::nodes(own(masks[shard as usize], layout.old[shard as usize]));
+        let of_shard = move |shard: u32| nodes(shard).into_iter().map(move |node| (shard, node));
+        (0..settings.shards).flat_map(of_shard).collect::<Vec<_>>()
+    };
+    let (moved, stays) = (pairs(|own, old| own & !old), pairs(|own, old| own & old));
+    for &(shard, node) in &moved {
+        let beside = settings.shards_of(settings.subgroup(shard)).into_iter();
+        let home = |&home: &u32| mask::has(layout.old[home as usize], node);
+        for home in beside.filter(home) {
+            for &(third, other) in stays.iter().filter(|&&(third, _)| third != home) {
+                let mut masks_of = masks.to_vec();
+                masks_of[shard as usize] ^= mask::only(node) | mask::only(other);
+                masks_of[home as usize] |= mask::only(node);
+                masks_of[third as usize] ^= mask::only(other);
+                if as_good(layout, masks, &masks_of) {
                     return true;
                 }
             }

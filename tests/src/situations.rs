@@ -9,9 +9,10 @@ use reference::message::{self, Contents, Form, CUT, HOLDER, TERMINATION};
 use reference::settings::{self, Settings};
 use reference::state::{self, Phase, Plan, State, View, STATE_WORDS};
 use reference::{desk, mask, soundness, words};
+use std::collections::BTreeSet;
 
 /// Every situation that enough sequences must come to.
-pub const ALL: [&str; 85] = [
+pub const ALL: [&str; 95] = [
     "report: the first",
     "report: a greater view",
     "report: a greater view without termination takes the kept one away",
@@ -68,6 +69,16 @@ pub const ALL: [&str; 85] = [
     "plan: a stale member has a longer log",
     "plan: a holder without the greatest end",
     "plan: few members reported the kept view",
+    "plan: caps at m alone",
+    "plan: a shard with more members than it needs",
+    "plan: a shard with as many members as its cap, which is above m",
+    "plan: a set twice in a shard",
+    "plan: a cap above N",
+    "plan: a held member leaves a shard that has reached its cap, which is above m",
+    "plan: a held member leaves a shard that has not reached its cap",
+    "number 2: a cap below m alone",
+    "number 2: a cap above 16 alone",
+    "number 2: a cap above 255 alone",
     "order: to a node of no shard",
     "order: to a node of one shard",
     "order: to a node of more shards",
@@ -114,6 +125,9 @@ pub fn of(asked: &Asked, outcome: &Outcome) -> Vec<&'static str> {
     let mut names = Names(Vec::new());
     let whole = |bytes: &[u8]| words::whole_words(bytes);
     let Ok(settings) = settings::parse(&whole(&asked.table.settings)) else {
+        if outcome.answer == 2 {
+            bad_caps(&mut names, &whole(&asked.table.settings));
+        }
         return names.0;
     };
     if outcome.answer == 3 {
@@ -157,6 +171,29 @@ pub fn of(asked: &Asked, outcome: &Outcome) -> Vec<&'static str> {
         (Kind::Fresh | Kind::CheckState, _) => {}
     }
     names.0
+}
+
+/// Settings that would be good but for their caps.
+fn bad_caps(names: &mut Names, words: &[u32]) {
+    let Some((counts, shards)) = words.split_at_checked(4 + first_word(words) as usize) else {
+        return;
+    };
+    let without: Vec<u32> = shards.iter().map(|word| word % 65536).collect();
+    if settings::parse(&[counts, &without].concat()).is_err() {
+        return;
+    }
+    for word in shards {
+        let (cap, need) = (word / 65536, word % 256);
+        let below = 0 < cap && cap < need;
+        names.put(below, "number 2: a cap below m alone");
+        names.put(cap > 16, "number 2: a cap above 16 alone");
+        names.put(cap > 255, "number 2: a cap above 255 alone");
+    }
+}
+
+/// N, or what stands in its place.
+fn first_word(words: &[u32]) -> u32 {
+    words.first().map_or(0, |&nodes| nodes.min(32))
 }
 
 fn refused_node(names: &mut Names, kind: Kind, before: &State, node: u32) {
@@ -336,12 +373,48 @@ fn plan(names: &mut Names, settings: &Settings, asked: &Asked, after: &State) {
     names.put(targets, "plan: a target that is not (0, 0)");
     names.put(plan.members == u32::MAX, "plan: of all 32 nodes");
     names.put(plan.number == u32::MAX, "plan: with the greatest number");
+    caps(names, settings, after.held, plan, kept);
     let desk = words::whole_words(&asked.table.desk);
     let held = held.into_iter();
     let reports: Vec<Contents> = held
         .filter_map(|node| desk::report(settings, &desk, node))
         .collect();
     reported(names, plan, kept, &reports, terminated);
+}
+
+/// The shards' members beside their needs and caps.
+fn caps(names: &mut Names, settings: &Settings, held: u32, plan: &Plan, kept: &View) {
+    let narrow = settings.cap_of == settings.need_of;
+    names.put(narrow, "plan: caps at m alone");
+    for shard in 0..settings.shards {
+        let (need, cap) = (settings.need(shard), settings.cap(shard));
+        let own = plan.masks[shard as usize];
+        let count = mask::count(own);
+        names.put(
+            count > need,
+            "plan: a shard with more members than it needs",
+        );
+        let reached = count == cap && cap > need;
+        names.put(
+            reached,
+            "plan: a shard with as many members as its cap, which is above m",
+        );
+        let sets: BTreeSet<u32> = mask::nodes(own)
+            .into_iter()
+            .map(|node| settings.set(node))
+            .collect();
+        names.put(sets.len() < count as usize, "plan: a set twice in a shard");
+        names.put(cap > settings.nodes, "plan: a cap above N");
+        let leaves = kept.masks[shard as usize] & held & !own != 0;
+        names.put(
+            leaves && reached,
+            "plan: a held member leaves a shard that has reached its cap, which is above m",
+        );
+        names.put(
+            leaves && count < cap,
+            "plan: a held member leaves a shard that has not reached its cap",
+        );
+    }
 }
 
 /// What a plan was made of.

@@ -5,6 +5,10 @@ use crate::calls::{Kind, Outcome};
 use crate::events::Step;
 use crate::library::Answer;
 use crate::situations;
+use crate::unsound::{
+    PLAN_AS_GOOD, PLAN_OF_FEWER_STAYS, PLAN_OF_FEW_NODES, PLAN_OF_FEW_SETS, PLAN_OF_MORE_MOVES,
+    PLAN_OVER_CAP,
+};
 use std::collections::BTreeMap;
 
 /// From this many calls on, rare answers are a failure.
@@ -13,6 +17,10 @@ pub const JUDGED: u64 = 100_000;
 const COMMON: u64 = 200;
 /// Every situation comes at least so often.
 const LEAST: u64 = 5;
+/// Faults in a plan's members that must be refused at least so often.
+const REFUSED: [&str; 3] = [PLAN_OVER_CAP, PLAN_OF_FEW_SETS, PLAN_OF_FEW_NODES];
+/// And those that must be taken.
+const TAKEN: [&str; 3] = [PLAN_OF_MORE_MOVES, PLAN_OF_FEWER_STAYS, PLAN_AS_GOOD];
 
 #[derive(Default)]
 pub struct Tally {
@@ -107,6 +115,24 @@ impl Tally {
         for name in situations::ALL {
             if self.situations.get(name).copied().unwrap_or(0) < LEAST {
                 rare.push(name.into());
+            }
+        }
+        for name in REFUSED {
+            if self
+                .faults
+                .get(name)
+                .is_none_or(|&(_, refused)| refused < LEAST)
+            {
+                rare.push(format!("{name}, refused"));
+            }
+        }
+        for name in TAKEN {
+            if self
+                .faults
+                .get(name)
+                .is_none_or(|&(taken, _)| taken < LEAST)
+            {
+                rare.push(format!("{name}, taken"));
             }
         }
         rare

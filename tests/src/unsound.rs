@@ -10,6 +10,7 @@ use reference::message::encode;
 use reference::placement::Subgroup;
 use reference::settings::{Settings, SUBGROUPS};
 use reference::state::STATE_WORDS;
+use std::cmp::Ordering;
 
 /// Where the parts of a state begin.
 const NUMBER: usize = 1;
@@ -33,6 +34,9 @@ const UNUSED: usize = 154;
 pub fn state(random: &mut Random, settings: &Settings, words: &mut [u32]) -> &'static str {
     let shard = random.below(settings.shards as usize);
     let held = words[HELD];
+    if words[0] != 0 && random.chance(20) {
+        return plan_members(random, settings, words);
+    }
     match random.between(0, 21) {
         0 => phase(random, words),
         1 => near(random, words, NUMBER, "kept number"),
@@ -208,6 +212,90 @@ fn plan_mask(
     "plan's shard mask"
 }
 
+/// Other members of a plan's shard, with the total that they make: a node more
+/// or less or for another, as many as the cap or one more, or nodes of few sets.
+/// What comes of it is judged, so that its name says what it is.
+fn plan_members(random: &mut Random, settings: &Settings, words: &mut [u32]) -> &'static str {
+    let held = words[HELD] & mask::below(settings.nodes);
+    let any = random.between(0, settings.shards - 1);
+    let mut more: Vec<u32> = (0..settings.shards).collect();
+    more.retain(|&shard| mask::count(words[PLAN_MASKS + shard as usize]) > settings.need(shard));
+    let shard = match more.is_empty() || random.chance(60) {
+        true => any,
+        false => random.pick(&more),
+    };
+    let at = PLAN_MASKS + shard as usize;
+    let own = words[at] & held;
+    let beside = settings.shards_of(settings.subgroup(shard)).into_iter();
+    let taken = beside.fold(0, |all, other| all | words[PLAN_MASKS + other as usize]);
+    let mut free = mask::nodes(held & !taken);
+    random.shuffle(&mut free);
+    let mut members = mask::nodes(own);
+    random.shuffle(&mut members);
+    let (need, cap) = (settings.need(shard) as usize, settings.cap(shard) as usize);
+    match random.between(0, 6) {
+        0 | 6 => drop(members.pop()),
+        1 => members.extend(free.pop()),
+        2 => {
+            members.pop();
+            members.extend(free.pop());
+        }
+        3 | 4 => {
+            members.extend(free);
+            members.truncate(cap + random.below(2));
+        }
+        _ => {
+            members.extend(free);
+            members.sort_by_key(|&node| settings.set(node));
+            let fewest = random.between(need as u32, cap as u32);
+            members.truncate(fewest as usize);
+        }
+    }
+    let before: Vec<u32> = words[PLAN_MASKS..HOLDERS].to_vec();
+    words[at] = members.into_iter().map(mask::only).sum();
+    let old: Vec<u32> = words[MASKS..POSITIONS].to_vec();
+    let after: Vec<u32> = words[PLAN_MASKS..HOLDERS].to_vec();
+    let all = |number| Subgroup {
+        settings,
+        number,
+        held,
+        old: &old,
+    };
+    let subgroups = (0..SUBGROUPS).map(all);
+    words[PLAN_TOTAL] = subgroups.map(|subgroup| subgroup.moves(&after)).sum();
+    judged(&all(settings.subgroup(shard)), shard, &before, &after)
+}
+
+/// The name of a plan with other members of a shard.
+fn judged(subgroup: &Subgroup, shard: u32, before: &[u32], after: &[u32]) -> &'static str {
+    let count = mask::count(after[shard as usize]);
+    if !subgroup.valid(after) {
+        let settings = subgroup.settings;
+        return match count {
+            _ if count > settings.cap(shard) => PLAN_OVER_CAP,
+            _ if count >= settings.need(shard) => PLAN_OF_FEW_SETS,
+            _ => PLAN_OF_FEW_NODES,
+        };
+    }
+    let moves = subgroup.moves(after).cmp(&subgroup.moves(before));
+    let stays = subgroup.stays(before).cmp(&subgroup.stays(after));
+    match moves.then(stays) {
+        Ordering::Greater if moves == Ordering::Greater => PLAN_OF_MORE_MOVES,
+        Ordering::Greater => PLAN_OF_FEWER_STAYS,
+        Ordering::Equal if before != after => PLAN_AS_GOOD,
+        _ => "plan's members",
+    }
+}
+
+/// A plan that is refused for its members alone, and one that is taken although
+/// decide would have placed others, by the names of what was done.
+pub const PLAN_OVER_CAP: &str = "plan's shard with more nodes than its cap";
+pub const PLAN_OF_FEW_SETS: &str = "plan's shard with enough nodes of too few sets";
+pub const PLAN_OF_FEW_NODES: &str = "plan's shard with too few nodes";
+pub const PLAN_OF_MORE_MOVES: &str = "valid plan of more moves";
+pub const PLAN_OF_FEWER_STAYS: &str = "valid plan of as many moves where fewer stay";
+pub const PLAN_AS_GOOD: &str = "valid plan of as many moves and stays";
+
 /// A word that means nothing under these settings.
 fn dead_word(random: &mut Random, settings: &Settings, words: &mut [u32]) -> &'static str {
     let shards = settings.shards as usize;
@@ -227,8 +315,8 @@ fn dead_word(random: &mut Random, settings: &Settings, words: &mut [u32]) -> &'s
     "word that means nothing"
 }
 
-/// Another valid placement with its own total: least moves are not checked
-/// again. It is the cheapest one for other old members.
+/// Another valid placement with its own total: least moves, stays and order are
+/// not checked again. It is the best one for other old members.
 fn other_placement(random: &mut Random, settings: &Settings, words: &mut [u32]) -> &'static str {
     let held = words[HELD] & mask::below(settings.nodes);
     let old = words[MASKS..POSITIONS].to_vec();
@@ -241,7 +329,7 @@ fn other_placement(random: &mut Random, settings: &Settings, words: &mut [u32]) 
             held,
             old,
         };
-        let Some(placed) = subgroup(&others).any_least() else {
+        let Some(placed) = subgroup(&others).any_best() else {
             return "another placement";
         };
         total += subgroup(&old).moves(&placed);

@@ -86,6 +86,8 @@ fn roomy_settings(random: &mut Random) -> Vec<u32> {
         let subgroup = random.pick(&[shard % 4, any, 2]);
         words.push(subgroup * 256 + random.between(1, most));
     }
+    let wide = random.chance(generate::WIDE);
+    generate::put_caps(random, wide, &mut words);
     words
 }
 

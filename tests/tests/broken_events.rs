@@ -125,7 +125,7 @@ fn plan(settings: &Settings, gathered: &Gathered) -> Result<Plan, u32> {
     let mut total = 0;
     for number in 0..SUBGROUPS {
         let subgroup = gathered.subgroup(view, number);
-        let own = subgroup.first_least().ok_or(wait_word(5, Some(number)))?;
+        let own = subgroup.first_best().ok_or(wait_word(5, Some(number)))?;
         total += subgroup.moves(&own);
         masks
             .iter_mut()
@@ -415,7 +415,7 @@ wrong!(
             let gathered = soundness::gathered(&opened.settings, &opened.state, &opened.reports);
             let mut subgroup = gathered.subgroup(opened.kept(), number);
             let old = std::mem::replace(&mut subgroup.old, &others);
-            let placed = subgroup.any_least().expect("a placement");
+            let placed = subgroup.any_best().expect("a placement");
             subgroup.old = old;
             plan.total += subgroup.moves(&placed);
             for shard in opened.settings.shards_of(number) {

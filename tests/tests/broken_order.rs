@@ -1,7 +1,6 @@
-//! The comparison finds planners whose plans are valid and of the least moves,
-//! but not the first of them. Each stand-in below is the reference with another
-//! choice among placements of equal moves. (Masks compared as numbers come to
-//! the same placement, which the reference's own tests look at.)
+//! The comparison finds planners whose plans are valid, of the least moves and
+//! of the most stays, but not the first of them. Each stand-in below is the
+//! reference with another choice among placements that are as good.
 
 use differential::calls::{self, Asked, Outcome, Pages};
 use differential::library::{Planner, PLAN};
@@ -50,7 +49,8 @@ fn chosen(choice: Choice, asked: &Asked) -> Outcome {
     other
 }
 
-/// The other plan is a plan of equal moves, and not an earlier one.
+/// The other plan is a plan of equal moves, and not an earlier one. (Of its
+/// stays the choices below see to themselves.)
 fn assert_as_good(asked: &Asked, first: &Outcome, other: &Outcome) {
     let settings = settings::parse(&words::whole_words(&asked.table.settings)).unwrap();
     let plan = |outcome: &Outcome| {
@@ -109,26 +109,20 @@ fn the_reference_agrees_with_itself() {
     assert!(stored.is_ok());
 }
 
-/// The first of the placements of least moves by another order, where there are
-/// not too many; else the right one.
+/// The first of the best placements by another order, where there are not too
+/// many; else the right one.
 fn first_by<K: Ord>(subgroup: &Subgroup, key: impl Fn(&Placement) -> K) -> Option<Placement> {
     if many(subgroup) {
         return order::greedy(subgroup);
     }
-    order::all_least(subgroup).into_iter().min_by_key(key)
+    order::all_best(subgroup).into_iter().min_by_key(key)
 }
 
 /// Whether the placements are too many to go through.
 fn many(subgroup: &Subgroup) -> bool {
-    let mut left = u64::from(mask::count(subgroup.held));
-    let mut count = 1;
-    for shard in subgroup.settings.shards_of(subgroup.number) {
-        for taken in 1..=u64::from(subgroup.settings.need(shard)) {
-            count = (count * left / taken).min(1 << 40);
-            left = left.saturating_sub(1);
-        }
-    }
-    count > MOST
+    let nodes = mask::count(subgroup.held);
+    let shards = subgroup.settings.shards_of(subgroup.number);
+    nodes > 12 || plans::placements(subgroup.settings, &shards, nodes) > MOST
 }
 
 fn lists(masks: &[u32]) -> Vec<Vec<u32>> {
@@ -139,7 +133,7 @@ later!(
     /// Takes the placement that the flow comes to.
     FromTheFlow,
     what_the_flow_comes_to,
-    |subgroup| subgroup.any_least()
+    |subgroup| subgroup.any_best()
 );
 
 later!(
@@ -160,16 +154,29 @@ later!(
     })
 );
 
-later!(
-    /// Has those that stay first, then the others.
-    StaysFirst,
-    old_members_listed_first,
-    |subgroup| first_by(subgroup, |masks| {
-        let both = masks.iter().zip(subgroup.old);
-        let list = |(&own, &old): (&u32, &u32)| [mask::nodes(own & old), mask::nodes(own & !old)];
-        both.map(list).collect::<Vec<_>>()
-    })
-);
+/// Has those that stay first, then the others, which is seldom another order: a
+/// stored case has it.
+struct StaysFirst;
+
+impl Behaviour for StaysFirst {
+    fn event(asked: &Asked) -> Outcome {
+        let stays_first = |subgroup: &Subgroup| {
+            first_by(subgroup, |masks| {
+                let both = masks.iter().zip(subgroup.old);
+                both.map(|(own, old)| [own & old, own & !old].map(mask::nodes))
+                    .collect::<Vec<_>>()
+            })
+        };
+        chosen(stays_first, asked)
+    }
+}
+
+#[test]
+fn old_members_listed_first() {
+    let planner = mock::planner::<StaysFirst>();
+    let found = regressions::play_all(&planner, &mut Pages::new(false)).err();
+    assert!(found.is_some_and(|what| what.contains("who stays does not count in a list")));
+}
 
 later!(
     /// Has the first placement in subgroup 0 and any in the others.
@@ -177,7 +184,7 @@ later!(
     the_order_in_subgroup_0_alone,
     |subgroup| match subgroup.number {
         0 => order::greedy(subgroup),
-        _ => subgroup.any_least(),
+        _ => subgroup.any_best(),
     }
 );
 

@@ -13,7 +13,7 @@ use reference::message::{self, Contents, Form, CUT, HOLDER, TERMINATION};
 use reference::settings::{self, Settings};
 use reference::state::{self, Phase, State};
 use reference::{desk, soundness};
-use std::collections::BTreeMap;
+use std::collections::{BTreeMap, BTreeSet};
 
 const SEQUENCES: u64 = 700;
 const EVENTS: u64 = 120;
@@ -136,8 +136,17 @@ fn check_plan(settings: &Settings, after: &Table) {
     assert_eq!(plan.number, kept.number + 1);
     assert!(2 * mask::count(plan.members & kept.members) > mask::count(kept.members));
     assert!(plan.total <= 128);
-    for shard in 0..settings.shards as usize {
-        assert_eq!(mask::count(plan.masks[shard]), settings.need_of[shard]);
+    for shard in 0..settings.shards {
+        let own = plan.masks[shard as usize];
+        let sets: BTreeSet<u32> = mask::nodes(own)
+            .into_iter()
+            .map(|node| settings.set(node))
+            .collect();
+        assert!(sets.len() >= settings.need(shard) as usize);
+        assert!(mask::count(own) <= settings.cap(shard));
+        // A node more than is needed is one that stays.
+        let moved = mask::count(own & !kept.masks[shard as usize]);
+        assert!(moved <= settings.need(shard));
     }
 }
 

@@ -3,7 +3,7 @@ and what is wrong. Each row is checked over the whole message before the next.""
 from collections import namedtuple
 
 from .encode import CUT, HOLDER, MEMBERS, RUN, TERMINATION
-from .model import GREATEST, MOST_NODES, MOST_RECORDS, MOST_SETS, MOST_SHARDS, START, SUBGROUPS
+from .model import GREATEST, MOST_CAP, MOST_NODES, MOST_RECORDS, MOST_SETS, MOST_SHARDS, START, SUBGROUPS
 from .model import Order, Refused, Report, Settings, Shard, View
 from .sentences import listed
 from .words import nodes_of
@@ -34,9 +34,18 @@ def settings_from(words):
     for node, failure_set in enumerate(words[4 : 4 + nodes]):
         within("the failure set of node %d" % node, failure_set, 0, sets - 1)
     for shard, word in enumerate(words[4 + nodes :]):
-        within("the subgroup of shard %d" % shard, word // 256, 0, SUBGROUPS - 1)
-        within("the number of members that shard %d needs" % shard, word % 256, 1, sets)
-    return Settings(sets, least, tuple(words[4 : 4 + nodes]), tuple(Shard(*divmod(word, 256)) for word in words[4 + nodes :]))
+        place = shard_from(word)
+        within("the subgroup of shard %d" % shard, place.subgroup, 0, SUBGROUPS - 1)
+        within("the number of members that shard %d needs" % shard, place.needs, 1, sets)
+        if place.given_cap and not place.needs <= place.given_cap <= MOST_CAP:
+            raise Refused(2, "the cap of shard %d is %d, allowed are 0 and %d to %d: it needs %d, and 0 stands for that"
+                          % (shard, place.given_cap, place.needs, MOST_CAP, place.needs))
+    return Settings(sets, least, tuple(words[4 : 4 + nodes]), tuple(map(shard_from, words[4 + nodes :])))
+
+
+def shard_from(word):
+    """A shard's word: cap x 65536 + subgroup x 256 + needs."""
+    return Shard(word // 256 % 256, word % 256, word // 65536)
 
 
 def report_from(words, settings):

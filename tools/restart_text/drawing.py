@@ -151,11 +151,14 @@ class Picture:
     def shard_lines(self, shard):
         """What stands in a shard's box."""
         settings, old = self.settings, self.kept.shards[shard] if self.kept else frozenset()
-        lines = ["needs %d" % settings.shards[shard].needs]
+        own = settings.shards[shard]
+        lines = ["needs %d" % own.needs + ", cap %d" % own.cap * settings.capped]
         if self.plan:
             placed = self.plan.shards[shard]
             lines += wrapped("log from", [placed.holder], settings) + ["up to %s" % pair(placed.target)]
-            return lines + wrapped("stay", placed.members & old, settings) + wrapped("move in", placed.members - old, settings)
+            lines += wrapped("stay", placed.members & old, settings) + wrapped("move in", placed.members - old, settings)
+            beyond = len(placed.members) - own.needs
+            return lines + ["%d beyond the need" % beyond] * (beyond > 0)
         if not self.kept:
             return lines
         log = self.logs[shard]

@@ -6,7 +6,11 @@ MEMBERS, TERMINATION, RUN, HOLDER, CUT = 1, 2, 3, 4, 5
 
 def settings_words(settings):
     counts = [len(settings.set_of), settings.failure_sets, settings.least, len(settings.shards)]
-    return counts + list(settings.set_of) + [shard.subgroup * 256 + shard.needs for shard in settings.shards]
+    return counts + list(settings.set_of) + [shard_word(shard) for shard in settings.shards]
+
+
+def shard_word(shard):
+    return shard.given_cap * 65536 + shard.subgroup * 256 + shard.needs
 
 
 def records_words(records):

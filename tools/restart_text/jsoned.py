@@ -2,7 +2,7 @@
 from .answers import Plan, Wait
 from .explaining import stale
 from .gathering import holding, waits
-from .planning import log_of, moves
+from .planning import log_of, moves, not_kept
 from .waiting import wait_lines
 
 SCHEMA = 1
@@ -38,7 +38,7 @@ def settings_value(settings):
     return {"failure_sets": settings.failure_sets, "least_group_size": settings.least,
             "machines": [{"node": node, "set": failure_set, "name": settings.names[node] if settings.names else None}
                          for node, failure_set in enumerate(settings.set_of)],
-            "shards": [{"shard": number, "subgroup": shard.subgroup, "needs": shard.needs}
+            "shards": [{"shard": number, "subgroup": shard.subgroup, "needs": shard.needs, "cap": shard.cap}
                        for number, shard in enumerate(settings.shards)]}
 
 
@@ -59,9 +59,12 @@ def plan_value(gathered, plan, told):
     for number, placed in enumerate(plan.shards):
         logs = [log_of(gathered, node, number, placed) for node in sorted(placed.members)]
         shards.append({"shard": number, "holder": placed.holder, "target": position(placed.target),
-                       "members": sorted(placed.members), "logs": [log_value(log) for log in logs]})
+                       "members": sorted(placed.members),
+                       "beyond_need": len(placed.members) - gathered.settings.shards[number].needs,
+                       "logs": [log_value(log) for log in logs]})
     return {"view": plan.view, "after": gathered.kept.number, "members": sorted(gathered.held), "shards": shards,
             "moves": [{"node": node, "from": before, "to": shard} for node, before, shard in moves(gathered, plan)],
+            "not_kept": [{"node": node, "shard": shard, "to": other} for node, shard, other in not_kept(gathered, plan)],
             "as_few_moves": told.first.others,
             "with_one_more": [{"node": node, "moves": count} for node, count in sorted(told.advice.savings.items())]}
 

@@ -26,6 +26,7 @@ SETTINGS = [
     "node NODE set SET",
     "node NODE set SET name NAME",
     "shard SHARD subgroup SUBGROUP needs COUNT",
+    "shard SHARD subgroup SUBGROUP needs COUNT cap COUNT",
 ]
 REPORT = [
     "members NODES",
@@ -107,7 +108,7 @@ def entry(line, words, forms):
     for form in forms:
         values = matched(line, words, form.split())
         if values is not None:
-            return Entry(line, form.removesuffix(" name NAME"), values)
+            return Entry(line, form.removesuffix(" name NAME").removesuffix(" cap COUNT"), values)
     alike = [form for form in forms if form.split()[0] == words[0]]
     raise BadText(line, "expected %s, found '%s'" % (either(alike or forms), " ".join(words)))
 

@@ -6,6 +6,7 @@ from dataclasses import dataclass, field
 
 MOST_NODES, MOST_SETS, MOST_SHARDS, SUBGROUPS = 32, 16, 16, 4
 MOST_RECORDS = 128
+MOST_CAP = 16
 GREATEST = 2**32 - 1
 START = (0, 0)
 LOCATED = (8, 9, 16, 17)  # the numbers of refusals that name a record by its index
@@ -13,10 +14,16 @@ LOCATED = (8, 9, 16, 17)  # the numbers of refusals that name a record by its in
 
 @dataclass(frozen=True)
 class Shard:
-    """A shard's place in the settings: its subgroup, and how many members from different failure sets it needs."""
+    """A shard's place in the settings: its subgroup, from how many different failure sets it needs members, and how many members it
+    may have; where no cap is given, as many as it needs."""
 
     subgroup: int
     needs: int
+    given_cap: int = 0  # 0: none is given
+
+    @property
+    def cap(self):
+        return self.given_cap or self.needs
 
 
 @dataclass(frozen=True)
@@ -30,6 +37,11 @@ class Settings:
     @property
     def nodes(self):
         return frozenset(range(len(self.set_of)))
+
+    @property
+    def capped(self):
+        """Whether a cap is given for some shard."""
+        return any(shard.given_cap for shard in self.shards)
 
     def shards_of(self, subgroup):
         return [number for number, shard in enumerate(self.shards) if shard.subgroup == subgroup]

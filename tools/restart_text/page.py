@@ -4,7 +4,7 @@ from html import escape
 
 from .answers import Number, Plan, printed
 from .drawing import draw
-from .planning import shard_rows
+from .planning import place_head, place_row, shard_rows
 from .telling import reason
 
 STYLE = """
@@ -56,10 +56,10 @@ def inline(picture):
 def wait_rows(gathered):
     """Each shard as the kept view has it, and who is back."""
     settings, kept = gathered.settings, gathered.kept
-    rows = [["shard", "subgroup", "needs", "members", "back", "absent"]]
-    for number, shard in enumerate(settings.shards):
+    rows = [place_head(settings) + ["members", "back", "absent"]]
+    for number in range(len(settings.shards)):
         old = kept.shards[number] if kept else frozenset()
-        rows.append([str(number), str(shard.subgroup), str(shard.needs)]
+        rows.append(place_row(settings, number)
                     + [settings.those(nodes) if nodes else "-" for nodes in (old, old & gathered.held, old - gathered.held)])
     return rows
 

@@ -13,30 +13,70 @@ def plan_lines(gathered, plan, first):
     lines = ["Members: %s." % machines(settings, gathered.held)]
     if idle:
         lines.append("Without a shard: %s." % machines(settings, idle))
-    lines += [""] + table(shard_rows(gathered, plan)) + [""] + order_lines(first) + [""] + move_lines(gathered, plan)
+    lines += [""] + table(shard_rows(gathered, plan)) + [""] + order_lines(settings, first) + [""] + move_lines(gathered, plan)
+    if settings.capped:
+        lines += [""] + kept_lines(gathered, plan)
     return lines + [""] + cut_lines(gathered, plan)
 
 
 def shard_rows(gathered, plan):
-    rows = [["shard", "subgroup", "needs", "holder", "target", "members", "stay", "move in", "leave", "absent"]]
-    for number, (shard, placed) in enumerate(zip(gathered.settings.shards, plan.shards)):
+    settings = gathered.settings
+    rows = [place_head(settings) + ["holder", "target", "members", "stay", "move in", "leave", "absent"]]
+    for number, placed in enumerate(plan.shards):
         old = gathered.kept.shards[number]
         new, back = placed.members, old & gathered.held
         lists = [new, new & old, new - old, back - new, old - back]
-        rows.append([str(number), str(shard.subgroup), str(shard.needs), gathered.settings.name(placed.holder), pair(placed.target)]
-                    + [gathered.settings.those(nodes) if nodes else "-" for nodes in lists])
+        rows.append(place_row(settings, number) + [settings.name(placed.holder), pair(placed.target)]
+                    + [settings.those(nodes) if nodes else "-" for nodes in lists])
     return rows
 
 
-def order_lines(first):
-    """Why it is this placement and no other."""
-    with_moves = "with %s" % counted(first.moves, "move")
+def place_head(settings):
+    """The heads of a table's columns for what the settings say of a shard: its cap where one is given for some shard."""
+    return ["shard", "subgroup", "needs"] + ["cap"] * settings.capped
+
+
+def place_row(settings, number):
+    shard = settings.shards[number]
+    return [str(number), str(shard.subgroup), str(shard.needs)] + [str(shard.cap)] * settings.capped
+
+
+def order_lines(settings, first):
+    """Why it is this placement and no other. Without caps as few moves are as many stays."""
     if not first.others:
-        return ["No other placement has as few moves."]
-    several = len(first.others) > 1
-    return ["Other placements %s as well have other members in shard%s %s. This is the first of them: shards ascending, the members"
-            " of each listed ascending, the lower machine where two lists differ. The same reports give any leader this one."
-            % (with_moves, "s" * several, listed(first.others))]
+        return ["No other placement has as few moves%s." % (" and as many members that stay" * settings.capped)]
+    several, stays = len(first.others) > 1, " and %s" % counted(first.stays, "stay")
+    shorter = ", a list before those that go on from it" * settings.capped
+    return ["Other placements with %s%s as well have other members in shard%s %s. This is the first of them: shards ascending, the members"
+            " of each listed ascending, the lower machine where two lists differ%s. The same reports give any leader this one."
+            % (counted(first.moves, "move"), stays * settings.capped, "s" * several, listed(first.others), shorter)]
+
+
+def kept_lines(gathered, plan):
+    """Who stays beyond what a shard needs, and why others that are back do not."""
+    settings, lines = gathered.settings, []
+    for number, placed in enumerate(plan.shards):
+        needs = settings.shards[number].needs
+        if len(placed.members) > needs:
+            lines.append("  shard %d: %s, %d beyond the need of %d"
+                         % (number, machines(settings, placed.members), len(placed.members) - needs, needs))
+    lines = ["Kept beyond the need:"] + lines if lines else ["No shard keeps more members than it needs."]
+    gone = not_kept(gathered, plan)
+    lines += ["Not kept:"] if gone else []
+    for node, number, other in gone:
+        why = "goes to shard %d" % other if other is not None else "the cap of %d is reached" % settings.shards[number].cap
+        lines.append("  %s of shard %d: %s" % (machine(settings, node), number, why))
+    return lines
+
+
+def not_kept(gathered, plan):
+    """Old members that are back and do not stay, as (machine, shard, shard of the subgroup that it goes to or None)."""
+    settings, found = gathered.settings, []
+    for number, placed in enumerate(plan.shards):
+        for node in sorted(gathered.kept.shards[number] & gathered.held - placed.members):
+            others = settings.shards_of(settings.shards[number].subgroup)
+            found.append((node, number, next((other for other in others if node in plan.shards[other].members), None)))
+    return found
 
 
 def moves(gathered, plan):
@@ -147,9 +187,9 @@ def faults(gathered, plan, first):
     for shard, placed in enumerate(plan.shards):
         if (placed.holder, placed.target) != holding(gathered, shard):
             found.append("shard %d has another holder or target" % shard)
-        sets = {settings.set_of[node] for node in placed.members & settings.nodes}
-        if not placed.members <= gathered.held or not len(sets) == len(placed.members) == settings.shards[shard].needs:
-            found.append("the members of shard %d are not valid" % shard)
+        wrong = invalid(gathered, settings.shards[shard], placed.members)
+        if wrong:
+            found.append("the members of shard %d are not valid: %s" % (shard, wrong))
         for other in settings.shards_of(settings.shards[shard].subgroup):
             if other < shard and placed.members & plan.shards[other].members:
                 found.append("shards %d and %d share a machine" % (other, shard))
@@ -158,12 +198,27 @@ def faults(gathered, plan, first):
     return found or placement_faults(gathered, plan, first)
 
 
+def invalid(gathered, shard, members):
+    """Why a shard cannot have these members; nothing where it can: at most its cap, held, from as many sets as it needs."""
+    settings = gathered.settings
+    if members - gathered.held:
+        return "%s not held" % (machines(settings, members - gathered.held) + (" is" if len(members - gathered.held) == 1 else " are"))
+    sets = {settings.set_of[node] for node in members}
+    if len(sets) < shard.needs:
+        return "they are of %s, it needs %d" % (counted(len(sets), "failure set"), shard.needs)
+    return "they are %d, at most %d are allowed" % (len(members), shard.cap) if len(members) > shard.cap else ""
+
+
 def placement_faults(gathered, plan, first):
-    """Where the placement is not the first of the fewest moves."""
+    """Where the placement is not the first of the fewest moves and, of those, the most stays."""
     if first.moves < plan.moves:
         return ["%s are enough" % counted(first.moves, "move") if first.moves != 1 else "1 move is enough"]
+    stays = sum(len(placed.members & gathered.kept.shards[shard]) for shard, placed in enumerate(plan.shards))
+    if first.stays > stays:
+        return ["%s can stay, in this plan %d do" % (counted(first.stays, "old member"), stays)]
+    equal = counted(first.moves, "move") + " and %s" % counted(first.stays, "stay") * gathered.settings.capped
     for shard, placed in enumerate(plan.shards):
         if placed.members != first.members[shard]:
             return ["shard %d with machines %s: of the placements with %s that is the first"
-                    % (shard, gathered.settings.those(first.members[shard]), counted(first.moves, "move"))]
+                    % (shard, gathered.settings.those(first.members[shard]), equal)]
     return []

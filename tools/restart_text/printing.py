@@ -7,7 +7,8 @@ def settings_text(settings):
         named = node < len(settings.names) and settings.names[node]
         lines.append("node %d set %d" % (node, failure_set) + (" name %s" % named if named else ""))
     for number, shard in enumerate(settings.shards):
-        lines.append("shard %d subgroup %d needs %d" % (number, shard.subgroup, shard.needs))
+        cap = " cap %d" % shard.given_cap if shard.given_cap else ""
+        lines.append("shard %d subgroup %d needs %d%s" % (number, shard.subgroup, shard.needs, cap))
     return lines
 
 

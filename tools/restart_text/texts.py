@@ -1,12 +1,12 @@
 """From a text to values: settings, reports and orders. What the planner would refuse in one block (numbers 2 and 5 to
 11) is refused here, with the line."""
 from .lines import ORDER, REPORT, SETTINGS, BadText, by_key, each, only, within
-from .model import GREATEST, MOST_NODES, MOST_RECORDS, MOST_SETS, MOST_SHARDS, START, SUBGROUPS
+from .model import GREATEST, MOST_CAP, MOST_NODES, MOST_RECORDS, MOST_SETS, MOST_SHARDS, START, SUBGROUPS
 from .model import Order, Report, Settings, Shard, View
 
 
 def settings_of(section):
-    count_sets, least, node_form, _, shard_form = SETTINGS
+    count_sets, least, node_form, _, shard_form, _ = SETTINGS
     sets = within(only(section, count_sets), "failure sets", only(section, count_sets).values[0], 1, MOST_SETS)
     nodes = each(section, node_form, numbered(section, node_form, MOST_NODES))
     shards = each(section, shard_form, numbered(section, shard_form, MOST_SHARDS))
@@ -35,9 +35,10 @@ def numbered(section, form, most):
 
 
 def shard_of(item, sets):
-    _, subgroup, needs = item.values
+    _, subgroup, needs, *caps = item.values
     within(item, "a subgroup", subgroup, 0, SUBGROUPS - 1)
-    return Shard(subgroup, within(item, "needed members (there are %d failure sets)" % sets, needs, 1, sets))
+    within(item, "needed members (there are %d failure sets)" % sets, needs, 1, sets)
+    return Shard(subgroup, needs, *(within(item, "a cap (the shard needs %d)" % needs, cap, needs, MOST_CAP) for cap in caps))
 
 
 def report_of(section, settings):

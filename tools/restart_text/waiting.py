@@ -78,7 +78,7 @@ def no_placement(gathered, subgroup):
     count = len(short.shards)
     need = "Shard %s needs %s" if count == 1 else "Shards %s together need %s"
     need %= (listed(short.shards), counted(short.needed, "machine"))
-    lines = ["Subgroup %d has no valid placement. %s, and a failure set can give each shard only one:" % (subgroup, need)]
+    lines = ["Subgroup %d has no valid placement. %s, and a failure set counts only once for each shard:" % (subgroup, need)]
     for failure_set, given in short.given.items():
         nodes = settings.nodes_of(failure_set)
         lack = ", lacks %d" % (count - given) if given < count else ""

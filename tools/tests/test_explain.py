@@ -99,7 +99,7 @@ class Cases(unittest.TestCase):
             support.example("i"),
             "wait 5 0\n",
             "Subgroup 0 has no valid placement. Shards 0 and 1 together need 6 machines,"
-            " and a failure set can give each shard only one:\n"
+            " and a failure set counts only once for each shard:\n"
             "  failure set 0 can give 2: held 0 1, absent none\n"
             "  failure set 1 can give 2: held 2 3 4, absent none\n"
             "  failure set 2 can give 1, lacks 1: held 5, absent 6\n"
@@ -348,8 +348,8 @@ class AnswersThatDoNotFit(unittest.TestCase):
             ("moves 2", "moves 1", "the moves add up to 2"),
             ("holder 1", "holder 4", "shard 1 has another holder or target"),
             ("target 7 5", "target 7 4", "shard 1 has another holder or target"),
-            ("members 3", "members 6", "the members of shard 2 are not valid"),
-            ("members 0 2", "members 0 1", "the members of shard 0 are not valid"),
+            ("members 3", "members 6", "the members of shard 2 are not valid: machine 6 is not held"),
+            ("members 0 2", "members 0 1", "the members of shard 0 are not valid: they are of 1 failure set, it needs 2"),
             ("members 0 2", "members 0 4", "shards 0 and 1 share a machine"),
             ("shard 2 holder 5 target 0 0 members 3\n", "", "the plan has 2 shards, the settings have 3"),
         ):

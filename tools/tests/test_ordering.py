@@ -1,4 +1,5 @@
-"""Which placement a plan has: the tool's own count of the first one with the fewest moves, against all placements and the program."""
+"""Which placement a plan has: the tool's own count of the first one with the fewest moves and most stays, against all placements and the
+program."""
 import itertools
 import random
 import unittest
@@ -41,10 +42,15 @@ shard 2 holder 5 target 0 0 members 1 5
 """
 
 
-def small(source):
+def small(source, capped):
     """What up to seven machines and three shards add up to, all machines held or some."""
     nodes, sets = source.randint(1, 7), source.randint(1, 4)
-    shards = tuple(Shard(source.choice([0, 0, 1]), source.randint(1, min(sets, 2))) for _ in range(source.randint(1, 3)))
+
+    def shard():
+        needs = source.randint(1, min(sets, 2))
+        return Shard(source.choice([0, 0, 1]), needs, source.choice([0, needs, needs + 1, needs + 2, 16]) if capped else 0)
+
+    shards = tuple(shard() for _ in range(source.randint(1, 3)))
     settings = Settings(sets, 1, tuple(source.randrange(sets) for _ in range(nodes)), shards)
     old = [set() for _ in shards]
     for node in range(nodes):
@@ -62,46 +68,59 @@ def placements(gathered):
     settings = gathered.settings
 
     def lists(shard):
-        some = itertools.combinations(sorted(gathered.held), shard.needs)
-        return [one for one in some if len({settings.set_of[node] for node in one}) == len(one)]
+        some = itertools.chain(*(itertools.combinations(sorted(gathered.held), size) for size in range(1, shard.cap + 1)))
+        return [one for one in some if len({settings.set_of[node] for node in one}) >= shard.needs]
 
-    for found in itertools.product(*(lists(shard) for shard in settings.shards)):
-        placed = [(shard.subgroup, node) for shard, nodes in zip(settings.shards, found) for node in nodes]
-        if len(set(placed)) == len(placed):
+    def apart(found, taken):
+        """What the further shards can have beside those that are taken."""
+        if len(found) == len(settings.shards):
             yield found
+            return
+        for one in every[len(found)]:
+            placed = {(settings.shards[len(found)].subgroup, node) for node in one}
+            if not placed & taken:
+                yield from apart(found + (one,), taken | placed)
+
+    every = [lists(shard) for shard in settings.shards]
+    return apart((), frozenset())
 
 
-def moves(gathered, found):
-    return sum(node not in old for old, nodes in zip(gathered.kept.shards, found) for node in nodes)
+def rank(gathered, found):
+    """Moves, then stays, of which more are better."""
+    pairs = [(node, old) for old, nodes in zip(gathered.kept.shards, found) for node in nodes]
+    return sum(node not in old for node, old in pairs), -sum(node in old for node, old in pairs)
 
 
 class Ordering(unittest.TestCase):
     def test_against_all_placements(self):
-        several = 0
+        several = more = 0
         for seed in range(600):
-            gathered = small(random.Random(seed))
-            found = list(placements(gathered))
-            if not found:
+            gathered = small(random.Random(seed), seed % 2)
+            ranked = [(rank(gathered, one), one) for one in placements(gathered)]
+            if not ranked:
                 continue
-            least = min(moves(gathered, one) for one in found)
-            equal = [one for one in found if moves(gathered, one) == least]
+            best = min(one for one, _ in ranked)
+            equal = [found for one, found in ranked if one == best]
             first = first_placement(gathered)
             self.assertEqual([tuple(sorted(first.members[shard])) for shard in sorted(first.members)], list(min(equal)), seed)
-            self.assertEqual(first.moves, least)
+            self.assertEqual((first.moves, -first.stays), best)
             others = [shard for shard, lists in enumerate(zip(*equal)) if len(set(lists)) > 1]
             self.assertEqual(first.others, others, seed)
             several += len(equal) > 1
+            more += any(len(nodes) > gathered.settings.shards[shard].needs for shard, nodes in first.members.items())
         self.assertGreater(several, 150)
+        self.assertGreater(more, 80)
 
     def test_large_inputs(self):
-        """The program's plans of 32 machines and 16 shards in four subgroups."""
+        """The program's plans of 32 machines and 16 shards in four subgroups, without caps and with them."""
         program, others = Program(support.program()), 0
-        for seed in range(8):
+        for seed in range(12):
             source = random.Random(seed)
-            shards = tuple(Shard(shard % 4, source.randint(1, 4)) for shard in range(16))
+            shards = tuple(Shard(shard % 4, source.randint(1, 4), source.randint(4, 6) if seed > 7 else 0) for shard in range(16))
             settings = Settings(8, 1, tuple(source.randrange(8) for _ in range(32)), shards)
             groups = [source.sample(range(32), 32) for _ in range(4)]
-            old = tuple(frozenset(groups[shard % 4][shard // 4 * 3 :][:3]) for shard in range(16))
+            size = 8 if seed > 7 else 3
+            old = tuple(frozenset(groups[shard % 4][shard // 4 * size :][:size]) for shard in range(16))
             view = View(7, settings.nodes, old)
             reports = [Report(node, view, None, ((),) * 16) for node in range(32)]
             given = inputs.Input([encode.settings_words(settings)] + [encode.report_words(one) for one in reports], [])

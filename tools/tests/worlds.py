@@ -8,7 +8,7 @@ def world(random):
     nodes = random.randint(1, 12)
     sets = random.randint(1, 5)
     set_of = tuple(random.randrange(sets) for _ in range(nodes))
-    shards = tuple(Shard(random.choice([0, 0, 1, 3]), min(sets, random.choice([1, 1, 2, 3]))) for _ in range(random.randint(1, 4)))
+    shards = tuple(shard_of(random, sets) for _ in range(random.randint(1, 4)))
     settings = Settings(sets, random.choice([1, 1, nodes // 2 + 1, nodes]), set_of, shards)
     view, old = view_of(random, settings, 7), view_of(random, settings, 5)
     if view is None or old is None:
@@ -28,6 +28,12 @@ def world(random):
     return blocks
 
 
+def shard_of(random, sets):
+    """A shard with a cap or without."""
+    needs = min(sets, random.choice([1, 1, 2, 3]))
+    return Shard(random.choice([0, 0, 1, 3]), needs, random.choice([0, 0, 0, needs, needs + 1, needs + 2, 16]))
+
+
 def view_of(random, settings, number):
     """A view in which no machine carries two shards of a subgroup, or None where there are too few machines."""
     members = sorted(node for node in settings.nodes if random.random() < 0.9)
@@ -35,7 +41,7 @@ def view_of(random, settings, number):
     for subgroup in range(4):
         pool = random.sample(members, len(members))
         for shard in settings.shards_of(subgroup):
-            size = random.randint(1, 3)
+            size = random.randint(1, 4)
             shards[shard] = frozenset(pool[:size])
             pool = pool[size:]
     return View(number, frozenset(members), tuple(shards)) if all(shards) else None
@@ -54,7 +60,7 @@ def damaged(random, blocks):
     blocks = [list(block) for block in blocks]
     block = random.choice(blocks[1:] or blocks) if random.random() < 0.9 else blocks[0]
     place = random.randrange(len(block))
-    fault = random.randrange(9)
+    fault = random.randrange(10)
     if fault == 0:
         del block[place:]
     elif fault == 1:
@@ -71,8 +77,10 @@ def damaged(random, blocks):
         other_termination(random, blocks)
     elif fault == 7:
         block[place - place % 4 + 3 if place - place % 4 + 3 < len(block) else place] = random.randrange(len(block) // 4 + 2)
-    else:
+    elif fault == 8:
         block[random.choice([0, 0, 1, 2]) % len(block)] = random.randrange(16)
+    else:
+        blocks[0][-1] += 65536 * random.choice([1, 2, 16, 65535 - blocks[0][-1] // 65536])
     return blocks
 
 

@@ -10,7 +10,7 @@
 #error "words are read as they lie in memory, lowest byte first"
 #endif
 
-enum { NODES = 32, SETS = 16, SHARDS = 16, GROUPS = 4, RECORDS = 128 };
+enum { NODES = 32, SETS = 16, SHARDS = 16, GROUPS = 4, RECORDS = 128, MOST_CAP = 16 };
 enum { STATE_BYTES = 640, DESK_BYTES = 65536, SLOT_BYTES = 2048, BUFFER_BYTES = 2048 };
 enum { GATHERING, ORDERED, PREPARING, COMMITTED };
 enum { MEMBERS = 1, POSITION, RUN, HOLDER, CUT };
@@ -97,7 +97,8 @@ static inline int has(uint32_t mask, uint32_t bit)
 
 struct settings {
     uint32_t nodes, sets, least, shards;
-    uint8_t set[NODES], group[SHARDS], need[SHARDS];
+    uint8_t set[NODES], group[SHARDS], need[SHARDS], cap[SHARDS];
+    uint32_t capped; /* subgroups with a shard that may have more nodes than it needs */
 };
 
 /* Whether the settings are right; fills in what they say. */
@@ -154,8 +155,10 @@ uint32_t refusal_of(const struct settings *settings, const uint8_t *message, uin
 /* The moves of the masks that stand in these words, or -1 if they are no valid placement. */
 int moves_of(const struct restart *restart, const uint8_t *masks);
 
-/* Puts a placement of least moves into the masks; its moves, or -1 if there is none. */
+/* Puts a placement of least moves and, of those, most stays into the masks; its moves, or -1 if there
+ * is none. The second is for any subgroup, the first quicker where it is not capped. */
 int place(const struct restart *restart, uint32_t *masks, uint32_t group);
+int place_capped(const struct restart *restart, uint32_t *masks, uint32_t group);
 
 /* Writes a node's order; its length in words. */
 uint32_t write_order(const struct restart *restart, uint32_t node, uint8_t *buffer);

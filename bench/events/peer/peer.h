@@ -5,7 +5,8 @@
  * the library and the reference.
  *
  * It was written from the specification and its requests, not from the library. Where the library
- * gives the first of the placements of least moves, the peer gives any of them.
+ * gives the first of the placements of least moves and, of those, most stays, the peer gives any of
+ * them.
  */
 #ifndef PEER_H
 #define PEER_H

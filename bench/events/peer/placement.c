@@ -1,5 +1,6 @@
 /*
- * Placements, for the peer; see peer.h.
+ * Placements, for the peer; see peer.h. Where a shard may have more nodes than it needs, capped.c
+ * finds them; here each has as many as it needs.
  *
  * A node was a member of at most one shard of a subgroup, so nodes of one set differ only in that:
  * it is enough to say which shard takes a node of which set. A shard takes the sets of its old
@@ -19,7 +20,7 @@ int moves_of(const struct restart *restart, const uint8_t *masks)
         moves += bits(mask & ~word(restart->state, KEPT_MASKS + s));
         for (; mask && !wrong; mask &= mask - 1, ++count)
             sets |= UINT32_C(1) << settings->set[lowest(mask)];
-        wrong |= count != settings->need[s] || bits(sets) != count;
+        wrong |= count > settings->cap[s] || bits(sets) < settings->need[s];
     }
     return wrong ? -1 : (int)moves;
 }
@@ -190,6 +191,8 @@ static int name_nodes(struct subgroup *sub, uint32_t *masks)
 
 int place(const struct restart *restart, uint32_t *masks, uint32_t group)
 {
+    if (has(restart->settings.capped, group))
+        return place_capped(restart, masks, group);
     struct subgroup sub;
     stay(&sub, restart, group);
     for (uint32_t k = 0; k < sub.count; ++k)

@@ -1,6 +1,6 @@
 //! Compares library, peer and reference, call by call, on restarts with
 //! damaged inputs: answers and all bytes left. Only in a plan the peer may take
-//! another placement, if it is valid and has as few moves.
+//! another placement, if it is valid and has as few moves and as many stays.
 
 use crate::{layouts, peer};
 use differential::calls::{self, Asked, Kind, Outcome, Pages};
@@ -76,7 +76,7 @@ fn decoded(settings: &Settings, outcome: &Outcome) -> Option<State> {
 }
 
 /// Whether a plan is the wanted one but for the choice among placements of
-/// equal moves.
+/// equal moves and stays.
 fn as_good(asked: &Asked, wanted: &Outcome, is: &Outcome) -> bool {
     let Ok(settings) = settings::parse(&words::whole_words(&asked.table.settings)) else {
         return false;
@@ -104,7 +104,8 @@ fn placed_as_good(settings: &Settings, wanted: &State, is: &State) -> bool {
             held: wanted.held,
             old: &kept.masks,
         };
-        subgroup.valid(&plan.masks) && subgroup.moves(&plan.masks) == subgroup.moves(&best.masks)
+        let rank = |masks: &[u32]| (subgroup.moves(masks), subgroup.stays(masks));
+        subgroup.valid(&plan.masks) && rank(&plan.masks) == rank(&best.masks)
     })
 }
 

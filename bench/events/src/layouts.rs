@@ -1,7 +1,8 @@
 //! Restarts that are hard to place: nearly every held node is needed, and old
-//! members crowd into few sets, so that shards have to exchange nodes. No log
-//! holds anything. The last node is no member of the view. Some faults that
-//! other inputs seldom have are put into them.
+//! members crowd into few sets, so that shards have to exchange nodes. Some
+//! shards may have more nodes than they need. No log holds anything. The last
+//! node is no member of the view. Some faults that other inputs seldom have are
+//! put into them.
 
 use differential::calls::{self, Asked, Kind, Pages, Table, DESK_BYTES, STATE_BYTES};
 use differential::lent::Place;
@@ -80,7 +81,8 @@ pub fn with_stranger(decide: &Asked) -> Asked {
     with_table(decide, &state, &desk)
 }
 
-/// A plan with another member of some shard, and its moves counted anew.
+/// A plan with another member of some shard, one more or one less, and its moves
+/// counted anew.
 pub fn with_other_member(random: &mut Random, decide: &Asked, state: &[u8]) -> Asked {
     let settings = words::whole_words(&decide.table.settings);
     let mut state = words::whole_words(state);
@@ -91,7 +93,11 @@ pub fn with_other_member(random: &mut Random, decide: &Asked, state: &[u8]) -> A
     };
     let (own, old) = (state[PLAN_MASKS + shard], state[KEPT_MASKS + shard]);
     if let (Some(out), Some(into)) = (pick(own), pick(state[HELD] & !own)) {
-        let next = own & !(1 << out) | 1 << into;
+        let next = random.pick(&[
+            own & !(1 << out) | 1 << into,
+            own | 1 << into,
+            own & !(1 << out),
+        ]);
         state[PLAN_MOVES] += (next & !old).count_ones();
         state[PLAN_MOVES] -= (own & !old).count_ones();
         state[PLAN_MASKS + shard] = next;
@@ -142,14 +148,13 @@ fn layout(random: &mut Random) -> Layout {
     let masks = old_members(random, &of_node, &groups);
     let held = held(random, nodes, &masks);
     let needs = needs(random, sets, held.count_ones(), &groups);
+    let capped = random.chance(60);
     let mut settings = vec![nodes, sets, 1, shards];
     settings.extend(&of_node);
-    settings.extend(
-        groups
-            .iter()
-            .zip(needs)
-            .map(|(group, need)| 256 * group + need),
-    );
+    for (group, need) in groups.iter().zip(needs) {
+        let cap = random.pick(&[0, need, need + 1, need + 2, 16]).min(16);
+        settings.push(65536 * if capped { cap } else { 0 } + 256 * group + need);
+    }
     Layout {
         nodes,
         settings,
@@ -194,12 +199,13 @@ fn held(random: &mut Random, nodes: u32, masks: &[u32]) -> u32 {
     held
 }
 
-/// In each subgroup nearly as much is needed as is held.
+/// In each subgroup nearly as much is needed as is held, or half of it.
 fn needs(random: &mut Random, sets: u32, held: u32, groups: &[u32]) -> Vec<u32> {
     let mut needs = vec![1; groups.len()];
     for group in [0, 3] {
         let own: Vec<usize> = (0..groups.len()).filter(|&s| groups[s] == group).collect();
-        let spare = random.between(0, 4);
+        let few = random.between(0, 4);
+        let spare = random.pick(&[few, few, held / 2]);
         for _ in 0..(held.saturating_sub(own.len() as u32 + spare)) {
             if own.is_empty() {
                 break;

@@ -75,6 +75,12 @@ later (suc k) b n m xs g p q r e = go (later k (suc b) n m xs g (omega arith)) (
         simp d
         (⊎-elim (λ s. absurd (clash {A = ⊥} (subst (λ (j : ℕ). g j ≡ true) (sym s) e) d)) (λ s. h (omega arith) (omega arith) e) (eq-or-ne b m))
 
+-- lists stay in order where both get a number in front, or none of them
+both-or-none : (a : ℕ) (b : Bool) (l m : List ℕ) → listBefore l m ≡ true → listBefore (cond b (a ∷ l) l) (cond b (a ∷ m) m) ≡ true
+unfolding listBefore
+both-or-none a true l m i = or-right (ltb a a) (and-both (eq-eqb a a refl) i)
+both-or-none a false l m i = i
+
 -- two lists that agree below n, where only the first has n and the second has a larger number
 pub list-before : (k a n m : ℕ) (f g : ℕ → Bool) → a ≤ n → n < a + k → ((j : ℕ) → a ≤ j → j < n → f j ≡ g j) →
     f n ≡ true → g n ≡ false → n < m → m < a + k → g m ≡ true → listBefore (listFrom a k f) (listFrom a k g) ≡ true
@@ -90,11 +96,29 @@ list-before (suc k) a n m f g p q h e d r s u =
 
     past : (a ≡ n → ⊥) → listBefore (listFrom (suc a) k f) (listFrom (suc a) k g) ≡ true →
         listBefore (cond (f a) (a ∷ listFrom (suc a) k f) (listFrom (suc a) k f)) (cond (g a) (a ∷ listFrom (suc a) k g) (listFrom (suc a) k g)) ≡ true
-    past w i = rw (h a (omega arith) (omega arith)) (both (g a))
-      where
-        both : (b : Bool) → listBefore (cond b (a ∷ listFrom (suc a) k f) (listFrom (suc a) k f)) (cond b (a ∷ listFrom (suc a) k g) (listFrom (suc a) k g)) ≡ true
-        both true = simp (eq-eqb a a refl, i) (or-right (ltb a a) refl)
-        both false = i
+    past w i = rw (h a (omega arith) (omega arith)) (both-or-none a (g a) (listFrom (suc a) k f) (listFrom (suc a) k g) i)
+
+-- a list without numbers
+list-none : (k a : ℕ) (f : ℕ → Bool) → ((n : ℕ) → a ≤ n → n < a + k → f n ≡ false) → listFrom a k f ≡ []
+unfolding listFrom
+list-none zero a f h = refl
+list-none (suc k) a f h = rw (h a (omega arith) (omega arith)) (list-none k (suc a) f (λ n p q. h n (omega arith) (omega arith)))
+
+-- two lists that agree below n, where the first ends and the second has n: the first is a proper prefix
+pub list-prefix : (k a n : ℕ) (f g : ℕ → Bool) → a ≤ n → n < a + k → ((j : ℕ) → a ≤ j → j < n → f j ≡ g j) →
+    ((j : ℕ) → n ≤ j → j < a + k → f j ≡ false) → g n ≡ true → listBefore (listFrom a k f) (listFrom a k g) ≡ true
+unfolding listFrom listBefore
+list-prefix zero a n f g p q h e d = absurd (omega arith)
+list-prefix (suc k) a n f g p q h e d =
+    ⊎-elim (λ w. here w) (λ w. past w (list-prefix k (suc a) n f g (omega arith) (omega arith) (λ j v x. h j (omega arith) x) (λ j v x. e j v (omega arith)) d)) (eq-or-ne a n)
+  where
+    here : a ≡ n → listBefore (cond (f a) (a ∷ listFrom (suc a) k f) (listFrom (suc a) k f)) (cond (g a) (a ∷ listFrom (suc a) k g) (listFrom (suc a) k g)) ≡ true
+    here w =
+        simp (e a (omega arith) (omega arith), subst (λ (j : ℕ). g j ≡ true) (sym w) d, list-none k (suc a) f (λ j v x. e j (omega arith) (omega arith)))
+
+    past : (a ≡ n → ⊥) → listBefore (listFrom (suc a) k f) (listFrom (suc a) k g) ≡ true →
+        listBefore (cond (f a) (a ∷ listFrom (suc a) k f) (listFrom (suc a) k f)) (cond (g a) (a ∷ listFrom (suc a) k g) (listFrom (suc a) k g)) ≡ true
+    past w i = rw (h a (omega arith) (omega arith)) (both-or-none a (g a) (listFrom (suc a) k f) (listFrom (suc a) k g) i)
 
 -- ---- laws of the order
 

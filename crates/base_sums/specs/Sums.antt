@@ -4,7 +4,7 @@ use mathlib.Core.Path.{_≡_, refl, sym, ap, ap₂, _∙_, subst}
 use mathlib.Core.Bool.{Bool, true, false, cond}
 use mathlib.Core.Logic.{⊎-elim}
 use Prim.Native.Nat.{ℕ, zero, suc, _+_, _*_, _≤_, _<_, zero-le}
-use native.Mathlib.Nat.{le-antisymm, mul-zero, zero-mul, one-mul, mul-le-mul-right}
+use native.Mathlib.Nat.{le-antisymm, mul-zero, zero-mul}
 use native.Mathlib.Numerals.{add-one}
 use native.Mathlib.Omega.{arith}
 use lib.Dec.{eqb, ltb}
@@ -137,21 +137,6 @@ sum-by-key (suc n) m key u =
     more true a w = omega arith
     more false a w = omega arith
 
--- where no key below m stands twice, the weights of the keys that stand are at most all weights
-pub sum-keys-once : (n m : ℕ) (key : ℕ → ℕ) (u : ℕ → ℕ) →
-    ((j k : ℕ) → j < n → k < n → key j < m → key j ≡ key k → j ≡ k) →
-    sumBelow n (λ k. cond (ltb (key k) m) (u (key k)) 0) ≤ sumBelow m u
-sum-keys-once n m key u h =
-    rw (sum-by-key n m key u) (sum-mono m (λ i. countBelow n (λ k. eqb (key k) i) * u i) u (λ i l. once i l))
-  where
-    at-most : (i : ℕ) → i < m → countBelow n (λ k. eqb (key k) i) ≤ 1
-    at-most i l =
-        count-once n (λ k. eqb (key k) i)
-        (λ j k p q d e. h j k p q (omega (arith, eqb-true (key j) i d)) (eqb-true (key j) i d ∙ sym (eqb-true (key k) i e)))
-
-    once : (i : ℕ) → i < m → countBelow n (λ k. eqb (key k) i) * u i ≤ u i
-    once i l = omega (arith, mul-le-mul-right (u i) (at-most i l), one-mul (u i))
-
 -- terms that are 0 add nothing
 pub sum-past : (m n : ℕ) (f : ℕ → ℕ) → m ≤ n → ((k : ℕ) → m ≤ k → k < n → f k ≡ 0) → sumBelow n f ≡ sumBelow m f
 unfolding sumBelow
@@ -183,3 +168,20 @@ sum-but-one (suc n) f g k l h =
     let b : g k ≡ g n = ap g z in
     omega (arith, sum-cong n f g (λ j i. h j (omega arith) (λ e. omega arith))))
     (lt-or-le k n)
+
+-- a count times a number, as a sum
+pub count-times : (n c : ℕ) (f : ℕ → Bool) → countBelow n f * c ≡ sumBelow n (λ k. cond (f k) c 0)
+unfolding countBelow sumBelow
+count-times zero c f = omega arith
+count-times (suc n) c f = go (count-times n c f) (f n)
+  where
+    go : countBelow n f * c ≡ sumBelow n (λ k. cond (f k) c 0) → (b : Bool) →
+        (countBelow n f + cond b 1 0) * c ≡ sumBelow n (λ k. cond (f k) c 0) + cond b c 0
+    go h true = omega arith
+    go h false = omega arith
+
+-- a factor of every term
+pub sum-scale : (n c : ℕ) (f : ℕ → ℕ) → sumBelow n (λ k. f k * c) ≡ sumBelow n f * c
+unfolding sumBelow
+sum-scale zero c f = omega arith
+sum-scale (suc n) c f = omega (arith, sum-scale n c f)

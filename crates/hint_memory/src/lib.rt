@@ -1,70 +1,125 @@
-// What the placement oracle keeps: an array that the caller lends, in parts, the first of masks and
-// the others of numbers below 256. An element is named by its part and its index there; every place
-// is taken modulo the array's length, so that no index is out of range.
+// What the placement oracle keeps: an array that the caller lends, in parts, some of masks and the others of numbers below 65536.
+// An element is named by its part and its index there; every place is taken modulo the array's length, so that no index is out of range.
 ghost use mathlib.Core.Path.{_≡_};
-ghost use Prim.Native.Nat.{_+_, _-_, _^_, _%_, _<_, max};
+ghost use Prim.Native.Nat.{_+_, _-_, _^_, _%_, _≤_, _<_, min, max};
 ghost use lib.ListN.{getD};
 ghost use lib.ListN as Lists;
 ghost use lib.Bits.{bitAnd, bitOr};
 ghost use lib.Count.{trailingZeros};
 ghost use Rattle.hint_memory.specs.Places.{cell};
 
-// Parts of masks, by shard: the nodes that it may have without a move, and with one; those of the
-// failure sets that it uses; those that it has and that are not taken for good.
+// Masks by shard: the nodes that it may have at no cost, and at the cost of a move; those that it has for its need and in its room,
+// not for good; those of the failure sets that its need uses, and of those that it has for good.
 pub const STAY: u32 = 0;
 
 pub const MOVED: u32 = 16;
 
-pub const USED: u32 = 32;
+pub const OWED: u32 = 32;
 
-pub const HAS: u32 = 48;
+pub const SPARE: u32 = 48;
 
-// By node: the nodes of its failure set.
-pub const PEERS: u32 = 64;
+pub const USED: u32 = 64;
 
-// One mask each: the nodes that are not taken for good; that have an owner; the nodes and the shards
-// that the present search reached.
-pub const OPEN: u32 = 96;
+pub const COVERED: u32 = 80;
 
-pub const OWNED: u32 = 97;
+// By node: its owner, and its level; the level of nowhere is the one at 32.
+pub const OWNER: u32 = 96;
 
-pub const SEEN: u32 = 98;
+pub const LEVEL: u32 = 128;
 
-pub const REACHED: u32 = 99;
+// By shard: how many nodes its need asks for, and its room has place for, beside those it has for good.
+pub const NEED: u32 = 176;
 
-// The nodes at a level, by level.
-pub const AT_LEVEL: u32 = 128;
+pub const ROOM: u32 = 192;
 
-// Parts of numbers, by node: the shard that has it, and its level; on the way to it the shard that
-// would take it, and the node which that shard would lose.
-pub const OWNER: u32 = 256;
+// By shard: how many nodes its need lacks, and its room could take more.
+pub const LACK: u32 = 224;
 
-pub const LEVEL: u32 = 288;
+pub const FREE: u32 = 240;
 
-pub const TAKER: u32 = 320;
+// One element each: the nodes that no shard has for good; those that are placed nowhere; those that have no owner at all; the shards
+// whose lists are ended; the weight of the placement; 1 where the copy is to be taken back.
+pub const OPEN: u32 = 208;
 
-pub const LOST: u32 = 352;
+pub const IDLE: u32 = 209;
 
-// By shard, or nowhere: its level, and the node by whose loss it was reached.
-pub const SHARD_LEVEL: u32 = 384;
+pub const LOOSE: u32 = 210;
 
-pub const ENTRY: u32 = 416;
+pub const CLOSED: u32 = 211;
 
-// By shard: how many nodes it lacks, and how many it needs beside those taken for good.
-pub const LACK: u32 = 448;
+pub const WEIGHT: u32 = 212;
 
-pub const OPEN_NEED: u32 = 464;
+pub const STALE: u32 = 213;
 
-// One number each: the moves of the placement, and the highest level that was given.
-pub const MOVES: u32 = 480;
+// By node: the nodes of its failure set. One each: the cost of a move, and of a node placed nowhere; the
+// number of shards up to the last that may have nodes.
+pub const PEERS: u32 = 256;
 
-pub const HIGHEST: u32 = 481;
+pub const MOVE_COST: u32 = 288;
 
-// The owner that is no shard, and the node that is none.
-pub const NOWHERE: u32 = 16;
+pub const IDLE_COST: u32 = 289;
 
-pub const NO_NODE: u32 = 32;
+pub const SHARDS: u32 = 290;
 
+// Of the present search. By vertex (a node, nowhere, the end): its distance, the vertex before it, the owner that takes it from there.
+pub const DISTANCE: u32 = 320;
+
+pub const FROM: u32 = 368;
+
+pub const TAKER: u32 = 416;
+
+// One each: the distance that the search is at; the nodes there, those further away, those done; 1 where nowhere is done; the nodes at
+// which the search ends, and 1 where it ends at nowhere; the level of its end; the distance that it may not pass.
+pub const NOW: u32 = 464;
+
+pub const FRONT: u32 = 465;
+
+pub const LATER: u32 = 466;
+
+pub const DONE: u32 = 467;
+
+pub const NOWHERE_DONE: u32 = 468;
+
+pub const GOAL: u32 = 469;
+
+pub const GOAL_NOWHERE: u32 = 470;
+
+pub const AIM: u32 = 471;
+
+pub const LIMIT: u32 = 472;
+
+// The copy of the first 256 elements.
+pub const COPY: u32 = 512;
+
+// Owners: a shard's need is the shard, its room 16 more, then nowhere and none. Vertices: nodes, nowhere, the end, none.
+pub const NOWHERE: u32 = 32;
+
+pub const NO_OWNER: u32 = 33;
+
+pub const END: u32 = 33;
+
+pub const NO_VERTEX: u32 = 34;
+
+// a - b, or 0 where b is the larger.
+pub fn less(a: u32, b: u32) -> u32
+    ensures { λ r. ⌜ (r ≡ a - b) × (r ≤ a) ⌝ }
+{
+    if b < a { a - b } else { 0 }
+}
+
+pub fn larger(a: u32, b: u32) -> u32
+    ensures { λ r. ⌜ r ≡ max a b ⌝ }
+{
+    if a < b { b } else { a }
+}
+
+pub fn smaller(a: u32, b: u32) -> u32
+    ensures { λ r. ⌜ r ≡ min a b ⌝ }
+{
+    if a < b { a } else { b }
+}
+
+// A byte as a number.
 pub fn wide(x: u8) -> u32
     ensures { λ r. ⌜ (r ≡ x) × (r < 256) ⌝ }
 {
@@ -92,44 +147,43 @@ pub fn without_lowest(m: u32) -> u32
     if m == 0 { 0 } else { m & (m - 1) }
 }
 
-// The element as a mask of nodes, or of shards.
-pub fn nodes(mem: &[u32; 512], part: u32, i: u32) -> u32
+pub fn nodes(mem: &[u32; 1024], part: u32, i: u32) -> u32
     ensures { λ r. ⌜ r ≡ getD (now (mem .entry)) (cell part i) 0 ⌝ }
 {
-    mem[((part % 512 + i % 128) % 512) as usize]
+    mem[((part % 1024 + i % 256) % 1024) as usize]
 }
 
-// The element as a number below 256.
-pub fn number(mem: &[u32; 512], part: u32, i: u32) -> u32
-    ensures { λ r. ⌜ (r ≡ getD (now (mem .entry)) (cell part i) 0 % 256) × (r < 256) ⌝ }
+// The element as a number below 65536.
+pub fn number(mem: &[u32; 1024], part: u32, i: u32) -> u32
+    ensures { λ r. ⌜ (r ≡ getD (now (mem .entry)) (cell part i) 0 % 65536) × (r < 65536) ⌝ }
 {
-    mem[((part % 512 + i % 128) % 512) as usize] % 256
+    mem[((part % 1024 + i % 256) % 1024) as usize] % 65536
 }
 
-pub fn set(mem: &mut [u32; 512], part: u32, i: u32, v: u32)
+pub fn set(mem: &mut [u32; 1024], part: u32, i: u32, v: u32)
     ensures { λ r. ⌜ now (mem .exit) ≡ Lists.set (now (mem .entry)) (cell part i) v ⌝ }
 {
-    mem[((part % 512 + i % 128) % 512) as usize] = v;
+    mem[((part % 1024 + i % 256) % 1024) as usize] = v;
 }
 
-pub fn add_nodes(mem: &mut [u32; 512], part: u32, i: u32, nodes: u32)
+pub fn add_nodes(mem: &mut [u32; 1024], part: u32, i: u32, nodes: u32)
     ensures { λ r. ⌜ now (mem .exit) ≡ Lists.set (now (mem .entry)) (cell part i) (bitOr (getD (now (mem .entry)) (cell part i) 0) nodes) ⌝ }
 {
-    let at = ((part % 512 + i % 128) % 512) as usize;
+    let at = ((part % 1024 + i % 256) % 1024) as usize;
     mem[at] = mem[at] | nodes;
 }
 
-pub fn drop_nodes(mem: &mut [u32; 512], part: u32, i: u32, nodes: u32)
+pub fn drop_nodes(mem: &mut [u32; 1024], part: u32, i: u32, nodes: u32)
     ensures { λ r. ⌜ now (mem .exit) ≡ Lists.set (now (mem .entry)) (cell part i) (bitAnd (getD (now (mem .entry)) (cell part i) 0) (4294967295 - nodes)) ⌝ }
 {
-    let at = ((part % 512 + i % 128) % 512) as usize;
+    let at = ((part % 1024 + i % 256) % 1024) as usize;
     mem[at] = mem[at] & !nodes;
 }
 
-// So much more, modulo 256.
-pub fn add_number(mem: &mut [u32; 512], part: u32, i: u32, by: u32)
-    ensures { λ r. ⌜ now (mem .exit) ≡ Lists.set (now (mem .entry)) (cell part i) (getD (now (mem .entry)) (cell part i) 0 % 256 + by % 256) ⌝ }
+// So much more, modulo 65536.
+pub fn add_number(mem: &mut [u32; 1024], part: u32, i: u32, by: u32)
+    ensures { λ r. ⌜ now (mem .exit) ≡ Lists.set (now (mem .entry)) (cell part i) (getD (now (mem .entry)) (cell part i) 0 % 65536 + by % 65536) ⌝ }
 {
-    let at = ((part % 512 + i % 128) % 512) as usize;
-    mem[at] = mem[at] % 256 + by % 256;
+    let at = ((part % 1024 + i % 256) % 1024) as usize;
+    mem[at] = mem[at] % 65536 + by % 65536;
 }

@@ -1,4 +1,4 @@
--- Document 01's cases A to I and Request Five's case J from the rules: the one table. Reports are those of case A, and held masks name who is back.
+-- Document 01's cases A to I, Request Five's case J and cases K and L of caps from the rules: the one table. Reports are those of case A, and held masks name who is back.
 -- What decide answers in them stands in state_cases, what the program prints in program_cases; both cite this table.
 use Prim.Native.Nat.{ℕ, _<_}
 use mathlib.Core.Bool.{true, not, _||_}
@@ -25,7 +25,8 @@ use Rattle.report_views.specs.Quorums.{candidate, greatest, best, target, able,
 use Rattle.report_views.specs.Cuts.{runsTo, sharedAfter, cutFrom, cut}
 use Rattle.report_views.specs.Empty.{noView, noTermination}
 use Rattle.history_cases.specs.Runs.{caseSettings, settingsWith, desk, view7, sixMembers, logOf}
-use Rattle.history_cases.specs.Placed.{planA, a-valid, a-moves, a-least, a-chosen, i-none}
+use Rattle.history_cases.specs.Placed.{three, planA, a-valid, a-moves, a-least, a-chosen, i-none}
+use Rattle.history_cases.specs.Caps.{capOfFour, four-chosen, four-move, four-kept, prefixSettings, prefix-chosen}
 
 pub record Cases : Type 0 where
   -- A: nodes 0 to 5. Every quorum condition is met; holders and targets of the three shards; the plan's placement is valid with two
@@ -62,6 +63,12 @@ pub record Cases : Type 0 where
   -- I: A with shard 0 needing 3. Every quorum condition is met, and no placement of subgroup 0 is valid
   pub i-met : quorumOf (settingsWith 4 3) view7 noTermination 63 desk ≡ Met
   pub i : Impossible (settingsWith 4 3) 63 0
+  -- K: one shard that needs two sets, may have four nodes and had four, all held, keeps all of them
+  pub k : Chosen capOfFour 15 (λ s. 15) (λ s. 15) 0
+  pub k-moves : groupMoves capOfFour (λ s. 15) (λ s. 15) 0 ≡ 0
+  pub k-only : (P : ℕ → ℕ) → Chosen capOfFour 15 (λ s. 15) P 0 → P 0 ≡ 15
+  -- L: shards 0 and 1 had two nodes each and may keep them, shard 2 gets one of those: node 1, since a list that is a prefix comes first
+  pub l : Chosen prefixSettings 15 (three 3 12 0) (three 1 12 2) 0
 
 -- B, tried with every mask of the seven nodes: one of three nodes is no majority
 b-test : allBelow 128 (λ held. not (eqb (count held) 3) || not (majority view7 held)) ≡ true
@@ -106,4 +113,8 @@ cases =
       j = refl;
       i-met = refl;
       i = i-none;
+      k = four-chosen;
+      k-moves = four-move;
+      k-only = four-kept;
+      l = prefix-chosen;
     }

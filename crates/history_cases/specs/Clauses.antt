@@ -7,14 +7,15 @@ use mathlib.Core.List.{List, [], _∷_, _++_}
 use mathlib.Core.Path.{_≡_, refl}
 use lib.Count.{ones, onesIn}
 use lib.ListN.{replicate}
-use Rattle.base_laws.specs.Below.{allBelow, anyBelow, lowest}
+use Rattle.base_laws.specs.Below.{allBelow, anyBelow, countBelow, lowest}
 use Rattle.base_laws.specs.Tables.{tabulate}
 use Rattle.base_laws.specs.Positions.{pairNotAfter}
 use Rattle.base_sums.specs.Sums.{sumBelow}
+use Rattle.settings_values.specs.Settings.{cap}
 use Rattle.message_format.specs.Chain.{place, following}
 use Rattle.message_format.specs.Messages.{bodyWord, bodyOf, contentsOf}
 use Rattle.message_format.specs.Rows.{shardApart}
-use Rattle.place_groups.specs.Placements.{spread, shardValid, groupValidAt, groupValid, groupMovesAt, groupMoves}
+use Rattle.place_groups.specs.Placements.{meetsSet, setsIn, shardValid, groupValidAt, groupValid, groupMovesAt, groupMoves, groupStaysAt, groupStays}
 use Rattle.report_views.specs.declared.Layout.{Layout}
 use Rattle.report_views.specs.declared.Termination.{Termination}
 use Rattle.report_views.specs.declared.Reason.the-variants.{NoView, NoMajority, TooFew, NoHolder, NoPlacement}
@@ -182,16 +183,26 @@ pairOfMasks a b s = lib.ListN.getD (a ∷ b ∷ []) s 0
 abbrev layoutWith : ℕ → ℕ → Layout
 layoutWith a b = record { number = record { 0 = 7 }; members = 15; masks = a ∷ b ∷ replicate 14 0 }
 
+-- the four nodes of two failure sets, one shard that needs two sets and may have three nodes
+abbrev capOfThree : List ℕ
+capOfThree = 4 ∷ 2 ∷ 1 ∷ 1 ∷ 0 ∷ 0 ∷ 1 ∷ 1 ∷ 196610 ∷ []
+
 pub record PlacementClauses : Type 0 where
-  -- m nodes are valid, one more is not, nor is one fewer
+  -- without a cap m nodes are valid, one more is not, nor is one fewer
   pub right-many : groupValid oneShard 15 (λ s. 3) 0 ≡ true
   pub one-more : groupValid oneShard 15 (λ s. 7) 0 ≡ false
   pub one-fewer : groupValid oneShard 15 (λ s. 1) 0 ≡ false
   -- every node placed is held
   pub not-all-held : groupValid oneShard 13 (λ s. 3) 0 ≡ false
-  -- no two of one failure set
+  -- sets count, not nodes
   pub one-set : groupValid sharedSet 7 (λ s. 3) 0 ≡ false
-  pub last-pair : spread (32 ∷ 2 ∷ 1 ∷ 1 ∷ replicate 32 0 ++ (2 ∷ [])) (2 ^ 30 + 2 ^ 31) ≡ false
+  pub last-pair : setsIn (32 ∷ 2 ∷ 1 ∷ 1 ∷ replicate 32 0 ++ (2 ∷ [])) (2 ^ 30 + 2 ^ 31) ≡ 1
+  pub last-set : setsIn (32 ∷ 16 ∷ 1 ∷ 1 ∷ replicate 31 0 ++ (15 ∷ 2 ∷ [])) (2 ^ 30 + 2 ^ 31) ≡ 2
+  -- up to the cap nodes of one set are valid beside another's; one more is not, nor are as many of one set
+  pub up-to-cap : groupValid capOfThree 15 (λ s. 7) 0 ≡ true
+  pub below-cap : groupValid capOfThree 15 (λ s. 5) 0 ≡ true
+  pub above-cap : groupValid capOfThree 15 (λ s. 15) 0 ≡ false
+  pub sets-within-cap : groupValid capOfThree 15 (λ s. 3) 0 ≡ false
   -- no node in two shards of a subgroup, but in shards of two
   pub shared-node : groupValid oneGroup 15 (pairOfMasks 1 1) 0 ≡ false
   pub shared-between : groupValid twoGroups 15 (pairOfMasks 1 1) 0 ≡ true
@@ -209,11 +220,18 @@ pub record PlacementClauses : Type 0 where
   -- the moves of a subgroup are those of its shards
   pub group-moves : groupMoves twoGroups (pairOfMasks 1 1) (pairOfMasks 2 6) 0 ≡ 1
   pub group-moves-3 : groupMoves twoGroups (pairOfMasks 1 1) (pairOfMasks 2 6) 3 ≡ 2
+  -- a stay is a placed node that was a member of that shard; the stays of a subgroup are those of its shards
+  pub stays : groupStays capOfThree (λ s. 6) (λ s. 7) 0 ≡ 2
+  pub group-stays : groupStays oneGroup (pairOfMasks 5 10) (pairOfMasks 7 8) 0 ≡ 3
+  pub group-stays-0 : groupStays twoGroups (pairOfMasks 5 10) (pairOfMasks 7 8) 0 ≡ 2
+  pub group-stays-3 : groupStays twoGroups (pairOfMasks 5 10) (pairOfMasks 7 8) 3 ≡ 1
+  -- a node that went to another shard moved
+  pub changed-shard : groupStays oneGroup (pairOfMasks 1 2) (pairOfMasks 2 1) 0 ≡ 0
   -- the moves of all subgroups, up to subgroup 3, from the old view to the new
   pub all-moves : allMoves twoGroups (layoutWith 1 1) (layoutWith 2 6) ≡ 3
 
 pub placement-clauses : PlacementClauses
-unfolding ones onesIn allBelow sumBelow spread shardValid shardApart groupValidAt groupValid groupMovesAt groupMoves allMoves
+unfolding ones onesIn allBelow anyBelow sumBelow countBelow cap meetsSet setsIn shardValid shardApart groupValidAt groupValid groupMovesAt groupMoves groupStaysAt groupStays allMoves
 placement-clauses =
     record {
       right-many = refl;
@@ -222,6 +240,11 @@ placement-clauses =
       not-all-held = refl;
       one-set = refl;
       last-pair = refl;
+      last-set = refl;
+      up-to-cap = refl;
+      below-cap = refl;
+      above-cap = refl;
+      sets-within-cap = refl;
       shared-node = refl;
       shared-between = refl;
       other-group = refl;
@@ -233,6 +256,11 @@ placement-clauses =
       by-node = refl;
       group-moves = refl;
       group-moves-3 = refl;
+      stays = refl;
+      group-stays = refl;
+      group-stays-0 = refl;
+      group-stays-3 = refl;
+      changed-shard = refl;
       all-moves = refl;
     }
 

@@ -1,6 +1,6 @@
--- Cases A and I: every placement of six held nodes is looked through. In A the placement of document 01's plan is the only
--- valid one with at most two moves; in I none is valid.
-use Prim.Native.Nat.{ℕ, zero, suc, _<_, _≤_}
+-- Placements of three shards of one subgroup, looked through one and all. In case A, of six held nodes, the placement of document
+-- 01's plan is the only valid one with at most two moves; in I none is valid.
+use Prim.Native.Nat.{ℕ, zero, suc, _+_, _<_, _≤_}
 use mathlib.Core.Bool.{Bool, true, false, not, _&&_, _||_}
 use mathlib.Core.List.{List}
 use mathlib.Core.Logic.{inl, ⊎-elim}
@@ -10,12 +10,12 @@ use lib.Dec.{eqb, leb, ltb}
 use lib.Count.{ones, onesIn}
 use borrow.Author.Tests.{eqb-true, eq-eqb, le-leb, ltb-true}
 use Rattle.base_laws.specs.Bools.{clash, and-both, and-left, and-right, or-holds, of-not-true, lt-or-le}
-use Rattle.base_laws.specs.Below.{allBelow, all-at}
+use Rattle.base_laws.specs.Below.{allBelow, anyBelow, countBelow, all-at}
 use Rattle.base_laws.specs.Masks.{count, subset, disjoint, subset-le}
 use Rattle.base_sums.specs.Sums.{sumBelow}
-use Rattle.settings_values.specs.Settings.{shards, subgroup, need}
+use Rattle.settings_values.specs.Settings.{shards, subgroup, need, cap}
 use Rattle.message_format.specs.Rows.{shardApart}
-use Rattle.place_groups.specs.Placements.{spread, shardValid, groupValid, groupValidAt, groupMoves, groupMovesAt, Impossible, LeastMoves}
+use Rattle.place_groups.specs.Placements.{meetsSet, setsIn, shardValid, groupValid, groupValidAt, groupMoves, groupMovesAt, groupStays, groupStaysAt, Impossible, LeastMoves}
 use Rattle.place_groups.specs.Chosen.{ofGroup, nodesIn, Chosen}
 use Rattle.report_views.specs.Reports.{maskAt}
 use Rattle.history_cases.specs.Runs.{caseSettings, settingsWith, view7}
@@ -27,77 +27,95 @@ three a b c (suc zero) = b
 three a b c (suc (suc s)) = c
 
 -- a mask that shard s may have
-abbrev shardFits : List ℕ → ℕ → ℕ → Bool
-shardFits σ s m = shardValid σ 63 (λ i. m) s
+abbrev shardFits : List ℕ → ℕ → ℕ → ℕ → Bool
+shardFits σ held s m = shardValid σ held (λ i. m) s
 
 -- f of every placement whose masks fit and share no node
-abbrev everywhere : List ℕ → (ℕ → ℕ → ℕ → Bool) → Bool
-everywhere σ f =
-    allBelow 64
-    (λ a. not (shardFits σ 0 a)
-    || allBelow 64
-    (λ b. not (shardFits σ 1 b && disjoint a b)
-    || allBelow 64 (λ c. not (shardFits σ 2 c && (disjoint a c && disjoint b c)) || f a b c)))
+abbrev pub everywhere : List ℕ → ℕ → (ℕ → ℕ → ℕ → Bool) → Bool
+everywhere σ held f =
+    allBelow (held + 1)
+    (λ a. not (shardFits σ held 0 a)
+    || allBelow (held + 1)
+    (λ b. not (disjoint a b && shardFits σ held 1 b)
+    || allBelow (held + 1) (λ c. not (disjoint a c && disjoint b c && shardFits σ held 2 c) || f a b c)))
 
 implied : (p q : Bool) → (not p || q) ≡ true → p ≡ true → q ≡ true
 implied p q h e = ⊎-elim (λ n. clash e (of-not-true p n)) (λ y. y) (or-holds (not p) q h)
 
-module _ (σ : List ℕ) (f : ℕ → ℕ → ℕ → Bool) (test : everywhere σ f ≡ true) where
+module _ (σ : List ℕ) (held : ℕ) (f : ℕ → ℕ → ℕ → Bool) (test : everywhere σ held f ≡ true) where
+  -- what the test leaves after each mask
+  last : ℕ → ℕ → ℕ → Bool
+  last x y z = not (disjoint x z && disjoint y z && shardFits σ held 2 z) || f x y z
+
+  next : ℕ → ℕ → Bool
+  next x y = not (disjoint x y && shardFits σ held 1 y) || allBelow (held + 1) (λ z. not (disjoint x z && disjoint y z && shardFits σ held 2 z) || f x y z)
+
   -- what the test gives for a placement
-  at : (a b c : ℕ) → a < 64 → b < 64 → c < 64 → shardFits σ 0 a ≡ true → shardFits σ 1 b ≡ true → shardFits σ 2 c ≡ true
-      → disjoint a b ≡ true → disjoint a c ≡ true → disjoint b c ≡ true → f a b c ≡ true
+  at : (a b c : ℕ) → a < held + 1 → b < held + 1 → c < held + 1 → shardFits σ held 0 a ≡ true → shardFits σ held 1 b ≡ true
+      → shardFits σ held 2 c ≡ true
+      → disjoint a b ≡ true
+      → disjoint a c ≡ true
+      → disjoint b c ≡ true
+      → f a b c ≡ true
+  unfolding last next
   at a b c la lb lc fa fb fc ab ac bc =
-      implied (shardFits σ 2 c && (disjoint a c && disjoint b c)) (f a b c)
-      (all-at 64 (λ z. not (shardFits σ 2 z && (disjoint a z && disjoint b z)) || f a b z)
-      (implied (shardFits σ 1 b && disjoint a b) (allBelow 64 (λ z. not (shardFits σ 2 z && (disjoint a z && disjoint b z)) || f a b z))
-      (all-at 64 (λ y. not (shardFits σ 1 y && disjoint a y) || allBelow 64 (λ z. not (shardFits σ 2 z && (disjoint a z && disjoint y z)) || f a y z))
-      (implied (shardFits σ 0 a) (allBelow 64 (λ y. not (shardFits σ 1 y && disjoint a y) || allBelow 64 (λ z. not (shardFits σ 2 z && (disjoint a z && disjoint y z)) || f a y z)))
-      (all-at 64 (λ x. not (shardFits σ 0 x) || allBelow 64 (λ y. not (shardFits σ 1 y && disjoint x y) || allBelow 64 (λ z. not (shardFits σ 2 z && (disjoint x z && disjoint y z)) || f x y z))) test a la)
-      fa) b lb)
-      (and-both fb ab)) c lc)
-      (and-both fc (and-both ac bc))
+      implied (disjoint a c && disjoint b c && shardFits σ held 2 c) (f a b c)
+      (all-at (held + 1) (last a b)
+      (implied (disjoint a b && shardFits σ held 1 b) (allBelow (held + 1) (last a b))
+      (all-at (held + 1) (next a)
+      (implied (shardFits σ held 0 a) (allBelow (held + 1) (next a)) (all-at (held + 1) (λ x. not (shardFits σ held 0 x) || allBelow (held + 1) (next x)) test a la) fa) b lb)
+      (and-both ab fb)) c lc)
+      (and-both (and-both ac bc) fc)
 
 -- a placement of the one subgroup: each shard's mask fits, and no two share a node
-pub record Apart (σ : List ℕ) (P : ℕ → ℕ) : Type 0 where
-  pub fit : (s : ℕ) → s < 3 → shardFits σ s (P s) ≡ true
-  pub below : (s : ℕ) → s < 3 → P s < 64
+pub record Apart (σ : List ℕ) (held : ℕ) (P : ℕ → ℕ) : Type 0 where
+  pub fit : (s : ℕ) → s < 3 → shardFits σ held s (P s) ≡ true
+  pub below : (s : ℕ) → s < 3 → P s < held + 1
   pub apart : (s t : ℕ) → s < 3 → t < s → disjoint (P t) (P s) ≡ true
 
-module _ (σ : List ℕ) (P : ℕ → ℕ) (all : shards σ ≡ 3) (one : (s : ℕ) → s < 3 → subgroup σ s ≡ 0) (valid : groupValid σ 63 P 0 ≡ true) where
-  shard-at : (s : ℕ) → s < 3 → (shardValid σ 63 P s && allBelow s (shardApart σ P s)) ≡ true
+-- three shards of subgroup 0
+pub record OneGroup (σ : List ℕ) : Type 0 where
+  pub all : shards σ ≡ 3
+  pub group : (s : ℕ) → s < 3 → subgroup σ s ≡ 0
+
+module _ (σ : List ℕ) (held : ℕ) (P : ℕ → ℕ) (one : OneGroup σ) (valid : groupValid σ held P 0 ≡ true) where
+  shard-at : (s : ℕ) → s < 3 → (shardValid σ held P s && allBelow s (shardApart σ P s)) ≡ true
   unfolding groupValid groupValidAt
   shard-at s l =
-      implied (eqb (subgroup σ s) 0) (shardValid σ 63 P s && allBelow s (shardApart σ P s))
-      (all-at (shards σ) (groupValidAt σ 63 P 0) valid s (subst (λ (n : ℕ). s < n) (sym all) l))
-      (eq-eqb (subgroup σ s) 0 (one s l))
+      implied (eqb (subgroup σ s) 0) (shardValid σ held P s && allBelow s (shardApart σ P s))
+      (all-at (shards σ) (groupValidAt σ held P 0) valid s (subst (λ (n : ℕ). s < n) (sym (one .all)) l))
+      (eq-eqb (subgroup σ s) 0 (one .group s l))
 
   apart-at : (s t : ℕ) → s < 3 → t < s → disjoint (P t) (P s) ≡ true
   unfolding shardApart
   apart-at s t l k =
       implied (eqb (subgroup σ t) (subgroup σ s)) (disjoint (P t) (P s))
-      (all-at s (shardApart σ P s) (and-right (shardValid σ 63 P s) (allBelow s (shardApart σ P s)) (shard-at s l)) t k)
-      (eq-eqb (subgroup σ t) (subgroup σ s) (one t (omega arith) ∙ sym (one s l)))
+      (all-at s (shardApart σ P s) (and-right (shardValid σ held P s) (allBelow s (shardApart σ P s)) (shard-at s l)) t k)
+      (eq-eqb (subgroup σ t) (subgroup σ s) (one .group t (omega arith) ∙ sym (one .group s l)))
 
-  below-at : (s : ℕ) → s < 3 → P s < 64
+  below-at : (s : ℕ) → s < 3 → P s < held + 1
   unfolding shardValid
   below-at s l =
-      let inside = and-left (subset (P s) 63) (eqb (count (P s)) (need σ s))
-      (and-left (subset (P s) 63 && eqb (count (P s)) (need σ s)) (spread σ (P s)) (and-left (shardValid σ 63 P s) (allBelow s (shardApart σ P s)) (shard-at s l))) in
-      omega (arith, subset-le (P s) 63 inside)
+      let fits = leb (count (P s)) (cap σ s) in
+      let many = leb (need σ s) (setsIn σ (P s)) in
+      let inside = and-left (subset (P s) held) fits (and-left (subset (P s) held && fits) many (and-left (shardValid σ held P s) (allBelow s (shardApart σ P s)) (shard-at s l))) in
+      omega (arith, subset-le (P s) held inside)
 
-  group-apart : Apart σ P
+  group-apart : Apart σ held P
   unfolding shardValid
   group-apart =
       record {
-        fit = λ s l. and-left (shardValid σ 63 P s) (allBelow s (shardApart σ P s)) (shard-at s l);
+        fit = λ s l. and-left (shardValid σ held P s) (allBelow s (shardApart σ P s)) (shard-at s l);
         below = below-at;
         apart = apart-at;
       }
 
 -- f of a placement's masks, from the test over all
-placed-at : (σ : List ℕ) (f : ℕ → ℕ → ℕ → Bool) → everywhere σ f ≡ true → (P : ℕ → ℕ) → Apart σ P → f (P 0) (P 1) (P 2) ≡ true
-placed-at σ f test P a =
-    at σ f test (P 0) (P 1) (P 2) (a .below 0 (omega arith)) (a .below 1 (omega arith)) (a .below 2 (omega arith))
+pub placed-at : (σ : List ℕ) (held : ℕ) (f : ℕ → ℕ → ℕ → Bool) → everywhere σ held f ≡ true → OneGroup σ → (P : ℕ → ℕ) → groupValid σ held P 0 ≡ true
+    → f (P 0) (P 1) (P 2) ≡ true
+placed-at σ held f test one P valid =
+    let a = group-apart σ held P one valid in
+    at σ held f test (P 0) (P 1) (P 2) (a .below 0 (omega arith)) (a .below 1 (omega arith)) (a .below 2 (omega arith))
     (a .fit 0 (omega arith))
     (a .fit 1 (omega arith))
     (a .fit 2 (omega arith))
@@ -105,7 +123,8 @@ placed-at σ f test P a =
     (a .apart 2 0 (omega arith) (omega arith))
     (a .apart 2 1 (omega arith) (omega arith))
 
-one-group : (n : ℕ) (P : ℕ → Type 0) → P 0 → P 1 → P 2 → n < 3 → P n
+-- what holds of each of the three
+pub one-group : (n : ℕ) (P : ℕ → Type 0) → P 0 → P 1 → P 2 → n < 3 → P n
 one-group zero P a b c l = a
 one-group (suc zero) P a b c l = b
 one-group (suc (suc zero)) P a b c l = c
@@ -115,20 +134,26 @@ one-group (suc (suc (suc n))) P a b c l = absurd (omega arith)
 only : ℕ → ℕ → ℕ → Bool
 only a b c = not (leb (groupMoves caseSettings (maskAt view7) (three a b c) 0) 2) || (eqb a 5 && eqb b 50 && eqb c 8)
 
-a-test : everywhere caseSettings only ≡ true
-unfolding only allBelow ones onesIn sumBelow spread shardValid groupMoves groupMovesAt
+a-test : everywhere caseSettings 63 only ≡ true
+unfolding only allBelow ones onesIn sumBelow anyBelow countBelow cap meetsSet setsIn shardValid groupMoves groupMovesAt
 a-test = refl
 
-i-test : everywhere (settingsWith 4 3) (λ a b c. false) ≡ true
-unfolding allBelow ones onesIn spread shardValid
+i-test : everywhere (settingsWith 4 3) 63 (λ a b c. false) ≡ true
+unfolding allBelow ones onesIn anyBelow countBelow cap meetsSet setsIn shardValid
 i-test = refl
+
+a-shards : OneGroup caseSettings
+a-shards = record { all = refl; group = λ s l. one-group s (λ n. subgroup caseSettings n ≡ 0) refl refl refl l }
+
+i-shards : OneGroup (settingsWith 4 3)
+i-shards = record { all = refl; group = λ s l. one-group s (λ n. subgroup (settingsWith 4 3) n ≡ 0) refl refl refl l }
 
 -- the placement of document 01's plan: 0 and 2, 1, 4 and 5, and 3
 abbrev pub planA : ℕ → ℕ
 planA = three 5 50 8
 
 pub a-valid : groupValid caseSettings 63 planA 0 ≡ true
-unfolding allBelow ones onesIn spread shardValid shardApart groupValid groupValidAt
+unfolding allBelow ones onesIn anyBelow countBelow cap meetsSet setsIn shardValid shardApart groupValid groupValidAt
 a-valid = refl
 
 pub a-moves : groupMoves caseSettings (maskAt view7) planA 0 ≡ 2
@@ -140,6 +165,10 @@ three-moves : (P : ℕ → ℕ) → groupMoves caseSettings (maskAt view7) P 0 �
 unfolding sumBelow groupMoves groupMovesAt
 three-moves P = refl
 
+three-stays : (P : ℕ → ℕ) → groupStays caseSettings (maskAt view7) P 0 ≡ groupStays caseSettings (maskAt view7) (three (P 0) (P 1) (P 2)) 0
+unfolding sumBelow groupStays groupStaysAt
+three-stays P = refl
+
 -- case A: a valid placement of at most two moves is that of the plan
 pub a-only : (P : ℕ → ℕ) → groupValid caseSettings 63 P 0 ≡ true → groupMoves caseSettings (maskAt view7) P 0 ≤ 2 → (P 0 ≡ 5) × (P 1 ≡ 50) × (P 2 ≡ 8)
 unfolding only
@@ -148,7 +177,7 @@ a-only P valid few =
     le-leb (groupMoves caseSettings (maskAt view7) (three (P 0) (P 1) (P 2)) 0) 2 (subst (λ (m : ℕ). m ≤ 2) (three-moves P) few) in
     let same =
     implied (leb (groupMoves caseSettings (maskAt view7) (three (P 0) (P 1) (P 2)) 0) 2) (eqb (P 0) 5 && eqb (P 1) 50 && eqb (P 2) 8)
-    (placed-at caseSettings only a-test P (group-apart caseSettings P refl (λ s l. one-group s (λ n. subgroup caseSettings n ≡ 0) refl refl refl l) valid))
+    (placed-at caseSettings 63 only a-test a-shards P valid)
     cheap in
     let two = and-left (eqb (P 0) 5 && eqb (P 1) 50) (eqb (P 2) 8) same in (
       eqb-true (P 0) 5 (and-left (eqb (P 0) 5) (eqb (P 1) 50) two),
@@ -178,12 +207,19 @@ a-fewest = record { valid = a-valid; least = λ other v. at-least other v }
 -- case A: the plan's placement is the chosen one, and what is chosen is the plan's
 pub a-chosen : Chosen caseSettings 63 (maskAt view7) planA 0
 unfolding ofGroup
-a-chosen = record { least = a-fewest; first = λ other l. inl (record { alike = λ s o. ap nodesIn (at other l s (ltb-true s 3 (and-left (ltb s 3) (eqb (subgroup caseSettings s) 0) o))) }) }
+a-chosen =
+    record {
+      least = a-fewest;
+      most = λ other l. let m = a-least other l in omega (arith, staying other m);
+      first = λ other l e. inl (record { alike = λ s o. ap nodesIn (at other l s (ltb-true s 3 (and-left (ltb s 3) (eqb (subgroup caseSettings s) 0) o))) });
+    }
   where
     at : (P : ℕ → ℕ) → LeastMoves caseSettings 63 (maskAt view7) P 0 → (s : ℕ) → s < 3 → planA s ≡ P s
     at P l s k = let m = a-least P l in one-group s (λ n. planA n ≡ P n) (sym (m .0)) (sym (m .1)) (sym (m .2)) k
 
+    staying : (P : ℕ → ℕ) → (P 0 ≡ 5) × (P 1 ≡ 50) × (P 2 ≡ 8) → groupStays caseSettings (maskAt view7) P 0 ≡ groupStays caseSettings (maskAt view7) planA 0
+    staying P m = three-stays P ∙ rw (m .0, m .1, m .2)
+
 -- case I: shard 0 needs 3
 pub i-none : Impossible (settingsWith 4 3) 63 0
-i-none =
-    record { none = λ P valid. clash (placed-at (settingsWith 4 3) (λ a b c. false) i-test P (group-apart (settingsWith 4 3) P refl (λ s l. one-group s (λ n. subgroup (settingsWith 4 3) n ≡ 0) refl refl refl l) valid)) refl }
+i-none = record { none = λ P valid. clash (placed-at (settingsWith 4 3) 63 (λ a b c. false) i-test i-shards P valid) refl }

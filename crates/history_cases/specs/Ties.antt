@@ -6,16 +6,17 @@ use mathlib.Core.Logic.{_⊎_, ⊎-elim}
 use mathlib.Core.Path.{_≡_, refl, subst}
 use native.Mathlib.Omega.{arith}
 use lib.Dec.{eqb, leb, ltb}
+use lib.Bits.{bitAnd}
 use lib.Count.{ones, onesIn}
 use borrow.Author.Tests.{eqb-true, le-leb, leb-true, ltb-true}
 use Rattle.base_laws.specs.Bools.{clash, and-both, and-left, or-holds, of-not-true}
-use Rattle.base_laws.specs.Below.{allBelow, all-at}
-use Rattle.base_laws.specs.Masks.{count, minus, subset, subset-le}
+use Rattle.base_laws.specs.Below.{allBelow, anyBelow, countBelow, all-at}
+use Rattle.base_laws.specs.Masks.{count, minus, subset, subset-le, and-subset-right, count-subset}
 use Rattle.base_sums.specs.Sums.{sumBelow}
 use Rattle.base_sums.specs.Lists.{listFrom, listBefore, before-self, before-both}
-use Rattle.settings_values.specs.Settings.{shards, subgroup, need}
+use Rattle.settings_values.specs.Settings.{subgroup, need, cap}
 use Rattle.message_format.specs.Rows.{shardApart}
-use Rattle.place_groups.specs.Placements.{spread, shardValid, groupValidAt, groupValid, groupMovesAt, groupMoves, LeastMoves}
+use Rattle.place_groups.specs.Placements.{meetsSet, setsIn, shardValid, groupValidAt, groupValid, groupMovesAt, groupMoves, groupStaysAt, groupStays, LeastMoves}
 use Rattle.place_groups.specs.Chosen.{isShard, ofGroup, nodesIn, Sooner, Chosen, nodes-tell}
 use Rattle.history_cases.specs.Clauses.{oneShard, twoGroups, pairOfMasks}
 
@@ -72,12 +73,12 @@ tied : ℕ → Bool
 tied m = not (shardValid oneShard 15 (λ i. m) 0 && leb (count (minus m 4)) 1) || (listBefore (nodesIn 5) (nodesIn m) || eqb m 5)
 
 tied-test : allBelow 16 tied ≡ true
-unfolding tied allBelow ones onesIn spread shardValid listFrom listBefore nodesIn
+unfolding tied allBelow ones onesIn anyBelow countBelow cap meetsSet setsIn shardValid listFrom listBefore nodesIn
 tied-test = refl
 
 -- and none fits without a move
 moving-test : allBelow 16 (λ m. not (shardValid oneShard 15 (λ i. m) 0) || leb 1 (count (minus m 4))) ≡ true
-unfolding allBelow ones onesIn spread shardValid
+unfolding allBelow ones onesIn anyBelow countBelow cap meetsSet setsIn shardValid
 moving-test = refl
 
 -- what a placement of the one shard says of its mask
@@ -88,8 +89,8 @@ tie-fits P v = and-left (shardValid oneShard 15 P 0) true v
 tie-small : (P : ℕ → ℕ) → groupValid oneShard 15 P 0 ≡ true → P 0 < 16
 unfolding shardValid
 tie-small P v =
-    let inside = and-left (subset (P 0) 15) (eqb (count (P 0)) (need oneShard 0))
-    (and-left (subset (P 0) 15 && eqb (count (P 0)) (need oneShard 0)) (spread oneShard (P 0)) (tie-fits P v)) in
+    let inside = and-left (subset (P 0) 15) (leb (count (P 0)) (cap oneShard 0))
+    (and-left (subset (P 0) 15 && leb (count (P 0)) (cap oneShard 0)) (leb (need oneShard 0) (setsIn oneShard (P 0))) (tie-fits P v)) in
     omega (arith, subset-le (P 0) 15 inside)
 
 tie-moves : (P : ℕ → ℕ) → groupMoves oneShard (λ s. 4) P 0 ≡ count (minus (P 0) 4)
@@ -100,9 +101,21 @@ tie-five : groupMoves oneShard (λ s. 4) (λ s. 5) 0 ≡ 1
 unfolding ones onesIn sumBelow groupMoves groupMovesAt
 tie-five = refl
 
+tie-stays : (P : ℕ → ℕ) → groupStays oneShard (λ s. 4) P 0 ≡ count (bitAnd (P 0) 4)
+unfolding sumBelow groupStays groupStaysAt
+tie-stays P = omega arith
+
+tie-one-stays : groupStays oneShard (λ s. 4) (λ s. 5) 0 ≡ 1
+unfolding ones onesIn sumBelow groupStays groupStaysAt
+tie-one-stays = refl
+
+tie-one : count 4 ≡ 1
+unfolding ones onesIn
+tie-one = refl
+
 -- nodes 0 and 2 have least moves
 tie-least : LeastMoves oneShard 15 (λ s. 4) (λ s. 5) 0
-unfolding allBelow ones onesIn spread shardValid groupValidAt groupValid shardApart
+unfolding allBelow ones onesIn anyBelow countBelow cap meetsSet setsIn shardValid groupValidAt groupValid shardApart
 tie-least = record { valid = refl; least = λ other v. omega (arith, tie-five, tie-moves other, moving other v) }
   where
     moving : (P : ℕ → ℕ) → groupValid oneShard 15 P 0 ≡ true → 1 ≤ count (minus (P 0) 4)
@@ -122,8 +135,11 @@ tie-shard s o = let l = ltb-true s 1 (and-left (ltb s 1) (eqb (subgroup oneShard
 -- nodes 0 and 2, 1 and 2, 2 and 3 move one node each: the first is chosen
 pub tie : (P : ℕ → ℕ) → Chosen oneShard 15 (λ s. 4) P 0 → P 0 ≡ 5
 unfolding tied
-tie P c = ⊎-elim (λ e. nodes-tell (P 0) 5 (omega (arith, tie-small P (c .least .valid))) (omega arith) (e .alike 0 tie-ours)) (λ f. absurd (sooner f)) (c .first (λ s. 5) tie-least)
+tie P c = ⊎-elim (λ e. nodes-tell (P 0) 5 (omega (arith, tie-small P (c .least .valid))) (omega arith) (e .alike 0 tie-ours)) (λ f. absurd (sooner f)) (c .first (λ s. 5) tie-least staying)
   where
+    staying : groupStays oneShard (λ s. 4) (λ s. 5) 0 ≡ groupStays oneShard (λ s. 4) P 0
+    staying = omega (arith, c .most (λ s. 5) tie-least, tie-one-stays, tie-stays P, count-subset (bitAnd (P 0) 4) 4 (and-subset-right (P 0) 4), tie-one)
+
     few : leb (count (minus (P 0) 4)) 1 ≡ true
     few = le-leb (count (minus (P 0) 4)) 1 (omega (arith, c .least .least (λ s. 5) (tie-least .valid), tie-moves P, tie-five))
 

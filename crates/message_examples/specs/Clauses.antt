@@ -1,6 +1,6 @@
 -- A row for each clause of the settings' row, of the message rows and of the words that the writer makes: with the clause left out or turned
 -- round the row would be false. What a row guards is its name; settings, report and order are those of Examples but for what it changes.
-use Prim.Native.Nat.{ℕ, _+_, _/_, _%_}
+use Prim.Native.Nat.{ℕ, _+_, _*_, _/_, _%_}
 use mathlib.Core.Bool.{true, false, cond}
 use mathlib.Core.List.{List, [], _∷_, _++_}
 use mathlib.Core.Path.{_≡_, refl}
@@ -8,7 +8,7 @@ use lib.Dec.{eqb}
 use lib.ListN.{replicate}
 use Rattle.base_laws.specs.Below.{allBelow, anyBelow, lowest}
 use Rattle.base_laws.specs.Tables.{tabulate}
-use Rattle.settings_values.specs.Settings.{sizesOk, nodesOk, shardOk, shardsOk, settingsOk}
+use Rattle.settings_values.specs.Settings.{cap, sizesOk, nodesOk, shardOk, shardsOk, settingsOk}
 use Rattle.base_ids.specs.declared.Refusal.{Refusal}
 use Rattle.base_ids.specs.Refusals.{none, refused, refusedAt, unless, unlessAt, firstOf}
 use Rattle.message_format.specs.declared.Contents.{Contents}
@@ -47,9 +47,20 @@ pub record SettingsClauses : Type 0 where
   pub group-past : settingsOk (smallSettings 1 1 1 1 0 (1025 ∷ [])) ≡ false
   pub need-zero : settingsOk (smallSettings 1 1 1 1 0 (0 ∷ [])) ≡ false
   pub need-past : settingsOk (smallSettings 1 1 1 1 0 (2 ∷ [])) ≡ false
+  -- a cap is 0, which stands for the need, or the need to 16, however large the word
+  pub cap-none : cap (smallSettings 1 2 1 1 0 (2 ∷ [])) 0 ≡ 2
+  pub cap-given : cap (smallSettings 1 2 1 1 0 ((3 * 65536 + 2) ∷ [])) 0 ≡ 3
+  pub cap-of-need : settingsOk (smallSettings 1 2 1 1 0 ((2 * 65536 + 2) ∷ [])) ≡ true
+  pub cap-below : settingsOk (smallSettings 1 2 1 1 0 ((65536 + 2) ∷ [])) ≡ false
+  pub cap-last : settingsOk (smallSettings 1 1 1 1 0 ((16 * 65536 + 1) ∷ [])) ≡ true
+  pub cap-past : settingsOk (smallSettings 1 1 1 1 0 ((17 * 65536 + 1) ∷ [])) ≡ false
+  pub cap-of-two-bytes : settingsOk (smallSettings 1 1 1 1 0 ((256 * 65536 + 1) ∷ [])) ≡ false
+  pub cap-with-group : settingsOk (smallSettings 1 1 1 1 0 ((16 * 65536 + 769) ∷ [])) ≡ true
+  pub cap-with-group-past : settingsOk (smallSettings 1 1 1 1 0 ((16 * 65536 + 1025) ∷ [])) ≡ false
+  pub last-word : settingsOk (smallSettings 1 1 1 1 0 (4294967295 ∷ [])) ≡ false
 
 pub settings-clauses : SettingsClauses
-unfolding allBelow sizesOk nodesOk shardOk shardsOk settingsOk
+unfolding allBelow sizesOk nodesOk cap shardOk shardsOk settingsOk
 settings-clauses =
     record {
       right = refl;
@@ -72,6 +83,16 @@ settings-clauses =
       group-past = refl;
       need-zero = refl;
       need-past = refl;
+      cap-none = refl;
+      cap-given = refl;
+      cap-of-need = refl;
+      cap-below = refl;
+      cap-last = refl;
+      cap-past = refl;
+      cap-of-two-bytes = refl;
+      cap-with-group = refl;
+      cap-with-group-past = refl;
+      last-word = refl;
     }
 
 -- what the reader says of a report and of an order
@@ -141,7 +162,7 @@ pub record ReportClauses : Type 0 where
   pub position-above : reads (followedBy (4 ∷ 512 ∷ 0 ∷ 0 ∷ 5 ∷ 513 ∷ 8 ∷ 1 ∷ 6 ∷ 514 ∷ 0 ∷ 0 ∷ 0 ∷ [])) ≡ refused 11
 
 pub report-clauses : ReportClauses
-unfolding allBelow anyBelow lowest tabulate sizesOk nodesOk shardOk shardsOk settingsOk unless unlessAt firstOf place following brokenAt row5 row8 precedes shardsWhere viewOk row6 row7 kindOk plain kindAt shardAt surplus sequenceAt complete shardApart row10At row10 position viewFits legal row11At bodyWord bodyOf contentsOf recordsRefusal headRefusal messageRefusal readRefusal
+unfolding allBelow anyBelow lowest tabulate sizesOk nodesOk cap shardOk shardsOk settingsOk unless unlessAt firstOf place following brokenAt row5 row8 precedes shardsWhere viewOk row6 row7 kindOk plain kindAt shardAt surplus sequenceAt complete shardApart row10At row10 position viewFits legal row11At bodyWord bodyOf contentsOf recordsRefusal headRefusal messageRefusal readRefusal
 report-clauses =
     record {
       no-words = refl;
@@ -214,7 +235,7 @@ pub record OrderClauses : Type 0 where
   pub cut-position : readsOrder (orderUnder 8 (orderEnds 7 (7 ∷ 1025 ∷ 1 ∷ 0 ∷ 8 ∷ 1281 ∷ 0 ∷ 5 ∷ 0 ∷ []))) ≡ refused 11
 
 pub order-clauses : OrderClauses
-unfolding allBelow anyBelow lowest tabulate sizesOk nodesOk shardOk shardsOk settingsOk unless unlessAt firstOf place following brokenAt row5 row8 precedes shardsWhere viewOk row6 row7 kindOk plain kindAt shardAt surplus sequenceAt complete shardApart row10At row10 position viewFits legal row11At bodyWord bodyOf contentsOf recordsRefusal headRefusal messageRefusal readRefusal
+unfolding allBelow anyBelow lowest tabulate sizesOk nodesOk cap shardOk shardsOk settingsOk unless unlessAt firstOf place following brokenAt row5 row8 precedes shardsWhere viewOk row6 row7 kindOk plain kindAt shardAt surplus sequenceAt complete shardApart row10At row10 position viewFits legal row11At bodyWord bodyOf contentsOf recordsRefusal headRefusal messageRefusal readRefusal
 order-clauses =
     record {
       view-last = refl;
@@ -286,7 +307,7 @@ pub record WriterClauses : Type 0 where
   pub too-long : writeRefusal Report exampleSettings (exampleContents 7 128) (replicate 512 0) ≡ refused 5
 
 pub writer-clauses : WriterClauses
-unfolding allBelow anyBelow lowest tabulate sizesOk nodesOk shardOk shardsOk settingsOk unless unlessAt firstOf place following brokenAt row5 row8 precedes shardsWhere viewOk row6 row7 kindOk plain kindAt shardAt surplus sequenceAt complete shardApart row10At row10 position viewFits legal row11At bodyWord bodyOf contentsOf recordsRefusal headRefusal messageRefusal readRefusal readingOf contentsRefusal writeRefusal tidy headWord recordWord messageWord messageOf bufferAfter writingOf
+unfolding allBelow anyBelow lowest tabulate sizesOk nodesOk cap shardOk shardsOk settingsOk unless unlessAt firstOf place following brokenAt row5 row8 precedes shardsWhere viewOk row6 row7 kindOk plain kindAt shardAt surplus sequenceAt complete shardApart row10At row10 position viewFits legal row11At bodyWord bodyOf contentsOf recordsRefusal headRefusal messageRefusal readRefusal readingOf contentsRefusal writeRefusal tidy headWord recordWord messageWord messageOf bufferAfter writingOf
 writer-clauses =
     record {
       says = refl;
@@ -337,7 +358,7 @@ pub record LocatedClauses : Type 0 where
   pub written-kind : contentsRefusal Order exampleSettings (exampleContents 1 4) ≡ refusedAt 9 4
 
 pub located-clauses : LocatedClauses
-unfolding allBelow anyBelow lowest tabulate sizesOk nodesOk shardOk shardsOk settingsOk unless unlessAt firstOf place following brokenAt row5 row8 precedes shardsWhere viewOk row6 row7 kindOk plain kindAt shardAt surplus sequenceAt complete shardApart row10At row10 position viewFits legal row11At bodyWord bodyOf contentsOf recordsRefusal headRefusal messageRefusal readRefusal contentsRefusal
+unfolding allBelow anyBelow lowest tabulate sizesOk nodesOk cap shardOk shardsOk settingsOk unless unlessAt firstOf place following brokenAt row5 row8 precedes shardsWhere viewOk row6 row7 kindOk plain kindAt shardAt surplus sequenceAt complete shardApart row10At row10 position viewFits legal row11At bodyWord bodyOf contentsOf recordsRefusal headRefusal messageRefusal readRefusal contentsRefusal
 located-clauses =
     record {
       head-names = refl;

@@ -4,7 +4,7 @@ use mathlib.Core.List.{List, [], _∷_, _++_}
 use mathlib.Core.Path.{_≡_, refl}
 use Rattle.base_laws.specs.Below.{allBelow, anyBelow, lowest}
 use Rattle.base_laws.specs.Tables.{tabulate}
-use Rattle.settings_values.specs.Settings.{sizesOk, nodesOk, shardOk, shardsOk, settingsOk}
+use Rattle.settings_values.specs.Settings.{cap, sizesOk, nodesOk, shardOk, shardsOk, settingsOk}
 use Rattle.base_ids.specs.Refusals.{none, refused, refusedAt, unless, unlessAt, firstOf}
 use Rattle.message_format.specs.declared.Form.the-variants.{Report, Order}
 use Rattle.message_format.specs.Chain.{place, following, row5, row8}
@@ -67,7 +67,7 @@ pub record Examples : Type 0 where
   pub order-as-report : readRefusal Report exampleSettings (order 1 7) ≡ refusedAt 9 7
 
 pub examples : Examples
-unfolding allBelow anyBelow lowest tabulate sizesOk nodesOk shardOk shardsOk settingsOk unless unlessAt firstOf place following brokenAt row5 row8 precedes shardsWhere viewOk row6 row7 kindOk plain kindAt shardAt surplus sequenceAt complete shardApart row10At row10 position viewFits legal row11At bodyWord bodyOf contentsOf recordsRefusal headRefusal messageRefusal readRefusal
+unfolding allBelow anyBelow lowest tabulate sizesOk nodesOk cap shardOk shardsOk settingsOk unless unlessAt firstOf place following brokenAt row5 row8 precedes shardsWhere viewOk row6 row7 kindOk plain kindAt shardAt surplus sequenceAt complete shardApart row10At row10 position viewFits legal row11At bodyWord bodyOf contentsOf recordsRefusal headRefusal messageRefusal readRefusal
 examples =
     record {
       right = refl;

@@ -1,18 +1,20 @@
--- The choice among placements of least moves: shards ascending, each shard's nodes listed ascending, and at the first shard that
--- differs the smaller list in dictionary order wins. The same order serves a subgroup and the plan as a whole.
-use Prim.Native.Nat.{ℕ, _^_, _≤_, _<_}
+-- The choice among placements of least moves: those in which the most nodes stay, and of those the first, shards ascending, each
+-- shard's nodes listed ascending, where at the first shard that differs the smaller list in dictionary order wins. The same choice
+-- serves a subgroup and the plan as a whole.
+use Prim.Native.Nat.{ℕ, _+_, _^_, _≤_, _<_}
 use native.Mathlib.Omega.{arith}
-use mathlib.Core.Bool.{Bool, true, _&&_}
+use mathlib.Core.Bool.{Bool, true, false, cond, _&&_}
 use mathlib.Core.List.{List}
 use mathlib.Core.Logic.{_⊎_, inl, inr, ⊎-elim}
-use mathlib.Core.Path.{_≡_, sym, ap, subst}
+use mathlib.Core.Path.{_≡_, refl, sym, ap, _∙_, subst}
+use lib.Bits.{bitAnd}
 use lib.Dec.{eqb, ltb}
 use Rattle.base_laws.specs.Bools.{lt-or-le}
-use Rattle.base_laws.specs.Masks.{has, ext}
-use Rattle.base_sums.specs.Sums.{sumBelow}
+use Rattle.base_laws.specs.Masks.{has, count, minus, ext, count-and-minus}
+use Rattle.base_sums.specs.Sums.{sumBelow, sum-add, sum-cong}
 use Rattle.base_sums.specs.Lists.{listFrom, listBefore, before-self, before-both, list-cong, list-tells}
 use Rattle.settings_values.specs.Settings.{shards, subgroup}
-use Rattle.place_groups.specs.Placements.{groupValid, groupMoves, Lowest, LeastMoves}
+use Rattle.place_groups.specs.Placements.{groupValid, groupMovesAt, groupMoves, groupStaysAt, groupStays, Lowest, LeastMoves}
 
 -- s is a shard
 unfoldable pub isShard : List ℕ → ℕ → Bool
@@ -41,14 +43,20 @@ pub record Sooner (of : ℕ → Bool) (a b : ℕ → ℕ) : Type 0 where
 abbrev pub NotLater : (ℕ → Bool) → (ℕ → ℕ) → (ℕ → ℕ) → Type 0
 NotLater of a b = SameNodes of a b ⊎ Sooner of a b
 
--- the placement of subgroup g: the first of those of least moves
+-- the placement of subgroup g: of least moves, of those with the most stays, and of those the first
 pub record Chosen (σ : List ℕ) (held : ℕ) (old masks : ℕ → ℕ) (g : ℕ) : Type 0 where
   pub least : LeastMoves σ held old masks g
-  pub first : (other : ℕ → ℕ) → LeastMoves σ held old other g → NotLater (ofGroup σ g) masks other
+  pub most : (other : ℕ → ℕ) → LeastMoves σ held old other g → groupStays σ old other g ≤ groupStays σ old masks g
+  pub first : (other : ℕ → ℕ) → LeastMoves σ held old other g → groupStays σ old other g ≡ groupStays σ old masks g
+      → NotLater (ofGroup σ g) masks other
 
 -- the moves of all four subgroups
 abbrev pub planMoves : List ℕ → (ℕ → ℕ) → (ℕ → ℕ) → ℕ
 planMoves σ old masks = sumBelow 4 (groupMoves σ old masks)
+
+-- the stays of all four subgroups
+abbrev pub planStays : List ℕ → (ℕ → ℕ) → (ℕ → ℕ) → ℕ
+planStays σ old masks = sumBelow 4 (groupStays σ old masks)
 
 -- valid in every subgroup
 abbrev pub AllValid : List ℕ → ℕ → (ℕ → ℕ) → Type 0
@@ -59,10 +67,11 @@ pub record LeastPlan (σ : List ℕ) (held : ℕ) (old masks : ℕ → ℕ) : Ty
   pub valid : AllValid σ held masks
   pub least : (other : ℕ → ℕ) → AllValid σ held other → planMoves σ old masks ≤ planMoves σ old other
 
--- the first of those, over all shards whatever their subgroup
+-- of those with the most stays the first, over all shards whatever their subgroup
 pub record ChosenPlan (σ : List ℕ) (held : ℕ) (old masks : ℕ → ℕ) : Type 0 where
   pub least : LeastPlan σ held old masks
-  pub first : (other : ℕ → ℕ) → LeastPlan σ held old other → NotLater (isShard σ) masks other
+  pub most : (other : ℕ → ℕ) → LeastPlan σ held old other → planStays σ old other ≤ planStays σ old masks
+  pub first : (other : ℕ → ℕ) → LeastPlan σ held old other → planStays σ old other ≡ planStays σ old masks → NotLater (isShard σ) masks other
 
 -- ---- laws
 
@@ -73,6 +82,19 @@ lowest-one σ held g h a b =
     (λ l.
     ⊎-elim (λ m. let v = a .lower h m in absurd (b .none .none (v .0) (v .1))) (λ m. omega arith) (lt-or-le h g))
     (lt-or-le g h)
+
+-- a placed node moves or stays
+pub moves-stays : (σ : List ℕ) (old masks : ℕ → ℕ) (g : ℕ)
+    → groupMoves σ old masks g + groupStays σ old masks g ≡ sumBelow (shards σ) (λ s. cond (eqb (subgroup σ s) g) (count (masks s)) 0)
+unfolding groupMoves groupMovesAt groupStays groupStaysAt
+moves-stays σ old masks g =
+    sym (sum-add (shards σ) (groupMovesAt σ old masks g) (groupStaysAt σ old masks g))
+    ∙ sum-cong (shards σ) (λ s. groupMovesAt σ old masks g s + groupStaysAt σ old masks g s) (λ s. cond (eqb (subgroup σ s) g) (count (masks s)) 0)
+    (λ s l. both (eqb (subgroup σ s) g) (masks s) (old s))
+  where
+    both : (b : Bool) (new was : ℕ) → cond b (count (minus new was)) 0 + cond b (count (bitAnd new was)) 0 ≡ cond b (count new) 0
+    both true new was = omega (arith, count-and-minus new was)
+    both false new was = refl
 
 -- a mask is told by its list
 pub nodes-tell : (a b : ℕ) → a < 2 ^ 32 → b < 2 ^ 32 → nodesIn a ≡ nodesIn b → a ≡ b

@@ -1,5 +1,5 @@
 -- Placements of a subgroup, and the choice among those of least moves.
 pub mod Placements
-pub mod Spread
+pub mod Sets
 pub mod Placed
 pub mod Chosen

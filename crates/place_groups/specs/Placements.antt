@@ -4,22 +4,26 @@ use Prim.Native.Nat.{ℕ, _≤_, _<_}
 use mathlib.Core.Bool.{Bool, true, cond, not, _&&_, _||_}
 use mathlib.Core.List.{List}
 use mathlib.Core.Path.{_≡_}
-use lib.Dec.{eqb}
-use Rattle.base_laws.specs.Below.{allBelow}
+use lib.Bits.{bitAnd}
+use lib.Dec.{eqb, leb}
+use Rattle.base_laws.specs.Below.{allBelow, anyBelow, countBelow}
 use Rattle.base_laws.specs.Masks.{has, count, subset, minus}
 use Rattle.base_sums.specs.Sums.{sumBelow}
-use Rattle.settings_values.specs.Settings.{shards, setOf, subgroup, need}
+use Rattle.settings_values.specs.Settings.{nodes, shards, setOf, subgroup, need, cap}
 use Rattle.message_format.specs.Rows.{shardApart}
 
--- no two nodes of the mask are of one failure set
-unfoldable pub spread : List ℕ → ℕ → Bool
-spread σ mask =
-    allBelow 32 (λ n. allBelow n (λ m. not (has mask n && has mask m) || not (eqb (setOf σ n) (setOf σ m))))
+-- some node of the mask is of failure set f
+unfoldable pub meetsSet : List ℕ → ℕ → ℕ → Bool
+meetsSet σ mask f = anyBelow (nodes σ) (λ n. has mask n && eqb (setOf σ n) f)
 
--- shard s gets exactly as many held nodes as it needs, of different failure sets
+-- how many failure sets the nodes of the mask are of
+unfoldable pub setsIn : List ℕ → ℕ → ℕ
+setsIn σ mask = countBelow 16 (meetsSet σ mask)
+
+-- shard s gets held nodes, at most its cap, from at least as many failure sets as it needs
 unfoldable pub shardValid : List ℕ → ℕ → (ℕ → ℕ) → ℕ → Bool
 shardValid σ held masks s =
-    subset (masks s) held && eqb (count (masks s)) (need σ s) && spread σ (masks s)
+    subset (masks s) held && leb (count (masks s)) (cap σ s) && leb (need σ s) (setsIn σ (masks s))
 
 -- shard s is of another subgroup, or is valid and shares no node with a lower shard of its subgroup
 unfoldable pub groupValidAt : List ℕ → ℕ → (ℕ → ℕ) → ℕ → ℕ → Bool
@@ -37,6 +41,14 @@ groupMovesAt σ old masks g s = cond (eqb (subgroup σ s) g) (count (minus (mask
 -- the moves of a placement of subgroup g, counted by node
 unfoldable pub groupMoves : List ℕ → (ℕ → ℕ) → (ℕ → ℕ) → ℕ → ℕ
 groupMoves σ old masks g = sumBelow (shards σ) (groupMovesAt σ old masks g)
+
+-- the nodes placed in shard s that were members of it, if s is of subgroup g
+unfoldable pub groupStaysAt : List ℕ → (ℕ → ℕ) → (ℕ → ℕ) → ℕ → ℕ → ℕ
+groupStaysAt σ old masks g s = cond (eqb (subgroup σ s) g) (count (bitAnd (masks s) (old s))) 0
+
+-- the stays of a placement of subgroup g, counted by node
+unfoldable pub groupStays : List ℕ → (ℕ → ℕ) → (ℕ → ℕ) → ℕ → ℕ
+groupStays σ old masks g = sumBelow (shards σ) (groupStaysAt σ old masks g)
 
 -- no valid placement of subgroup g exists
 pub record Impossible (σ : List ℕ) (held g : ℕ) : Type 0 where

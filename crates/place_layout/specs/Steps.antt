@@ -1,4 +1,4 @@
--- From one subgroup's answer to the placement so far: start, one subgroup more, and none.
+-- From one subgroup's answer to the placement so far: start, one subgroup more, with shards or without, and none.
 use mathlib.Core.Path.{_≡_, sym, ap, _∙_, subst}
 use mathlib.Core.Bool.{true, false}
 use mathlib.Core.List.{List}
@@ -7,41 +7,44 @@ use Prim.Native.Nat.{ℕ, _+_, _^_, _≤_, _<_}
 use native.Mathlib.Omega.{arith}
 use lib.ListN.{length, replicate, length-replicate, getD-replicate, List·getD-eq-default}
 use Rattle.base_laws.specs.Bools.{lt-or-le, eq-or-ne}
-use Rattle.base_sums.specs.Sums.{sumBelow, sum-zero}
-use Rattle.settings_values.specs.Settings.{nodes, Settings}
+use Rattle.base_laws.specs.Below.{anyBelow, any-fails}
+use Rattle.base_sums.specs.Sums.{sumBelow, sum-zero, sum-next}
+use Rattle.settings_values.specs.Settings.{nodes, shards, Settings}
 use Rattle.place_groups.specs.Placements.{groupMoves, Impossible}
 use Rattle.place_groups.specs.Chosen.{Chosen}
+use Rattle.search_theory.specs.Case.{Case}
 use Rattle.search_theory.specs.Tables.{caseOf}
-use Rattle.search_theory.specs.Least.{moves-most}
 use Rattle.search_theory.specs.Floor.{SheetFor}
 use Rattle.search_total.specs.declared.Solution.{Solution}
 use Rattle.search_total.specs.Post.{LeastAnswer}
 use Rattle.place_sheet.specs.Sheet.{sheetOf}
+use Rattle.place_owners.specs.Cases.{ofGroup, group-past}
 use Rattle.place_owners.specs.Floor.{sheet-for}
-use Rattle.place_owners.specs.Tables.{setsTable, needsTable, pricesTable, groupCase, case-for}
-use Rattle.place_owners.specs.Owners.{moves-same, impossible}
-use Rattle.place_owners.specs.Choice.{chosen-local, first-chosen}
+use Rattle.place_owners.specs.Tables.{setsTable, needsTable, capsTable, costsTable, groupCase, case-for, case-priced, case-spare}
+use Rattle.place_owners.specs.Owners.{moves-small, impossible}
+use Rattle.place_owners.specs.Choice.{chosen-local, none-moves, chosen-none, first-chosen}
 use Rattle.place_owners.specs.Adding.{masksOf, masksWith, with-masked, with-alike, with-rest, with-total, with-length}
 use Rattle.place_layout.specs.declared.Placed.{Placed}
 use Rattle.place_layout.specs.Post.{Unplaced, LaidSoFar}
 
+-- equal tables make one case
+case-is : (σ : List ℕ) (held : ℕ) (old : ℕ → ℕ) (g : ℕ) {sets needs caps costs : List ℕ} → sets ≡ setsTable σ → needs ≡ needsTable σ g → caps ≡ capsTable σ g
+    → costs ≡ costsTable σ held old g → caseOf sets needs caps costs 1 ≡ groupCase σ held old g
+case-is σ held old g p q r t = λ i. caseOf (p i) (q i) (r i) (t i) 1
+
 -- the search's answer on the subgroup's tables
-pub answer-for : (σ : List ℕ) (held : ℕ) (old : ℕ → ℕ) (g : ℕ) (sets needs prices : List ℕ) {a : Solution}
-    → sets ≡ setsTable σ → needs ≡ needsTable σ g → prices ≡ pricesTable σ held old g
-    → LeastAnswer (caseOf sets needs prices) a → LeastAnswer (groupCase σ held old g) a
-answer-for σ held old g sets needs prices {a} p q r w =
-    subst (λ (t : List ℕ). LeastAnswer (caseOf (setsTable σ) (needsTable σ g) t) a) r
-    (subst (λ (t : List ℕ). LeastAnswer (caseOf (setsTable σ) t prices) a) q (subst (λ (t : List ℕ). LeastAnswer (caseOf t needs prices) a) p w))
+pub answer-for : (σ : List ℕ) (held : ℕ) (old : ℕ → ℕ) (g : ℕ) (sets needs caps costs : List ℕ) {a : Solution}
+    → sets ≡ setsTable σ → needs ≡ needsTable σ g → caps ≡ capsTable σ g → costs ≡ costsTable σ held old g
+    → LeastAnswer (caseOf sets needs caps costs 1) a → LeastAnswer (groupCase σ held old g) a
+answer-for σ held old g sets needs caps costs {a} p q r t w = subst (λ (K : Case). LeastAnswer K a) (case-is σ held old g p q r t) w
 
 -- the sheet is one of the subgroup's tables
-pub sheet-told : (σ : List ℕ) (held : ℕ) (old : ℕ → ℕ) (g : ℕ) (sets needs prices : List ℕ) (sheet : List (List ℕ)) → Settings σ → held < 2 ^ nodes σ
-    → sets ≡ setsTable σ → needs ≡ needsTable σ g → prices ≡ pricesTable σ held old g → sheet ≡ sheetOf σ held old
-    → SheetFor (caseOf sets needs prices) sheet
-sheet-told σ held old g sets needs prices sheet right inside p q r e =
-    subst (SheetFor (caseOf sets needs prices)) (sym e)
-    (subst (λ (t : List ℕ). SheetFor (caseOf sets needs t) (sheetOf σ held old)) (sym r)
-    (subst (λ (t : List ℕ). SheetFor (caseOf sets t (pricesTable σ held old g)) (sheetOf σ held old)) (sym q)
-    (subst (λ (t : List ℕ). SheetFor (caseOf t (needsTable σ g) (pricesTable σ held old g)) (sheetOf σ held old)) (sym p) (sheet-for σ held old g right inside))))
+pub sheet-told : (σ : List ℕ) (held : ℕ) (old : ℕ → ℕ) (g : ℕ) (sets needs caps costs : List ℕ) (sheet : List (List ℕ)) → Settings σ → held < 2 ^ nodes σ
+    → sets ≡ setsTable σ → needs ≡ needsTable σ g → caps ≡ capsTable σ g → costs ≡ costsTable σ held old g → sheet ≡ sheetOf σ held old
+    → SheetFor (caseOf sets needs caps costs 1) sheet
+sheet-told σ held old g sets needs caps costs sheet right inside p q r t e =
+    subst (λ (K : Case). SheetFor K sheet) (sym (case-is σ held old g p q r t))
+    (subst (SheetFor (groupCase σ held old g)) (sym e) (sheet-for σ held old g right inside))
 
 -- nothing is placed
 blank-mask : (s : ℕ) → masksOf (replicate 16 0) s ≡ 0
@@ -63,33 +66,61 @@ stage-start {σ} {held} {old} {p} m t g =
       small = omega arith;
     }
 
+-- a subgroup without shards more: nothing to place
+pub stage-none : {σ : List ℕ} {held : ℕ} {old : ℕ → ℕ} {g : ℕ} {p r : Placed} → Settings σ → LaidSoFar σ held old g p → anyBelow 16 (ofGroup σ g) ≡ false
+    → r .masks ≡ p .masks → r .total ≡ p .total → r .group ≡ 0 → LaidSoFar σ held old (g + 1) r
+stage-none {σ} {held} {old} {g} {p} {r} right st e m t z =
+    record {
+      laid =
+          record {
+            chosen = λ h l. subst (λ (q : List ℕ). Chosen σ held old (masksOf q) h) (sym m) (each h l);
+            total =
+                t ∙ (omega (arith, st .laid .total, sum-next g (groupMoves σ old (masksOf (p .masks))), none-moves σ g empty old (masksOf (p .masks)))
+                ∙ ap (λ (q : List ℕ). sumBelow (g + 1) (groupMoves σ old (masksOf q))) (sym m));
+            rest = λ s l. ap (λ (q : List ℕ). masksOf q s) m ∙ st .laid .rest s l;
+            sized = ap (λ (q : List ℕ). length q) m ∙ st .laid .sized;
+            group = z;
+          };
+      small = omega (arith, st .small);
+    }
+  where
+    empty : (s : ℕ) → ofGroup σ g s ≡ false
+    empty s = ⊎-elim (λ l. any-fails 16 (ofGroup σ g) e s l) (λ l. group-past σ g s (omega (arith, right .sizes .shards-to))) (lt-or-le s 16)
+
+    each : (h : ℕ) → h < g + 1 → Chosen σ held old (masksOf (p .masks)) h
+    each h l =
+        ⊎-elim (λ d. subst (Chosen σ held old (masksOf (p .masks))) (sym d) (chosen-none σ g empty held old (masksOf (p .masks))))
+        (λ d. st .laid .chosen h (omega arith)) (eq-or-ne h g)
+
 module _ {σ : List ℕ} {held : ℕ} {old : ℕ → ℕ} {g : ℕ} {p : Placed} {a : Solution}
     (right : Settings σ) (inside : held < 2 ^ nodes σ) (st : LaidSoFar σ held old g p) (w : LeastAnswer (groupCase σ held old g) a) where
-  pub answer-small : a .exists ≡ true → a .moves ≤ 32
-  answer-small e = omega (arith, w .exact e, moves-most (w .found e .is .valid))
+  pub moved-small : {masks : List ℕ} → a .exists ≡ true → masks ≡ masksWith σ g (a .owners) (p .masks) → groupMoves σ old (masksOf masks) g ≤ 32
+  moved-small e m =
+      subst (λ (q : List ℕ). groupMoves σ old (masksOf q) g ≤ 32) (sym m)
+      (moves-small right inside (case-for σ held old g right) (with-masked σ g (a .owners) (p .masks) right) (w .found e .is .valid) old)
 
-  pub stage-more : {r : Placed} → a .exists ≡ true → r .masks ≡ masksWith σ g (a .owners) (p .masks) → r .total ≡ p .total + a .moves → r .group ≡ 0
-      → LaidSoFar σ held old (g + 1) r
-  stage-more {r} e m t z =
+  pub stage-more : {r : Placed} {moved : ℕ} → a .exists ≡ true → r .masks ≡ masksWith σ g (a .owners) (p .masks) → moved ≡ groupMoves σ old (masksOf (r .masks)) g
+      → r .total ≡ p .total + moved → r .group ≡ 0 → LaidSoFar σ held old (g + 1) r
+  stage-more {r} {moved} e m d t z =
       record {
         laid =
             record {
               chosen = λ h l. subst (λ (q : List ℕ). Chosen σ held old (masksOf q) h) (sym m) (each h l);
-              total = t ∙ (with-total σ g (a .owners) (p .masks) right old (p .total) (a .moves) (st .laid .total) counted ∙ ap (λ (q : List ℕ). sumBelow (g + 1) (groupMoves σ old (masksOf q))) (sym m));
+              total = t ∙ (with-total σ g (a .owners) (p .masks) right old (p .total) moved (st .laid .total) counted ∙ ap (λ (q : List ℕ). sumBelow (g + 1) (groupMoves σ old (masksOf q))) (sym m));
               rest = λ s l. ap (λ (q : List ℕ). masksOf q s) m ∙ with-rest σ g (a .owners) (p .masks) (st .laid .rest) s l;
               sized = ap (λ (q : List ℕ). length q) m ∙ with-length σ g (a .owners) (p .masks);
               group = z;
             };
-        small = omega (arith, st .small, answer-small e);
+        small = omega (arith, st .small, moved-small e m);
       }
     where
-      counted : a .moves ≡ groupMoves σ old (masksOf (masksWith σ g (a .owners) (p .masks))) g
-      counted = w .exact e ∙ moves-same right inside (case-for σ held old g) (with-masked σ g (a .owners) (p .masks) right) (w .found e .is .valid)
+      counted : moved ≡ groupMoves σ old (masksOf (masksWith σ g (a .owners) (p .masks))) g
+      counted = d ∙ ap (λ (q : List ℕ). groupMoves σ old (masksOf q) g) m
 
       each : (h : ℕ) → h < g + 1 → Chosen σ held old (masksOf (masksWith σ g (a .owners) (p .masks))) h
       each h l =
           ⊎-elim
-          (λ d. subst (Chosen σ held old (masksOf (masksWith σ g (a .owners) (p .masks)))) (sym d) (first-chosen (case-for σ held old g) right inside (with-masked σ g (a .owners) (p .masks) right) (w .found e)))
+          (λ d. subst (Chosen σ held old (masksOf (masksWith σ g (a .owners) (p .masks)))) (sym d) (first-chosen (case-for σ held old g right) right inside (case-spare σ held old g) (case-priced σ held old g) (with-masked σ g (a .owners) (p .masks) right) (w .found e)))
           (λ d. chosen-local (with-alike σ g (a .owners) (p .masks) right h d) (st .laid .chosen h (omega arith)))
           (eq-or-ne h g)
 
@@ -99,7 +130,7 @@ module _ {σ : List ℕ} {held : ℕ} {old : ℕ → ℕ} {g : ℕ} {p : Placed}
         lowest =
             record {
               below = omega arith;
-              none = subst (λ (h : ℕ). Impossible σ held h) (sym d) (impossible right inside (case-for σ held old g) (w .none e));
+              none = subst (λ (h : ℕ). Impossible σ held h) (sym d) (impossible right inside (case-for σ held old g right) (w .none e));
               lower = λ h k. (masksOf (p .masks), st .laid .chosen h (omega arith) .least .valid);
             };
         masks = m;

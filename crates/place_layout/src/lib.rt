@@ -1,5 +1,5 @@
-// The placement of all four subgroups: a mask for each shard, in every subgroup the first placement of least moves, or the lowest
-// subgroup without a valid placement.
+// The placement of all four subgroups: a mask for each shard, in every subgroup of the placements of least moves with the most stays the
+// first, or the lowest subgroup without a valid placement.
 use base_ids::Node;
 use base_ids::Shard;
 use search_total::Solution;
@@ -8,11 +8,13 @@ ghost use mathlib.Core.Bool.{true, cond};
 ghost use Prim.Native.Nat.{_+_, _<_, _^_};
 ghost use lib.Dec.{eqb};
 ghost use lib.ListN.{getD};
+ghost use Rattle.base_laws.specs.Below.{anyBelow};
 ghost use Rattle.base_laws.specs.Masks.{with};
 ghost use Rattle.settings_values.specs.Settings.{Settings, nodes};
 ghost use Rattle.search_theory.specs.Tables.{caseOf};
 ghost use Rattle.search_theory.specs.Floor.{SheetFor};
 ghost use Rattle.place_sheet.specs.Sheet.{sheetOf};
+ghost use Rattle.place_owners.specs.Cases.{ofGroup};
 ghost use Rattle.place_owners.specs.Tables.{groupCase};
 ghost use Rattle.place_owners.specs.Adding.{ownedBy, maskWith, masksWith};
 ghost use Rattle.search_total.specs.Post.{LeastAnswer};
@@ -27,15 +29,36 @@ pub struct Placed {
     pub total: u32,
 }
 
-// The search for one subgroup, from its tables and the sheet.
-fn least(sets: &[u8; 32], needs: &[u8; 16], prices: &[u8; 512], sheet: &[[u8; 16]; 16]) -> Solution
-    requires { ⌜ SheetFor (caseOf (now sets) (now needs) (now prices)) (now sheet) ⌝ }
-    ensures { λ r. ⌜ LeastAnswer (caseOf (now (sets .entry)) (now (needs .entry)) (now (prices .entry))) r ⌝ }
+// Some shard is of subgroup g.
+fn has_shards(settings: &[u32], g: u32) -> bool
+    requires { ⌜ Settings (now settings) ⌝ }
+    ensures { λ r. ⌜ r ≡ anyBelow 16 (ofGroup (now (settings .entry)) g) ⌝ }
 {
-    search_hinted::least(sets, needs, prices, sheet)
+    let mut s: u32 = 0;
+    while s < 16 {
+        if place_tables::in_group(settings, g, Shard(s)) {
+            return true;
+        }
+        s += 1;
+    }
+    false
 }
 
-// The first owners of least moves of subgroup g.
+// The search for one subgroup, from its tables and the sheet; a node that is placed nowhere costs 1.
+fn least(
+    sets: &[u8; 32],
+    needs: &[u8; 16],
+    caps: &[u8; 16],
+    costs: &[u8; 512],
+    sheet: &[[u8; 16]; 16],
+) -> Solution
+    requires { ⌜ SheetFor (caseOf (now sets) (now needs) (now caps) (now costs) 1) (now sheet) ⌝ }
+    ensures { λ r. ⌜ LeastAnswer (caseOf (now (sets .entry)) (now (needs .entry)) (now (caps .entry)) (now (costs .entry)) 1) r ⌝ }
+{
+    search_hinted::least(sets, needs, caps, costs, 1, sheet)
+}
+
+// The first owners of least weight of subgroup g.
 fn solve(settings: &[u32], held: u32, old: &[u32; 16], sheet: &[[u8; 16]; 16], g: u32) -> Solution
     requires { ⌜ Settings (now settings) ⌝ }
     requires { ⌜ held < 2 ^ nodes (now settings) ⌝ }
@@ -44,8 +67,9 @@ fn solve(settings: &[u32], held: u32, old: &[u32; 16], sheet: &[[u8; 16]; 16], g
 {
     let sets = place_tables::sets(settings);
     let needs = place_tables::needs(settings, g);
-    let prices = place_tables::prices(settings, held, old, sheet, g);
-    least(&sets, &needs, &prices, sheet)
+    let caps = place_tables::caps(settings, g);
+    let costs = place_tables::costs(settings, held, old, sheet, g);
+    least(&sets, &needs, &caps, &costs, sheet)
 }
 
 // The mask with node n if shard s owns it.
@@ -97,7 +121,7 @@ fn masks_with(settings: &[u32], g: u32, owners: &[u8; 32], masks: &[u32; 16]) ->
     all
 }
 
-// Subgroup g is placed beside the lower ones, or has no valid placement.
+// Subgroup g is placed beside the lower ones, or has no valid placement. Without shards there is nothing to place.
 fn place_group(
     settings: &[u32],
     held: u32,
@@ -113,6 +137,15 @@ fn place_group(
     requires { ⌜ LaidSoFar (now settings) held (λ s. getD (now old) s 0) g lower ⌝ }
     ensures { λ r. ⌜ OneMore (now (settings .entry)) held (λ s. getD (now (old .entry)) s 0) g r ⌝ }
 {
+    let was = lower.masks;
+    if !has_shards(settings, g) {
+        return Placed {
+            found: true,
+            group: 0,
+            masks: was,
+            total: lower.total,
+        };
+    }
     let answer = solve(settings, held, old, sheet, g);
     if !answer.exists {
         return Placed {
@@ -123,13 +156,13 @@ fn place_group(
         };
     }
     let owners = answer.owners;
-    let was = lower.masks;
     let masks = masks_with(settings, g, &owners, &was);
+    let moved = place_check::group_moves(settings, old, &masks, g);
     Placed {
         found: true,
         group: 0,
         masks,
-        total: lower.total + answer.moves as u32,
+        total: lower.total + moved,
     }
 }
 

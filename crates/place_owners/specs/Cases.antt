@@ -3,13 +3,14 @@ use mathlib.Core.Path.{_≡_, refl, sym, ap, _∙_}
 use mathlib.Core.Bool.{Bool, true, false, cond, _&&_}
 use mathlib.Core.List.{List}
 use mathlib.Core.Logic.{⊎-elim}
-use Prim.Native.Nat.{ℕ, _^_, _≤_, _<_}
+use Prim.Native.Nat.{ℕ, _+_, _*_, _-_, _^_, _≤_, _<_}
 use native.Mathlib.Omega.{arith}
 use lib.Dec.{eqb, ltb}
 use borrow.Author.Tests.{ltb-true, lt-ltb, le-ltb, eqb-true, eq-eqb}
-use Rattle.base_laws.specs.Bools.{and-both, and-left, and-right, and-fails-left, and-fails-right, no-true, lt-or-le}
+use Rattle.base_laws.specs.Bools.{either, and-both, and-left, and-right, and-fails-left, and-fails-right, no-true, lt-or-le}
 use Rattle.base_laws.specs.Masks.{has, has-below}
-use Rattle.settings_values.specs.Settings.{nodes, shards, setOf, subgroup, need, Settings}
+use Rattle.base_sums.specs.Sums.{sumBelow, sum-bound}
+use Rattle.settings_values.specs.Settings.{nodes, shards, setOf, subgroup, need, cap, Settings}
 pub use Rattle.place_groups.specs.Chosen.{ofGroup}
 use Rattle.search_theory.specs.Case.{Case}
 
@@ -17,19 +18,33 @@ use Rattle.search_theory.specs.Case.{Case}
 unfoldable pub setIn : List ℕ → ℕ → ℕ
 setIn σ n = cond (ltb n (nodes σ)) (setOf σ n) 0
 
--- how many nodes shard s needs; none if it is not of subgroup g
+-- from how many sets shard s needs nodes; none if it is not of subgroup g
 unfoldable pub needIn : List ℕ → ℕ → ℕ → ℕ
 needIn σ g s = cond (ofGroup σ g s) (need σ s) 0
 
--- of a shard of subgroup g and a held node: 0 it was a member, 1 it was none; of any other pair 2, not allowed
-unfoldable pub priceIn : List ℕ → ℕ → (ℕ → ℕ) → ℕ → ℕ → ℕ → ℕ
-priceIn σ held old g s n = cond (ofGroup σ g s && has held n) (cond (has (old s) n) 0 1) 2
+-- how many nodes shard s may have; none if it is not of subgroup g
+unfoldable pub capIn : List ℕ → ℕ → ℕ → ℕ
+capIn σ g s = cond (ofGroup σ g s) (cap σ s) 0
 
--- K is the case of subgroup g
-pub record CaseFor (σ : List ℕ) (held : ℕ) (old : ℕ → ℕ) (g : ℕ) (K : Case) : Type 0 where
+-- what a move costs in subgroup g: one more than the nodes that its caps allow over its needs
+unfoldable pub moveCost : List ℕ → ℕ → ℕ
+moveCost σ g = 1 + sumBelow 16 (λ s. capIn σ g s - needIn σ g s)
+
+-- node n in shard s: 0 it was a member, 1 it was none and moves
+unfoldable pub priceIn : (ℕ → ℕ) → ℕ → ℕ → ℕ
+priceIn old s n = cond (has (old s) n) 0 1
+
+-- of a shard of subgroup g and a held node: 0 it was a member, the cost of a move if it was none; of any other pair 255, not allowed
+unfoldable pub costIn : List ℕ → ℕ → (ℕ → ℕ) → ℕ → ℕ → ℕ → ℕ
+costIn σ held old g s n = cond (ofGroup σ g s && has held n) (cond (has (old s) n) 0 (moveCost σ g)) 255
+
+-- K is a case of subgroup g: it has its sets, needs and caps, and allows what g allows
+pub record CaseFor (σ : List ℕ) (held g : ℕ) (K : Case) : Type 0 where
   pub sets : (n : ℕ) → n < 32 → K .setOf n ≡ setIn σ n
   pub needs : (s : ℕ) → s < 16 → K .need s ≡ needIn σ g s
-  pub prices : (s n : ℕ) → s < 16 → n < 32 → K .price s n ≡ priceIn σ held old g s n
+  pub caps : (s : ℕ) → s < 16 → K .cap s ≡ capIn σ g s
+  pub allowed : (s n : ℕ) → s < 16 → n < 32 → K .cost s n < 255 → (ofGroup σ g s && has held n) ≡ true
+  pub allows : (s n : ℕ) → s < 16 → n < 32 → (ofGroup σ g s && has held n) ≡ true → K .cost s n < 255
 
 -- ---- shards of a subgroup
 
@@ -61,7 +76,7 @@ group-other σ g h s d o = no-true (ofGroup σ g s) (λ p. d (sym (group-subgrou
 pub shard-below : (σ : List ℕ) (g : ℕ) → Settings σ → (s : ℕ) → ofGroup σ g s ≡ true → s < 16
 shard-below σ g right s h = omega (arith, group-shard σ g s h, right .sizes .shards-to)
 
--- ---- needs, sets and prices
+-- ---- needs, caps, sets and costs
 
 pub need-of : (σ : List ℕ) (g s : ℕ) → ofGroup σ g s ≡ true → needIn σ g s ≡ need σ s
 unfolding needIn
@@ -70,6 +85,35 @@ need-of σ g s h = ap (λ (b : Bool). cond b (need σ s) 0) h
 pub need-none : (σ : List ℕ) (g s : ℕ) → ofGroup σ g s ≡ false → needIn σ g s ≡ 0
 unfolding needIn
 need-none σ g s h = ap (λ (b : Bool). cond b (need σ s) 0) h
+
+pub cap-of : (σ : List ℕ) (g s : ℕ) → ofGroup σ g s ≡ true → capIn σ g s ≡ cap σ s
+unfolding capIn
+cap-of σ g s h = ap (λ (b : Bool). cond b (cap σ s) 0) h
+
+pub cap-none : (σ : List ℕ) (g s : ℕ) → ofGroup σ g s ≡ false → capIn σ g s ≡ 0
+unfolding capIn
+cap-none σ g s h = ap (λ (b : Bool). cond b (cap σ s) 0) h
+
+-- a need is no more than the cap
+pub need-cap : (σ : List ℕ) (g s : ℕ) → Settings σ → needIn σ g s ≤ capIn σ g s
+need-cap σ g s right =
+    ⊎-elim (λ o. omega (arith, need-of σ g s o, cap-of σ g s o, right .cap-from s (group-shard σ g s o))) (λ o. omega (arith, need-none σ g s o))
+    (either (ofGroup σ g s))
+
+-- a shard may have at most 15 nodes more than it needs, so a move costs at most 241
+pub spare-most : (σ : List ℕ) (g s : ℕ) → Settings σ → capIn σ g s - needIn σ g s ≤ 15
+spare-most σ g s right =
+    ⊎-elim
+    (λ o. omega (arith, need-of σ g s o, cap-of σ g s o, right .need-from s (group-shard σ g s o), right .cap-to s (group-shard σ g s o)))
+    (λ o. omega (arith, cap-none σ g s o)) (either (ofGroup σ g s))
+
+pub move-most : (σ : List ℕ) (g : ℕ) → Settings σ → moveCost σ g ≤ 241
+unfolding moveCost
+move-most σ g right = omega (arith, sum-bound 16 15 (λ s. capIn σ g s - needIn σ g s) (λ s l. spare-most σ g s right))
+
+pub move-least : (σ : List ℕ) (g : ℕ) → 1 ≤ moveCost σ g
+unfolding moveCost
+move-least σ g = omega arith
 
 pub set-past : (σ : List ℕ) (n : ℕ) → nodes σ ≤ n → setIn σ n ≡ 0
 unfolding setIn
@@ -87,35 +131,52 @@ pub set-small : (σ : List ℕ) (n : ℕ) → Settings σ → setIn σ n < 16
 set-small σ n right =
     ⊎-elim (λ l. omega (arith, set-in σ n l, right .set-below n l, right .sizes .sets-to)) (λ l. omega (arith, set-past σ n l)) (lt-or-le n (nodes σ))
 
+pub price-most : (old : ℕ → ℕ) (s n : ℕ) → priceIn old s n ≤ 1
+unfolding priceIn
+price-most old s n = low (has (old s) n)
+  where
+    low : (b : Bool) → _≤_ (cond b 0 1) 1
+    low true = omega arith
+    low false = omega arith
+
 module _ (σ : List ℕ) (held : ℕ) (old : ℕ → ℕ) (g s n : ℕ) where
-  -- a pair is allowed just where the shard is of the subgroup and the node is held
-  pub price-allowed : priceIn σ held old g s n < 2 → (ofGroup σ g s && has held n) ≡ true
+  pub cost-held : (ofGroup σ g s && has held n) ≡ true → costIn σ held old g s n ≡ cond (has (old s) n) 0 (moveCost σ g)
+  unfolding costIn
+  cost-held h = ap (λ (b : Bool). cond b (cond (has (old s) n) 0 (moveCost σ g)) 255) h
+
+  -- a cost is the price times that of a move
+  pub cost-price : (ofGroup σ g s && has held n) ≡ true → costIn σ held old g s n ≡ priceIn old s n * moveCost σ g
   unfolding priceIn
-  price-allowed h = low (ofGroup σ g s && has held n) h
+  cost-price h = cost-held h ∙ times (has (old s) n)
     where
-      low : (b : Bool) → cond b (cond (has (old s) n) 0 1) 2 < 2 → b ≡ true
+      times : (b : Bool) → cond b 0 (moveCost σ g) ≡ cond b 0 1 * moveCost σ g
+      times true = omega arith
+      times false = omega arith
+
+  pub cost-out : ofGroup σ g s ≡ false → costIn σ held old g s n ≡ 255
+  unfolding costIn
+  cost-out h = ap (λ (b : Bool). cond (b && has held n) (cond (has (old s) n) 0 (moveCost σ g)) 255) h
+
+  pub cost-away : has held n ≡ false → costIn σ held old g s n ≡ 255
+  unfolding costIn
+  cost-away h = ap (λ (b : Bool). cond b (cond (has (old s) n) 0 (moveCost σ g)) 255) (and-fails-right (ofGroup σ g s) h)
+
+  -- a pair is allowed just where the shard is of the subgroup and the node is held
+  pub cost-allowed : costIn σ held old g s n < 255 → (ofGroup σ g s && has held n) ≡ true
+  unfolding costIn
+  cost-allowed h = low (ofGroup σ g s && has held n) h
+    where
+      low : (b : Bool) → cond b (cond (has (old s) n) 0 (moveCost σ g)) 255 < 255 → b ≡ true
       low true i = refl
       low false i = absurd (omega arith)
 
-  pub price-held : (ofGroup σ g s && has held n) ≡ true → priceIn σ held old g s n ≡ cond (has (old s) n) 0 1
-  unfolding priceIn
-  price-held h = ap (λ (b : Bool). cond b (cond (has (old s) n) 0 1) 2) h
-
-  pub price-low : (ofGroup σ g s && has held n) ≡ true → priceIn σ held old g s n < 2
-  price-low h = omega (arith, price-held h, low (has (old s) n))
+  pub cost-low : Settings σ → (ofGroup σ g s && has held n) ≡ true → costIn σ held old g s n < 255
+  cost-low right h = omega (arith, cost-held h, low (has (old s) n))
     where
-      low : (b : Bool) → cond b 0 1 < 2
+      low : (b : Bool) → cond b 0 (moveCost σ g) < 255
       low true = omega arith
-      low false = omega arith
-
-  pub price-out : ofGroup σ g s ≡ false → priceIn σ held old g s n ≡ 2
-  unfolding priceIn
-  price-out h = ap (λ (b : Bool). cond (b && has held n) (cond (has (old s) n) 0 1) 2) h
-
-  pub price-away : has held n ≡ false → priceIn σ held old g s n ≡ 2
-  unfolding priceIn
-  price-away h = ap (λ (b : Bool). cond b (cond (has (old s) n) 0 1) 2) (and-fails-right (ofGroup σ g s) h)
+      low false = omega (arith, move-most σ g right)
 
   -- the three tests, one after the other
-  pub price-told : {b : Bool} → ofGroup σ g s ≡ true → has held n ≡ true → has (old s) n ≡ b → priceIn σ held old g s n ≡ cond b 0 1
-  price-told o h e = price-held (and-both o h) ∙ ap (λ (b : Bool). cond b 0 1) e
+  pub cost-told : {b : Bool} → ofGroup σ g s ≡ true → has held n ≡ true → has (old s) n ≡ b → costIn σ held old g s n ≡ cond b 0 (moveCost σ g)
+  cost-told o h e = cost-held (and-both o h) ∙ ap (λ (b : Bool). cond b 0 (moveCost σ g)) e

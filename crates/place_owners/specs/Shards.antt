@@ -1,40 +1,18 @@
 -- What a valid placement of subgroup g says of each of its shards, and that this is all that it says.
 use mathlib.Core.Path.{_≡_}
-use mathlib.Core.Bool.{true, false, not, _&&_}
+use mathlib.Core.Bool.{true, not, _&&_}
 use mathlib.Core.List.{List}
 use mathlib.Core.Logic.{⊎-elim}
-use Prim.Native.Nat.{ℕ, _<_}
-use lib.Dec.{eqb}
-use borrow.Author.Tests.{eqb-true, eq-eqb}
-use Rattle.base_laws.specs.Bools.{either, clash, no-false, and-both, and-left, and-right, or-left, or-right, or-holds, or-neither, or-fails-left, or-fails-right, not-of-true, not-of-false, of-not-false, of-not-true}
+use Prim.Native.Nat.{ℕ, _≤_, _<_}
+use lib.Dec.{eqb, leb}
+use borrow.Author.Tests.{eqb-true, eq-eqb, leb-true, le-leb}
+use Rattle.base_laws.specs.Bools.{either, clash, and-both, and-left, and-right, or-left, or-right, or-holds, not-of-false, of-not-true}
 use Rattle.base_laws.specs.Below.{allBelow, all-at, all-of}
-use Rattle.base_laws.specs.Masks.{has, count, subset, disjoint}
-use Rattle.settings_values.specs.Settings.{shards, setOf, subgroup, need}
+use Rattle.base_laws.specs.Masks.{count, subset, disjoint}
+use Rattle.settings_values.specs.Settings.{shards, subgroup, need, cap}
 use Rattle.message_format.specs.Rows.{shardApart}
-use Rattle.place_groups.specs.Placements.{spread, shardValid, groupValidAt, groupValid}
-use Rattle.place_groups.specs.Spread.{apart}
+use Rattle.place_groups.specs.Placements.{setsIn, shardValid, groupValidAt, groupValid}
 use Rattle.place_owners.specs.Cases.{ofGroup, of-group, group-shard, group-subgroup}
-
--- ---- a mask of nodes of different failure sets
-
-module _ (σ : List ℕ) (mask : ℕ) where
-  pub spread-of : ((n m : ℕ) → n < 32 → m < n → has mask n ≡ true → has mask m ≡ true → setOf σ n ≡ setOf σ m → ⊥) → spread σ mask ≡ true
-  unfolding spread
-  spread-of f =
-      all-of 32 (λ n. allBelow n (apart σ mask n))
-      (λ n l. all-of n (apart σ mask n) (λ m k. no-false (apart σ mask n m) (λ e. meets n m l k e)))
-    where
-      meets : (n m : ℕ) → n < 32 → m < n → apart σ mask n m ≡ false → ⊥
-      meets n m l k e =
-          let both = of-not-false (has mask n && has mask m) (or-fails-left (not (has mask n && has mask m)) (not (eqb (setOf σ n) (setOf σ m))) e) in
-          let one = of-not-false (eqb (setOf σ n) (setOf σ m)) (or-fails-right (not (has mask n && has mask m)) (not (eqb (setOf σ n) (setOf σ m))) e) in
-          f n m l k (and-left (has mask n) (has mask m) both) (and-right (has mask n) (has mask m) both) (eqb-true (setOf σ n) (setOf σ m) one)
-
-  pub spread-apart : spread σ mask ≡ true → (n m : ℕ) → n < 32 → m < n → has mask n ≡ true → has mask m ≡ true → setOf σ n ≡ setOf σ m → ⊥
-  unfolding spread
-  spread-apart h n m l k p q e =
-      clash (all-at n (apart σ mask n) (all-at 32 (λ i. allBelow i (apart σ mask i)) h n l) m k)
-      (or-neither (not-of-true (and-both p q)) (not-of-true (eq-eqb (setOf σ n) (setOf σ m) e)))
 
 -- ---- a shard and the lower ones
 
@@ -55,31 +33,32 @@ module _ (σ : List ℕ) (masks : ℕ → ℕ) (s t : ℕ) where
       (λ d. d)
       (or-holds (not (eqb (subgroup σ t) (subgroup σ s))) (disjoint (masks t) (masks s)) h)
 
--- shard s has as many held nodes as it needs, of different failure sets, and shares none with a lower shard of its subgroup
+-- shard s has held nodes, at most its cap, from as many failure sets as it needs, and shares none with a lower shard of its subgroup
 pub record ShardPlaced (σ : List ℕ) (held : ℕ) (masks : ℕ → ℕ) (s : ℕ) : Type 0 where
   pub inside : subset (masks s) held ≡ true
-  pub sized : count (masks s) ≡ need σ s
-  pub spreads : spread σ (masks s) ≡ true
+  pub sized : count (masks s) ≤ cap σ s
+  pub spreads : need σ s ≤ setsIn σ (masks s)
   pub shares : (t : ℕ) → t < s → subgroup σ t ≡ subgroup σ s → disjoint (masks t) (masks s) ≡ true
 
 module _ (σ : List ℕ) (held : ℕ) (masks : ℕ → ℕ) (s : ℕ) where
   placed-test : ShardPlaced σ held masks s → (shardValid σ held masks s && allBelow s (shardApart σ masks s)) ≡ true
   unfolding shardValid
   placed-test w =
-      and-both (and-both (and-both (w .inside) (eq-eqb (count (masks s)) (need σ s) (w .sized))) (w .spreads))
+      and-both (and-both (and-both (w .inside) (le-leb (count (masks s)) (cap σ s) (w .sized))) (le-leb (need σ s) (setsIn σ (masks s)) (w .spreads)))
       (all-of s (shardApart σ masks s) (λ t l. apart-of σ masks s t (w .shares t l)))
 
   test-placed : (shardValid σ held masks s && allBelow s (shardApart σ masks s)) ≡ true → ShardPlaced σ held masks s
   unfolding shardValid
   test-placed h =
       let part = subset (masks s) held in
-      let size = eqb (count (masks s)) (need σ s) in
-      let valid : (part && size && spread σ (masks s)) ≡ true = and-left (shardValid σ held masks s) (allBelow s (shardApart σ masks s)) h in
-      let two : (part && size) ≡ true = and-left (part && size) (spread σ (masks s)) valid in
+      let size = leb (count (masks s)) (cap σ s) in
+      let wide = leb (need σ s) (setsIn σ (masks s)) in
+      let valid : (part && size && wide) ≡ true = and-left (shardValid σ held masks s) (allBelow s (shardApart σ masks s)) h in
+      let two : (part && size) ≡ true = and-left (part && size) wide valid in
       record {
         inside = and-left part size two;
-        sized = eqb-true (count (masks s)) (need σ s) (and-right part size two);
-        spreads = and-right (part && size) (spread σ (masks s)) valid;
+        sized = leb-true (count (masks s)) (cap σ s) (and-right part size two);
+        spreads = leb-true (need σ s) (setsIn σ (masks s)) (and-right (part && size) wide valid);
         shares = λ t l e. apart-disjoint σ masks s t (all-at s (shardApart σ masks s) (and-right (shardValid σ held masks s) (allBelow s (shardApart σ masks s)) h) t l) e;
       }
 

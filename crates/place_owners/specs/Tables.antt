@@ -1,16 +1,20 @@
--- The case of subgroup g by tables: sets by node, needs by shard, prices of shard s and node n at s * 32 + n.
-use mathlib.Core.Path.{_≡_, sym, ap, ap₂, _∙_, subst}
+-- The case of subgroup g by tables: sets by node, needs and caps by shard, costs of shard s and node n at s * 32 + n.
+use mathlib.Core.Path.{_≡_, refl, sym, ap, ap₂, _∙_, subst}
 use mathlib.Core.Bool.{false}
 use mathlib.Core.List.{List}
 use mathlib.Core.Logic.{⊎-elim}
-use Prim.Native.Nat.{ℕ, _+_, _*_, _/_, _%_, _<_}
+use Prim.Native.Nat.{ℕ, _+_, _*_, _-_, _/_, _%_, _<_}
 use native.Mathlib.Omega.{arith}
 use lib.ListN.{getD, set, replicate, length-replicate, getD-replicate}
 use Rattle.base_laws.specs.Bools.{lt-or-le}
+use Rattle.base_laws.specs.Masks.{has}
 use Rattle.base_laws.specs.Tables.{tabulate, filled, getD-tabulate, length-filled, getD-filled, getD-filled-rest, filled-ext, fill-turn}
+use Rattle.base_sums.specs.Sums.{sum-cong}
+use Rattle.settings_values.specs.Settings.{Settings}
 use Rattle.search_theory.specs.Case.{Case}
+use Rattle.search_theory.specs.Ranks.{Priced, spare}
 use Rattle.search_theory.specs.Tables.{caseOf}
-use Rattle.place_owners.specs.Cases.{ofGroup, setIn, needIn, priceIn, CaseFor, price-out}
+use Rattle.place_owners.specs.Cases.{ofGroup, setIn, needIn, capIn, moveCost, priceIn, costIn, CaseFor, price-most, cost-price, cost-out, cost-allowed, cost-low}
 
 abbrev pub setsTable : List ℕ → List ℕ
 setsTable σ = tabulate 32 (setIn σ)
@@ -18,52 +22,81 @@ setsTable σ = tabulate 32 (setIn σ)
 abbrev pub needsTable : List ℕ → ℕ → List ℕ
 needsTable σ g = tabulate 16 (needIn σ g)
 
-abbrev pub pricesTable : List ℕ → ℕ → (ℕ → ℕ) → ℕ → List ℕ
-pricesTable σ held old g = tabulate 512 (λ t. priceIn σ held old g (t / 32) (t % 32))
+abbrev pub capsTable : List ℕ → ℕ → List ℕ
+capsTable σ g = tabulate 16 (capIn σ g)
 
--- the prices of the pairs below t, and 2 from there on
-abbrev pub pricesBelow : List ℕ → ℕ → (ℕ → ℕ) → ℕ → ℕ → List ℕ
-pricesBelow σ held old g t = filled t (λ k. priceIn σ held old g (k / 32) (k % 32)) (replicate 512 2)
+abbrev pub costsTable : List ℕ → ℕ → (ℕ → ℕ) → ℕ → List ℕ
+costsTable σ held old g = tabulate 512 (λ t. costIn σ held old g (t / 32) (t % 32))
 
--- one price more of shard s
-pub prices-turn : (σ : List ℕ) (held : ℕ) (old : ℕ → ℕ) (g s n : ℕ) (m : List ℕ) (w : ℕ) → s < 16 → n < 32
-    → m ≡ pricesBelow σ held old g (s * 32 + n) → w ≡ priceIn σ held old g s n → set m (s * 32 + n) w ≡ pricesBelow σ held old g (s * 32 + (n + 1))
-prices-turn σ held old g s n m w l k e d =
+-- a node that is placed nowhere costs 1
+abbrev pub groupCase : List ℕ → ℕ → (ℕ → ℕ) → ℕ → Case
+groupCase σ held old g = caseOf (setsTable σ) (needsTable σ g) (capsTable σ g) (costsTable σ held old g) 1
+
+-- the costs of the pairs below t, and 255 from there on
+abbrev pub costsBelow : List ℕ → ℕ → (ℕ → ℕ) → ℕ → ℕ → List ℕ
+costsBelow σ held old g t = filled t (λ k. costIn σ held old g (k / 32) (k % 32)) (replicate 512 255)
+
+-- one cost more of shard s
+pub costs-turn : (σ : List ℕ) (held : ℕ) (old : ℕ → ℕ) (g s n : ℕ) (m : List ℕ) (w : ℕ) → s < 16 → n < 32
+    → m ≡ costsBelow σ held old g (s * 32 + n) → w ≡ costIn σ held old g s n → set m (s * 32 + n) w ≡ costsBelow σ held old g (s * 32 + (n + 1))
+costs-turn σ held old g s n m w l k e d =
     let a : s ≡ (s * 32 + n) / 32 = omega arith in
     let b : n ≡ (s * 32 + n) % 32 = omega arith in
     let i : s * 32 + n + 1 ≡ s * 32 + (n + 1) = omega arith in
-    fill-turn 512 2 (λ j. priceIn σ held old g (j / 32) (j % 32)) (s * 32 + n) m w (omega arith) e (d ∙ ap₂ (priceIn σ held old g) a b)
-    ∙ ap (pricesBelow σ held old g) i
+    fill-turn 512 255 (λ j. costIn σ held old g (j / 32) (j % 32)) (s * 32 + n) m w (omega arith) e (d ∙ ap₂ (costIn σ held old g) a b)
+    ∙ ap (costsBelow σ held old g) i
 
--- a shard of another subgroup has no other prices
-pub prices-skip : (σ : List ℕ) (held : ℕ) (old : ℕ → ℕ) (g s : ℕ) → s < 16 → ofGroup σ g s ≡ false
-    → pricesBelow σ held old g (s * 32) ≡ pricesBelow σ held old g (s * 32 + 32)
-prices-skip σ held old g s l o =
-    filled-ext 0 (s * 32 + 32) f (replicate 512 2) (filled (s * 32) f (replicate 512 2)) (omega (arith, length-replicate {A = ℕ} 512 2))
-    (length-filled (s * 32) f (replicate 512 2) (omega (arith, length-replicate {A = ℕ} 512 2))) low
-    (λ k p. getD-filled-rest (s * 32) f (replicate 512 2) k 0 (omega arith))
+-- a shard of another subgroup has no other costs
+pub costs-skip : (σ : List ℕ) (held : ℕ) (old : ℕ → ℕ) (g s : ℕ) → s < 16 → ofGroup σ g s ≡ false
+    → costsBelow σ held old g (s * 32) ≡ costsBelow σ held old g (s * 32 + 32)
+costs-skip σ held old g s l o =
+    filled-ext 0 (s * 32 + 32) f (replicate 512 255) (filled (s * 32) f (replicate 512 255)) (omega (arith, length-replicate {A = ℕ} 512 255))
+    (length-filled (s * 32) f (replicate 512 255) (omega (arith, length-replicate {A = ℕ} 512 255))) low
+    (λ k p. getD-filled-rest (s * 32) f (replicate 512 255) k 0 (omega arith))
   where
     f : ℕ → ℕ
-    f k = priceIn σ held old g (k / 32) (k % 32)
+    f k = costIn σ held old g (k / 32) (k % 32)
 
-    low : (k : ℕ) → k < s * 32 + 32 → getD (filled (s * 32) f (replicate 512 2)) k 0 ≡ f k
+    low : (k : ℕ) → k < s * 32 + 32 → getD (filled (s * 32) f (replicate 512 255)) k 0 ≡ f k
     low k p =
-        ⊎-elim (λ q. getD-filled (s * 32) f (replicate 512 2) k 0 q)
+        ⊎-elim (λ q. getD-filled (s * 32) f (replicate 512 255) k 0 q)
         (λ q.
         let d : s ≡ k / 32 = omega arith in
-        getD-filled-rest (s * 32) f (replicate 512 2) k 0 q
-        ∙ (getD-replicate 512 k 2 0 (omega arith) ∙ sym (price-out σ held old g (k / 32) (k % 32) (subst (λ (i : ℕ). ofGroup σ g i ≡ false) d o))))
+        getD-filled-rest (s * 32) f (replicate 512 255) k 0 q
+        ∙ (getD-replicate 512 k 255 0 (omega arith) ∙ sym (cost-out σ held old g (k / 32) (k % 32) (subst (λ (i : ℕ). ofGroup σ g i ≡ false) d o))))
         (lt-or-le k (s * 32))
 
-abbrev pub groupCase : List ℕ → ℕ → (ℕ → ℕ) → ℕ → Case
-groupCase σ held old g = caseOf (setsTable σ) (needsTable σ g) (pricesTable σ held old g)
+module _ (σ : List ℕ) (held : ℕ) (old : ℕ → ℕ) (g : ℕ) where
+  pub cost-at : (s n : ℕ) → s < 16 → n < 32 → groupCase σ held old g .cost s n ≡ costIn σ held old g s n
+  cost-at s n l k =
+      getD-tabulate 512 (λ t. costIn σ held old g (t / 32) (t % 32)) (s * 32 + n) 0 (omega arith)
+      ∙ ap₂ (costIn σ held old g) (omega arith) (omega arith)
 
-pub case-for : (σ : List ℕ) (held : ℕ) (old : ℕ → ℕ) (g : ℕ) → CaseFor σ held old g (groupCase σ held old g)
-case-for σ held old g =
-    record {
-      sets = λ n l. getD-tabulate 32 (setIn σ) n 0 l;
-      needs = λ s l. getD-tabulate 16 (needIn σ g) s 0 l;
-      prices = λ s n l k.
-          getD-tabulate 512 (λ t. priceIn σ held old g (t / 32) (t % 32)) (s * 32 + n) 0 (omega arith)
-          ∙ ap₂ (priceIn σ held old g) (omega arith) (omega arith);
-    }
+  pub case-for : Settings σ → CaseFor σ held g (groupCase σ held old g)
+  case-for right =
+      record {
+        sets = λ n l. getD-tabulate 32 (setIn σ) n 0 l;
+        needs = λ s l. getD-tabulate 16 (needIn σ g) s 0 l;
+        caps = λ s l. getD-tabulate 16 (capIn σ g) s 0 l;
+        allowed = λ s n l k h. cost-allowed σ held old g s n (subst (λ (c : ℕ). c < 255) (cost-at s n l k) h);
+        allows = λ s n l k h. subst (λ (c : ℕ). c < 255) (sym (cost-at s n l k)) (cost-low σ held old g s n right h);
+      }
+
+  -- its costs are prices times the cost of a move
+  pub case-priced : Priced (groupCase σ held old g) (moveCost σ g) (priceIn old)
+  case-priced =
+      record {
+        idle = refl;
+        low = λ s n l k h. price-most old s n;
+        cost = λ s n l k h. cost-at s n l k ∙ cost-price σ held old g s n (cost-allowed σ held old g s n (subst (λ (c : ℕ). c < 255) (cost-at s n l k) h));
+      }
+
+  -- and a move costs more than the nodes that the caps leave over the needs
+  pub case-spare : spare (groupCase σ held old g) < moveCost σ g
+  unfolding spare moveCost
+  case-spare =
+      omega (
+        arith,
+        sum-cong 16 (λ s. groupCase σ held old g .cap s - groupCase σ held old g .need s) (λ s. capIn σ g s - needIn σ g s)
+            (λ s l. ap₂ (λ (a b : ℕ). a - b) (getD-tabulate 16 (capIn σ g) s 0 l) (getD-tabulate 16 (needIn σ g) s 0 l)),
+      )

@@ -1,4 +1,4 @@
--- The choice in every subgroup is the choice over all shards, and the other way: subgroups share no shard, so moves add up, and at the
+-- The choice in every subgroup is the choice over all shards, and the other way: subgroups share no shard, so moves and stays add up, and at the
 -- first shard that differs, whatever its subgroup, the list is the smaller.
 use mathlib.Core.Path.{_≡_, refl, sym, ap, subst}
 use mathlib.Core.Bool.{Bool, true, false, cond}
@@ -11,10 +11,10 @@ use Rattle.base_laws.specs.Bools.{either, lt-or-le, eq-or-ne}
 use Rattle.base_sums.specs.Sums.{sum-mono, sum-tight, sum-but-one}
 use Rattle.base_sums.specs.Lists.{listBefore}
 use Rattle.settings_values.specs.Settings.{nodes, shards, subgroup, Settings}
-use Rattle.place_groups.specs.Placements.{groupValid, groupMoves, LeastMoves}
-use Rattle.place_groups.specs.Chosen.{isShard, nodesIn, Sooner, NotLater, Chosen, planMoves, AllValid, LeastPlan, ChosenPlan, sooner-parts}
+use Rattle.place_groups.specs.Placements.{groupValid, groupMoves, groupStays, LeastMoves}
+use Rattle.place_groups.specs.Chosen.{isShard, nodesIn, Sooner, NotLater, Chosen, planMoves, planStays, AllValid, LeastPlan, ChosenPlan, sooner-parts}
 use Rattle.place_owners.specs.Cases.{ofGroup, of-group, group-shard, group-other}
-use Rattle.place_owners.specs.Local.{AlikeInGroup, valid-local, moves-local}
+use Rattle.place_owners.specs.Local.{AlikeInGroup, valid-local, moves-local, stays-local}
 use Rattle.place_owners.specs.Choice.{chosen-unique}
 
 pub is-shard : (σ : List ℕ) (s : ℕ) → s < shards σ → isShard σ s ≡ true
@@ -88,8 +88,20 @@ pub chosen-whole : {σ : List ℕ} {held : ℕ} {old masks : ℕ → ℕ} → Se
 chosen-whole {σ} {held} {old} {masks} right h =
     record {
       least = least-whole (λ g l. h g l .least);
-      first = λ other w. not-later-whole right (λ g l. h g l .first other (least-part (λ k i. h k i .least) w g l));
+      most = λ other w. sum-mono 4 (groupStays σ old other) (groupStays σ old masks) (fewer other w);
+      first = λ other w e. not-later-whole right (λ g l. h g l .first other (part other w g l) (as-many other w e g l));
     }
+  where
+    part : (other : ℕ → ℕ) → LeastPlan σ held old other → (g : ℕ) → g < 4 → LeastMoves σ held old other g
+    part other w = least-part (λ k i. h k i .least) w
+
+    fewer : (other : ℕ → ℕ) → LeastPlan σ held old other → (g : ℕ) → g < 4 → groupStays σ old other g ≤ groupStays σ old masks g
+    fewer other w g l = h g l .most other (part other w g l)
+
+    -- as many in all, and nowhere more: as many in each subgroup
+    as-many : (other : ℕ → ℕ) → LeastPlan σ held old other → planStays σ old other ≡ planStays σ old masks → (g : ℕ) → g < 4 → groupStays σ old other g ≡ groupStays σ old masks g
+    as-many other w e g l =
+        omega (arith, fewer other w g l, sum-tight 4 (groupStays σ old other) (groupStays σ old masks) (fewer other w) (omega arith) g l)
 
 -- ---- from the whole to a subgroup
 
@@ -125,6 +137,14 @@ module _ (σ : List ℕ) (g : ℕ) (a b : ℕ → ℕ) where
         moves-local ours-alike old,
       )
 
+  spliced-stays : (old : ℕ → ℕ) → g < 4 → planStays σ old (spliced σ g a b) + groupStays σ old b g ≡ planStays σ old b + groupStays σ old a g
+  spliced-stays old l =
+      omega (
+        arith,
+        sum-but-one 4 (groupStays σ old (spliced σ g a b)) (groupStays σ old b) g l (λ h i e. sym (stays-local (other-alike h e) old)),
+        stays-local ours-alike old,
+      )
+
 module _ {σ : List ℕ} {held : ℕ} {old masks : ℕ → ℕ} (c : ChosenPlan σ held old masks) (g : ℕ) (l : g < 4) where
   pub part-least : LeastMoves σ held old masks g
   part-least =
@@ -142,7 +162,11 @@ module _ {σ : List ℕ} {held : ℕ} {old masks : ℕ → ℕ} (c : ChosenPlan 
 
   -- the choice over all shards is the choice in every subgroup
   pub chosen-part : Chosen σ held old masks g
-  chosen-part = record { least = part-least; first = λ other w. within other (c .first (spliced σ g other masks) (spliced-least other w)) }
+  chosen-part = record {
+    least = part-least;
+    most = λ other w. omega (arith, c .most (spliced σ g other masks) (spliced-least other w), spliced-stays σ g other masks old l);
+    first = λ other w e. within other (c .first (spliced σ g other masks) (spliced-least other w) (omega (arith, spliced-stays σ g other masks old l)));
+  }
     where
       shard-of : (s : ℕ) → ofGroup σ g s ≡ true → isShard σ s ≡ true
       shard-of s o = is-shard σ s (group-shard σ g s o)

@@ -1,7 +1,7 @@
 -- The sheet by masks of failure sets, and what its entries say.
-use Prim.Native.Nat.{ℕ, _+_, _≤_, _<_}
+use Prim.Native.Nat.{ℕ, _≤_, _<_}
 use mathlib.Core.Path.{_≡_, refl, sym, ap, ap₂, _∙_}
-use mathlib.Core.Bool.{Bool, true, false, cond, _&&_, _||_, or-false}
+use mathlib.Core.Bool.{Bool, true, false, cond, _&&_}
 use mathlib.Core.List.{List, []}
 use mathlib.Core.Logic.{⊎-elim}
 use lib.Bits.{bitAnd}
@@ -9,45 +9,14 @@ use lib.Dec.{eqb, ltb}
 use lib.ListN.{getD}
 use native.Mathlib.Omega.{arith}
 use borrow.Author.Tests.{lt-ltb, le-ltb, ltb-true, eq-eqb, ne-eqb}
-use Rattle.base_laws.specs.Bools.{and-both, and-left, and-right, and-fails-left, and-fails-right, no-true, lt-or-le}
-use Rattle.base_laws.specs.Below.{anyBelow, any-at, any-none, any-none-of, any-mono, any-step}
-use Rattle.base_laws.specs.Masks.{has, with, has-with, has-and, has-zero}
+use Rattle.base_laws.specs.Bools.{and-both, and-left, and-right, and-fails-right, no-true, lt-or-le}
+use Rattle.base_laws.specs.Below.{any-at, any-none-of, any-mono}
+use Rattle.base_laws.specs.Masks.{has, has-and}
 use Rattle.base_laws.specs.Tables.{tabulate, tabulate-cong, getD-tabulate}
 use Rattle.settings_values.specs.Settings.{nodes, sets, shards, setOf, Settings}
-use Rattle.place_sheet.specs.Sheet.{meetsSet, sheetAt, sheetOf}
-
--- the mask r has the failure sets of those of the first n nodes that are in the mask
-pub record SetsBelow (σ : List ℕ) (mask n r : ℕ) : Type 0 where
-  pub bits : (f : ℕ) → has r f ≡ anyBelow n (λ m. has mask m && eqb (setOf σ m) f)
-
--- the mask r has the failure sets of the nodes in the mask
-pub record SetsOf (σ : List ℕ) (mask r : ℕ) : Type 0 where
-  pub bits : (f : ℕ) → has r f ≡ meetsSet σ mask f
-
-module _ (σ : List ℕ) (mask : ℕ) where
-  pub sets-start : SetsBelow σ mask 0 0
-  sets-start = record { bits = λ f. has-zero f ∙ sym (any-none (λ m. has mask m && eqb (setOf σ m) f)) }
-
-  pub sets-hit : (n r : ℕ) → has mask n ≡ true → SetsBelow σ mask n r → SetsBelow σ mask (n + 1) (with r (setOf σ n))
-  sets-hit n r p w = record {
-    bits = λ f.
-        has-with r (setOf σ n) f
-        ∙ (ap₂ (λ (a b : Bool). a || (b && eqb (setOf σ n) f)) (w .bits f) (sym p)
-        ∙ sym (any-step n (λ m. has mask m && eqb (setOf σ m) f)));
-  }
-
-  pub sets-miss : (n r : ℕ) → has mask n ≡ false → SetsBelow σ mask n r → SetsBelow σ mask (n + 1) r
-  sets-miss n r p w = record {
-    bits = λ f.
-        w .bits f
-        ∙ (sym (or-false (anyBelow n (λ m. has mask m && eqb (setOf σ m) f)))
-        ∙ (ap (λ (b : Bool). anyBelow n (λ m. has mask m && eqb (setOf σ m) f) || b) (sym (and-fails-left (eqb (setOf σ n) f) p))
-        ∙ sym (any-step n (λ m. has mask m && eqb (setOf σ m) f))));
-  }
-
-  pub sets-end : (n r : ℕ) → n ≡ nodes σ → SetsBelow σ mask n r → SetsOf σ mask r
-  unfolding meetsSet
-  sets-end n r e w = record { bits = λ f. w .bits f ∙ ap (λ (k : ℕ). anyBelow k (λ m. has mask m && eqb (setOf σ m) f)) e }
+use Rattle.place_groups.specs.Placements.{meetsSet}
+use Rattle.place_groups.specs.Sets.{setsOf, has-sets-of}
+use Rattle.place_sheet.specs.Sheet.{sheetAt, sheetOf}
 
 -- the entry from the sets of the shard's held old members and those of all held nodes
 unfoldable pub entryBy : List ℕ → ℕ → ℕ → ℕ → ℕ → ℕ
@@ -62,12 +31,13 @@ module _ (σ : List ℕ) (stay any s f : ℕ) where
   unfolding entryBy
   entry-in l k = ap (λ (b : Bool). cond b (cond (has stay f) 0 (cond (has any f) 1 2)) 2) (and-both (lt-ltb s (shards σ) l) (lt-ltb f (sets σ) k))
 
-pub row-is : (σ : List ℕ) (held : ℕ) (old : ℕ → ℕ) (stay any s : ℕ) → SetsOf σ (bitAnd held (old s)) stay → SetsOf σ held any
+pub row-is : (σ : List ℕ) (held : ℕ) (old : ℕ → ℕ) (stay any s : ℕ) → stay ≡ setsOf σ (bitAnd held (old s)) → any ≡ setsOf σ held
     → tabulate 16 (entryBy σ stay any s) ≡ tabulate 16 (sheetAt σ held old s)
 unfolding entryBy sheetAt
 row-is σ held old stay any s a b =
     tabulate-cong 16 (entryBy σ stay any s) (sheetAt σ held old s)
-    (λ f l. ap₂ (λ (x y : Bool). cond (ltb s (shards σ) && ltb f (sets σ)) (cond x 0 (cond y 1 2)) 2) (a .bits f) (b .bits f))
+    (λ f l. ap₂ (λ (x y : Bool). cond (ltb s (shards σ) && ltb f (sets σ)) (cond x 0 (cond y 1 2)) 2)
+    (ap (λ (m : ℕ). has m f) a ∙ has-sets-of σ (bitAnd held (old s)) f) (ap (λ (m : ℕ). has m f) b ∙ has-sets-of σ held f))
 
 -- ---- reading the sheet
 

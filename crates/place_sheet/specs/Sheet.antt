@@ -1,22 +1,13 @@
 -- The placement sheet: for each shard and failure set what a node of that set costs the shard at least. From the settings σ, the
 -- mask of held nodes and the members that each shard had in the kept view (old).
 use Prim.Native.Nat.{ℕ}
-use mathlib.Core.Bool.{Bool, cond, _&&_}
+use mathlib.Core.Bool.{cond, _&&_}
 use mathlib.Core.List.{List}
 use lib.Bits.{bitAnd}
-use lib.Dec.{eqb, ltb}
-use Rattle.base_laws.specs.Below.{anyBelow, countBelow}
-use Rattle.base_laws.specs.Masks.{has}
+use lib.Dec.{ltb}
 use Rattle.base_laws.specs.Tables.{tabulate}
-use Rattle.settings_values.specs.Settings.{nodes, sets, shards, setOf}
-
--- some node of the mask is of failure set f
-unfoldable pub meetsSet : List ℕ → ℕ → ℕ → Bool
-meetsSet σ mask f = anyBelow (nodes σ) (λ n. has mask n && eqb (setOf σ n) f)
-
--- how many failure sets the nodes of the mask are of
-unfoldable pub setsIn : List ℕ → ℕ → ℕ
-setsIn σ mask = countBelow 16 (meetsSet σ mask)
+use Rattle.settings_values.specs.Settings.{sets, shards}
+use Rattle.place_groups.specs.Placements.{meetsSet}
 
 -- 0 if a held old member of shard s is in set f, 1 if only other held nodes are, 2 if none, and 2 from S or F up
 unfoldable pub sheetAt : List ℕ → ℕ → (ℕ → ℕ) → ℕ → ℕ → ℕ

@@ -1,40 +1,11 @@
 // The placement sheet, 16 by 16, by shard and failure set.
-use base_ids::Node;
 use base_ids::Shard;
 ghost use mathlib.Core.Path.{_≡_};
-ghost use Prim.Native.Nat.{_+_, _<_};
 ghost use lib.ListN.{getD};
 ghost use Rattle.base_laws.specs.Tables.{tabulate};
-ghost use Rattle.settings_values.specs.Settings.{Settings, nodes};
+ghost use Rattle.settings_values.specs.Settings.{Settings};
 ghost use Rattle.place_sheet.specs.Sheet.{sheetOf};
-ghost use Rattle.place_sheet.specs.Laws.{SetsBelow, SetsOf, entryBy};
-
-// The failure sets seen, with that of node n if it is in the mask.
-fn seen_with(settings: &[u32], mask: u32, seen: u32, n: Node) -> u32
-    requires { ⌜ Settings (now settings) ⌝ }
-    requires { ⌜ n .0 < nodes (now settings) ⌝ }
-    ensures { λ r. ⌜ (SetsBelow (now (settings .entry)) mask (n .0) seen → SetsBelow (now (settings .entry)) mask (n .0 + 1) r) ⌝ }
-{
-    if !base_masks::has(mask, n.0 as usize) {
-        return seen;
-    }
-    base_masks::with(seen, settings_values::set_of(settings, n) as usize)
-}
-
-// The failure sets of the nodes in a mask.
-fn sets_of(settings: &[u32], mask: u32) -> u32
-    requires { ⌜ Settings (now settings) ⌝ }
-    ensures { λ r. ⌜ SetsOf (now (settings .entry)) mask r ⌝ }
-{
-    let count = settings_values::nodes(settings);
-    let mut seen: u32 = 0;
-    let mut n: u32 = 0;
-    while n < count {
-        seen = seen_with(settings, mask, seen, Node(n));
-        n += 1;
-    }
-    seen
-}
+ghost use Rattle.place_sheet.specs.Laws.{entryBy};
 
 // The entry of shard s and failure set f, from the sets of the shard's held old members and those of all held nodes.
 fn entry(settings: &[u32], stay: u32, any: u32, s: Shard, f: u32) -> u8
@@ -76,11 +47,11 @@ pub fn sheet(settings: &[u32], held: u32, old: &[u32; 16]) -> [[u8; 16]; 16]
     requires { ⌜ Settings (now settings) ⌝ }
     ensures { λ r. ⌜ r ≡ sheetOf (now (settings .entry)) held (λ s. getD (now (old .entry)) s 0) ⌝ }
 {
-    let any = sets_of(settings, held);
+    let any = place_groups::sets_of(settings, held);
     let mut rows = [[2u8; 16]; 16];
     let mut s: u32 = 0;
     while s < 16 {
-        let stay = sets_of(settings, held & old[s as usize]);
+        let stay = place_groups::sets_of(settings, held & old[s as usize]);
         rows[s as usize] = row(settings, stay, any, Shard(s));
         s += 1;
     }

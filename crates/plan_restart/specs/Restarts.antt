@@ -1,5 +1,6 @@
 -- What the held reports allow, from the settings σ, the kept view v with its termination t, the mask of held nodes and the
--- desk d. Nothing is left free: what is not a definition's value is the choice among placements of least moves, and that is the first.
+-- desk d. Nothing is left free: what is not a definition's value is the choice among placements of least moves, and that is the first of
+-- those with the most stays.
 use Prim.Native.Nat.{ℕ, _+_, _*_, _<_}
 use mathlib.Core.Bool.{true}
 use mathlib.Core.List.{List}
@@ -38,7 +39,8 @@ pub record Plans (σ : List ℕ) (v : Layout) (t : Termination) (held : ℕ) (d 
   -- holders and targets are those of the held reports
   pub holders : p .holders ≡ holdersOf σ v t held d
   pub targets : p .targets ≡ targetsOf σ v t held d
-  -- every subgroup's placement is the chosen one: valid, no valid one has fewer moves, and of those that have as many the first
+  -- every subgroup's placement is the chosen one: valid, no valid one has fewer moves, of those that have as many none has more stays,
+  -- and of those that have as many of both it is the first
   pub chosen : (g : ℕ) → g < 4 → Chosen σ held (maskAt v) (maskAt (p .layout)) g
   -- and so is the placement as a whole, over all shards
   pub whole : ChosenPlan σ held (maskAt v) (maskAt (p .layout))

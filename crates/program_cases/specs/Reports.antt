@@ -6,7 +6,7 @@ use mathlib.Core.Path.{_≡_, refl, ap, _∙_}
 use lib.ListN.{replicate}
 use Rattle.base_laws.specs.Below.{allBelow, anyBelow, lowest}
 use Rattle.base_laws.specs.Tables.{tabulate, padded}
-use Rattle.settings_values.specs.Settings.{sizesOk, nodesOk, shardOk, shardsOk, settingsOk}
+use Rattle.settings_values.specs.Settings.{cap, sizesOk, nodesOk, shardOk, shardsOk, settingsOk}
 use Rattle.base_ids.specs.Refusals.{accepted, unless, unlessAt, firstOf}
 use Rattle.message_format.specs.Chain.{place, following, row5, row8}
 use Rattle.message_format.specs.Records.{precedes, shardsWhere}
@@ -60,7 +60,7 @@ record CasesCome : Type 0 where
   i : Come (settingsWith 4 3) all-six (gathered view7 63)
 
 comes : CasesCome
-unfolding sizesOk nodesOk shardOk shardsOk settingsOk stateAfter allAccepted fresh keeping allBelow anyBelow lowest tabulate padded unless unlessAt firstOf place following row5 row8 precedes shardsWhere row6 viewOk row7 kindOk plain kindAt shardAt surplus sequenceAt complete shardApart row10At row10 position viewFits legal row11At bodyWord bodyOf contentsOf recordsRefusal headRefusal messageRefusal sameView row12 sameTermination row13 row18 keptRefusal refusalBeside layoutOf terminationOf renewed noLatest noted afterReport
+unfolding sizesOk nodesOk cap shardOk shardsOk settingsOk stateAfter allAccepted fresh keeping allBelow anyBelow lowest tabulate padded unless unlessAt firstOf place following row5 row8 precedes shardsWhere row6 viewOk row7 kindOk plain kindAt shardAt surplus sequenceAt complete shardApart row10At row10 position viewFits legal row11At bodyWord bodyOf contentsOf recordsRefusal headRefusal messageRefusal sameView row12 sameTermination row13 row18 keptRefusal refusalBeside layoutOf terminationOf renewed noLatest noted afterReport
 comes =
     record {
       a = record { right = refl; taken = refl; state = refl };

@@ -6,16 +6,17 @@ use mathlib.Core.List.{List, [], _∷_, _++_}
 use mathlib.Core.Path.{_≡_, refl}
 use lib.Count.{ones, onesIn}
 use lib.ListN.{replicate}
-use Rattle.base_laws.specs.Below.{allBelow, anyBelow, lowest}
+use Rattle.base_laws.specs.Below.{allBelow, anyBelow, countBelow, lowest}
 use Rattle.base_laws.specs.Positions.{pairNotAfter}
 use Rattle.base_laws.specs.Tables.{tabulate}
 use Rattle.base_sums.specs.Sums.{sumBelow}
 use Rattle.base_ids.specs.declared.Node.{Node}
 use Rattle.base_ids.specs.declared.Position.{Position}
+use Rattle.settings_values.specs.Settings.{cap}
 use Rattle.message_format.specs.Chain.{place, following}
 use Rattle.message_format.specs.Rows.{viewOk, shardApart, row10At, row10, position}
 use Rattle.message_format.specs.Messages.{bodyWord, bodyOf, contentsOf}
-use Rattle.place_groups.specs.Placements.{spread, shardValid, groupValidAt, groupValid, groupMovesAt, groupMoves}
+use Rattle.place_groups.specs.Placements.{meetsSet, setsIn, shardValid, groupValidAt, groupValid, groupMovesAt, groupMoves}
 use Rattle.report_views.specs.declared.Layout.{Layout}
 use Rattle.report_views.specs.declared.Termination.{Termination}
 use Rattle.report_views.specs.declared.Plan.{Plan}
@@ -180,6 +181,10 @@ needsOne = 7 ∷ 3 ∷ 4 ∷ 3 ∷ 0 ∷ 0 ∷ 1 ∷ 1 ∷ 1 ∷ 2 ∷ 2 ∷ 1 �
 abbrev pub lastGroup : List ℕ
 lastGroup = 7 ∷ 3 ∷ 4 ∷ 3 ∷ 0 ∷ 0 ∷ 1 ∷ 1 ∷ 1 ∷ 2 ∷ 2 ∷ 2 ∷ 3 ∷ 769 ∷ []
 
+-- and with a cap of two
+abbrev pub lastCapped : List ℕ
+lastCapped = 7 ∷ 3 ∷ 4 ∷ 3 ∷ 0 ∷ 0 ∷ 1 ∷ 1 ∷ 1 ∷ 2 ∷ 2 ∷ 2 ∷ 3 ∷ 131841 ∷ []
+
 abbrev pub planUnheld : Plan
 planUnheld =
     planOf (viewOfParts 8 31 1 2 8 0) 1 (record { 0 = 0 } ∷ record { 0 = 1 } ∷ record { 0 = 32 } ∷ replicate 13 (record { 0 = 0 }))
@@ -211,6 +216,8 @@ pub record PlanClauses : Type 0 where
   pub invalid : planSound caseSettings view7 noTermination 63 caseSlots (planWith (viewOfParts 8 63 3 52 8 0) 3) ≡ false
   -- shard 2 is of subgroup 3 and gets two nodes where it needs one
   pub last-group : planSound lastGroup view7 noTermination 63 caseSlots (planWith (viewOfParts 8 63 5 50 9 0) 3) ≡ false
+  -- where its cap is two it may have them; stays are not asked again, and node 5 was its member
+  pub capped-group : planSound lastCapped view7 noTermination 63 caseSlots (planWith (viewOfParts 8 63 5 50 9 0) 3) ≡ true
   pub other-total : planSound caseSettings view7 noTermination 63 caseSlots (planWith (viewOfParts 8 63 5 50 8 0) 3) ≡ false
   -- a valid placement with more moves than need be: least moves are not asked again
   pub not-least : planSound caseSettings view7 noTermination 63 caseSlots (planWith (viewOfParts 8 63 9 50 4 0) 3) ≡ true
@@ -219,8 +226,17 @@ pub record PlanClauses : Type 0 where
   -- no plan is none
   pub no-plan : planSound caseSettings view7 noTermination 63 caseSlots noPlan ≡ false
 
+-- plans of valid placements, one with a cap and one with more moves than need be
+capped-sound : planSound lastCapped view7 noTermination 63 caseSlots (planWith (viewOfParts 8 63 5 50 9 0) 3) ≡ true
+unfolding caseSlots ones onesIn allBelow anyBelow lowest tabulate pairNotAfter sumBelow place following bodyWord bodyOf contentsOf endOf reaches holds hasUpdate slot reportOf candidate greatest best target able holder majority firstUnheld quorumOf countBelow cap meetsSet setsIn shardValid shardApart groupValidAt groupValid groupMovesAt groupMoves allMoves layoutTidy layoutBlank planBlank isMet shardPlanned planSound
+capped-sound = refl
+
+more-moves-sound : planSound caseSettings view7 noTermination 63 caseSlots (planWith (viewOfParts 8 63 9 50 4 0) 3) ≡ true
+unfolding caseSlots ones onesIn allBelow anyBelow lowest tabulate pairNotAfter sumBelow place following bodyWord bodyOf contentsOf endOf reaches holds hasUpdate slot reportOf candidate greatest best target able holder majority firstUnheld quorumOf countBelow cap meetsSet setsIn shardValid shardApart groupValidAt groupValid groupMovesAt groupMoves allMoves layoutTidy layoutBlank planBlank isMet shardPlanned planSound
+more-moves-sound = refl
+
 pub plan-clauses : PlanClauses
-unfolding caseSlots ones onesIn allBelow anyBelow lowest tabulate pairNotAfter sumBelow place following bodyWord bodyOf contentsOf endOf reaches holds hasUpdate slot reportOf candidate greatest best target able holder majority firstUnheld quorumOf spread shardValid shardApart groupValidAt groupValid groupMovesAt groupMoves allMoves layoutTidy layoutBlank planBlank isMet shardPlanned planSound
+unfolding caseSlots ones onesIn allBelow anyBelow lowest tabulate pairNotAfter sumBelow place following bodyWord bodyOf contentsOf endOf reaches holds hasUpdate slot reportOf candidate greatest best target able holder majority firstUnheld quorumOf countBelow cap meetsSet setsIn shardValid shardApart groupValidAt groupValid groupMovesAt groupMoves allMoves layoutTidy layoutBlank planBlank isMet shardPlanned planSound
 plan-clauses =
     record {
       blank = refl;
@@ -239,8 +255,9 @@ plan-clauses =
       target-past = refl;
       invalid = refl;
       last-group = refl;
+      capped-group = capped-sound;
       other-total = refl;
-      not-least = refl;
+      not-least = more-moves-sound;
       waiting = refl;
       no-plan = refl;
     }

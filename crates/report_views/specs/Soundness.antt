@@ -92,7 +92,7 @@ unfoldable pub allMoves : List ℕ → Layout → Layout → ℕ
 allMoves σ old new = planMoves σ (maskAt old) (maskAt new)
 
 -- a plan: no wait applies (its own placements show that wait 5 does not); number, members, holders, targets and total are
--- document 01's, and every subgroup's placement is valid. Least moves are not asked again.
+-- document 01's, and every subgroup's placement is valid. Least moves, stays and order are not asked again.
 unfoldable pub planSound : List ℕ → Layout → Termination → ℕ → List ℕ → Plan → Bool
 planSound σ v t held d p =
     isMet (quorumOf σ v t held d) && eqb (p .layout .number .0) (v .number .0 + 1) && eqb (p .layout .members) held

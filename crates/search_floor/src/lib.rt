@@ -38,7 +38,7 @@ fn beyond(need: usize, stay: usize) -> usize
 
 // How many nodes move at least: over the shards, the need less the lesser of the need and the zeros of the shard's row.
 pub fn floor(needs: &[u8; 16], sheet: &[[u8; 16]; 16]) -> usize
-    ensures { λ r. ⌜ r ≡ floorOf (caseOf [] (now (needs .entry)) []) (now (sheet .entry)) ⌝ }
+    ensures { λ r. ⌜ r ≡ floorOf (caseOf [] (now (needs .entry)) [] [] 0) (now (sheet .entry)) ⌝ }
 {
     let mut sum: usize = 0;
     let mut i: usize = 0;
@@ -51,7 +51,7 @@ pub fn floor(needs: &[u8; 16], sheet: &[[u8; 16]; 16]) -> usize
 
 // Whether some shard's row has fewer entries below 2 than the shard needs nodes: then there is no valid placement.
 pub fn short(needs: &[u8; 16], sheet: &[[u8; 16]; 16]) -> bool
-    ensures { λ r. ⌜ r ≡ tooFew (caseOf [] (now (needs .entry)) []) (now (sheet .entry)) ⌝ }
+    ensures { λ r. ⌜ r ≡ tooFew (caseOf [] (now (needs .entry)) [] [] 0) (now (sheet .entry)) ⌝ }
 {
     let mut i: usize = 0;
     while i < 16 {

@@ -1,19 +1,18 @@
 -- The order of placements by their lists: shards ascending, each shard's nodes listed ascending, and the smaller list in
--- dictionary order wins at the first shard that differs. What the search finds first is first in this order.
+-- dictionary order wins at the first shard that differs; a proper prefix is smaller. What the search finds first is first in it.
 use mathlib.Core.Path.{_≡_, refl, sym, _∙_, subst}
-use mathlib.Core.Bool.{Bool, true, false, _&&_, _||_}
+use mathlib.Core.Bool.{Bool, true, false, _&&_}
 use mathlib.Core.List.{List}
 use mathlib.Core.Logic.{_⊎_, inl, inr, ⊎-elim}
 use Prim.Native.Nat.{ℕ, zero, suc, _+_, _*_, _/_, _%_, _≤_, _<_}
 use native.Mathlib.Numerals.{add-one}
 use native.Mathlib.Omega.{arith}
 use lib.Dec.{eqb, ltb}
-use borrow.Author.Tests.{eqb-true, lt-ltb, ltb-true}
-use Rattle.base_laws.specs.Bools.{clash, same, either, or-holds, and-left, and-right, and-both, lt-or-le, eq-or-ne}
-use Rattle.base_laws.specs.Below.{countBelow, anyBelow, any-witness, any-fails, count-mono, count-with}
-use Rattle.base_sums.specs.Lists.{listFrom, listBefore, list-cong, list-before}
-use Rattle.search_theory.specs.Case.{Case, Valid}
-use Rattle.search_theory.specs.Order.{takes, takes-at, Agree, Ahead, First, agree-start, agree-more}
+use borrow.Author.Tests.{lt-ltb, ltb-true}
+use Rattle.base_laws.specs.Bools.{clash, either, and-left, and-right, and-both, eq-or-ne, no-true}
+use Rattle.base_laws.specs.Below.{anyBelow, any-witness, any-fails}
+use Rattle.base_sums.specs.Lists.{listFrom, listBefore, list-cong, list-before, list-prefix}
+use Rattle.search_theory.specs.Order.{takes, takes-at, Agree, Ends, Ahead, First, agree-start, agree-more, shardEnd}
 
 -- the nodes of shard i, ascending
 unfoldable pub nodesOf : (ℕ → ℕ) → ℕ → List ℕ
@@ -29,28 +28,6 @@ pub record Earlier (z y : ℕ → ℕ) : Type 0 where
 -- every shard has the same list
 pub record SameLists (z y : ℕ → ℕ) : Type 0 where
   pub alike : (j : ℕ) → j < 16 → nodesOf z j ≡ nodesOf y j
-
--- of two tests that hold equally often, agree below n and differ at n, the one that fails there holds later
-holds-later : (f g : ℕ → Bool) (n : ℕ) → n < 32 → ((j : ℕ) → j < n → f j ≡ g j) → f n ≡ true → g n ≡ false →
-    countBelow 32 f ≡ countBelow 32 g → (m : ℕ) × (n < m) × (m < 32) × (g m ≡ true)
-holds-later f g n l h e d c =
-    go (anyBelow 32 (λ m. ltb n m && g m)) refl
-  where
-    more : anyBelow 32 (λ m. ltb n m && g m) ≡ false → (j : ℕ) → j < 32 → (g j || eqb n j) ≡ true → f j ≡ true
-    more a j q o =
-        ⊎-elim
-        (λ r.
-        ⊎-elim (λ w. h j w ∙ r)
-        (λ w. ⊎-elim (λ x. subst (λ (i : ℕ). f i ≡ true) x e) (λ x. clash (and-both (lt-ltb n j (omega arith)) r) (any-fails 32 (λ m. ltb n m && g m) a j q)) (eq-or-ne n j))
-        (lt-or-le j n))
-        (λ r. subst (λ (i : ℕ). f i ≡ true) (eqb-true n j r) e)
-        (or-holds (g j) (eqb n j) o)
-
-    go : (b : Bool) → anyBelow 32 (λ m. ltb n m && g m) ≡ b → (m : ℕ) × (n < m) × (m < 32) × (g m ≡ true)
-    go true a =
-        let (m, q, w) = any-witness 32 (λ m. ltb n m && g m) a in
-        (m, ltb-true n m (and-left (ltb n m) (g m) w), q, and-right (ltb n m) (g m) w)
-    go false a = absurd (omega (arith, count-with 32 g n l d, count-mono 32 (λ j. g j || eqb n j) f (more a)))
 
 module _ {z y : ℕ → ℕ} where
   -- where two placements part, or that they don't
@@ -72,31 +49,61 @@ module _ {z y : ℕ → ℕ} where
       list-cong 32 0 (λ n. eqb (z n) i) (λ n. eqb (y n) i)
       (λ n p q. sym (takes-at z n i (omega arith)) ∙ (a .same (i * 32 + n) (omega arith) ∙ takes-at y n i (omega arith)))
 
-  earlier : {K : Case} → Valid K z → Valid K y → (t : ℕ) → t < 512 → Agree z y t → takes z t ≡ true → takes y t ≡ false → Earlier z y
+  -- within the shard of pair t, the lists agree below its node
+  alike-in : (t : ℕ) → Agree z y t → (j : ℕ) → j < t % 32 → eqb (z j) (t / 32) ≡ eqb (y j) (t / 32)
+  alike-in t a j q =
+      sym (takes-at z j (t / 32) (omega arith)) ∙ (a .same (t / 32 * 32 + j) (omega arith) ∙ takes-at y j (t / 32) (omega arith))
+
+  -- z takes pair t, y leaves it and goes on
+  earlier-takes : (t : ℕ) → t < 512 → Agree z y t → takes z t ≡ true → takes y t ≡ false → (Ends y t → ⊥) → Earlier z y
   unfolding nodesOf
-  earlier v w t l a d e =
-      let f : ℕ → Bool = λ n. eqb (z n) (t / 32) in
-      let g : ℕ → Bool = λ n. eqb (y n) (t / 32) in
-      let alike : (j : ℕ) → j < t % 32 → f j ≡ g j = λ j q. sym (takes-at z j (t / 32) (omega arith)) ∙ (a .same (t / 32 * 32 + j) (omega arith) ∙ takes-at y j (t / 32) (omega arith)) in
-      let (m, p, q, r) = holds-later f g (t % 32) (omega arith) alike d e (v .sized (t / 32) (omega arith) ∙ sym (w .sized (t / 32) (omega arith))) in
+  earlier-takes t l a d e h = go (anyBelow 32 (λ m. ltb (t % 32) m && eqb (y m) (t / 32))) refl
+    where
+      go : (b : Bool) → anyBelow 32 (λ m. ltb (t % 32) m && eqb (y m) (t / 32)) ≡ b → Earlier z y
+      go true w =
+          let (m, q, r) = any-witness 32 (λ m. ltb (t % 32) m && eqb (y m) (t / 32)) w in
+          record {
+            shard = t / 32;
+            below = omega arith;
+            alike = λ j s. alike-below t j a (omega arith);
+            smaller = list-before 32 0 (t % 32) m (λ n. eqb (z n) (t / 32)) (λ n. eqb (y n) (t / 32)) (omega arith) (omega arith) (λ j x u. alike-in t a j u) d e
+                (ltb-true (t % 32) m (and-left (ltb (t % 32) m) (eqb (y m) (t / 32)) r)) (omega arith) (and-right (ltb (t % 32) m) (eqb (y m) (t / 32)) r);
+          }
+      go false w = absurd (h (record { rest = ends }))
+        where
+          ends : (s : ℕ) → t ≤ s → s < shardEnd t → takes y s ≡ false
+          ends s p q =
+              ⊎-elim (λ r. subst (λ (j : ℕ). takes y j ≡ false) r e)
+              (λ r.
+              let i : s / 32 ≡ t / 32 = omega arith in
+              no-true (takes y s) (λ c.
+              clash (and-both (lt-ltb (t % 32) (s % 32) (omega arith)) (subst (λ (j : ℕ). eqb (y (s % 32)) j ≡ true) i c))
+              (any-fails 32 (λ m. ltb (t % 32) m && eqb (y m) (t / 32)) w (s % 32) (omega arith))))
+              (eq-or-ne t s)
+
+  -- z's list ends, and y takes pair t
+  earlier-ends : (t : ℕ) → t < 512 → Agree z y t → takes y t ≡ true → Ends z t → Earlier z y
+  unfolding nodesOf
+  earlier-ends t l a d h =
       record {
         shard = t / 32;
         below = omega arith;
         alike = λ j s. alike-below t j a (omega arith);
-        smaller = list-before 32 0 (t % 32) m f g (omega arith) (omega arith) (λ j x u. alike j u) d e p (omega arith) r;
+        smaller = list-prefix 32 0 (t % 32) (λ n. eqb (z n) (t / 32)) (λ n. eqb (y n) (t / 32)) (omega arith) (omega arith) (λ j x u. alike-in t a j u)
+            (λ j x u. sym (takes-at z j (t / 32) (omega arith)) ∙ h .rest (t / 32 * 32 + j) (omega arith) (omega arith)) d;
       }
 
   -- what does not come before z in the search's order does not in dictionary order
-  pub ahead-listed : {K : Case} → Valid K z → Valid K y → Ahead z y → SameLists z y ⊎ Earlier z y
-  ahead-listed {K} v w h = ⊎-elim (λ a. inl (record { alike = λ j l. alike-below 512 j a (omega arith) })) (λ p. inr (parted (p .0) (p .1) (p .2) (p .3))) (part 512)
+  pub ahead-listed : Ahead z y → SameLists z y ⊎ Earlier z y
+  ahead-listed h = ⊎-elim (λ a. inl (record { alike = λ j l. alike-below 512 j a (omega arith) })) (λ p. inr (parted (p .0) (p .1) (p .2) (p .3))) (part 512)
     where
       parted : (t : ℕ) → t < 512 → Agree z y t → (takes z t ≡ takes y t → ⊥) → Earlier z y
       parted t l a ne =
-          ⊎-elim (λ e. absurd (ne (h .leads t l a e ∙ sym e)))
-          (λ e. ⊎-elim (λ d. earlier v w t l a d e) (λ d. absurd (ne (d ∙ sym e))) (either (takes z t)))
-          (either (takes y t))
+          ⊎-elim
+          (λ d. ⊎-elim (λ e. absurd (ne (d ∙ sym e))) (λ e. earlier-takes t l a d e (h .longer t l a d e)) (either (takes y t)))
+          (λ d. ⊎-elim (λ e. earlier-ends t l a e (h .leads t l a d e)) (λ e. absurd (ne (d ∙ sym e))) (either (takes y t)))
+          (either (takes z t))
 
 -- the first placement with P in the search's order is first in dictionary order
-pub first-listed : {K : Case} {P : (ℕ → ℕ) → Type 0} {z : ℕ → ℕ} → ((y : ℕ → ℕ) → P y → Valid K y) → First P z →
-    (y : ℕ → ℕ) → P y → SameLists z y ⊎ Earlier z y
-first-listed {z = z} v f y p = ahead-listed (v z (f .is)) (v y p) (f .first y p)
+pub first-listed : {P : (ℕ → ℕ) → Type 0} {z : ℕ → ℕ} → First P z → (y : ℕ → ℕ) → P y → SameLists z y ⊎ Earlier z y
+first-listed {z = z} f y p = ahead-listed (f .first y p)

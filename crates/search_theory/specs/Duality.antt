@@ -1,102 +1,142 @@
--- Weak duality: weights of shards, of nodes and of (shard, set) pairs bound the moves of a valid placement from below.
--- Weights are counted from a base, and slack n is what node n's own inequality leaves over.
-use mathlib.Core.Path.{_≡_, refl, ap, _∙_}
+-- Weak duality: weights of shards for their needs and for their caps, of nodes, and of pairs of a shard and a set
+-- bound the weight of a valid placement from below. Node weights are counted from a base.
+use mathlib.Core.Path.{_≡_, refl}
 use mathlib.Core.Bool.{Bool, true, false, cond}
-use Prim.Native.Nat.{ℕ, _+_, _*_, _≤_, _<_}
+use Prim.Native.Nat.{ℕ, _+_, _*_, _-_, _≤_, _<_}
+use native.Mathlib.Nat.{mul-le-mul-right}
 use native.Mathlib.Omega.{arith}
-use lib.Dec.{ltb}
-use borrow.Author.Tests.{ltb-true, ltb-false, lt-ltb}
-use Rattle.base_sums.specs.Sums.{sumBelow, sum-cong, sum-mono, sum-add, sum-by-key, sum-keys-once}
-use Rattle.search_theory.specs.Case.{Case, Valid, hasOwner, size, moves}
+use lib.Dec.{eqb}
+use borrow.Author.Tests.{ltb-true, ltb-false, eqb-true}
+use Rattle.base_sums.specs.Sums.{sumBelow, sum-cong, sum-mono, sum-add, sum-by-key, count-times}
+use Rattle.search_theory.specs.Case.{Case, Valid, hasOwner, size, meets, spread, weight}
+use Rattle.search_theory.specs.Shards.{sizeIn, by-shard, by-set, met-nodes}
 
--- the weights: of a shard, of a node, and of the pair of shard i and set f at i * 16 + f
+-- the weights: of a shard for each set that it needs, of a shard for each node that it may have, of a node, and of shard i and set f
 pub record DualWeights : Type 0 where
   pub base : ℕ
-  pub shard : ℕ → ℕ
+  pub need : ℕ → ℕ
+  pub room : ℕ → ℕ
   pub node : ℕ → ℕ
-  pub pair : ℕ → ℕ
+  pub pair : ℕ → ℕ → ℕ
+
+-- no pair weighs more than its shard's need
+pub record Modest (W : DualWeights) : Type 0 where
+  pub below : (i f : ℕ) → i < 16 → f < 16 → W .pair i f ≤ W .need i
+
+-- what shard i asks with node n
+abbrev pub asked : Case → DualWeights → ℕ → ℕ → ℕ
+asked K W i n = K .cost i n + W .pair i (K .setOf n) + W .room i + W .node n
 
 -- node n's inequality under placement z, with what it leaves over
 pub record Bounds (K : Case) (W : DualWeights) (z slack : ℕ → ℕ) (n : ℕ) : Type 0 where
-  pub there : z n < 16 → W .shard (z n) + slack n ≤ K .price (z n) n + W .pair (z n * 16 + K .setOf n) + W .node n
-  pub nowhere : 16 ≤ z n → W .base + slack n ≤ W .node n
+  pub there : z n < 16 → W .need (z n) + W .base + slack n ≤ asked K W (z n) n
+  pub nowhere : 16 ≤ z n → W .base + slack n ≤ K .idle + W .node n
 
 -- what all weights grant: the shards' needs and the base for each node
 unfoldable pub gain : Case → DualWeights → ℕ
-gain K W = sumBelow 16 (λ i. K .need i * W .shard i) + sumBelow 32 (λ n. W .base)
+gain K W = sumBelow 16 (λ i. K .need i * W .need i) + sumBelow 32 (λ n. W .base)
 
--- what all weights take: the pairs, the nodes, and the base for each place that is needed
+-- what all weights take: the pairs, the caps and the nodes
 unfoldable pub toll : Case → DualWeights → ℕ
-toll K W = sumBelow 256 (W .pair) + sumBelow 32 (W .node) + sumBelow 16 (λ i. K .need i * W .base)
+toll K W = sumBelow 16 (λ i. sumBelow 16 (W .pair i)) + sumBelow 16 (λ i. K .cap i * W .room i) + sumBelow 32 (W .node)
 
-module _ (K : Case) (W : DualWeights) (z slack : ℕ → ℕ) (v : Valid K z) (sets : (n : ℕ) → n < 32 → z n < 16 → K .setOf n < 16)
-    (bounds : (n : ℕ) → n < 32 → Bounds K W z slack n) where
-  -- the needs times a weight, as a sum over the placed nodes
-  by-need : (u : ℕ → ℕ) → sumBelow 32 (λ n. cond (hasOwner z n) (u (z n)) 0) ≡ sumBelow 16 (λ i. K .need i * u i)
-  by-need u =
-      sum-by-key 32 16 z u
-      ∙ sum-cong 16 (λ i. size z i * u i) (λ i. K .need i * u i) (λ i l. ap (λ (a : ℕ). a * u i) (v .sized i l))
+-- one shard: each set that it meets counts at least once
+module _ (K : Case) (z : ℕ → ℕ) (i u : ℕ) (w : ℕ → ℕ) (small : (n : ℕ) → n < 32 → z n ≡ i → K .setOf n < 16)
+    (below : (f : ℕ) → f < 16 → w f ≤ u) where
+  met : (f : ℕ) → f < 16 → cond (meets K z i f) (u - w f) 0 ≤ sizeIn K z i f * (u - w f)
+  met f l = go (meets K z i f) refl
+    where
+      go : (b : Bool) → meets K z i f ≡ b → cond (meets K z i f) (u - w f) 0 ≤ sizeIn K z i f * (u - w f)
+      go true e = simp e (omega (arith, mul-le-mul-right (u - w f) (met-nodes K z i f e)))
+      go false e = simp e (omega arith)
 
-  -- each pair of shard and set is used at most once
-  by-pair : sumBelow 32 (λ n. cond (hasOwner z n) (W .pair (z n * 16 + K .setOf n)) 0) ≤ sumBelow 256 (W .pair)
-  by-pair =
+  pub shard-cover : spread K z i * u + sumBelow 32 (λ n. cond (eqb (z n) i) (w (K .setOf n)) 0) ≤ size z i * u + sumBelow 16 w
+  unfolding spread
+  shard-cover =
       omega (
         arith,
-        sum-keys-once 32 256 key (W .pair) distinct,
-        sum-cong 32 (λ n. cond (hasOwner z n) (W .pair (z n * 16 + K .setOf n)) 0) (λ n. cond (ltb (key n) 256) (W .pair (key n)) 0) (λ n l. same n l (hasOwner z n) refl),
+        count-times 16 u (meets K z i),
+        count-times 32 u (λ n. eqb (z n) i),
+        sum-mono 16 (λ f. cond (meets K z i f) (u - w f) 0) (λ f. sizeIn K z i f * (u - w f)) met,
+        by-set K z i small (λ f. u - w f),
+        sum-add 32 (λ n. cond (eqb (z n) i) (u - w (K .setOf n)) 0) (λ n. cond (eqb (z n) i) (w (K .setOf n)) 0),
+        sum-cong 32 (λ n. cond (eqb (z n) i) (u - w (K .setOf n)) 0 + cond (eqb (z n) i) (w (K .setOf n)) 0) (λ n. cond (eqb (z n) i) u 0) (λ n l. whole n l),
+        sum-add 16 (λ f. cond (meets K z i f) (u - w f) 0) w,
+        sum-mono 16 (λ f. cond (meets K z i f) u 0) (λ f. cond (meets K z i f) (u - w f) 0 + w f) (λ f l. part (meets K z i f) (w f)),
       )
     where
-      -- past all pairs where n is placed nowhere
-      key : ℕ → ℕ
-      key n = cond (hasOwner z n) (z n * 16 + K .setOf n) 256
-
-      same : (n : ℕ) → n < 32 → (b : Bool) → hasOwner z n ≡ b →
-          cond (hasOwner z n) (W .pair (z n * 16 + K .setOf n)) 0 ≡ cond (ltb (key n) 256) (W .pair (key n)) 0
-      same n l true e =
-          simp (e, lt-ltb (z n * 16 + K .setOf n) 256 (omega (arith, ltb-true (z n) 16 e, sets n l (ltb-true (z n) 16 e))))
-      same n l false e = simp e
-
-      distinct : (j k : ℕ) → j < 32 → k < 32 → key j < 256 → key j ≡ key k → j ≡ k
-      distinct j k p q = go (hasOwner z j) refl (hasOwner z k) refl
+      whole : (n : ℕ) → n < 32 → cond (eqb (z n) i) (u - w (K .setOf n)) 0 + cond (eqb (z n) i) (w (K .setOf n)) 0 ≡ cond (eqb (z n) i) u 0
+      whole n l = go (eqb (z n) i) refl
         where
-          go : (a : Bool) → hasOwner z j ≡ a → (b : Bool) → hasOwner z k ≡ b → key j < 256 → key j ≡ key k → j ≡ k
-          go true d true e =
-              simp (d, e)
-              (λ h g.
-              let x : K .setOf j < 16 = sets j p (ltb-true (z j) 16 d) in
-              let y : K .setOf k < 16 = sets k q (ltb-true (z k) 16 e) in
-              v .apart j k p q (ltb-true (z j) 16 d) (omega arith) (omega arith))
-          go true d false e = simp (d, e) (λ h g. absurd (omega arith))
-          go false d b e = simp d (λ h g. absurd (omega arith))
+          go : (b : Bool) → eqb (z n) i ≡ b → cond (eqb (z n) i) (u - w (K .setOf n)) 0 + cond (eqb (z n) i) (w (K .setOf n)) 0 ≡ cond (eqb (z n) i) u 0
+          go true e = simp e (omega (arith, below (K .setOf n) (small n l (eqb-true (z n) i e))))
+          go false e = simp e
+
+      part : (b : Bool) (a : ℕ) → cond b u 0 ≤ cond b (u - a) 0 + a
+      part true a = omega arith
+      part false a = omega arith
+
+module _ (K : Case) (W : DualWeights) (z slack : ℕ → ℕ) (v : Valid K z) (small : (n : ℕ) → n < 32 → K .setOf n < 16) (modest : Modest W)
+    (bounds : (n : ℕ) → n < 32 → Bounds K W z slack n) where
+  -- the rooms that are used are at most all
+  by-room : sumBelow 32 (λ n. cond (hasOwner z n) (W .room (z n)) 0) ≤ sumBelow 16 (λ i. K .cap i * W .room i)
+  by-room =
+      omega (
+        arith,
+        sum-by-key 32 16 z (W .room),
+        sum-mono 16 (λ i. size z i * W .room i) (λ i. K .cap i * W .room i) (λ i l. mul-le-mul-right (W .room i) (v .most i l)),
+      )
+
+  -- the needs are met, but for what the pairs take
+  by-need : sumBelow 16 (λ i. K .need i * W .need i) + sumBelow 32 (λ n. cond (hasOwner z n) (W .pair (z n) (K .setOf n)) 0)
+      ≤ sumBelow 32 (λ n. cond (hasOwner z n) (W .need (z n)) 0) + sumBelow 16 (λ i. sumBelow 16 (W .pair i))
+  by-need =
+      omega (
+        arith,
+        by-shard z (λ i n. W .pair i (K .setOf n)),
+        sum-by-key 32 16 z (W .need),
+        sum-add 16 (λ i. K .need i * W .need i) (λ i. sumBelow 32 (λ n. cond (eqb (z n) i) (W .pair i (K .setOf n)) 0)),
+        sum-add 16 (λ i. size z i * W .need i) (λ i. sumBelow 16 (W .pair i)),
+        sum-mono 16 (λ i. K .need i * W .need i + sumBelow 32 (λ n. cond (eqb (z n) i) (W .pair i (K .setOf n)) 0))
+            (λ i. size z i * W .need i + sumBelow 16 (W .pair i)) (λ i l. at i l),
+      )
+    where
+      at : (i : ℕ) → i < 16 → K .need i * W .need i + sumBelow 32 (λ n. cond (eqb (z n) i) (W .pair i (K .setOf n)) 0) ≤ size z i * W .need i + sumBelow 16 (W .pair i)
+      at i l =
+          omega (
+            arith,
+            mul-le-mul-right (W .need i) (v .sets i l),
+            shard-cover K z i (W .need i) (W .pair i) (λ n q e. small n q) (λ f q. modest .below i f l q),
+          )
 
   -- the bound
-  pub weak : gain K W + sumBelow 32 slack ≤ moves K z + toll K W
-  unfolding gain toll moves
+  pub weak : gain K W + sumBelow 32 slack ≤ weight K z + toll K W
+  unfolding gain toll weight
   weak =
       omega (
         arith,
-        by-pair,
-        by-need (W .shard),
-        by-need (λ i. W .base),
-        sum-mono 32 (λ n. given n + slack n) (λ n. asked n + W .node n) (λ n l. at n l (hasOwner z n) refl),
-        sum-add 32 given slack,
-        sum-add 32 asked (W .node),
-        sum-add 32 (λ n. cond (hasOwner z n) (K .price (z n) n) 0) (λ n. cond (hasOwner z n) (W .pair (z n * 16 + K .setOf n)) 0),
-        sum-add 32 given (λ n. cond (hasOwner z n) (W .base) 0),
-        sum-add 32 (λ n. cond (hasOwner z n) (W .shard (z n)) 0) (λ n. W .base),
-        sum-cong 32 (λ n. given n + cond (hasOwner z n) (W .base) 0) (λ n. cond (hasOwner z n) (W .shard (z n)) 0 + W .base) (λ n l. whole (hasOwner z n) (W .shard (z n)) (W .base)),
+        by-room,
+        by-need,
+        sum-mono 32 (λ n. need n + W .base + slack n) (λ n. cost n + pair n + room n + W .node n) (λ n l. at n l (hasOwner z n) refl),
+        sum-add 32 (λ n. need n + W .base) slack,
+        sum-add 32 need (λ n. W .base),
+        sum-add 32 (λ n. cost n + pair n + room n) (W .node),
+        sum-add 32 (λ n. cost n + pair n) room,
+        sum-add 32 cost pair,
       )
     where
-      given : ℕ → ℕ
-      given n = cond (hasOwner z n) (W .shard (z n)) (W .base)
+      need : ℕ → ℕ
+      need n = cond (hasOwner z n) (W .need (z n)) 0
 
-      asked : ℕ → ℕ
-      asked n = cond (hasOwner z n) (K .price (z n) n) 0 + cond (hasOwner z n) (W .pair (z n * 16 + K .setOf n)) 0
+      cost : ℕ → ℕ
+      cost n = cond (hasOwner z n) (K .cost (z n) n) (K .idle)
 
-      whole : (b : Bool) (u s : ℕ) → cond b u s + cond b s 0 ≡ cond b u 0 + s
-      whole true u s = omega arith
-      whole false u s = omega arith
+      pair : ℕ → ℕ
+      pair n = cond (hasOwner z n) (W .pair (z n) (K .setOf n)) 0
 
-      at : (n : ℕ) → n < 32 → (b : Bool) → hasOwner z n ≡ b → given n + slack n ≤ asked n + W .node n
+      room : ℕ → ℕ
+      room n = cond (hasOwner z n) (W .room (z n)) 0
+
+      at : (n : ℕ) → n < 32 → (b : Bool) → hasOwner z n ≡ b → need n + W .base + slack n ≤ cost n + pair n + room n + W .node n
       at n l true e = simp e (bounds n l .there (ltb-true (z n) 16 e))
       at n l false e = simp e (omega (arith, bounds n l .nowhere (ltb-false (z n) 16 e)))

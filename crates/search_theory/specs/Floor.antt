@@ -1,28 +1,31 @@
--- A sheet of the case: by shard and failure set, at most what any node of the set costs there. It tells of every valid placement how
--- many moves it has at least, and where there is none.
-use mathlib.Core.Path.{_≡_, sym, ap, _∙_, subst}
-use mathlib.Core.Bool.{Bool, true, false, cond, not, _&&_}
+-- A sheet of the case: by shard and failure set, 2 where no node of the set is allowed, 1 where each that is allowed moves. It tells
+-- of every valid placement how many moves it has at least, and where there is none.
+use mathlib.Core.Path.{_≡_, refl, subst}
+use mathlib.Core.Bool.{Bool, true, false, cond, _&&_}
 use mathlib.Core.List.{List, []}
-use mathlib.Core.Logic.{_⊎_, inl, inr, ⊎-elim}
-use Prim.Native.Nat.{ℕ, _-_, _≤_, _<_, min}
+use mathlib.Core.Logic.{⊎-elim}
+use Prim.Native.Nat.{ℕ, zero, suc, _+_, _*_, _-_, _≤_, _<_, min}
 use native.Mathlib.Omega.{arith}
 use lib.Dec.{eqb, ltb}
 use lib.ListN.{getD}
-use borrow.Author.Tests.{eqb-true, eq-eqb, ltb-true, lt-ltb, le-ltb}
-use Rattle.base_laws.specs.Bools.{either, and-both, and-left, and-right, lt-or-le}
-use Rattle.base_laws.specs.Below.{countBelow, anyBelow, any-witness, count-mono, count-split}
-use Rattle.base_sums.specs.Sums.{sumBelow, sum-cong, sum-mono, sum-swap, sum-single, count-sum, sum-keys-once}
-use Rattle.search_theory.specs.Case.{Case, Valid, hasOwner, size, moves}
+use borrow.Author.Tests.{eqb-true, ltb-true, lt-ltb}
+use Rattle.base_laws.specs.Bools.{and-left, and-right, lt-or-le}
+use Rattle.base_laws.specs.Below.{countBelow, anyBelow, any-witness, count-mono}
+use Rattle.base_sums.specs.Sums.{sumBelow, sum-mono, sum-add, count-sum}
+use Rattle.search_theory.specs.Case.{Case, Valid, meets, spread, moves}
 use Rattle.search_theory.specs.Order.{None}
-use Rattle.search_theory.specs.Least.{AtLeast}
+use Rattle.search_theory.specs.Shards.{by-shard}
+use Rattle.search_theory.specs.Duality.{shard-cover}
+use Rattle.search_theory.specs.Ranks.{Priced}
 
 -- the entry of shard i and failure set f
 abbrev pub entryOf : List (List ℕ) → ℕ → ℕ → ℕ
 entryOf sheet i f = getD (getD sheet i []) f 0
 
--- no node costs a shard less than the entry of its failure set says
+-- where an entry is 2 no node of the set is allowed, and where it is 1 none of them is there for nothing
 pub record SheetFor (K : Case) (sheet : List (List ℕ)) : Type 0 where
-  pub least : (i n : ℕ) → i < 16 → n < 32 → entryOf sheet i (K .setOf n) ≤ K .price i n
+  pub shut : (i n : ℕ) → i < 16 → n < 32 → 2 ≤ entryOf sheet i (K .setOf n) → 255 ≤ K .cost i n
+  pub moved : (i n : ℕ) → i < 16 → n < 32 → 1 ≤ entryOf sheet i (K .setOf n) → 1 ≤ K .cost i n
 
 -- how many entries of shard i are below e
 unfoldable pub entriesBelow : List (List ℕ) → ℕ → ℕ → ℕ
@@ -44,94 +47,20 @@ shortAt K sheet i = ltb (entriesBelow sheet i 2) (K .need i)
 unfoldable pub tooFew : Case → List (List ℕ) → Bool
 tooFew K sheet = anyBelow 16 (shortAt K sheet)
 
-module _ {K : Case} {sheet : List (List ℕ)} {z : ℕ → ℕ} (small : (n : ℕ) → n < 32 → K .setOf n < 16) (s : SheetFor K sheet) (v : Valid K z) where
-  -- node n is in shard i, at a price below e
-  cheap : ℕ → ℕ → ℕ → Bool
-  cheap i e n = eqb (z n) i && ltb (K .price i n) e
-
-  -- nodes of one shard are of different sets, and each set's entry is no higher than the node's price
-  covered : (i e : ℕ) → i < 16 → countBelow 32 (cheap i e) ≤ entriesBelow sheet i e
-  unfolding entriesBelow cheap
-  covered i e l =
-      omega (
-        arith,
-        sum-keys-once 32 16 key u distinct,
-        count-sum 32 (cheap i e),
-        count-sum 16 (λ f. ltb (entryOf sheet i f) e),
-        sum-cong 32 (λ n. cond (cheap i e n) 1 0) (λ n. cond (ltb (key n) 16) (u (key n)) 0) (λ n q. one n q (either (cheap i e n))),
-      )
-    where
-      -- the set of a node that counts; past all sets where it does not
-      key : ℕ → ℕ
-      key n = cond (cheap i e n) (K .setOf n) 16
-
-      u : ℕ → ℕ
-      u f = cond (ltb (entryOf sheet i f) e) 1 0
-
-      there : (n : ℕ) → cheap i e n ≡ true → z n ≡ i
-      there n h = eqb-true (z n) i (and-left (eqb (z n) i) (ltb (K .price i n) e) h)
-
-      low : (n : ℕ) → n < 32 → cheap i e n ≡ true → ltb (entryOf sheet i (K .setOf n)) e ≡ true
-      low n q h =
-          lt-ltb (entryOf sheet i (K .setOf n)) e
-          (omega (arith, s .least i n l q, ltb-true (K .price i n) e (and-right (eqb (z n) i) (ltb (K .price i n) e) h)))
-
-      one : (n : ℕ) → n < 32 → (cheap i e n ≡ true) ⊎ (cheap i e n ≡ false) → cond (cheap i e n) 1 0 ≡ cond (ltb (key n) 16) (u (key n)) 0
-      one n q (inl h) = simp (h, lt-ltb (K .setOf n) 16 (small n q), low n q h)
-      one n q (inr h) = simp h
-
-      distinct : (j k : ℕ) → j < 32 → k < 32 → key j < 16 → key j ≡ key k → j ≡ k
-      distinct j k p q = go (either (cheap i e j)) (either (cheap i e k))
-        where
-          go : (cheap i e j ≡ true) ⊎ (cheap i e j ≡ false) → (cheap i e k ≡ true) ⊎ (cheap i e k ≡ false) → key j < 16 → key j ≡ key k → j ≡ k
-          go (inl d) (inl h) = simp (d, h) (λ a b. v .apart j k p q (omega (arith, there j d)) (there j d ∙ sym (there k h)) b)
-          go (inl d) (inr h) = simp (d, h) (λ a b. absurd (omega arith))
-          go (inr d) h = simp d (λ a b. absurd (omega arith))
-
-  -- the moves of shard i
-  movesOf : ℕ → ℕ
-  movesOf i = sumBelow 32 (λ n. cond (eqb (z n) i) (K .price i n) 0)
-
-  -- a node at no price below 1 moves
-  paid : (i : ℕ) → countBelow 32 (λ n. eqb (z n) i && not (ltb (K .price i n) 1)) ≤ movesOf i
-  unfolding movesOf
-  paid i =
-      omega (
-        arith,
-        count-sum 32 (λ n. eqb (z n) i && not (ltb (K .price i n) 1)),
-        sum-mono 32 (λ n. cond (eqb (z n) i && not (ltb (K .price i n) 1)) 1 0) (λ n. cond (eqb (z n) i) (K .price i n) 0) (λ n q. at (eqb (z n) i) (K .price i n)),
-      )
-    where
-      at : (b : Bool) (p : ℕ) → cond (b && not (ltb p 1)) 1 0 ≤ cond b p 0
-      at true p = ⊎-elim (λ h. simp (lt-ltb p 1 h) (omega arith)) (λ h. simp (le-ltb p 1 h) (omega arith)) (lt-or-le p 1)
-      at false p = omega arith
-
-  lack-moves : (i : ℕ) → i < 16 → lackAt K sheet i ≤ movesOf i
-  unfolding lackAt cheap
-  lack-moves i l =
-      omega (arith, paid i, covered i 1 l, v .sized i l, count-split 32 (λ n. eqb (z n) i) (λ n. ltb (K .price i n) 1))
-
-  -- the moves, shard by shard
-  by-shard : moves K z ≡ sumBelow 16 movesOf
-  unfolding moves movesOf
-  by-shard =
-      sum-cong 32 (λ n. cond (hasOwner z n) (K .price (z n) n) 0) (λ n. sumBelow 16 (λ i. cond (eqb (z n) i) (K .price i n) 0))
-      (λ n q. sym (sum-single 16 (z n) (λ i. K .price i n)))
-      ∙ sum-swap 32 16 (λ n i. cond (eqb (z n) i) (K .price i n) 0)
-
-  floor-moves : floorOf K sheet ≤ moves K z
-  unfolding floorOf
-  floor-moves = omega (arith, by-shard, sum-mono 16 (lackAt K sheet) movesOf lack-moves)
-
-  -- every node of a shard has a price below 2
+module _ {K : Case} {sheet : List (List ℕ)} {z : ℕ → ℕ} (s : SheetFor K sheet) (v : Valid K z) where
+  -- a set that a shard meets has an entry below 2
   enough : (i : ℕ) → i < 16 → K .need i ≤ entriesBelow sheet i 2
-  unfolding cheap
-  enough i l = omega (arith, v .sized i l, covered i 2 l, count-mono 32 (λ n. eqb (z n) i) (cheap i 2) allowed)
+  unfolding entriesBelow spread meets
+  enough i l = omega (arith, v .sets i l, count-mono 16 (meets K z i) (λ f. ltb (entryOf sheet i f) 2) (λ f q. low f))
     where
-      allowed : (n : ℕ) → n < 32 → eqb (z n) i ≡ true → cheap i 2 n ≡ true
-      allowed n q h =
-          let d : z n ≡ i = eqb-true (z n) i h in
-          and-both h (lt-ltb (K .price i n) 2 (subst (λ (j : ℕ). K .price j n < 2) d (v .allowed n q (omega arith))))
+      low : (f : ℕ) → meets K z i f ≡ true → ltb (entryOf sheet i f) 2 ≡ true
+      low f e =
+          let (n, q, d) = any-witness 32 (λ n. eqb (z n) i && eqb (K .setOf n) f) e in
+          let here : z n ≡ i = eqb-true (z n) i (and-left (eqb (z n) i) (eqb (K .setOf n) f) d) in
+          let set : K .setOf n ≡ f = eqb-true (K .setOf n) f (and-right (eqb (z n) i) (eqb (K .setOf n) f) d) in
+          let permitted : K .cost i n < 255 = subst (λ (j : ℕ). K .cost j n < 255) here (v .allowed n q (omega arith)) in
+          subst (λ (g : ℕ). ltb (entryOf sheet i g) 2 ≡ true) set
+          (⊎-elim (λ h. lt-ltb (entryOf sheet i (K .setOf n)) 2 h) (λ h. absurd (omega (arith, s .shut i n l q h))) (lt-or-le (entryOf sheet i (K .setOf n)) 2))
 
   never-short : tooFew K sheet ≡ true → ⊥
   unfolding tooFew shortAt
@@ -139,11 +68,62 @@ module _ {K : Case} {sheet : List (List ℕ)} {z : ℕ → ℕ} (small : (n : �
       let (i, l, d) = any-witness 16 (shortAt K sheet) h in
       omega (arith, enough i l, ltb-true (entriesBelow sheet i 2) (K .need i) d)
 
-module _ {K : Case} {sheet : List (List ℕ)} (small : (n : ℕ) → n < 32 → K .setOf n < 16) (s : SheetFor K sheet) where
-  -- no valid placement has fewer moves than the sheet's floor
-  pub sheet-floor : AtLeast K (floorOf K sheet)
-  sheet-floor = record { bound = λ y v. floor-moves small s v }
+-- where a shard needs nodes of more sets than have one for it, there is no valid placement
+pub sheet-none : {K : Case} {sheet : List (List ℕ)} → SheetFor K sheet → tooFew K sheet ≡ true → None (Valid K)
+sheet-none s h = record { none = λ y v. never-short s v h }
 
-  -- where a shard needs nodes of more sets than have one for it, there is no valid placement
-  pub sheet-none : tooFew K sheet ≡ true → None (Valid K)
-  sheet-none h = record { none = λ y v. never-short small s v h }
+module _ {K : Case} {sheet : List (List ℕ)} {price : ℕ → ℕ → ℕ} {z : ℕ → ℕ} (small : (n : ℕ) → n < 32 → K .setOf n < 16) (s : SheetFor K sheet)
+    (priced : (i n : ℕ) → i < 16 → n < 32 → 1 ≤ K .cost i n → K .cost i n < 255 → 1 ≤ price i n) (v : Valid K z) where
+  -- the moves to shard i
+  movesOf : ℕ → ℕ
+  movesOf i = sumBelow 32 (λ n. cond (eqb (z n) i) (price i n) 0)
+
+  -- 1 for a set of which a node stays in shard i
+  stay : ℕ → ℕ → ℕ
+  stay i f = cond (ltb (entryOf sheet i f) 1) 1 0
+
+  -- each node of shard i moves, or its set is one of which a node stays
+  either-way : (i n : ℕ) → i < 16 → n < 32 → (b : Bool) → eqb (z n) i ≡ b →
+      cond (eqb (z n) i) 1 0 ≤ cond (eqb (z n) i) (price i n) 0 + cond (eqb (z n) i) (stay i (K .setOf n)) 0
+  unfolding stay
+  either-way i n l q true e =
+      let here : z n ≡ i = eqb-true (z n) i e in
+      let permitted : K .cost i n < 255 = subst (λ (j : ℕ). K .cost j n < 255) here (v .allowed n q (omega arith)) in
+      simp e
+      (⊎-elim
+      (λ h. simp (lt-ltb (entryOf sheet i (K .setOf n)) 1 h) (omega arith))
+      (λ h. omega (arith, priced i n l q (s .moved i n l q h) permitted))
+      (lt-or-le (entryOf sheet i (K .setOf n)) 1))
+  either-way i n l q false e = simp e (omega arith)
+
+  lack-moves : (i : ℕ) → i < 16 → lackAt K sheet i ≤ movesOf i
+  unfolding lackAt movesOf stay entriesBelow
+  lack-moves i l =
+      omega (
+        arith,
+        v .sets i l,
+        shard-cover K z i 1 (stay i) (λ n q e. small n q) (λ f q. one (ltb (entryOf sheet i f) 1)),
+        count-sum 16 (λ f. ltb (entryOf sheet i f) 1),
+        count-sum 32 (λ n. eqb (z n) i),
+        sum-add 32 (λ n. cond (eqb (z n) i) (price i n) 0) (λ n. cond (eqb (z n) i) (stay i (K .setOf n)) 0),
+        sum-mono 32 (λ n. cond (eqb (z n) i) 1 0) (λ n. cond (eqb (z n) i) (price i n) 0 + cond (eqb (z n) i) (stay i (K .setOf n)) 0)
+            (λ n q. either-way i n l q (eqb (z n) i) refl),
+      )
+    where
+      one : (b : Bool) → _≤_ (cond b 1 0) 1
+      one true = omega arith
+      one false = omega arith
+
+  -- no valid placement has fewer moves than the sheet's floor
+  pub sheet-floor : floorOf K sheet ≤ moves price z
+  unfolding floorOf moves movesOf
+  sheet-floor = omega (arith, by-shard z price, sum-mono 16 (lackAt K sheet) movesOf lack-moves)
+
+-- the same for a case whose costs are the prices times w
+pub priced-floor : {K : Case} {sheet : List (List ℕ)} {w : ℕ} {price : ℕ → ℕ → ℕ} → ((n : ℕ) → n < 32 → K .setOf n < 16) → SheetFor K sheet →
+    Priced K w price → (z : ℕ → ℕ) → Valid K z → floorOf K sheet ≤ moves price z
+priced-floor {K} {sheet} {w} {price} small s p z v = sheet-floor small s (λ i n l q h g. at (price i n) (p .cost i n l q g) h) v
+  where
+    at : (a : ℕ) {c : ℕ} → c ≡ a * w → 1 ≤ c → 1 ≤ a
+    at zero e h = absurd (omega arith)
+    at (suc a) e h = omega arith

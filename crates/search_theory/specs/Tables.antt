@@ -4,13 +4,15 @@ use Prim.Native.Nat.{ℕ, _+_, _*_}
 use lib.ListN.{getD}
 use Rattle.search_theory.specs.Case.{Case}
 
--- sets by node, needs by shard, prices of shard i and node n at i * 32 + n
-abbrev pub caseOf : List ℕ → List ℕ → List ℕ → Case
-caseOf sets needs prices =
+-- sets by node, needs and caps by shard, costs of shard i and node n at i * 32 + n, and the cost of a node placed nowhere
+abbrev pub caseOf : List ℕ → List ℕ → List ℕ → List ℕ → ℕ → Case
+caseOf sets needs caps costs idle =
     record {
       setOf = λ n. getD sets n 0;
       need = λ i. getD needs i 0;
-      price = λ i n. getD prices (i * 32 + n) 0;
+      cap = λ i. getD caps i 0;
+      cost = λ i n. getD costs (i * 32 + n) 0;
+      idle = idle;
     }
 
 -- the owner of each node

@@ -4,7 +4,7 @@ use mathlib.Core.Bool.{Bool, true, false}
 use mathlib.Core.List.{List}
 use Prim.Native.Nat.{ℕ, _≤_, _<_}
 use lib.ListN.{length, replicate}
-use Rattle.search_theory.specs.Case.{Case, Valid, Within, Least, moves}
+use Rattle.search_theory.specs.Case.{Case, Valid, Within, Least, weight}
 use Rattle.search_theory.specs.Tables.{ownersOf}
 use Rattle.search_theory.specs.Order.{First, None, From, Begun}
 use Rattle.search_total.specs.declared.Solution.{Solution}
@@ -21,8 +21,8 @@ pub record ReadyFrom (o : List ℕ) (t : ℕ) : Type 0 where
 
 -- from the owners o before pair t: the first placement p, or that there is none, with the owners as they were
 pub record Sought (K : Case) (k : ℕ) (o : List ℕ) (t : ℕ) (p : List ℕ) (r : Bool) : Type 0 where
-  pub yes : r ≡ true → First (From K k (ownersOf o) t) (ownersOf p)
-  pub no : r ≡ false → None (From K k (ownersOf o) t)
+  pub yes : r ≡ true → First (From (Within K k) (ownersOf o) t) (ownersOf p)
+  pub no : r ≡ false → None (From (Within K k) (ownersOf o) t)
   pub kept : r ≡ false → p ≡ o
   pub owners : Owners p
 
@@ -30,18 +30,18 @@ pub record Sought (K : Case) (k : ℕ) (o : List ℕ) (t : ℕ) (p : List ℕ) (
 abbrev pub noOwners : List ℕ
 noOwners = replicate 32 16
 
--- the first valid placement of at most k moves with its moves, or that there is none
+-- the first valid placement of a weight of at most k with its weight, or that there is none
 pub record WithinAnswer (K : Case) (k : ℕ) (a : Solution) : Type 0 where
   pub found : a .exists ≡ true → First (Within K k) (ownersOf (a .owners))
-  pub exact : a .exists ≡ true → a .moves ≡ moves K (ownersOf (a .owners))
+  pub exact : a .exists ≡ true → a .weight ≡ weight K (ownersOf (a .owners))
   pub none : a .exists ≡ false → None (Within K k)
-  pub empty : a .exists ≡ false → (a .moves ≡ 0) × (a .owners ≡ noOwners)
+  pub empty : a .exists ≡ false → (a .weight ≡ 0) × (a .owners ≡ noOwners)
   pub owners : Owners (a .owners)
 
--- the first of the valid placements of least moves with its moves, or that there is none
+-- the first of the valid placements of least weight with its weight, or that there is none
 pub record LeastAnswer (K : Case) (a : Solution) : Type 0 where
   pub found : a .exists ≡ true → First (Least K) (ownersOf (a .owners))
-  pub exact : a .exists ≡ true → a .moves ≡ moves K (ownersOf (a .owners))
+  pub exact : a .exists ≡ true → a .weight ≡ weight K (ownersOf (a .owners))
   pub none : a .exists ≡ false → None (Valid K)
-  pub empty : a .exists ≡ false → (a .moves ≡ 0) × (a .owners ≡ noOwners)
+  pub empty : a .exists ≡ false → (a .weight ≡ 0) × (a .owners ≡ noOwners)
   pub owners : Owners (a .owners)

@@ -1,17 +1,21 @@
--- The search's steps, from pair t + 1 to pair t: taking a pair, leaving it, undoing a take, and the end.
+-- The search's steps, from pair t + 1 to pair t: ending the shard's list, taking a pair, leaving it,
+-- undoing a take, and the end.
 use mathlib.Core.Path.{_≡_, refl, sym, ap, _∙_, subst}
 use mathlib.Core.Bool.{Bool, true, false, true≢false, false≢true}
 use mathlib.Core.List.{List}
+use mathlib.Core.Logic.{⊎-elim}
 use Prim.Native.Nat.{ℕ, _+_, _/_, _%_, _≤_, _<_}
 use native.Mathlib.Nat.{le-antisymm}
 use native.Mathlib.Omega.{arith}
 use lib.ListN.{getD, set, length-set}
+use lib.Dec.{eqb}
 use lib.Seq.{getD-set-same, getD-set-other, set-set, set-getD}
-use Rattle.base_laws.specs.Bools.{eq-or-ne}
-use mathlib.Core.Logic.{⊎-elim}
-use Rattle.search_theory.specs.Case.{Case}
+use borrow.Author.Tests.{eqb-true, eqb-false}
+use Rattle.base_laws.specs.Bools.{eq-or-ne, lt-or-le}
+use Rattle.search_theory.specs.Case.{Case, Within}
 use Rattle.search_theory.specs.Tables.{ownersOf}
-use Rattle.search_theory.specs.Order.{takes, None, From, TakesPair, begun-leave, begun-take, first-leave, none-leave, first-take, none-take, first-end, none-end}
+use Rattle.search_theory.specs.Order.{takes, shardEnd, None, From, TakesPair, begun-leave, begun-close, begun-take, first-leave, none-leave, first-close, first-take, none-take, first-end, none-end}
+use Rattle.search_theory.specs.Tests.{within-same}
 use Rattle.search_judge.specs.Post.{Judged, Barred, hopelessFrom, hopeless-none}
 use Rattle.search_total.specs.Post.{Owners, ReadyFrom, Sought}
 
@@ -33,6 +37,22 @@ pub taken : {o : List ℕ} {t : ℕ} → Owners o → TakesPair (ownersOf o) t (
 taken {o} {t} w =
     record { there = getD-set-same o (t % 32) (t / 32) 0 (omega (arith, w .long)); else = λ n l e. getD-set-other o (t % 32) n (t / 32) 0 e }
 
+-- none with the list ended, one pair later in the shard
+pub none-later : {K : Case} {k : ℕ} (o : List ℕ) (t : ℕ) {b : Bool} → b ≡ eqb (shardEnd (t + 1)) (shardEnd t) → None (From (Within K k) (ownersOf o) (shardEnd t)) →
+    b ≡ true → None (From (Within K k) (ownersOf o) (shardEnd (t + 1)))
+none-later {K} {k} o t h n e = subst (λ (j : ℕ). None (From (Within K k) (ownersOf o) j)) (sym (eqb-true (shardEnd (t + 1)) (shardEnd t) (sym h ∙ e))) n
+
+-- the shard's last pair: none with the list ended is none with the pair left
+pub none-last : {K : Case} {k : ℕ} (o : List ℕ) (t : ℕ) {d : Bool} → d ≡ eqb (shardEnd (t + 1)) (shardEnd t) → d ≡ false →
+    None (From (Within K k) (ownersOf o) (shardEnd t)) → None (From (Within K k) (ownersOf o) (t + 1))
+none-last {K} {k} o t h e n =
+    let far : (shardEnd (t + 1) ≡ shardEnd t → ⊥) = eqb-false (shardEnd (t + 1)) (shardEnd t) (sym h ∙ e) in
+    subst (λ (s : ℕ). None (From (Within K k) (ownersOf o) s)) (⊎-elim (λ z. absurd (far (omega arith))) (λ z. omega arith) (lt-or-le (t % 32) 31)) n
+
+-- nothing is found where the last pair is left
+pub sought-last : {K : Case} {k : ℕ} {o : List ℕ} {t : ℕ} → ReadyFrom o t → None (From (Within K k) (ownersOf o) (t + 1)) → Sought K k o (t + 1) o false
+sought-last r n = record { yes = λ e. absurd (false≢true e); no = λ e. n; kept = λ e. refl; owners = r .owners }
+
 module _ {o : List ℕ} {t : ℕ} (l : t < 512) (r : ReadyFrom o t) where
   pub ready-leave : ReadyFrom o (t + 1)
   ready-leave = record { owners = r .owners; begun = begun-leave l (r .begun) }
@@ -48,7 +68,7 @@ module _ {o : List ℕ} {t : ℕ} (l : t < 512) (r : ReadyFrom o t) where
       ∙ (ap (set o (t % 32)) (sym (le-antisymm (r .owners .least (t % 32) (omega arith)) f)) ∙ set-getD o (t % 32) 0)
 
   -- no placement from here takes pair t
-  pub sought-leave : {K : Case} {k : ℕ} {p : List ℕ} {b : Bool} → ((y : ℕ → ℕ) → From K k (ownersOf o) t y → takes y t ≡ true → ⊥) →
+  pub sought-leave : {K : Case} {k : ℕ} {p : List ℕ} {b : Bool} → ((y : ℕ → ℕ) → From (Within K k) (ownersOf o) t y → takes y t ≡ true → ⊥) →
       Sought K k o (t + 1) p b → Sought K k o t p b
   sought-leave h s =
       record {
@@ -59,18 +79,32 @@ module _ {o : List ℕ} {t : ℕ} (l : t < 512) (r : ReadyFrom o t) where
       }
 
   -- a placement was found with pair t taken
-  pub sought-take : {K : Case} {k : ℕ} {p : List ℕ} → 16 ≤ ownersOf o (t % 32) → Sought K k (pairTaken o t) (t + 1) p true → Sought K k o t p true
-  sought-take f s =
+  pub sought-take : {K : Case} {k : ℕ} {p : List ℕ} → None (From (Within K k) (ownersOf o) (shardEnd t)) → 16 ≤ ownersOf o (t % 32) → Sought K k (pairTaken o t) (t + 1) p true → Sought K k o t p true
+  sought-take n f s =
       record {
-        yes = λ e. first-take l (r .begun) f (taken (r .owners)) (s .yes refl);
+        yes = λ e. first-take l (r .begun) f (taken (r .owners)) n (s .yes refl);
+        no = λ e. absurd (true≢false e);
+        kept = λ e. absurd (true≢false e);
+        owners = s .owners;
+      }
+
+  -- the list ended
+  pub ready-close : ReadyFrom o (shardEnd t)
+  ready-close = record { owners = r .owners; begun = begun-close l (r .begun) }
+
+  -- a placement was found with the list ended
+  pub sought-close : {K : Case} {k : ℕ} {p : List ℕ} → Sought K k o (shardEnd t) p true → Sought K k o t p true
+  sought-close s =
+      record {
+        yes = λ e. first-close l (r .begun) (s .yes refl);
         no = λ e. absurd (true≢false e);
         kept = λ e. absurd (true≢false e);
         owners = s .owners;
       }
 
   -- there is none with pair t taken
-  pub taken-none : {K : Case} {k : ℕ} → 16 ≤ ownersOf o (t % 32) → None (From K k (ownersOf (pairTaken o t)) (t + 1)) →
-      (y : ℕ → ℕ) → From K k (ownersOf o) t y → takes y t ≡ true → ⊥
+  pub taken-none : {K : Case} {k : ℕ} → 16 ≤ ownersOf o (t % 32) → None (From (Within K k) (ownersOf (pairTaken o t)) (t + 1)) →
+      (y : ℕ → ℕ) → From (Within K k) (ownersOf o) t y → takes y t ≡ true → ⊥
   taken-none f n = none-take l (r .begun) f (taken (r .owners)) n
 
   -- the same, as the code has it: v is the shard of pair t
@@ -78,9 +112,9 @@ module _ {o : List ℕ} {t : ℕ} (l : t < 512) (r : ReadyFrom o t) where
     pub ready-stored : ReadyFrom (set o (t % 32) v) (t + 1)
     ready-stored = subst (λ (a : ℕ). ReadyFrom (set o (t % 32) a) (t + 1)) (sym e) (ready-take f)
 
-    pub sought-found : {K : Case} {k : ℕ} {p : List ℕ} {b : Bool} → b ≡ true → Sought K k (set o (t % 32) v) (t + 1) p b → Sought K k o t p true
-    sought-found {K} {k} {p} {b} g s =
-        sought-take f
+    pub sought-found : {K : Case} {k : ℕ} {p : List ℕ} {b : Bool} → None (From (Within K k) (ownersOf o) (shardEnd t)) → b ≡ true → Sought K k (set o (t % 32) v) (t + 1) p b → Sought K k o t p true
+    sought-found {K} {k} {p} {b} n g s =
+        sought-take n f
         (subst (λ (d : Bool). Sought K k (pairTaken o t) (t + 1) p d) g (subst (λ (a : ℕ). Sought K k (set o (t % 32) a) (t + 1) p b) e s))
 
     module _ {K : Case} {k : ℕ} {q : List ℕ} {b : Bool} (g : b ≡ false) (s : Sought K k (set o (t % 32) v) (t + 1) q b) where
@@ -90,21 +124,49 @@ module _ {o : List ℕ} {t : ℕ} (l : t < 512) (r : ReadyFrom o t) where
       pub ready-restored : ReadyFrom (set q (t % 32) 16) (t + 1)
       ready-restored = subst (λ (w : List ℕ). ReadyFrom w (t + 1)) (sym restored) ready-leave
 
+      pub restored-none : {d : Bool} → None (From (Within K k) (ownersOf o) (shardEnd t)) → d ≡ eqb (shardEnd (t + 1)) (shardEnd t) → d ≡ true →
+          None (From (Within K k) (ownersOf (set q (t % 32) 16)) (shardEnd (t + 1)))
+      restored-none n h e =
+          subst (λ (w : List ℕ). None (From (Within K k) (ownersOf w) (shardEnd (t + 1)))) (sym restored) (none-later o t h n e)
+
       pub sought-else : {p : List ℕ} {d : Bool} → Sought K k (set q (t % 32) 16) (t + 1) p d → Sought K k o t p d
       sought-else {p} {d} h =
-          sought-leave (taken-none f (subst (λ (a : ℕ). None (From K k (ownersOf (set o (t % 32) a)) (t + 1))) e (s .no g)))
+          sought-leave (taken-none f (subst (λ (a : ℕ). None (From (Within K k) (ownersOf (set o (t % 32) a)) (t + 1))) e (s .no g)))
           (subst (λ (w : List ℕ). Sought K k w (t + 1) p d) restored h)
 
+      -- the shard's last pair is put back
+      pub restored-last : None (From (Within K k) (ownersOf o) (t + 1)) → Sought K k o t (set q (t % 32) 16) false
+      restored-last n = sought-else (subst (λ (w : List ℕ). Sought K k w (t + 1) w false) (sym restored) (sought-last r n))
+
+-- the list ended, as the code has it
+pub closing : {o : List ℕ} {t j : ℕ} → t < 512 → ReadyFrom o t → j ≡ shardEnd t → ReadyFrom o j
+closing {o} l r e = subst (ReadyFrom o) (sym e) (ready-close l r)
+
+-- none with the list ended, as the code has it: j is the next shard's first pair
+module _ {K : Case} {k : ℕ} {o q : List ℕ} (t : ℕ) {j : ℕ} {b : Bool} (e : j ≡ shardEnd t) (s : Sought K k o j q b) where
+  pub closed-found : t < 512 → ReadyFrom o t → b ≡ true → Sought K k o t q true
+  closed-found l r g = sought-close l r (subst (λ (d : Bool). Sought K k o (shardEnd t) q d) g (subst (λ (i : ℕ). Sought K k o i q b) e s))
+
+  pub closed-ready : ReadyFrom o t → b ≡ false → ReadyFrom q t
+  closed-ready r g = subst (λ (w : List ℕ). ReadyFrom w t) (sym (s .kept g)) r
+
+  pub closed-none : b ≡ false → None (From (Within K k) (ownersOf q) (shardEnd t))
+  closed-none g = subst (λ (w : List ℕ). None (From (Within K k) (ownersOf w) (shardEnd t))) (sym (s .kept g)) (subst (λ (i : ℕ). None (From (Within K k) (ownersOf o) i)) e (s .no g))
+
+  pub closed-else : {p : List ℕ} {d : Bool} → b ≡ false → Sought K k q t p d → Sought K k o t p d
+  closed-else {p} {d} g h = subst (λ (w : List ℕ). Sought K k w t p d) (s .kept g) h
+
 -- the pair is barred
-pub barred-none : {K : Case} {k : ℕ} {o : ℕ → ℕ} {t : ℕ} {b : Bool} → b ≡ true → Barred K o t b → (y : ℕ → ℕ) → From K k o t y → takes y t ≡ true → ⊥
-barred-none g b y f e = b .yes g y (f .within .valid) (f .agree) e
+pub barred-none : {K : Case} {k : ℕ} {o : ℕ → ℕ} {t : ℕ} {b : Bool} → b ≡ true → Barred K o t b → (y : ℕ → ℕ) → From (Within K k) o t y → takes y t ≡ true → ⊥
+barred-none g b y f e = b .yes g y (f .has .valid) (f .agree) e
 
 -- all pairs decided
 pub sought-end : {K : Case} {k : ℕ} {o : List ℕ} {t : ℕ} {b : Bool} → t ≡ 512 → ReadyFrom o t → Judged K k (ownersOf o) b → Sought K k o t o b
 sought-end {K} {k} {o} {t} {b} d r j =
     subst (λ (s : ℕ). Sought K k o s o b) (sym d)
-    record { yes = λ e. first-end (j .yes e); no = λ e. none-end (j .no e); kept = λ e. refl; owners = r .owners }
+    record { yes = λ e. first-end (j .yes e); no = λ e. none-end (λ y s w. within-same (ownersOf o) y s w) (j .no e); kept = λ e. refl; owners = r .owners }
 
 -- nothing to hope for
-pub sought-hopeless : {K : Case} {k : ℕ} {o : List ℕ} {t : ℕ} {b : Bool} → ReadyFrom o t → b ≡ true → b ≡ hopelessFrom K k (ownersOf o) t → Sought K k o t o false
-sought-hopeless r g h = record { yes = λ e. absurd (false≢true e); no = λ e. hopeless-none (r .begun) (sym h ∙ g); kept = λ e. refl; owners = r .owners }
+pub sought-hopeless : {K : Case} {k : ℕ} {o : List ℕ} {t : ℕ} {b : Bool} → t ≤ 512 → ReadyFrom o t → b ≡ true → b ≡ hopelessFrom K k (ownersOf o) t →
+    Sought K k o t o false
+sought-hopeless l r g h = record { yes = λ e. absurd (false≢true e); no = λ e. hopeless-none l (r .begun) (sym h ∙ g); kept = λ e. refl; owners = r .owners }

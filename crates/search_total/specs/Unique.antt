@@ -7,7 +7,7 @@ use Prim.Native.Nat.{ℕ, _<_}
 use native.Mathlib.Omega.{arith}
 use lib.Seq.{ext-getD}
 use Rattle.base_laws.specs.Bools.{either}
-use Rattle.search_theory.specs.Case.{Case, Valid, Within, Least, moves}
+use Rattle.search_theory.specs.Case.{Case, Valid, Within, Least, weight}
 use Rattle.search_theory.specs.Tables.{ownersOf}
 use Rattle.search_theory.specs.Order.{First, None, Same, first-unique}
 use Rattle.search_total.specs.declared.Solution.{Solution}
@@ -18,15 +18,15 @@ same-list : (p q : List ℕ) → Owners p → Owners q → Same (ownersOf p) (ow
 same-list p q v w s =
     ext-getD 0 p q (v .long ∙ sym (w .long)) (λ n l. let h : n < 32 = omega (arith, v .long) in omega (arith, s .owner n h, v .least n h, w .least n h))
 
-same-answer : {a b : Solution} → a .exists ≡ b .exists → a .moves ≡ b .moves → a .owners ≡ b .owners → a ≡ b
-same-answer p q r = λ i. record { exists = p i; moves = q i; owners = r i }
+same-answer : {a b : Solution} → a .exists ≡ b .exists → a .weight ≡ b .weight → a .owners ≡ b .owners → a ≡ b
+same-answer p q r = λ i. record { exists = p i; weight = q i; owners = r i }
 
 -- an answer that has the first placement with P, or says that none has Q
 record FirstOrNone (K : Case) (P Q : (ℕ → ℕ) → Type 0) (a : Solution) : Type 0 where
   found : a .exists ≡ true → First P (ownersOf (a .owners))
-  exact : a .exists ≡ true → a .moves ≡ moves K (ownersOf (a .owners))
+  exact : a .exists ≡ true → a .weight ≡ weight K (ownersOf (a .owners))
   none : a .exists ≡ false → None Q
-  empty : a .exists ≡ false → (a .moves ≡ 0) × (a .owners ≡ noOwners)
+  empty : a .exists ≡ false → (a .weight ≡ 0) × (a .owners ≡ noOwners)
   owners : Owners (a .owners)
 
 unique : {K : Case} {P Q : (ℕ → ℕ) → Type 0} → ((y : ℕ → ℕ) → P y → Q y) → {a b : Solution} → FirstOrNone K P Q a → FirstOrNone K P Q b → a ≡ b
@@ -36,7 +36,7 @@ unique {K} q {a} {b} u w =
     ⊎-elim
     (λ d.
     let o : a .owners ≡ b .owners = same-list (a .owners) (b .owners) (u .owners) (w .owners) (first-unique (u .found e) (w .found d)) in
-    same-answer (e ∙ sym d) (u .exact e ∙ (ap (λ (l : List ℕ). moves K (ownersOf l)) o ∙ sym (w .exact d))) o)
+    same-answer (e ∙ sym d) (u .exact e ∙ (ap (λ (l : List ℕ). weight K (ownersOf l)) o ∙ sym (w .exact d))) o)
     (λ d. absurd (w .none d .none (ownersOf (a .owners)) (q (ownersOf (a .owners)) (u .found e .is))))
     (either (b .exists)))
     (λ e.

@@ -1,56 +1,94 @@
-// The first valid placement of a subgroup of at most k moves, and the first of least moves, or that there is none. The tables are
-// those of search_judge; a placement comes before another if it takes the first pair, shards ascending and nodes ascending, that only one takes.
+// The first valid placement of a subgroup of a weight of at most k, and the first of least weight, or that there is none. The tables are
+// those of search_judge; shards ascending, the smaller list of nodes in dictionary order comes first, and a list before a longer one.
+ghost use mathlib.Core.Path.{_≡_};
+ghost use mathlib.Core.Bool.{true};
 ghost use mathlib.Core.List.{[]};
-ghost use Prim.Native.Nat.{_+_, _≤_};
-ghost use Rattle.search_theory.specs.Tables.{caseOf};
+ghost use Prim.Native.Nat.{_+_, _≤_, _<_};
+ghost use lib.Dec.{eqb};
+ghost use Rattle.search_theory.specs.Case.{Within};
+ghost use Rattle.search_theory.specs.Order.{None, From, shardEnd};
+ghost use Rattle.search_theory.specs.Tables.{caseOf, ownersOf};
 ghost use Rattle.search_total.specs.Post.{ReadyFrom, Sought, WithinAnswer, LeastAnswer};
 ghost use Rattle.search_total.specs.Answers.{HasOwners, Empty};
 
-// What a search found: the moves and the owner of each node, 16 for none, where a placement exists; else 0 and no owners.
+// What a search found: the weight and the owner of each node, 16 for none, where a placement exists; else 0 and no owners.
 pub struct Solution {
     pub exists: bool,
-    pub moves: usize,
+    pub weight: usize,
     pub owners: [u8; 32],
 }
 
-// Depth first over the pairs from t on: a pair is taken before it is left.
+// The first pair of the next shard.
+pub fn next(t: usize) -> usize
+    requires { ⌜ t < 512 ⌝ }
+    ensures { λ r. ⌜ (r ≡ shardEnd t) × (t < r) × (r ≤ 512) ⌝ }
+{
+    (t / 32 + 1) * 32
+}
+
+// Whether the pair after t is of the same shard.
+pub fn same_shard(t: usize) -> bool
+    requires { ⌜ t < 512 ⌝ }
+    ensures { λ r. ⌜ r ≡ eqb (shardEnd (t + 1)) (shardEnd t) ⌝ }
+{
+    t % 32 < 31
+}
+
+// Depth first over the pairs from t on: the shard's list is ended before a pair is taken, and a pair is taken before it is left.
+// Where `tried` says so there is none with the list ended here.
 fn seek(
     sets: &[u8; 32],
     needs: &[u8; 16],
-    prices: &[u8; 512],
+    caps: &[u8; 16],
+    costs: &[u8; 512],
     owner: &mut [u8; 32],
+    idle: u8,
     t: usize,
     k: usize,
+    tried: bool,
 ) -> bool
     requires { ⌜ t ≤ 512 ⌝ }
     requires { ⌜ ReadyFrom (now owner) t ⌝ }
-    ensures { λ r. ⌜ Sought (caseOf (now (sets .entry)) (now (needs .entry)) (now (prices .entry))) k (now (owner .entry)) t (now (owner .exit)) r ⌝ }
+    requires { ⌜ (tried ≡ true → None (From (Within (caseOf (now sets) (now needs) (now caps) (now costs) idle) k) (ownersOf (now owner)) (shardEnd t))) ⌝ }
+    ensures { λ r. ⌜ Sought (caseOf (now (sets .entry)) (now (needs .entry)) (now (caps .entry)) (now (costs .entry)) idle) k (now (owner .entry)) t (now (owner .exit)) r ⌝ }
 {
     if t == 512 {
-        return search_judge::within(sets, needs, prices, owner, k);
+        return search_judge::within(sets, needs, caps, costs, owner, idle, k);
     }
-    if search_judge::hopeless(sets, needs, prices, owner, t, k) {
+    if search_judge::hopeless(sets, needs, caps, costs, owner, idle, t, k) {
         return false;
     }
-    if search_judge::barred(sets, needs, prices, owner, t) {
-        return seek(sets, needs, prices, owner, t + 1, k);
+    if !tried {
+        if seek(sets, needs, caps, costs, owner, idle, next(t), k, false) {
+            return true;
+        }
+        return seek(sets, needs, caps, costs, owner, idle, t, k, true);
+    }
+    if search_judge::barred(sets, needs, caps, costs, owner, idle, t) {
+        if !same_shard(t) {
+            return false;
+        }
+        return seek(sets, needs, caps, costs, owner, idle, t + 1, k, true);
     }
     owner[t % 32] = search_judge::shard(t);
-    if seek(sets, needs, prices, owner, t + 1, k) {
+    if seek(sets, needs, caps, costs, owner, idle, t + 1, k, false) {
         return true;
     }
     owner[t % 32] = 16;
-    seek(sets, needs, prices, owner, t + 1, k)
+    if !same_shard(t) {
+        return false;
+    }
+    seek(sets, needs, caps, costs, owner, idle, t + 1, k, true)
 }
 
-// The owners that were found, with their moves.
-pub fn some(prices: &[u8; 512], owners: [u8; 32]) -> Solution
-    ensures { λ r. ⌜ HasOwners (caseOf [] [] (now (prices .entry))) owners r ⌝ }
+// The owners that were found, with their weight.
+pub fn some(costs: &[u8; 512], owners: [u8; 32], idle: u8) -> Solution
+    ensures { λ r. ⌜ HasOwners (caseOf [] [] [] (now (costs .entry)) idle) owners r ⌝ }
 {
-    let moves = search_judge::moves(prices, &owners);
+    let weight = search_judge::weight(costs, &owners, idle);
     Solution {
         exists: true,
-        moves,
+        weight,
         owners,
     }
 }
@@ -61,34 +99,51 @@ pub fn nothing() -> Solution
 {
     Solution {
         exists: false,
-        moves: 0,
+        weight: 0,
         owners: [16u8; 32],
     }
 }
 
-// The first valid placement of at most k moves.
-pub fn plain_within(sets: &[u8; 32], needs: &[u8; 16], prices: &[u8; 512], k: usize) -> Solution
-    ensures { λ r. ⌜ WithinAnswer (caseOf (now (sets .entry)) (now (needs .entry)) (now (prices .entry))) k r ⌝ }
+// The first valid placement of a weight of at most k.
+pub fn plain_within(
+    sets: &[u8; 32],
+    needs: &[u8; 16],
+    caps: &[u8; 16],
+    costs: &[u8; 512],
+    idle: u8,
+    k: usize,
+) -> Solution
+    ensures { λ r. ⌜ WithinAnswer (caseOf (now (sets .entry)) (now (needs .entry)) (now (caps .entry)) (now (costs .entry)) idle) k r ⌝ }
 {
     let mut owner = [16u8; 32];
-    if seek(sets, needs, prices, &mut owner, 0, k) {
-        some(prices, owner)
+    if seek(sets, needs, caps, costs, &mut owner, idle, 0, k, false) {
+        some(costs, owner, idle)
     } else {
         nothing()
     }
 }
 
-// The first of the valid placements of least moves.
-pub fn plain_least(sets: &[u8; 32], needs: &[u8; 16], prices: &[u8; 512]) -> Solution
-    ensures { λ r. ⌜ LeastAnswer (caseOf (now (sets .entry)) (now (needs .entry)) (now (prices .entry))) r ⌝ }
+// The first of the valid placements of least weight: from the first of all, each time one of less weight, until there is none.
+pub fn plain_least(
+    sets: &[u8; 32],
+    needs: &[u8; 16],
+    caps: &[u8; 16],
+    costs: &[u8; 512],
+    idle: u8,
+) -> Solution
+    ensures { λ r. ⌜ LeastAnswer (caseOf (now (sets .entry)) (now (needs .entry)) (now (caps .entry)) (now (costs .entry)) idle) r ⌝ }
 {
-    let mut k: usize = 0;
-    while k < 32 {
-        let a = plain_within(sets, needs, prices, k);
-        if a.exists {
-            return a;
-        }
-        k += 1;
+    let start = plain_within(sets, needs, caps, costs, idle, 8192);
+    if !start.exists {
+        return start;
     }
-    plain_within(sets, needs, prices, k)
+    let mut k = start.weight;
+    while k > 0 {
+        let a = plain_within(sets, needs, caps, costs, idle, k - 1);
+        if !a.exists {
+            return plain_within(sets, needs, caps, costs, idle, k);
+        }
+        k = a.weight;
+    }
+    plain_within(sets, needs, caps, costs, idle, k)
 }

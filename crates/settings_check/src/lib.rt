@@ -53,17 +53,20 @@ fn nodes_ok(settings: &[u32]) -> bool
     true
 }
 
-// Subgroup 0 to 3, and a need from 1 to F.
+// Subgroup 0 to 3, a need from 1 to F, and a cap from the need to 16.
 fn shard_ok(settings: &[u32], shard: Shard) -> bool
     requires { ⌜ Sizes (now settings) ⌝ }
     requires { ⌜ shard .0 < shards (now settings) ⌝ }
     ensures { λ r. ⌜ r ≡ shardOk (now (settings .entry)) (shard .0) ⌝ }
 {
     let word = settings_values::shard_word(settings, shard);
-    if 3 < word / 256 {
+    if 3 < word / 256 % 256 {
         return false;
     }
-    settings_values::from_to(1, settings[1], word % 256)
+    if !settings_values::from_to(1, settings[1], word % 256) {
+        return false;
+    }
+    settings_values::from_to(word % 256, 16, settings_values::cap(settings, shard))
 }
 
 fn shards_ok(settings: &[u32]) -> bool

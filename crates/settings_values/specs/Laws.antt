@@ -9,7 +9,7 @@ use lib.ListN.{length}
 use borrow.Author.Tests.{leb-true, ltb-true, eqb-true, le-leb, lt-ltb, eq-eqb}
 use Rattle.base_laws.specs.Bools.{and-both, and-left, and-right}
 use Rattle.base_laws.specs.Below.{all-at, all-of}
-use Rattle.settings_values.specs.Settings.{nodes, sets, least, shards, setOf, subgroup, need, from-to, rangesOk, sizesOk, nodesOk, shardOk, shardsOk, settingsOk, Sizes, Settings}
+use Rattle.settings_values.specs.Settings.{nodes, sets, least, shards, setOf, subgroup, need, cap, from-to, rangesOk, sizesOk, nodesOk, shardOk, shardsOk, settingsOk, Sizes, Settings}
 
 -- ---- low ≤ x ≤ high
 
@@ -70,14 +70,20 @@ settings-give σ h =
     let both : (sizesOk σ && nodesOk σ) ≡ true = and-left (sizesOk σ && nodesOk σ) (shardsOk σ) h in
     let each : (s : ℕ) → s < shards σ → shardOk σ s ≡ true =
     all-at (shards σ) (shardOk σ) (and-right (sizesOk σ && nodesOk σ) (shardsOk σ) h) in
+    let first : (s : ℕ) → s < shards σ → (leb (subgroup σ s) 3 && from-to 1 (sets σ) (need σ s)) ≡ true =
+    λ s l. and-left (leb (subgroup σ s) 3 && from-to 1 (sets σ) (need σ s)) (from-to (need σ s) 16 (cap σ s)) (each s l) in
     let needed : (s : ℕ) → s < shards σ → from-to 1 (sets σ) (need σ s) ≡ true =
-    λ s l. and-right (leb (subgroup σ s) 3) (from-to 1 (sets σ) (need σ s)) (each s l) in
+    λ s l. and-right (leb (subgroup σ s) 3) (from-to 1 (sets σ) (need σ s)) (first s l) in
+    let capped : (s : ℕ) → s < shards σ → from-to (need σ s) 16 (cap σ s) ≡ true =
+    λ s l. and-right (leb (subgroup σ s) 3 && from-to 1 (sets σ) (need σ s)) (from-to (need σ s) 16 (cap σ s)) (each s l) in
     record {
       sizes = sizes-give σ (and-left (sizesOk σ) (nodesOk σ) both);
       set-below = λ n l. ltb-true (setOf σ n) (sets σ) (all-at (nodes σ) (λ k. ltb (setOf σ k) (sets σ)) (and-right (sizesOk σ) (nodesOk σ) both) n l);
-      subgroup-to = λ s l. leb-true (subgroup σ s) 3 (and-left (leb (subgroup σ s) 3) (from-to 1 (sets σ) (need σ s)) (each s l));
+      subgroup-to = λ s l. leb-true (subgroup σ s) 3 (and-left (leb (subgroup σ s) 3) (from-to 1 (sets σ) (need σ s)) (first s l));
       need-from = λ s l. range-low 1 (sets σ) (need σ s) (needed s l);
       need-to = λ s l. range-high 1 (sets σ) (need σ s) (needed s l);
+      cap-from = λ s l. range-low (need σ s) 16 (cap σ s) (capped s l);
+      cap-to = λ s l. range-high (need σ s) 16 (cap σ s) (capped s l);
     }
 
 -- the other way
@@ -100,4 +106,7 @@ settings-of σ g =
     and-both
     (and-both (sizes-of σ (g .sizes)) (all-of (nodes σ) (λ n. ltb (setOf σ n) (sets σ)) (λ n l. lt-ltb (setOf σ n) (sets σ) (g .set-below n l))))
     (all-of (shards σ) (shardOk σ)
-    (λ s l. and-both (le-leb (subgroup σ s) 3 (g .subgroup-to s l)) (range-of 1 (sets σ) (need σ s) (g .need-from s l) (g .need-to s l))))
+    (λ s l.
+    and-both
+    (and-both (le-leb (subgroup σ s) 3 (g .subgroup-to s l)) (range-of 1 (sets σ) (need σ s) (g .need-from s l) (g .need-to s l)))
+    (range-of (need σ s) 16 (cap σ s) (g .cap-from s l) (g .cap-to s l))))

@@ -1,7 +1,8 @@
 -- The settings' words: N nodes, F failure sets, the least group size, S shards; then each node's failure set; then for each
--- shard subgroup × 256 + m, where m is the number of members from different failure sets that the shard needs.
+-- shard cap × 65536 + subgroup × 256 + m, where m is from how many different failure sets the shard needs members and cap how many
+-- members it may have; a cap of 0 stands for m.
 use Prim.Native.Nat.{ℕ, _+_, _/_, _%_, _<_, _≤_}
-use mathlib.Core.Bool.{Bool, _&&_}
+use mathlib.Core.Bool.{Bool, cond, _&&_}
 use mathlib.Core.List.{List}
 use mathlib.Core.Path.{_≡_}
 use lib.Dec.{eqb, leb, ltb}
@@ -31,11 +32,15 @@ abbrev pub shardWord : List ℕ → ℕ → ℕ
 shardWord σ s = getD σ (4 + nodes σ + s) 0
 
 abbrev pub subgroup : List ℕ → ℕ → ℕ
-subgroup σ s = shardWord σ s / 256
+subgroup σ s = shardWord σ s / 256 % 256
 
--- how many members from different failure sets shard s needs
+-- from how many different failure sets shard s needs members
 abbrev pub need : List ℕ → ℕ → ℕ
 need σ s = shardWord σ s % 256
+
+-- how many members shard s may have
+unfoldable pub cap : List ℕ → ℕ → ℕ
+cap σ s = cond (eqb (shardWord σ s / 65536) 0) (need σ s) (shardWord σ s / 65536)
 
 -- low ≤ x ≤ high
 abbrev pub from-to : ℕ → ℕ → ℕ → Bool
@@ -54,9 +59,9 @@ sizesOk σ = leb 4 (length σ) && rangesOk σ && eqb (length σ) (4 + nodes σ +
 unfoldable pub nodesOk : List ℕ → Bool
 nodesOk σ = allBelow (nodes σ) (λ n. ltb (setOf σ n) (sets σ))
 
--- subgroup 0 to 3, and a need from 1 to F
+-- subgroup 0 to 3, a need from 1 to F, and a cap from the need to 16
 unfoldable pub shardOk : List ℕ → ℕ → Bool
-shardOk σ s = leb (subgroup σ s) 3 && from-to 1 (sets σ) (need σ s)
+shardOk σ s = leb (subgroup σ s) 3 && from-to 1 (sets σ) (need σ s) && from-to (need σ s) 16 (cap σ s)
 
 unfoldable pub shardsOk : List ℕ → Bool
 shardsOk σ = allBelow (shards σ) (shardOk σ)
@@ -84,3 +89,5 @@ pub record Settings (σ : List ℕ) : Type 0 where
   pub subgroup-to : (s : ℕ) → s < shards σ → subgroup σ s ≤ 3
   pub need-from : (s : ℕ) → s < shards σ → 1 ≤ need σ s
   pub need-to : (s : ℕ) → s < shards σ → need σ s ≤ sets σ
+  pub cap-from : (s : ℕ) → s < shards σ → need σ s ≤ cap σ s
+  pub cap-to : (s : ℕ) → s < shards σ → cap σ s ≤ 16

@@ -3,7 +3,7 @@ use base_ids::Node;
 use base_ids::Shard;
 ghost use mathlib.Core.Path.{_≡_};
 ghost use Prim.Native.Nat.{_<_, _≤_};
-ghost use Rattle.settings_values.specs.Settings.{from-to, Sizes, Settings, nodes, sets, least, shards, setOf, shardWord, subgroup, need};
+ghost use Rattle.settings_values.specs.Settings.{from-to, Sizes, Settings, nodes, sets, least, shards, setOf, shardWord, subgroup, need, cap};
 
 // low ≤ x ≤ high
 pub fn from_to(low: u32, high: u32, x: u32) -> bool
@@ -71,14 +71,27 @@ pub fn subgroup(settings: &[u32], shard: Shard) -> u32
     requires { ⌜ shard .0 < shards (now settings) ⌝ }
     ensures { λ r. ⌜ r ≡ subgroup (now (settings .entry)) (shard .0) ⌝ }
 {
-    shard_word(settings, shard) / 256
+    shard_word(settings, shard) / 256 % 256
 }
 
-// How many members from different failure sets a shard needs.
+// From how many different failure sets a shard needs members.
 pub fn need(settings: &[u32], shard: Shard) -> u32
     requires { ⌜ Settings (now settings) ⌝ }
     requires { ⌜ shard .0 < shards (now settings) ⌝ }
     ensures { λ r. ⌜ r ≡ need (now (settings .entry)) (shard .0) ⌝ }
 {
     shard_word(settings, shard) % 256
+}
+
+// How many members a shard may have.
+pub fn cap(settings: &[u32], shard: Shard) -> u32
+    requires { ⌜ Sizes (now settings) ⌝ }
+    requires { ⌜ shard .0 < shards (now settings) ⌝ }
+    ensures { λ r. ⌜ r ≡ cap (now (settings .entry)) (shard .0) ⌝ }
+{
+    let word = shard_word(settings, shard);
+    if word / 65536 == 0 {
+        return word % 256;
+    }
+    word / 65536
 }

@@ -7,17 +7,17 @@ use mathlib.Core.Path.{_≡_, refl}
 use lib.Count.{ones, onesIn}
 use lib.ListN.{replicate}
 use Rattle.base_laws.specs.Bools.{and-both, and-fails-left, and-fails-right}
-use Rattle.base_laws.specs.Below.{allBelow, anyBelow, lowest}
+use Rattle.base_laws.specs.Below.{allBelow, anyBelow, countBelow, lowest}
 use Rattle.base_laws.specs.Positions.{pairNotAfter}
 use Rattle.base_laws.specs.Tables.{tabulate}
 use Rattle.base_sums.specs.Sums.{sumBelow}
-use Rattle.settings_values.specs.Settings.{sizesOk, nodesOk, shardOk, shardsOk, settingsOk}
+use Rattle.settings_values.specs.Settings.{cap, sizesOk, nodesOk, shardOk, shardsOk, settingsOk}
 use Rattle.base_ids.specs.Refusals.{none, refused, unless, unlessAt, firstOf}
 use Rattle.message_format.specs.Chain.{place, following, row5, row8}
 use Rattle.message_format.specs.Records.{precedes, shardsWhere}
 use Rattle.message_format.specs.Rows.{row6, viewOk, row7, kindOk, plain, kindAt, shardAt, surplus, sequenceAt, complete, shardApart, row10At, row10, position, viewFits, legal, row11At}
 use Rattle.message_format.specs.Messages.{bodyWord, bodyOf, contentsOf, recordsRefusal, headRefusal, messageRefusal}
-use Rattle.place_groups.specs.Placements.{spread, shardValid, groupValidAt, groupValid, groupMovesAt, groupMoves}
+use Rattle.place_groups.specs.Placements.{meetsSet, setsIn, shardValid, groupValidAt, groupValid, groupMovesAt, groupMoves}
 use Rattle.report_views.specs.declared.Phase.{Phase}
 use Rattle.report_views.specs.declared.Phase.the-variants.{Gathering, Ordered, Preparing, Committed}
 use Rattle.report_views.specs.declared.Reason.the-variants.{TooFew}
@@ -192,7 +192,7 @@ unfolding allBelow viewOk shardApart row10At row10 layoutTidy layoutBlank viewSo
 kept-is-sound = refl
 
 plan-is-sound : planSound caseSettings view7 noTermination 63 desk planOfCaseA ≡ true
-unfolding desk ones onesIn allBelow anyBelow lowest tabulate pairNotAfter sumBelow place following bodyWord bodyOf contentsOf endOf reaches holds hasUpdate slot reportOf candidate greatest best target able holder majority firstUnheld quorumOf spread shardValid shardApart groupValidAt groupValid groupMovesAt groupMoves allMoves layoutTidy isMet shardPlanned planSound
+unfolding desk ones onesIn allBelow anyBelow lowest tabulate pairNotAfter sumBelow place following bodyWord bodyOf contentsOf endOf reaches holds hasUpdate slot reportOf candidate greatest best target able holder majority firstUnheld quorumOf countBelow cap meetsSet setsIn shardValid shardApart groupValidAt groupValid groupMovesAt groupMoves allMoves layoutTidy isMet shardPlanned planSound
 plan-is-sound = refl
 
 latest-is-sound : latestSound caseSettings 7 63 desk (reportedAt 7 63) ≡ true
@@ -245,7 +245,7 @@ unfolding marksSound planFits sound
 committed-sound = and-both (and-both (and-both (and-both kept-is-sound parts-sound) refl) latest-is-sound) plan-is-sound
 
 pub refusal-clauses : RefusalClauses
-unfolding desk allBelow anyBelow lowest tabulate sizesOk nodesOk shardOk shardsOk settingsOk unless unlessAt firstOf place following row5 row8 precedes shardsWhere row6 viewOk row7 kindOk plain kindAt shardAt surplus sequenceAt complete shardApart row10At row10 position viewFits legal row11At bodyWord bodyOf contentsOf recordsRefusal headRefusal messageRefusal sameView row12 sameTermination row13 noLatest row18 keptRefusal refusalBeside fresh holding restarted droppedIn entryRefusal eventRefusal nodeRefusal reportRefusal dropRefusal decideRefusal orderRefusal fetchedRefusal preparedRefusal deskAfter
+unfolding desk allBelow anyBelow lowest tabulate sizesOk nodesOk cap shardOk shardsOk settingsOk unless unlessAt firstOf place following row5 row8 precedes shardsWhere row6 viewOk row7 kindOk plain kindAt shardAt surplus sequenceAt complete shardApart row10At row10 position viewFits legal row11At bodyWord bodyOf contentsOf recordsRefusal headRefusal messageRefusal sameView row12 sameTermination row13 noLatest row18 keptRefusal refusalBeside fresh holding restarted droppedIn entryRefusal eventRefusal nodeRefusal reportRefusal dropRefusal decideRefusal orderRefusal fetchedRefusal preparedRefusal deskAfter
 refusal-clauses =
     record {
       report-desk = refl;

@@ -10,17 +10,17 @@ use lib.Dec.{eqb, ltb}
 use lib.ListN.{replicate}
 use borrow.Author.Tests.{eqb-true, le-ltb}
 use Rattle.base_laws.specs.Bools.{clash, or-holds}
-use Rattle.base_laws.specs.Below.{allBelow, anyBelow, lowest, all-at}
+use Rattle.base_laws.specs.Below.{allBelow, anyBelow, countBelow, lowest, all-at}
 use Rattle.base_laws.specs.Masks.{count, minus}
 use Rattle.base_laws.specs.Positions.{pairNotAfter}
 use Rattle.base_laws.specs.Tables.{tabulate}
 use Rattle.base_sums.specs.Sums.{sumBelow}
-use Rattle.settings_values.specs.Settings.{shards}
+use Rattle.settings_values.specs.Settings.{shards, cap}
 use Rattle.base_ids.specs.declared.Node.{Node}
 use Rattle.message_format.specs.Chain.{place, following}
 use Rattle.message_format.specs.Rows.{shardApart}
 use Rattle.message_format.specs.Messages.{bodyWord, bodyOf, contentsOf}
-use Rattle.place_groups.specs.Placements.{spread, shardValid, groupValid, groupValidAt, groupMoves, groupMovesAt}
+use Rattle.place_groups.specs.Placements.{meetsSet, setsIn, shardValid, groupValid, groupValidAt, groupMoves, groupMovesAt}
 use Rattle.report_views.specs.declared.Layout.{Layout}
 use Rattle.report_views.specs.declared.Plan.{Plan}
 use Rattle.report_views.specs.Logs.{pos, start, endOf, reaches, holds, hasUpdate}
@@ -61,7 +61,7 @@ pub record PlanOfA (r : Decided) : Type 0 where
 
 -- subgroup 0 has the plan's placement, and the others have no shard
 placements : (g : ℕ) → g < 4 → groupValid caseSettings 63 planA g ≡ true
-unfolding allBelow ones onesIn spread shardValid shardApart groupValid groupValidAt
+unfolding allBelow anyBelow ones onesIn countBelow cap meetsSet setsIn shardValid shardApart groupValid groupValidAt
 placements zero l = refl
 placements (suc zero) l = refl
 placements (suc (suc zero)) l = refl

@@ -10,7 +10,7 @@ use Rattle.base_laws.specs.Bools.{either, and-both, or-left, or-right, not-of-f
 use Rattle.base_laws.specs.Below.{allBelow, anyBelow, lowest, all-at, all-of}
 use Rattle.base_laws.specs.Masks.{has, has-below, lt-within}
 use Rattle.base_laws.specs.Tables.{tabulate, getD-tabulate}
-use Rattle.settings_values.specs.Settings.{sizesOk, nodesOk, shardOk, shardsOk, settingsOk}
+use Rattle.settings_values.specs.Settings.{cap, sizesOk, nodesOk, shardOk, shardsOk, settingsOk}
 use Rattle.base_ids.specs.Refusals.{accepted, unless, unlessAt, firstOf}
 use Rattle.base_ids.specs.declared.View.{View}
 use Rattle.message_format.specs.Chain.{place, following, row5, row8}
@@ -88,11 +88,11 @@ unfolding unless
 entered lengths settings state a b c = rw (a, b, c)
 
 b-taken : (held : ℕ) → held < 128 → accepted (decideRefusal caseSettings (gathered view7 held) deskOfSeven) ≡ true
-unfolding deskOfSeven allBelow sizesOk nodesOk shardOk shardsOk settingsOk entryRefusal decideRefusal
+unfolding deskOfSeven allBelow sizesOk nodesOk cap shardOk shardsOk settingsOk entryRefusal decideRefusal
 b-taken held l = entered _ _ _ refl refl (held-sound held l)
 
 pub taken : StatesTaken
-unfolding desk deskOfSix fresh allBelow anyBelow lowest tabulate sizesOk nodesOk shardOk shardsOk settingsOk unless unlessAt firstOf place following row5 row8 precedes shardsWhere row6 viewOk row7 kindOk plain kindAt shardAt surplus sequenceAt complete shardApart row10At row10 position viewFits legal row11At bodyWord bodyOf contentsOf recordsRefusal headRefusal messageRefusal slot reportOf sameView row12 sameTermination row13 termKept slotOk slotsOk layoutTidy layoutBlank viewSound positionSound termSoundAt termSound nothingKept keptSound marksSound planBlank planFits noLatest recalled latestSound sound entryRefusal decideRefusal
+unfolding desk deskOfSix fresh allBelow anyBelow lowest tabulate sizesOk nodesOk cap shardOk shardsOk settingsOk unless unlessAt firstOf place following row5 row8 precedes shardsWhere row6 viewOk row7 kindOk plain kindAt shardAt surplus sequenceAt complete shardApart row10At row10 position viewFits legal row11At bodyWord bodyOf contentsOf recordsRefusal headRefusal messageRefusal slot reportOf sameView row12 sameTermination row13 termKept slotOk slotsOk layoutTidy layoutBlank viewSound positionSound termSoundAt termSound nothingKept keptSound marksSound planBlank planFits noLatest recalled latestSound sound entryRefusal decideRefusal
 taken =
     record {
       a = refl;

@@ -1,4 +1,5 @@
--- What decide hands back. Nothing is left free: of the placements of least moves the plan has the first, and there is one outcome.
+-- What decide hands back. Nothing is left free: of the placements of least moves the plan has the first of those with the most stays, and
+-- there is one outcome.
 use Prim.Native.Nat.{ℕ}
 use mathlib.Core.Bool.{true, false}
 use mathlib.Core.List.{List}

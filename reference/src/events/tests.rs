@@ -199,6 +199,107 @@ fn least_moves_are_not_checked_again() {
     assert_eq!(table.with_word(57, 4), 3);
 }
 
+/// Six nodes of three sets, and one shard that needs two and had nodes 0 to 3;
+/// all have reported.
+fn four_members(cap: u32) -> Table {
+    let mut table = Table::fresh();
+    table.settings = vec![6, 3, 1, 1, 0, 1, 2, 0, 1, 2, cap * 65536 + 2];
+    for node in 0..6 {
+        let message = encode(&Contents {
+            node,
+            view: 7,
+            members: 63,
+            records: vec![Triple::new(MEMBERS, 0, 15, 0)],
+        });
+        assert_eq!(table.report(&message), 0);
+    }
+    table
+}
+
+#[test]
+fn caps_keep_members() {
+    for (cap, members) in [(0, 3), (2, 3), (3, 7), (4, 15), (5, 15), (16, 15)] {
+        let mut table = four_members(cap);
+        assert_eq!(table.decide(), Ok(Decision::Plan));
+        let plan = table.state().plan.unwrap();
+        assert_eq!((plan.masks, plan.total), (vec![members], 0), "cap {cap}");
+        assert_eq!(table.check(), 0);
+        for node in 0..6 {
+            let order = table.order(node).unwrap();
+            let order = message::read(Form::Order, &table.settings, &order).unwrap();
+            assert_eq!(order.shard_mask(0), members);
+            let carried = order.of_kind(CUT).len();
+            assert_eq!(carried == 1, mask::has(members, node));
+        }
+        for node in 0..6 {
+            assert_eq!(table.fetched(node), 0);
+        }
+        for node in 0..6 {
+            assert_eq!(table.prepared(node), 0);
+        }
+        assert_eq!(table.state().phase, Phase::Committed);
+    }
+}
+
+#[test]
+fn row_2_caps() {
+    for cap in [1, 17, 65535] {
+        let mut table = four_members(2);
+        table.settings[10] = cap * 65536 + 2;
+        assert_eq!(table.check(), 2, "cap {cap}");
+        assert_eq!(table.report(&[]), 2);
+        assert_eq!(table.drop_node(0), 2);
+        assert_eq!(table.decide(), Err(Number(2)));
+        assert_eq!(table.order(0), Err(Number(2)));
+        assert_eq!(table.fetched(0), 2);
+        assert_eq!(table.prepared(0), 2);
+    }
+}
+
+/// The plan is valid by the caps. Least moves, stays and order are not asked.
+#[test]
+fn row_3_plans_with_caps() {
+    let number = |cap: u32, members: u32| {
+        let mut table = four_members(cap);
+        assert_eq!(table.decide(), Ok(Decision::Plan));
+        table.state[57] = mask::count(members & !15);
+        table.with_word(58, members)
+    };
+    for (members, text) in [
+        (0b00_1111, "the plan"),
+        (0b00_0011, "fewer stay"),
+        (0b00_0110, "a later list"),
+        (0b00_1101, "a set twice"),
+        (0b10_1010, "a move"),
+        (0b11_0001, "two moves"),
+        (0b11_0000, "nobody stays"),
+    ] {
+        assert_eq!(number(4, members), 4, "{text}");
+    }
+    for (members, text) in [
+        (0b00_1001, "two nodes of one set"),
+        (0b00_0001, "one node"),
+        (0b00_0000, "none"),
+        (0b01_1111, "five nodes"),
+        (0b11_1111, "six nodes"),
+        (0b100_0111, "node 6 of 6"),
+    ] {
+        assert_eq!(number(4, members), 3, "{text}");
+    }
+    assert_eq!(number(6, 0b11_1111), 4);
+    assert_eq!(number(3, 0b00_1111), 3);
+    assert_eq!(number(3, 0b00_1101), 4);
+    assert_eq!(number(0, 0b00_1101), 3);
+    assert_eq!(number(0, 0b00_1100), 4);
+    // The total is that of the plan's own moves.
+    let mut table = four_members(4);
+    assert_eq!(table.decide(), Ok(Decision::Plan));
+    table.state[58] = 0b11_0001;
+    for (total, number) in [(0, 3), (1, 3), (2, 4), (3, 3)] {
+        assert_eq!(table.with_word(57, total), number);
+    }
+}
+
 #[test]
 fn a_changed_slot_makes_the_state_unsound() {
     let mut table = Table::ordered();

@@ -1,5 +1,6 @@
 use super::*;
 use crate::settings;
+use std::collections::BTreeSet;
 
 /// A small xorshift generator.
 struct Random(u64);
@@ -39,7 +40,7 @@ fn an_interleaved_layout() {
     let first = vec![0b0011, 0b0001, 0b0100];
     assert!(layout.valid(&first));
     assert_eq!(layout.moves(&first), 4);
-    assert_eq!(layout.first_least(), Some(first.clone()));
+    assert_eq!(layout.first_best(), Some(first.clone()));
     assert_eq!(layout.each(exhaustive), Ok(first));
 }
 
@@ -52,8 +53,16 @@ fn case(random: &mut Random, most: u32) -> (Settings, u32, Vec<u32>) {
     let subgroups = 1 + random.below(SUBGROUPS);
     let mut words = vec![nodes, sets, 1, shards];
     words.extend((0..nodes).map(|_| random.below(sets)));
-    words
-        .extend((0..shards).map(|_| random.below(subgroups) * 256 + 1 + random.below(sets.min(3))));
+    for _ in 0..shards {
+        let (subgroup, need) = (random.below(subgroups), 1 + random.below(sets.min(3)));
+        let cap = match random.below(4) {
+            0 => 0,
+            1 => need,
+            2 => need + 1,
+            _ => need + random.below(17 - need),
+        };
+        words.push(cap * 65536 + subgroup * 256 + need);
+    }
     let settings = settings::parse(&words).unwrap();
     let mut old = vec![0; shards as usize];
     for number in 0..SUBGROUPS {
@@ -83,25 +92,91 @@ fn the_greedy_method_finds_the_first() {
             old: &old,
         };
         for subgroup in layout.subgroups() {
-            let least = all_least(&subgroup);
-            let first = first_of(least.clone());
+            if many(&subgroup) {
+                continue;
+            }
+            let best = all_best(&subgroup);
+            let first = first_of(best.clone());
             assert_eq!(exhaustive(&subgroup), first);
             assert_eq!(greedy(&subgroup), first);
-            // The least masks as numbers are the same ones.
-            assert_eq!(first, least.iter().min().cloned());
+            // Where all lists are of one length, the least masks as numbers are
+            // the same ones.
+            if settings.cap_of == settings.need_of {
+                assert_eq!(first, best.iter().min().cloned());
+            }
             let Some(first) = first else { continue };
             assert!(subgroup.valid(&first));
-            assert!(least
+            assert!(best
                 .iter()
                 .all(|other| compare(&first, other) != Ordering::Greater));
             if !settings.shards_of(subgroup.number).is_empty() {
                 found += 1;
-                equal += u32::from(least.len() > 1);
+                equal += u32::from(best.len() > 1);
             }
         }
     }
-    println!("{found} placed, {equal} with another of equal moves");
+    println!("{found} placed, {equal} with another as good");
     assert!(found > 3000 && equal > 1500);
+}
+
+/// Lists are no numbers: 0 1 comes before 1, though its mask is greater. Shard 1
+/// needs a node of set 1, node 0 of shard 0 or node 3 or 4 of shard 2.
+#[test]
+fn lists_of_two_lengths_are_no_numbers() {
+    let wide = 2 * 65536 + 1;
+    let settings = settings::parse(&[5, 2, 1, 3, 1, 0, 0, 1, 1, wide, 2, wide]).unwrap();
+    let layout = Layout {
+        settings: &settings,
+        held: 0b11111,
+        old: &[0b00011, 0b00100, 0b11000],
+    };
+    let subgroup = layout.subgroup(0);
+    let first = vec![0b00011, 0b01100, 0b10000];
+    assert_eq!(greedy(&subgroup), Some(first.clone()));
+    assert_eq!(exhaustive(&subgroup), Some(first));
+    let least = vec![0b00010, 0b00101, 0b11000];
+    assert_eq!(all_best(&subgroup).into_iter().min(), Some(least));
+}
+
+/// One shard has lost its members, and every other node is a member of another
+/// shard. Which of them loses one makes its list shorter.
+#[test]
+fn lists_of_other_lengths() {
+    let mut random = Random(0xCA95);
+    let mut longer = 0;
+    for _ in 0..1000 {
+        let (nodes, sets) = (5 + random.below(3), 1 + random.below(2));
+        let mut words = vec![nodes, sets, 1, 3];
+        words.extend((0..nodes).map(|_| random.below(sets)));
+        words.extend((0..3).map(|_| (2 + random.below(3)) * 65536 + 1));
+        let settings = settings::parse(&words).unwrap();
+        let lost = random.below(3);
+        let mut old = vec![0; 3];
+        for node in 0..nodes {
+            old[random.below(3) as usize] |= mask::only(node);
+        }
+        let layout = Layout {
+            settings: &settings,
+            held: mask::below(nodes) & !old[lost as usize],
+            old: &old,
+        };
+        let subgroup = layout.subgroup(0);
+        let best = all_best(&subgroup);
+        assert_eq!(greedy(&subgroup), first_of(best.clone()));
+        let lengths = |masks: &Placement| masks.iter().copied().map(mask::count).collect();
+        let lengths: BTreeSet<Vec<u32>> = best.iter().map(lengths).collect();
+        longer += u32::from(lengths.len() > 1);
+    }
+    println!("{longer} where lists of several lengths are as good");
+    assert!(longer > 100);
+}
+
+/// Whether there may be too many placements to go through.
+fn many(subgroup: &Subgroup) -> bool {
+    let wide = |&shard: &u32| subgroup.settings.cap(shard) > subgroup.settings.need(shard);
+    let shards = subgroup.settings.shards_of(subgroup.number);
+    let ways = 1 + shards.iter().filter(|shard| wide(shard)).count() as u64;
+    ways.pow(mask::count(subgroup.held)) > 70_000
 }
 
 /// First in every subgroup is first over all shards, and least in every
@@ -117,6 +192,9 @@ fn the_whole_plan_is_first_in_each_subgroup() {
             held,
             old: &old,
         };
+        if layout.subgroups().any(|one| many(&one)) {
+            continue;
+        }
         let each: usize = layout.subgroups().map(|one| one.all().len()).product();
         if each > 3000 {
             continue;
@@ -124,12 +202,18 @@ fn the_whole_plan_is_first_in_each_subgroup() {
         let all = layout.all();
         assert_eq!(all.len(), each);
         assert!(all.iter().all(|masks| layout.valid(masks)));
-        let first = layout.first_least();
+        let first = layout.first_best();
         assert_eq!(layout.each(exhaustive).ok(), first);
         assert_eq!(layout.each(greedy).ok(), first);
         let Some(first) = first else { continue };
         let least = all.iter().map(|masks| layout.moves(masks)).min();
         assert_eq!(Some(layout.moves(&first)), least);
+        let each_best = layout.subgroups().map(|one| one.any_best().unwrap());
+        let stays: u32 = (0..SUBGROUPS)
+            .zip(each_best)
+            .map(|(number, masks)| layout.subgroup(number).stays(&masks))
+            .sum();
+        assert_eq!(layout.stays(&first), stays);
         let each_least = layout
             .subgroups()
             .map(|one| one.least_moves().unwrap())
@@ -162,7 +246,7 @@ fn a_subgroup_without_a_placement() {
     };
     assert_eq!(layout.each(exhaustive), Err(1));
     assert_eq!(layout.each(greedy), Err(1));
-    assert_eq!(layout.first_least(), None);
+    assert_eq!(layout.first_best(), None);
 }
 
 /// All placements of a layout are all masks that are valid.

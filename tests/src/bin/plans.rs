@@ -1,5 +1,5 @@
-//! Compares the library's plans with the first of least moves, mask for mask:
-//! `plans [SEED [SMALL [LARGE]]]`.
+//! Compares the library's plans with the first of least moves and then most
+//! stays, mask for mask: `plans [SEED [SMALL [LARGE]]]`.
 //!
 //! SMALL plans of up to 9 nodes are compared with the search through all
 //! placements, LARGE ones of up to 32 nodes and 16 shards with the greedy

@@ -1,4 +1,4 @@
--- `c_placement::number` is the moves where the answer has them, which are few, and else 64. Assumes nothing.
+-- `c_placement::number` is the weight where the answer has one, which is small, and else 10000. Assumes nothing.
 use mathlib.Core.Path.{refl}
 use native.Mathlib.Omega.{arith}
 use Rattle.base_laws.specs.Bools.{clash}

@@ -8,20 +8,21 @@ use Rattle.c_placement.proofs.sheet_of.Statement.{statement}
 use Rattle.c_placement.proofs.sheet_of.Tie as tie
 
 abbrev Inv-loop : tie.InvT-loop
-Inv-loop sets needs prices rows₀ i₀ rows i = (i ≤ 16) × RowsBelow sets prices i rows
+Inv-loop sets needs caps costs idle rows₀ i₀ rows i = (i ≤ 16) × RowsBelow sets costs i rows
 
 abbrev μ-loop : tie.MeasureT-loop
-μ-loop sets needs prices rows₀ i₀ rows i = 16 - i
+μ-loop sets needs caps costs idle rows₀ i₀ rows i = 16 - i
 
 loop-holds : tie.Need-loop-holds Inv-loop μ-loop
-loop-holds c = (omega arith, rows-start (c .args .sets .now) (c .args .prices .now) (replicate 16 2))
+loop-holds c = (omega arith, rows-start (c .args .sets .now) (c .args .costs .now) (replicate 16 2))
 
 loop-again : tie.Need-loop-again Inv-loop μ-loop
 loop-again c =
     (omega arith, rows-turn (c .row .result) (c .before .before .loop-test .taken) (c .before .before .before .loop .inv .1) (c .row .ensures))
 
 returns : tie.Need-returns Inv-loop μ-loop
-returns c = rows-end (c .before .before .args .needs .now) (c .loop-test .left) (c .before .loop .inv .1)
+returns c =
+    let a = c .before .before .args in rows-end (a .needs .now) (a .caps .now) (a .idle) (c .loop-test .left) (c .before .loop .inv .1)
 
 pub sheet-of-spec : {M : Type 1} → statement M
 sheet-of-spec =

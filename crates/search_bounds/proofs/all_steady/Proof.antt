@@ -14,11 +14,11 @@ use Rattle.search_bounds.proofs.all_steady.Statement.{statement}
 use Rattle.search_bounds.proofs.all_steady.Tie as tie
 
 abbrev Inv-loop : tie.InvT-loop
-Inv-loop sets costs owner shards nodes pairs n₀ n =
-    (n ≤ 32) × (allBelow n (steady (caseOf sets [] costs) (weightsOf shards nodes pairs) (ownersOf owner)) ≡ true)
+Inv-loop sets costs owner wants rooms nodes pairs idle n₀ n =
+    (n ≤ 32) × (allBelow n (steady (caseOf sets [] [] costs idle) (weightsOf wants rooms nodes pairs) (ownersOf owner)) ≡ true)
 
 abbrev μ-loop : tie.MeasureT-loop
-μ-loop sets costs owner shards nodes pairs n₀ n = 32 - n
+μ-loop sets costs owner wants rooms nodes pairs idle n₀ n = 32 - n
 
 loop-holds : tie.Need-loop-holds Inv-loop μ-loop
 loop-holds c = (omega arith, all-none _)

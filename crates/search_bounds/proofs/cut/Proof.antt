@@ -1,69 +1,78 @@
--- The loop's invariant: every pair from t to x is passed. At the end the cut is sound. Assumes nothing.
+-- The loop's invariant: every row from that of t to i is passed. At the end the cut is sound. Assumes nothing.
 use borrow.Author.Needs.{needs}
-use Prim.Native.Nat.{ℕ, _+_, _-_, _≤_}
-use mathlib.Core.Path.{_≡_, sym, ap, _∙_, subst}
-use mathlib.Core.Bool.{false≢true}
+use Prim.Native.Nat.{ℕ, _≤_, _<_, _-_, _+_, _*_, _/_}
+use mathlib.Core.Path.{_≡_, refl, sym, _∙_, ap, subst}
+use mathlib.Core.List.{[]}
 use native.Mathlib.Nat.{le-antisymm}
 use native.Mathlib.Omega.{arith}
 use borrow.Author.Tests.{not-false}
 use lib.ListN.{getD}
-use Rattle.search_theory.specs.Tables.{ownersOf}
+use Rattle.base_laws.specs.Bools.{clash}
+use Rattle.search_theory.specs.Tables.{caseOf, ownersOf}
 use Rattle.search_theory.specs.Duality.{gain, toll}
 use Rattle.search_bounds.specs.Post.{weightsOf}
-use Rattle.search_bounds.specs.Marks.{PairsPassed, passed-none, passed-more, sound-by}
+use Rattle.search_bounds.specs.Rows.{RowsPassed, rows-none, rows-more, modest-with, sound-by}
 use Rattle.search_bounds.proofs.cut.Statement.{statement}
 use Rattle.search_bounds.proofs.cut.Tie as tie
 
 abbrev Inv-loop : tie.InvT-loop
-Inv-loop sets needs costs₀ owner shards nodes pairs t k low high x₀ costs x =
-    (t ≤ x) × (x ≤ 512) × PairsPassed (weightsOf shards nodes pairs) (λ n. getD sets n 0) (ownersOf owner) low high t x costs₀ costs
+Inv-loop sets needs caps costs rows₀ owner wants rooms nodes pairs idle t k low high free i₀ rows i = (t / 32 ≤ i) × (i ≤ 16) × RowsPassed (caseOf sets needs caps costs idle) (weightsOf wants rooms nodes pairs) free t low high i rows₀ rows
 
 abbrev μ-loop : tie.MeasureT-loop
-μ-loop sets needs costs₀ owner shards nodes pairs t k low high x₀ costs x = 512 - x
-
-all-steady-requires : tie.Need-all-steady-requires Inv-loop μ-loop
-all-steady-requires c κs = c .before .pre .1 .0
+μ-loop sets needs caps costs rows₀ owner wants rooms nodes pairs idle t k low high free i₀ rows i = 16 - i
 
 returns : tie.Need-returns Inv-loop μ-loop
-returns c = (λ e. absurd (false≢true e), c .before .before .before .pre .1 .1 .0)
+returns c = λ e. clash e (c .bad .ensures)
 
-loop-holds : tie.Need-loop-holds Inv-loop μ-loop
-loop-holds c = (omega arith, omega arith, passed-none _ _ _ _ _ (c .before .before .before .before .before .pre .1 .1 .0))
-
-visit-requires : tie.Need-visit-requires Inv-loop μ-loop
-visit-requires c κs =
-    (omega arith, ((omega (arith, c .before .before .before .before .takes .ensures .1, c .before .before .before .before .before .before .before .before .pre .0 .1), omega (arith, c .before .before .before .grants .ensures .1)), c .before .before .before .before .before .before .before .before .pre .1 .0))
+all-steady-requires : tie.Need-all-steady-requires Inv-loop μ-loop
+all-steady-requires c κs = c .before .before .pre .1 .0
 
 returns-2 : tie.Need-returns-2 Inv-loop μ-loop
-returns-2 c =
-    (λ e. absurd (false≢true e), c .before .visit .ensures .1 ∙ c .before .before .before .before .loop .inv .2 .long)
+returns-2 c = λ e. clash e (c .bad2 .ensures)
 
-loop-again : tie.Need-loop-again Inv-loop μ-loop
-loop-again c = (
-  omega arith,
-  omega arith,
-  passed-more _ _ _ _ _ (c .before .before .before .before .loop .inv .0) (c .before .before .before .loop-test .taken) (c .before .before .before .before .loop .inv .2)
-      (c .before .visit .ensures .0 (not-false (c .before .visit .result) (c .if2 .left))),
-)
+loop-holds : tie.Need-loop-holds Inv-loop μ-loop
+loop-holds c = let s = c .before .before .before .before .before .before .before in (omega arith, omega (arith, s .pre .0 .0), rows-none (s .args .t / 32) refl (s .pre .1 .1 .0))
+
+cut-row-requires : tie.Need-cut-row-requires Inv-loop μ-loop
+cut-row-requires c κs = let s = c .before .before .before .before .before .before .before .before .before .before in
+    let l = c .before .before .loop in
+    ((l .inv .0, c .before .loop-test .taken), ((omega (arith, c .before .before .before .before .before .takes .ensures .1, s .pre .0 .1), omega (arith, c .before .before .before .before .grants .ensures .1)), s .pre .1 .0))
 
 returns-3 : tie.Need-returns-3 Inv-loop μ-loop
-unfolding gain toll
-returns-3 c =
-    let s = c .before .before .before .before .before .before .before .before in
-    let end : c .before .before .loop .x ≡ 512 = le-antisymm (c .before .before .loop .inv .1) (c .before .loop-test .left) in (
-      λ e.
-          sound-by (s .args .sets .now) (s .args .needs .now) (s .args .costs .now) (c .before .before .loop .costs)
-          (weightsOf (s .args .shards .now) (s .args .nodes .now) (s .args .pairs .now)) (ownersOf (s .args .owner .now)) (s .args .t) (s .args .k)
-          (s .args .k + c .before .before .before .before .takes .result) (c .before .before .before .grants .result) (c .floor .result) (s .pre .1 .0) (s .pre .1 .1 .1)
-          (sym (c .before .before .before .before .before .before .all-steady .ensures) ∙ not-false (c .before .before .before .before .before .before .all-steady .result) (c .before .before .before .before .before .if1 .left))
-          (ap (λ (a : ℕ). s .args .k + a) (c .before .before .before .before .takes .ensures .0)) (c .before .before .before .grants .ensures .0) (c .floor .ensures)
-          (subst (λ (x : ℕ). PairsPassed (weightsOf (s .args .shards .now) (s .args .nodes .now) (s .args .pairs .now)) (λ n. getD (s .args .sets .now) n 0) (ownersOf (s .args .owner .now))
-          (s .args .k + c .before .before .before .before .takes .result) (c .before .before .before .grants .result) (s .args .t) x (s .args .costs .now) (c .before .before .loop .costs)) end (c .before .before .loop .inv .2)),
-      c .before .before .loop .inv .2 .long,
+returns-3 c = λ e. clash e (c .bad3 .ensures)
+
+loop-again : tie.Need-loop-again Inv-loop μ-loop
+loop-again c = let l = c .before .before .before .before .loop in
+    let v = c .before .cut-row .ensures (not-false (c .before .cut-row .result) (c .if3 .left)) in (
+      omega (arith, l .inv .0),
+      omega (arith, c .before .before .before .loop-test .taken),
+      rows-more (c .before .before .before .loop-test .taken) (l .inv .2) (record { kept = v .kept; stored = v .stored; keeps = v .keeps; marks = v .marks }),
     )
+
+must-requires : tie.Need-must-requires Inv-loop μ-loop
+must-requires c κs = let s = c .before .before .before .before .before .before .before .before .before .before in
+    (omega (arith, c .before .before .before .before .before .takes .ensures .1, s .pre .0 .1), omega (arith, c .before .before .before .before .grants .ensures .1))
+
+returns-4 : tie.Need-returns-4 Inv-loop μ-loop
+unfolding gain toll
+returns-4 c = λ e.
+    let s = c .before .before .before .before .before .before .before .before .before .before .before .before in
+    let l = c .before .before .before .before .loop in
+    let g = c .before .before .before .before .before .before .grants in
+    let h = c .before .before .before .before .before .before .before .takes in
+    let m = c .before .before .before .before .before .before .before .before .before .before .before .modest in
+    let a = c .before .before .before .before .before .before .before .before .before .all-steady in
+    sound-by (caseOf (s .args .sets .now) (s .args .needs .now) (s .args .caps .now) (s .args .costs .now) (s .args .idle)) (weightsOf (s .args .wants .now) (s .args .rooms .now) (s .args .nodes .now) (s .args .pairs .now))
+    (ownersOf (s .args .owner .now)) (s .args .t) (s .args .k) (s .args .k + h .result) (g .result) (c .floor .result) (c .before .before .before .before .before .unowned .result) (c .before .must .result)
+    (s .args .rows .now) (l .rows) (s .pre .1 .0 .below)
+    (modest-with (s .args .wants .now) (s .args .rooms .now) (s .args .nodes .now) (s .args .pairs .now) (m .ensures (not-false (m .result) (c .before .before .before .before .before .before .before .before .before .before .if1 .left))))
+    (s .pre .1 .1 .1)
+    (sym (a .ensures) ∙ not-false (a .result) (c .before .before .before .before .before .before .before .before .if2 .left))
+    (ap (λ (x : ℕ). s .args .k + x) (h .ensures .0)) (g .ensures .0) (c .floor .ensures) (c .before .before .before .before .before .unowned .ensures) (c .before .must .ensures)
+    (subst (λ (x : ℕ). RowsPassed (caseOf (s .args .sets .now) (s .args .needs .now) (s .args .caps .now) (s .args .costs .now) (s .args .idle)) (weightsOf (s .args .wants .now) (s .args .rooms .now) (s .args .nodes .now) (s .args .pairs .now))
+    (c .before .before .before .before .before .unowned .result) (s .args .t) (s .args .k + h .result) (g .result) x (s .args .rows .now) (l .rows)) (le-antisymm (l .inv .1) (c .before .before .before .loop-test .left)) (l .inv .2))
 
 pub cut-spec : {M : Type 1} → statement M
 cut-spec =
     tie.close
-    (tie.spec Inv-loop μ-loop all-steady-requires returns (λ c κs. search needs) (λ c. search needs) (λ c κs. search needs) loop-holds visit-requires
-    returns-2 (λ c. search needs) (λ c. search needs) loop-again (λ c. search needs) (λ c κs. search needs) returns-3)
+    (tie.spec Inv-loop μ-loop (λ c κs. search needs) (λ c κs. search needs) returns all-steady-requires (λ c κs. search needs) returns-2 (λ c κs. search needs) (λ c. search needs) (λ c κs. search needs) (λ c κs. search needs) loop-holds cut-row-requires (λ c κs. search needs) returns-3 (λ c. search needs) (λ c. search needs) loop-again (λ c. search needs) must-requires (λ c. search needs) (λ c. search needs) (λ c κs. search needs) returns-4)

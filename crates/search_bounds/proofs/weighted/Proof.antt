@@ -9,10 +9,10 @@ use Rattle.search_bounds.proofs.weighted.Statement.{statement}
 use Rattle.search_bounds.proofs.weighted.Tie as tie
 
 abbrev Inv-loop : tie.InvT-loop
-Inv-loop needs weights sum₀ i₀ sum i = (i ≤ 16) × (sum ≤ 65536 * i) × (sum ≡ sumBelow i (λ j. getD needs j 0 * getD weights j 0))
+Inv-loop counts weights sum₀ i₀ sum i = (i ≤ 16) × (sum ≤ 16777216 * i) × (sum ≡ sumBelow i (λ j. getD counts j 0 * getD weights j 0))
 
 abbrev μ-loop : tie.MeasureT-loop
-μ-loop needs weights sum₀ i₀ sum i = 16 - i
+μ-loop counts weights sum₀ i₀ sum i = 16 - i
 
 loop-holds : tie.Need-loop-holds Inv-loop μ-loop
 loop-holds c = (omega arith, omega arith, sym (sum-zero _))
@@ -26,5 +26,4 @@ returns c = (sum-done (c .before .loop .inv .0) (c .loop-test .left) _ _ (c .bef
 pub weighted-spec : {M : Type 1} → statement M
 weighted-spec =
     tie.close
-    (tie.spec Inv-loop μ-loop loop-holds (λ c. search needs) (λ c. search needs) (λ c κs. search needs) (λ c. search needs) (λ c. search needs)
-    (λ c. search needs) loop-again returns)
+    (tie.spec Inv-loop μ-loop loop-holds (λ c. search needs) (λ c. search needs) (λ c. search needs) (λ c κs. search needs) (λ c. search needs) (λ c. search needs) (λ c. search needs) loop-again returns)

@@ -11,7 +11,7 @@ use Rattle.search_floor.proofs.floor.Statement.{statement}
 use Rattle.search_floor.proofs.floor.Tie as tie
 
 abbrev Inv-loop : tie.InvT-loop
-Inv-loop needs sheet sum₀ i₀ sum i = (i ≤ 16) × (sum ≤ i * 256) × (sum ≡ sumBelow i (lackAt (caseOf [] needs []) sheet))
+Inv-loop needs sheet sum₀ i₀ sum i = (i ≤ 16) × (sum ≤ i * 256) × (sum ≡ sumBelow i (lackAt (caseOf [] needs [] [] 0) sheet))
 
 abbrev μ-loop : tie.MeasureT-loop
 μ-loop needs sheet sum₀ i₀ sum i = 16 - i

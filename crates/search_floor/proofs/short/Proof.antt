@@ -15,7 +15,7 @@ use Rattle.search_floor.proofs.short.Statement.{statement}
 use Rattle.search_floor.proofs.short.Tie as tie
 
 abbrev Inv-loop : tie.InvT-loop
-Inv-loop needs sheet i₀ i = (i ≤ 16) × (anyBelow i (shortAt (caseOf [] needs []) sheet) ≡ false)
+Inv-loop needs sheet i₀ i = (i ≤ 16) × (anyBelow i (shortAt (caseOf [] needs [] [] 0) sheet) ≡ false)
 
 abbrev μ-loop : tie.MeasureT-loop
 μ-loop needs sheet i₀ i = 16 - i

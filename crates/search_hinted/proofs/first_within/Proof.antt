@@ -6,9 +6,7 @@ use Rattle.search_hinted.proofs.first_within.Tie as tie
 returns : tie.Need-returns
 returns c = c .before .before .quick-within .ensures (c .before .if1 .taken)
 
-returns-2 : tie.Need-returns-2
-returns-2 c = search needs
-
 pub first-within-spec : {M : Type 1} → statement M
 first-within-spec =
-    tie.close (tie.spec (λ c κs. search needs) returns (λ c κs. search needs) returns-2)
+    tie.close
+    (tie.spec (λ c κs. search needs) returns (λ c κs. search needs) (λ c. search needs))

@@ -6,9 +6,7 @@ use Rattle.search_hinted.proofs.least.Tie as tie
 returns : tie.Need-returns
 returns c = c .before .before .quick-least .ensures (c .before .if1 .taken)
 
-returns-2 : tie.Need-returns-2
-returns-2 c = search needs
-
 pub least-spec : {M : Type 1} → statement M
 least-spec =
-    tie.close (tie.spec (λ c κs. search needs) returns (λ c κs. search needs) returns-2)
+    tie.close
+    (tie.spec (λ c κs. search needs) returns (λ c κs. search needs) (λ c. search needs))

@@ -1,5 +1,6 @@
 -- A cut at pair 0 gives the floor: below it there is none, else the hints are followed. Assumes nothing.
 use borrow.Author.Needs.{needs}
+use Prim.Native.Nat.{ℕ, _≤_, _<_}
 use native.Mathlib.Omega.{arith}
 use borrow.Author.Tests.{not-false}
 use Rattle.base_laws.specs.Bools.{clash}
@@ -13,38 +14,35 @@ returns : tie.Need-returns
 returns c = λ e. clash e (c .unsure .ensures)
 
 prune-requires : tie.Need-prune-requires
-prune-requires c κs =
-    let f = c .before .before .before .before .before .before .before .before in
-    let ok = f .fit .ensures (not-false (f .fit .result) (c .before .before .before .before .before .before .before .if1 .left)) in
-    ((omega arith, omega (arith, c .before .before .before .before .before .before .capped .ensures)), (ok .0, (ok .1, ready-blank .begun)))
+prune-requires c κs = ((omega arith, omega (arith, c .before .before .before .before .before .before .capped .ensures)), (c .before .before .before .before .before .before .before .before .fit .ensures (not-false (c .before .before .before .before .before .before .before .before .fit .result) (c .before .before .before .before .before .before .before .if1 .left)), (c .before .before .before .before .before .all-allowed .ensures .long, ready-blank .begun)))
 
 returns-2 : tie.Need-returns-2
 returns-2 c = λ e. clash e (c .unsure2 .ensures)
 
 returns-3 : tie.Need-returns-3
-returns-3 c =
-    λ e.
+returns-3 c = λ e.
     let p = c .before .before .before .before .before in
-    let cut = p .prune .ensures .0 (not-false (p .prune .result .good) (c .before .before .before .if2 .left)) in
-    within-capped (p .before .before .before .before .before .before .before .capped .ensures) (within-none (none-below (c .before .if3 .taken) (at-least cut)) (c .none .ensures .1))
+    let s = c .before .before .before .before .before .before .before .before .before .before .before .before .before .before .before in
+    within-capped (omega (arith, s .fits .idle)) (c .before .before .before .before .before .before .before .before .before .before .before .before .capped .ensures)
+    (within-none
+    (none-below (c .before .if3 .taken)
+    (at-least (s .args .sets .now) (s .args .needs .now) (s .args .caps .now) (s .args .prices .now) (s .args .idle) (c .before .before .before .before .before .before .before .before .before .before .before .before .capped .result) (p .prune .result .floor) (c .before .before .before .before .before .before .before .before .before .before .before .all-allowed .ensures) (p .prune .ensures (not-false (p .prune .result .good) (c .before .before .before .if2 .left)))))
+    (c .none .ensures .1))
 
 follow-requires : tie.Need-follow-requires
-follow-requires c κs =
-    let p = c .before .before .before .before .before .before in
-    let m = p .before .before .before .before .before .before .before in
-    let f = m .before .before in
-    let s = f .before .before in
-    let ok = f .fit .ensures (not-false (f .fit .result) (m .before .if1 .left)) in
-    let start = stage-start (s .args .sets .now) (s .args .needs .now) (s .args .prices .now) (m .capped .result) (ok .1) in (
-      omega (arith, m .capped .ensures),
-      (ok .0, stage-cut start (p .prune .ensures .1) (p .prune .ensures .0 (not-false (p .prune .result .good) (c .before .before .before .before .if2 .left)))),
+follow-requires c κs = let p = c .before .before .before .before .before .before in
+    let s = c .before .before .before .before .before .before .before .before .before .before .before .before .before .before .before .before in (
+      omega (arith, c .before .before .before .before .before .before .before .before .before .before .before .before .before .capped .ensures),
+      (
+        c .before .before .before .before .before .before .before .before .before .before .before .before .before .before .before .fit .ensures (not-false (c .before .before .before .before .before .before .before .before .before .before .before .before .before .before .before .fit .result) (c .before .before .before .before .before .before .before .before .before .before .before .before .before .before .if1 .left)),
+        stage-cut (stage-start (s .args .sets .now) (s .args .needs .now) (s .args .caps .now) (s .args .prices .now) (s .args .idle) (c .before .before .before .before .before .before .before .before .before .before .before .before .before .capped .result) (c .before .before .before .before .before .before .before .before .before .before .before .before .all-allowed .ensures)) (p .prune .ensures (not-false (p .prune .result .good) (c .before .before .before .before .if2 .left))),
+      ),
     )
 
 returns-4 : tie.Need-returns-4
-returns-4 c = λ e. within-capped (c .before .before .before .before .before .before .before .before .before .before .before .before .before .before .capped .ensures) (c .follow .ensures e .within)
+returns-4 c = λ e. within-capped (omega (arith, c .before .before .before .before .before .before .before .before .before .before .before .before .before .before .before .before .before .fits .idle)) (c .before .before .before .before .before .before .before .before .before .before .before .before .before .before .capped .ensures) (c .follow .ensures e .within)
 
 pub quick-within-spec : {M : Type 1} → statement M
 quick-within-spec =
     tie.close
-    (tie.spec (λ c κs. search needs) (λ c κs. search needs) returns (λ c κs. search needs) (λ c κs. search needs) prune-requires
-    (λ c κs. search needs) returns-2 (λ c κs. search needs) returns-3 follow-requires returns-4)
+    (tie.spec (λ c κs. search needs) (λ c κs. search needs) returns (λ c κs. search needs) (λ c κs. search needs) (λ c κs. search needs) prune-requires (λ c κs. search needs) returns-2 (λ c κs. search needs) returns-3 follow-requires returns-4)

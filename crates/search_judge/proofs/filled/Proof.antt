@@ -1,23 +1,23 @@
--- The loop's invariant: every shard below i has its need. Assumes nothing.
+-- The loop's invariant: every shard below i fits. Assumes nothing.
 use borrow.Author.Needs.{needs}
 use Prim.Native.Nat.{_≤_, _-_}
 use mathlib.Core.Path.{_≡_, sym, _∙_}
 use mathlib.Core.Bool.{true}
 use mathlib.Core.List.{[]}
 use native.Mathlib.Omega.{arith}
-use borrow.Author.Tests.{eq-eqb, ne-eqb}
-use Rattle.base_laws.specs.Below.{allBelow, all-none, all-more, all-fails}
-use Rattle.base_laws.specs.Loops.{all-done}
+use borrow.Author.Tests.{not-true, not-false}
 use Rattle.search_theory.specs.Tables.{caseOf, ownersOf}
-use Rattle.search_theory.specs.Tests.{needMet}
 use Rattle.search_judge.proofs.filled.Statement.{statement}
 use Rattle.search_judge.proofs.filled.Tie as tie
+use Rattle.base_laws.specs.Below.{allBelow, all-none, all-more, all-fails}
+use Rattle.base_laws.specs.Loops.{all-done}
+use Rattle.search_theory.specs.Tests.{needsMet}
 
 abbrev Inv-loop : tie.InvT-loop
-Inv-loop needs owner i₀ i = (i ≤ 16) × (allBelow i (needMet (caseOf [] needs []) (ownersOf owner)) ≡ true)
+Inv-loop sets needs caps owner i₀ i = (i ≤ 16) × (allBelow i (needsMet (caseOf sets needs caps [] 0) (ownersOf owner)) ≡ true)
 
 abbrev μ-loop : tie.MeasureT-loop
-μ-loop needs owner i₀ i = 16 - i
+μ-loop sets needs caps owner i₀ i = 16 - i
 
 loop-holds : tie.Need-loop-holds Inv-loop μ-loop
 loop-holds c = (omega arith, all-none _)
@@ -25,14 +25,14 @@ loop-holds c = (omega arith, all-none _)
 returns : tie.Need-returns Inv-loop μ-loop
 returns c =
     sym
-    (all-fails 16 _ (c .before .before .before .before .before .loop .i) (omega arith)
-    (ne-eqb _ _ (λ e. c .if1 .taken (c .before .before .before .size .ensures ∙ (e ∙ sym (c .before .wide .ensures .0))))))
+    (all-fails 16 _ (c .before .before .before .loop .i) (omega arith)
+    (sym (c .before .filled-at .ensures) ∙ not-true (c .before .filled-at .result) (c .if1 .taken)))
 
 loop-again : tie.Need-loop-again Inv-loop μ-loop
 loop-again c = (
   omega arith,
-  all-more _ _ (c .before .before .before .before .before .loop .inv .1)
-      (eq-eqb _ _ (sym (c .before .before .before .size .ensures) ∙ (c .if1 .left ∙ c .before .wide .ensures .0))),
+  all-more _ _ (c .before .before .before .loop .inv .1)
+      (sym (c .before .filled-at .ensures) ∙ not-false (c .before .filled-at .result) (c .if1 .left)),
 )
 
 returns-2 : tie.Need-returns-2 Inv-loop μ-loop
@@ -41,5 +41,4 @@ returns-2 c = sym (all-done (c .before .loop .inv .0) (c .loop-test .left) true 
 pub filled-spec : {M : Type 1} → statement M
 filled-spec =
     tie.close
-    (tie.spec Inv-loop μ-loop loop-holds (λ c κs. search needs) (λ c. search needs) (λ c κs. search needs) returns (λ c. search needs)
-    (λ c. search needs) loop-again returns-2)
+    (tie.spec Inv-loop μ-loop loop-holds (λ c κs. search needs) returns (λ c. search needs) (λ c. search needs) loop-again returns-2)

@@ -2,34 +2,34 @@
 use borrow.Author.Needs.{needs}
 use mathlib.Core.Path.{sym, ap, _∙_}
 use mathlib.Core.Bool.{Bool, _||_}
+use Prim.Native.Nat.{_/_}
 use native.Mathlib.Omega.{arith}
 use lib.Dec.{ltb}
 use borrow.Author.Tests.{lt-ltb, le-ltb}
 use Rattle.base_laws.specs.Bools.{or-left}
 use Rattle.base_laws.specs.Below.{anyBelow}
-use Rattle.search_theory.specs.Case.{Case, moves}
+use Rattle.search_theory.specs.Case.{Case, spread, meets, moves, weight}
 use Rattle.search_theory.specs.Tables.{caseOf, ownersOf}
-use Rattle.search_theory.specs.Tests.{reach}
 use Rattle.search_judge.specs.Post.{hopelessFrom}
 use Rattle.search_judge.proofs.hopeless.Statement.{statement}
 use Rattle.search_judge.proofs.hopeless.Tie as tie
 
 returns : tie.Need-returns
-unfolding hopelessFrom moves
+unfolding hopelessFrom moves weight
 returns c =
     let a = c .before .before .args in
-    let K : Case = caseOf (a .sets .now) (a .needs .now) (a .prices .now) in
-    sym (or-left (anyBelow 16 (λ i. ltb (reach K (ownersOf (a .owner .now)) (a .t) i) (K .need i)))
-    (lt-ltb (a .k) (moves K (ownersOf (a .owner .now))) (omega (arith, c .if1 .taken, c .before .moves .ensures))))
+    let K : Case = caseOf (a .sets .now) (a .needs .now) (a .caps .now) (a .costs .now) (a .idle) in
+    sym (or-left (anyBelow (a .t / 32) (λ i. ltb (spread K (ownersOf (a .owner .now)) i) (K .need i)))
+    (lt-ltb (a .k) (moves (K .cost) (ownersOf (a .owner .now))) (omega (arith, c .if1 .taken, c .before .weight .ensures .0))))
 
 returns-2 : tie.Need-returns-2
-unfolding hopelessFrom moves reach
+unfolding hopelessFrom moves weight spread meets
 returns-2 c =
     let a = c .before .before .before .args in
-    let K : Case = caseOf (a .sets .now) (a .needs .now) (a .prices .now) in
-    c .short .ensures
-    ∙ sym (ap (λ (b : Bool). b || anyBelow 16 (λ i. ltb (reach K (ownersOf (a .owner .now)) (a .t) i) (K .need i)))
-    (le-ltb (a .k) (moves K (ownersOf (a .owner .now))) (omega (arith, c .before .if1 .left, c .before .before .moves .ensures))))
+    let K : Case = caseOf (a .sets .now) (a .needs .now) (a .caps .now) (a .costs .now) (a .idle) in
+    c .thin .ensures
+    ∙ sym (ap (λ (b : Bool). b || anyBelow (a .t / 32) (λ i. ltb (spread K (ownersOf (a .owner .now)) i) (K .need i)))
+    (le-ltb (a .k) (moves (K .cost) (ownersOf (a .owner .now))) (omega (arith, c .before .if1 .left, c .before .before .weight .ensures .0))))
 
 pub hopeless-spec : {M : Type 1} → statement M
 hopeless-spec =

@@ -16,19 +16,19 @@ use Rattle.search_judge.proofs.stands.Statement.{statement}
 use Rattle.search_judge.proofs.stands.Tie as tie
 
 abbrev Inv-loop : tie.InvT-loop
-Inv-loop prices owner n₀ n = (n ≤ 32) × (allBelow n (stands (caseOf [] [] prices) (ownersOf owner)) ≡ true)
+Inv-loop costs owner n₀ n = (n ≤ 32) × (allBelow n (stands (caseOf [] [] [] costs 0) (ownersOf owner)) ≡ true)
 
 abbrev μ-loop : tie.MeasureT-loop
-μ-loop prices owner n₀ n = 32 - n
+μ-loop costs owner n₀ n = 32 - n
 
 -- what the test of a node says
 test : (c : tie.After-stands-at Inv-loop μ-loop) →
     c .stands-at .result
-    ≡ stands (caseOf [] [] (c .before .before .before .before .before .args .prices .now))
+    ≡ stands (caseOf [] [] [] (c .before .before .before .before .before .args .costs .now) 0)
     (ownersOf (c .before .before .before .before .before .args .owner .now)) (c .before .before .before .before .loop .n)
 test c =
     c .stands-at .ensures
-    ∙ ap (λ (o : ℕ). cond (ltb o 16) (ltb (getD (c .before .before .before .before .before .args .prices .now) (o * 32 + c .before .before .before .before .loop .n) 0) 2) true)
+    ∙ ap (λ (o : ℕ). cond (ltb o 16) (ltb (getD (c .before .before .before .before .before .args .costs .now) (o * 32 + c .before .before .before .before .loop .n) 0) 255) true)
     (c .before .wide .ensures .0)
 
 loop-holds : tie.Need-loop-holds Inv-loop μ-loop

@@ -1,33 +1,49 @@
--- The loop's invariant: every valid placement has at least k moves. So the first within k is the first of least moves. Assumes nothing.
+-- The loop's invariant: a valid placement of a weight of at most k is known. Where there is none within k - 1, or k is 0, the first within k
+-- is the first of least weight. Assumes nothing.
 use borrow.Author.Needs.{needs}
-use Prim.Native.Nat.{_≤_, _-_}
+use borrow.Author.Tests.{not-true, not-false}
+use Prim.Native.Nat.{_≤_}
 use native.Mathlib.Omega.{arith}
 use Rattle.search_theory.specs.Tables.{caseOf}
-use Rattle.search_theory.specs.Least.{AtLeast, at-least-none, at-least-more}
-use Rattle.search_total.specs.Answers.{least-found, least-last}
+use Rattle.search_theory.specs.Least.{at-least-zero, at-least-next}
+use Rattle.search_total.specs.Answers.{WeightReached, least-reached, least-missing, found-reached, found-below}
 use Rattle.search_total.proofs.plain_least.Statement.{statement}
 use Rattle.search_total.proofs.plain_least.Tie as tie
 
 abbrev Inv-loop : tie.InvT-loop
-Inv-loop sets needs prices k₀ k = (k ≤ 32) × AtLeast (caseOf sets needs prices) k
+Inv-loop sets needs caps costs idle k₀ k = WeightReached (caseOf sets needs caps costs idle) k
 
 abbrev μ-loop : tie.MeasureT-loop
-μ-loop sets needs prices k₀ k = 32 - k
-
-loop-holds : tie.Need-loop-holds Inv-loop μ-loop
-loop-holds c = (omega arith, at-least-none)
+μ-loop sets needs caps costs idle k₀ k = k
 
 returns : tie.Need-returns Inv-loop μ-loop
-returns c = least-found (c .before .before .before .loop .inv .1) (c .before .plain-within .ensures) (c .if1 .taken)
+returns c =
+    let a = c .before .before .plain-within in
+    least-missing (omega (arith, c .before .before .before .fits .idle)) (a .ensures) (not-true (a .result .exists) (c .if1 .taken))
 
-loop-again : tie.Need-loop-again Inv-loop μ-loop
-loop-again c = (omega arith, at-least-more (c .before .plain-within .ensures .none (c .if1 .left)))
+loop-holds : tie.Need-loop-holds Inv-loop μ-loop
+loop-holds c = let a = c .before .before .plain-within in found-reached (a .ensures) (not-false (a .result .exists) (c .if1 .left))
 
 returns-2 : tie.Need-returns-2 Inv-loop μ-loop
-returns-2 c = least-last (c .before .loop-test .left) (c .before .before .loop .inv .1) (c .plain-within2 .ensures)
+returns-2 c =
+    let a = c .before .before .before .plain-within2 in
+    least-reached (at-least-next (a .ensures .none (not-true (a .result .exists) (c .before .if2 .taken)))) (c .before .before .before .before .before .loop .inv)
+    (c .plain-within3 .ensures)
+
+loop-less : tie.Need-loop-less Inv-loop μ-loop
+loop-less c =
+    let a = c .before .before .plain-within2 in
+    let l = found-below (a .ensures) (not-false (a .result .exists) (c .if2 .left)) in
+    omega (arith, c .before .before .before .loop-test .taken)
+
+loop-again : tie.Need-loop-again Inv-loop μ-loop
+loop-again c = let a = c .before .before .plain-within2 in found-reached (a .ensures) (not-false (a .result .exists) (c .if2 .left))
+
+returns-3 : tie.Need-returns-3 Inv-loop μ-loop
+returns-3 c = least-reached (at-least-zero (c .before .loop-test .left)) (c .before .before .loop .inv) (c .plain-within4 .ensures)
 
 pub plain-least-spec : {M : Type 1} → statement M
 plain-least-spec =
     tie.close
-    (tie.spec Inv-loop μ-loop loop-holds (λ c κs. search needs) returns (λ c. search needs) (λ c. search needs) loop-again (λ c κs. search needs)
-    returns-2)
+    (tie.spec Inv-loop μ-loop (λ c κs. search needs) returns loop-holds (λ c. search needs) (λ c κs. search needs) (λ c κs. search needs) returns-2
+    loop-less loop-again (λ c κs. search needs) returns-3)

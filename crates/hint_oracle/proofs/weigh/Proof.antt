@@ -1,0 +1,19 @@
+-- `hint_oracle::weigh` is safe and ends: `i` counts the turns up to the number of shards, and the arrays keep their lengths. Assumes nothing.
+use Prim.Native.Nat.{_≤_, _<_, _-_}
+use mathlib.Core.Path.{_≡_}
+use lib.ListN.{length}
+use borrow.Author.Needs.{needs}
+use Rattle.hint_oracle.proofs.weigh.Statement.{statement}
+use Rattle.hint_oracle.proofs.weigh.Tie as tie
+
+abbrev Inv-loop : tie.InvT-loop
+Inv-loop mem sets costs h u v count w₀ i₀ w i = (i ≤ count) × (count ≤ 16) × (length w ≡ 256) × (length h ≡ 16) × (length u ≡ 16) × (length v ≡ 32)
+
+abbrev μ-loop : tie.MeasureT-loop
+μ-loop mem sets costs h u v count w₀ i₀ w i = count - i
+
+pub weigh-spec : {M : Type 1} → statement M
+weigh-spec =
+    tie.close
+    (tie.spec Inv-loop μ-loop (λ c κs. search needs) (λ c κs. search needs) (λ c κs. search needs) (λ c κs. search needs) (λ c. search needs)
+    (λ c κs. search needs) (λ c. search needs) (λ c. search needs) (λ c. search needs) (λ c κs. search needs) (λ c. search needs))
