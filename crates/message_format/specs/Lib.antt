@@ -6,6 +6,7 @@ pub mod Rows
 pub mod Rising
 pub mod Messages
 pub mod Passed
+pub mod Straight
 pub mod Placing
 pub mod Alike
 pub mod Laws

@@ -28,12 +28,12 @@ precedes-cases b i j h =
     ))
     (or-holds (ltb (tag b i) (tag b j)) (eqb (tag b i) (tag b j) && (eqb (kind b j) 3 && ltb (word1 b i) (word1 b j))) h)
 
-precedes-tag : (b : List ℕ) (i j : ℕ) → tag b i < tag b j → precedes b i j ≡ true
+pub precedes-tag : (b : List ℕ) (i j : ℕ) → tag b i < tag b j → precedes b i j ≡ true
 unfolding precedes
 precedes-tag b i j l =
     or-left (eqb (tag b i) (tag b j) && (eqb (kind b j) 3 && ltb (word1 b i) (word1 b j))) (lt-ltb (tag b i) (tag b j) l)
 
-precedes-view : (b : List ℕ) (i j : ℕ) → tag b i ≡ tag b j → kind b j ≡ 3 → word1 b i < word1 b j → precedes b i j ≡ true
+pub precedes-view : (b : List ℕ) (i j : ℕ) → tag b i ≡ tag b j → kind b j ≡ 3 → word1 b i < word1 b j → precedes b i j ≡ true
 unfolding precedes
 precedes-view b i j e k l =
     or-right (ltb (tag b i) (tag b j))

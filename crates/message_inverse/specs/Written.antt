@@ -16,6 +16,7 @@ use Rattle.base_laws.specs.Below.{all-of, any-none-of, lowest-none, lowest-uniq
 use Rattle.base_laws.specs.Tables.{length-tabulate, getD-tabulate, getD-tabulate-past, tabulate-cong}
 use Rattle.message_format.specs.declared.Contents.{Contents}
 use Rattle.message_format.specs.Chain.{records, next, place, ends, following, linked, row5, row8}
+use Rattle.message_format.specs.Straight.{straight-place, straight-following, straight-row8}
 use Rattle.message_format.specs.Messages.{bodyWord, bodyOf, contentsOf, headWord, recordWord, messageWord, messageOf, tidy}
 
 -- word p of record i
@@ -58,42 +59,6 @@ word-record c i p l m =
     let back : i + 1 - 1 ≡ i = omega arith in
     word-at c (i + 1) p (omega arith)
     ∙ rw (le-ltb (c .len) (i + 1) (omega arith), lt-ltb p 3 m, ne-eqb (i + 1) 0 (λ e. omega arith), back)
-
--- a chain that goes record after record and ends with record n
-module _ (w : List ℕ) (n : ℕ) (on : (i : ℕ) → i < n → next w i ≡ i + 1) (end : next w n ≡ 0) where
-  straight-place : (j : ℕ) → j ≤ n → place w j ≡ j
-  unfolding place
-  straight-place zero l = refl
-  straight-place (suc j) l =
-      ap (next w) (straight-place j (omega arith)) ∙ on j l ∙ add-one j
-
-  straight-following : n ≤ 127 → following w ≡ n
-  unfolding following
-  straight-following l =
-      ⊎-elim (λ m. lowest-unique 127 (λ j. ends w (place w j)) n m here before)
-      (λ m. lowest-none 127 (λ j. ends w (place w j)) (any-none-of 127 (λ j. ends w (place w j)) (λ j k. before j (omega arith))) ∙ omega arith)
-      (lt-or-le n 127)
-    where
-      here : ends w (place w n) ≡ true
-      here = rw (straight-place n (le-refl n)) (eq-eqb (next w n) 0 end)
-
-      before : (j : ℕ) → j < n → ends w (place w j) ≡ false
-      before j k =
-          rw (straight-place j (omega arith)) (ne-eqb (next w j) 0 (λ e. omega (arith, on j k)))
-
-  straight-row8 : n ≤ 127 → n < records w → row8 w ≡ true
-  unfolding row8
-  straight-row8 l m =
-      rw (straight-following l)
-      (all-of (suc n) (λ j. linked w (place w j)) (λ j k. rw (straight-place j (omega arith)) (go j (lt-or-le j n) k)))
-    where
-      go : (j : ℕ) → (j < n) ⊎ (n ≤ j) → j < suc n → linked w j ≡ true
-      go j (inl i) k =
-          or-right (ends w j)
-          (rw (on j i) (and-both (lt-ltb j (j + 1) (omega arith)) (lt-ltb (j + 1) (records w) (omega arith))))
-      go j (inr i) k =
-          let e : j ≡ n = omega arith in
-          or-left _ (eq-eqb (next w j) 0 (ap (next w) e ∙ end))
 
 -- the written message
 module _ (c : Contents) (r : ℕ) (enough : c .len + 1 ≤ r) where

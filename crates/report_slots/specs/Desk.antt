@@ -7,7 +7,7 @@ use native.Mathlib.Omega.{arith}
 use lib.Dec.{eqb, leb}
 use lib.ListN.{length, getD}
 use Rattle.base_laws.specs.Masks.{has}
-use Rattle.base_laws.specs.Tables.{length-part, getD-part}
+use Rattle.base_laws.specs.Tables.{getD-part}
 use borrow.Author.Tests.{eq-eqb, ne-eqb}
 use Rattle.base_ids.specs.Refusals.{accepted}
 use Rattle.message_format.specs.declared.Form.the-variants.{Report}
@@ -19,6 +19,7 @@ use Rattle.message_reader.specs.Readings.{readingUnder}
 use Rattle.report_views.specs.declared.Layout.{Layout}
 use Rattle.report_views.specs.declared.Termination.{Termination}
 use Rattle.report_views.specs.Reports.{slot, reportOf}
+use Rattle.report_quick.specs.Accepts.{length-slot}
 use Rattle.report_views.specs.Slots.{row12, row13, termKept, slotOk}
 use Rattle.base_laws.specs.Bools.{unasked, asked}
 
@@ -28,12 +29,8 @@ reportFits σ v t c n =
     eqb (c .node .0) n && leb (c .view .0) (v .number .0) && row12 σ v c && row13 σ v t c && termKept σ v t c
 
 module _ (d : List ℕ) (n : ℕ) (whole : length d ≡ 16384) (below : n < 32) where
-  pub length-slot : length (slot d n) ≡ 512
-  unfolding slot
-  length-slot = length-part (512 * n) (512 * n + 512) d (omega arith) ∙ omega arith
-
   pub slot-sized : SizedMessage (slot d n)
-  slot-sized = record { some = omega (arith, length-slot); few = omega (arith, length-slot); whole = omega (arith, length-slot) }
+  slot-sized = record { some = omega (arith, length-slot d n whole below); few = omega (arith, length-slot d n whole below); whole = omega (arith, length-slot d n whole below) }
 
   pub getD-slot : (k : ℕ) → k < 512 → getD (slot d n) k 0 ≡ getD d (512 * n + k) 0
   unfolding slot

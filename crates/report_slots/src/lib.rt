@@ -10,6 +10,7 @@ ghost use Prim.Native.Nat.{_<_, _+_, _*_};
 ghost use lib.ListN.{length};
 ghost use Rattle.settings_values.specs.Settings.{Settings};
 ghost use Rattle.message_format.specs.Chain.{row8};
+ghost use Rattle.message_format.specs.Rows.{row10};
 ghost use Rattle.report_views.specs.Reports as Reports;
 ghost use Rattle.report_views.specs.Slots as Slots;
 ghost use Rattle.report_slots.specs.Desk.{reportFits};
@@ -48,7 +49,7 @@ fn report_fits(settings: &[u32], v: Layout, t: Termination, c: Contents, node: N
 }
 
 // A node's slot is its valid report under rows 5 to 13, and fits what is kept.
-fn slot_ok(settings: &[u32], v: Layout, t: Termination, desk: &[u32], node: Node) -> bool
+fn slot_read(settings: &[u32], v: Layout, t: Termination, desk: &[u32], node: Node) -> bool
     requires { ⌜ Settings (now settings) ⌝ }
     requires { ⌜ (length (now desk) ≡ 16384) × (node .0 < 32) ⌝ }
     ensures { λ r. ⌜ r ≡ Slots.slotOk (now (settings .entry)) v t (now (desk .entry)) (node .0) ⌝ }
@@ -62,16 +63,37 @@ fn slot_ok(settings: &[u32], v: Layout, t: Termination, desk: &[u32], node: Node
     report_fits(settings, v, t, r.contents, node)
 }
 
+// The same, seen at once where the records stand one after another; else the slot is read. sound: the kept view passes row 10.
+fn slot_ok(
+    settings: &[u32],
+    v: Layout,
+    t: Termination,
+    sound: bool,
+    desk: &[u32],
+    node: Node,
+) -> bool
+    requires { ⌜ Settings (now settings) ⌝ }
+    requires { ⌜ (length (now desk) ≡ 16384) × (node .0 < 32) ⌝ }
+    requires { ⌜ (sound ≡ true → row10 (now settings) (v .members) (Reports.maskAt v) ≡ true) ⌝ }
+    ensures { λ r. ⌜ r ≡ Slots.slotOk (now (settings .entry)) v t (now (desk .entry)) (node .0) ⌝ }
+{
+    if report_quick::accepts(settings, v, t, sound, desk, node) {
+        return true;
+    }
+    slot_read(settings, v, t, desk, node)
+}
+
 // Every held node's slot is sound.
 pub fn slots_ok(settings: &[u32], v: Layout, t: Termination, held: u32, desk: &[u32]) -> bool
     requires { ⌜ Settings (now settings) ⌝ }
     requires { ⌜ length (now desk) ≡ 16384 ⌝ }
     ensures { λ r. ⌜ r ≡ Slots.slotsOk (now (settings .entry)) v t held (now (desk .entry)) ⌝ }
 {
+    let sound = message_shards::row10(settings, v.members, &v.masks);
     let mut n: usize = 0;
     while n < 32 {
         if base_masks::has(held, n) {
-            if !slot_ok(settings, v, t, desk, Node(n as u32)) {
+            if !slot_ok(settings, v, t, sound, desk, Node(n as u32)) {
                 return false;
             }
         }

@@ -1,24 +1,18 @@
--- `report_slots::slot_ok` meets its contract: what the reader gives of the slot is its refusal and its report.
-use mathlib.Core.Path.{_∙_}
+-- `report_slots::slot_ok` meets its contract: what is accepted at once is sound.
+use mathlib.Core.Path.{sym}
 use borrow.Author.Needs.{needs}
-use Rattle.report_views.specs.Reports.{slot}
-use Rattle.report_slots.specs.Desk.{slot-refused, slot-read}
 use Rattle.report_slots.proofs.slot_ok.Statement.{statement}
 use Rattle.report_slots.proofs.slot_ok.Tie as tie
 
 returns : tie.Need-returns
-unfolding slot
-returns c = let a = c .before .before .before .before .before .before .before .before .args in
-    let r = c .before .before .before .read-under in
-    slot-refused (a .settings .now) (a .v) (a .t) (a .desk .now) (a .node .0) (r .result) (r .ensures) (c .if1 .taken)
+returns c =
+    sym (c .before .accepts .ensures (c .if1 .taken))
 
 returns-2 : tie.Need-returns-2
-unfolding slot
-returns-2 c = let a = c .before .before .before .before .before .before .before .before .before .args in
-    let r = c .before .before .before .before .read-under in
-    c .report-fits .ensures ∙ slot-read (a .settings .now) (a .v) (a .t) (a .desk .now) (a .node .0) (r .result) (r .ensures) (c .before .if1 .left)
+returns-2 c =
+    c .slot-read .ensures
 
 pub slot-ok-spec : {M : Type 1} → statement M
 slot-ok-spec =
     tie.close
-    (tie.spec (λ c. search needs) (λ c. search needs) (λ c. search needs) (λ c. search needs) (λ c. search needs) (λ c. search needs) (λ c. search needs) (λ c κs. search needs) returns (λ c κs. search needs) returns-2)
+    (tie.spec (λ c κs. search needs) returns (λ c κs. search needs) returns-2)
