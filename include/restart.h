@@ -46,9 +46,9 @@ extern "C" {
 
 #define RESTART_VERSION_MAJOR 0
 #define RESTART_VERSION_MINOR 4
-#define RESTART_VERSION_PATCH 0
-#define RESTART_VERSION "0.4.0"
-#define RESTART_VERSION_NUMBER 400 /* major * 10000 + minor * 100 + patch */
+#define RESTART_VERSION_PATCH 1
+#define RESTART_VERSION "0.4.1"
+#define RESTART_VERSION_NUMBER 401 /* major * 10000 + minor * 100 + patch */
 
 /* Of the settings, the messages and the state. It is raised when any of their words changes its
  * meaning; save it beside a state, and start fresh where it differs. */
@@ -97,7 +97,7 @@ extern "C" {
 #define RESTART_CONTENTS_BYTES 2048
 #define RESTART_MESSAGE_BYTES 2048 /* longest message */
 
-#define RESTART_STACK_BYTES 131072 /* stack that is enough for any call */
+#define RESTART_STACK_BYTES 65536 /* stack that is enough for any call */
 
 /* ---- The settings' words ----
  * Nodes, failure sets, least group size, shards; for each node its failure set; for each shard

@@ -21,7 +21,12 @@ OTHERS = {
     "a kind of record": "kind k",
     "a mask, of nodes or of shards, or one for each shard": "members held fetched prepared marks mask masks old",
     "a subgroup": "g group",
-    "how many words, records or moves": "len hlen length total",
+    "how many words, records, shards or moves": "len hlen length total count",
+    "a slot's words, one by one or two by two": "w b",
+    "two words of a record as one number": "records",
+    "positions as numbers, one for each shard": "goals tops",
+    "nodes as numbers, one for each shard, 32 for none": "list",
+    "where each shard's last run stands": "last",
     "the index of a record": "at i j next",
     "the number of a row of refusals": "row",
     "a number and its limits": "low high x",
@@ -34,7 +39,9 @@ GIVEN = {
     "a failure set or a subgroup": "settings_values::set_of settings_values::subgroup",
     "a word": "settings_values::shard_word message_fields::tag message_fields::word1 message_fields::word2",
     "a kind of record": "message_fields::kind",
-    "the index of a record": "message_passes::kinds message_passes::shards message_passes::sequence message_passes::positions",
+    "the index of a record": "message_passes::kinds message_passes::shards message_passes::sequence message_passes::positions report_walk::told",
+    "two words as one number": "report_walk::pairs report_walk::mask_records report_walk::position_records",
+    "positions as numbers or words": "report_ends::ends_of report_walk::end_at plan_seen::numbers_of plan_order::cuts_of",
     "a mask, or one for each shard": "place_groups::sets_of message_records::shards_of message_records::carried_more message_records::carried_by message_records::masks_of state_rows::mark",
     "bytes for the search, by node, shard or failure set": "place_sheet::sheet place_tables::sets place_tables::needs place_tables::caps place_tables::move_cost place_tables::costs",
 }
@@ -42,8 +49,14 @@ GIVEN = {
 # What OTHERS and GIVEN do not cover, by its place, and why it is right.
 EXCEPTIONS = {
     "report_cuts::cut.holder": "the words of the holder's report, not its number",
-    "report_ends::ends_table": "1,024 words, two for each position; end_at gives them as positions",
-    "report_ends::end_at.table": "the same table",
+    "report_walk::told.positions": "the pairs of records, not positions",
+    "report_walk::end_at.s": "an index into the list of last runs",
+    "report_latest::latest_sound.views": "a list that is lent; lists of types cannot be",
+    "plan_seen::Seen.views": "the list that is lent to it",
+    "plan_seen::step.positions": "the pairs of records, not positions",
+    "plan_seen::step.holders": "a list that is lent, 32 for none",
+    "plan_order::order_contents.cuts": "two words for each shard, a list that is lent",
+    "state_order::write_order.cuts": "the same list",
     "report_views::Reason.NoPlacement": "a subgroup",
 }
 

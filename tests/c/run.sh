@@ -172,7 +172,7 @@ found() { # FAULT TEST
 
 # A stack that is too small is found.
 too_small() {
-    ! $out/stack 65536
+    ! $out/stack 16384
 }
 
 page() { # FILE
@@ -203,7 +203,7 @@ check "threads" $out/threads
 check "threads under helgrind" valgrind -q --tool=helgrind --error-exitcode=9 $out/threads
 check "build stack" compile stack -pthread
 check "stack" $out/stack
-check "a stack of 64 KB is too small" too_small
+check "a stack of 16 KB is too small" too_small
 check "a bound on the stack" python3 tests/c/stack.py $library include/restart.h
 
 check "the example's files" files_made

@@ -89,12 +89,6 @@ decision-small σ x d o ok decides = ⊎-elim accepting refusing (either (accept
     accepting : accepted (decideRefusal σ x d) ≡ true → decisionValue (o .decision) ≤ 16
     accepting h = by h (quorumOf σ (x .kept) (x .termination) (x .held) d) refl
 
-pub decided-whole : (x : State) (settings desk : List ℕ) (s d : List ℕ) (o : Decided) → settingsOk (wordsIn settings) ≡ true
-    → s ≡ wordsWithin 52 settings → d ≡ wordsIn desk → Decides s x d o → Decides (wordsIn settings) x (wordsIn desk) o
-decided-whole x settings desk s d o h e f g =
-    subst (λ (b : List ℕ). Decides (wordsIn settings) x b o) f
-    (subst (λ (a : List ℕ). Decides a x d o) (e ∙ settings-whole settings h) g)
-
 module _ (settings state desk : List ℕ) (e : Entry) (given : e ≡ entry (eqb (length desk) 65536) settings state) where
   refusal-is : e .refusal ≡ decideEntry settings state desk
   unfolding entry decideEntry

@@ -3,13 +3,12 @@ use report_views::Reason;
 use state_planner::Decided;
 use state_planner::Decision;
 use state_planner::State;
-ghost use mathlib.Core.Bool.{true};
 ghost use mathlib.Core.Path.{_≡_};
 ghost use Prim.Native.Nat.{_≤_};
 ghost use lib.ListN.{length};
 ghost use Rattle.word_lent.specs.Lent.{wordsIn};
 ghost use Rattle.word_lent.specs.Answers.{waitWord};
-ghost use Rattle.settings_values.specs.Settings.{settingsOk};
+ghost use Rattle.settings_values.specs.Settings.{Settings};
 ghost use Rattle.report_views.specs.Quorums.{numberOf, valueOf};
 ghost use Rattle.state_planner.specs.Decide.{Decides};
 ghost use Rattle.c_decide.specs.Decisions as Decisions;
@@ -36,17 +35,14 @@ fn reason_word(reason: Reason) -> u32
     }
 }
 
-// What decide hands back beside lent settings and a lent desk.
-fn decided(x: State, settings: &[u8], desk: &[u8]) -> Decided
-    requires { ⌜ settingsOk (wordsIn (now settings)) ≡ true ⌝ }
+// What decide hands back beside a lent desk.
+fn decided(x: State, settings: &[u32], desk: &[u8]) -> Decided
+    requires { ⌜ Settings (now settings) ⌝ }
     requires { ⌜ length (now desk) ≡ 65536 ⌝ }
-    ensures { λ r. ⌜ Decides (wordsIn (now (settings .entry))) x (wordsIn (now (desk .entry))) r ⌝ }
+    ensures { λ r. ⌜ Decides (now (settings .entry)) x (wordsIn (now (desk .entry))) r ⌝ }
 {
-    let lent = word_lent::words_of(52, settings);
-    let n = lent.len;
-    let own = lent.table;
-    let words = c_state::desk_words(desk);
-    x.decide(&own[0..n], &words)
+    let seen = word_desk::see(settings, x.kept, x.termination, x.held, desk);
+    x.decide_seen(settings, seen)
 }
 
 // The answer to a decision; the state is stored where a plan was made.
@@ -74,6 +70,8 @@ pub fn decide(settings: &[u8], state: &mut [u8], desk: &[u8]) -> u32
     if refusal.code != 0 {
         return refusal.code;
     }
-    let o = decided(entry.state, settings, desk);
+    let n = entry.words;
+    let own = entry.settings;
+    let o = decided(entry.state, &own[0..n], desk);
     keep(o, state)
 }

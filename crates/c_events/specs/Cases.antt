@@ -43,10 +43,6 @@ module _ (state : List ℕ) where
       let t = told-accepted none (freshRefused state) (unless-true (eqb (length state) 640) 3 none (eq-eqb (length state) 640 h)) 0 (bytesOf (stateWords States.fresh)) state refl in
       (t .answers, f ∙ ap (λ (y : State). bytesOf (stateWords y)) e ∙ t .leaves)
 
-pub check-whole : (x : State) (settings desk : List ℕ) (s d : List ℕ) → settingsOk (wordsIn settings) ≡ true → s ≡ wordsWithin 52 settings
-    → d ≡ wordsIn desk → checkRefusal s x d ≡ checkRefusal (wordsIn settings) x (wordsIn desk)
-check-whole x settings desk s d h e f = ap₂ (λ (a : List ℕ) (b : List ℕ). checkRefusal a x b) (e ∙ settings-whole settings h) f
-
 module _ (settings state desk : List ℕ) (e : Entry) (given : e ≡ entry (eqb (length desk) 65536) settings state) where
   pub check-refused : (e .refusal .code ≡ 0 → ⊥) → e .refusal .code ≡ checkStateAnswer settings state desk
   unfolding checkStateAnswer called entry
@@ -65,12 +61,6 @@ module _ (settings state desk : List ℕ) (e : Entry) (given : e ≡ entry (eqb 
       ap (λ (r : Refusal). r .code)
       (f ∙ ap (λ (x : State). checkRefusal (wordsIn settings) x (wordsIn desk)) (p .state-is)
       ∙ sym (p .event (checkRefusal (wordsIn settings) (stateLent state) (wordsIn desk))))
-
-pub outcome-whole : (event : Event) (x : State) (settings desk : List ℕ) (node : ℕ) (s d : List ℕ) → settingsOk (wordsIn settings) ≡ true
-    → s ≡ wordsWithin 52 settings → d ≡ wordsIn desk
-    → happened event s x d node ≡ happened event (wordsIn settings) x (wordsIn desk) node
-outcome-whole event x settings desk node s d h e f =
-    ap₂ (λ (a : List ℕ) (b : List ℕ). happened event a x b node) (e ∙ settings-whole settings h) f
 
 module _ (event : Event) (settings state desk : List ℕ) (node : ℕ) where
   abbrev ToldTake : ℕ → List ℕ → Type 0

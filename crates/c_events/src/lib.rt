@@ -1,13 +1,16 @@
 // The fresh state, the check of a state, and drop, fetched and prepared, over lent bytes.
 use base_ids::Node;
 use base_ids::Refusal;
+use plan_seen::Seen;
 use state_planner::Outcome;
 use state_planner::State;
-ghost use mathlib.Core.Bool.{true};
+ghost use mathlib.Core.List.{List};
 ghost use mathlib.Core.Path.{_≡_};
+ghost use Prim.Native.Nat.{ℕ};
 ghost use lib.ListN.{length};
 ghost use Rattle.word_lent.specs.Lent.{wordsIn};
-ghost use Rattle.settings_values.specs.Settings.{settingsOk};
+ghost use Rattle.settings_values.specs.Settings.{Settings};
+ghost use Rattle.plan_seen.specs.Sight.{seenOf};
 ghost use Rattle.state_planner.specs.Refusing.{checkRefusal};
 ghost use Rattle.c_events.specs.Events as Events;
 
@@ -30,28 +33,26 @@ pub fn fresh(state: &mut [u8]) -> u32
     0
 }
 
-// The outcome of an event.
-fn outcome(event: Event, x: State, settings: &[u32], desk: &[u32], node: u32) -> Outcome
-    ensures { λ r. ⌜ r ≡ Events.happened event (now (settings .entry)) x (now (desk .entry)) node ⌝ }
+// The outcome of an event, beside what the desk tells.
+fn outcome(event: Event, x: State, settings: &[u32], seen: Seen, node: u32) -> Outcome
+    requires { ⌜ Settings (now settings) ⌝ }
+    ensures { λ r. ⌜ ((d : List ℕ) → length d ≡ 16384 → seen ≡ seenOf (now (settings .entry)) (x .kept) (x .termination) (x .held) d → r ≡ Events.happened event (now (settings .entry)) x d node) ⌝ }
 {
     match event {
-        Event::Drop => x.drop(settings, desk, Node(node)),
-        Event::Fetched => x.fetched(settings, desk, Node(node)),
-        Event::Prepared => x.prepared(settings, desk, Node(node)),
+        Event::Drop => x.drop_seen(settings, seen, Node(node)),
+        Event::Fetched => x.fetched_seen(settings, seen, Node(node)),
+        Event::Prepared => x.prepared_seen(settings, seen, Node(node)),
     }
 }
 
-// The outcome of an event beside lent settings and a lent desk.
-fn outcome_lent(event: Event, x: State, settings: &[u8], desk: &[u8], node: u32) -> Outcome
-    requires { ⌜ settingsOk (wordsIn (now settings)) ≡ true ⌝ }
+// The outcome of an event beside a lent desk.
+fn outcome_lent(event: Event, x: State, settings: &[u32], desk: &[u8], node: u32) -> Outcome
+    requires { ⌜ Settings (now settings) ⌝ }
     requires { ⌜ length (now desk) ≡ 65536 ⌝ }
-    ensures { λ r. ⌜ r ≡ Events.happened event (wordsIn (now (settings .entry))) x (wordsIn (now (desk .entry))) node ⌝ }
+    ensures { λ r. ⌜ r ≡ Events.happened event (now (settings .entry)) x (wordsIn (now (desk .entry))) node ⌝ }
 {
-    let lent = word_lent::words_of(52, settings);
-    let n = lent.len;
-    let own = lent.table;
-    let words = c_state::desk_words(desk);
-    outcome(event, x, &own[0..n], &words, node)
+    let seen = word_desk::see(settings, x.kept, x.termination, x.held, desk);
+    outcome(event, x, settings, seen, node)
 }
 
 // An event that names a node: rows 1 to 4, 6 and 14.
@@ -64,21 +65,20 @@ pub fn take(event: Event, settings: &[u8], state: &mut [u8], desk: &[u8], node: 
     if refusal.code != 0 {
         return refusal.code;
     }
-    let o = outcome_lent(event, entry.state, settings, desk, node);
+    let n = entry.words;
+    let own = entry.settings;
+    let o = outcome_lent(event, entry.state, &own[0..n], desk, node);
     c_state::keep(o, state)
 }
 
-// The check of a state beside lent settings and a lent desk.
-fn check_lent(x: State, settings: &[u8], desk: &[u8]) -> Refusal
-    requires { ⌜ settingsOk (wordsIn (now settings)) ≡ true ⌝ }
+// The check of a state beside a lent desk.
+fn check_lent(x: State, settings: &[u32], desk: &[u8]) -> Refusal
+    requires { ⌜ Settings (now settings) ⌝ }
     requires { ⌜ length (now desk) ≡ 65536 ⌝ }
-    ensures { λ r. ⌜ r ≡ checkRefusal (wordsIn (now (settings .entry))) x (wordsIn (now (desk .entry))) ⌝ }
+    ensures { λ r. ⌜ r ≡ checkRefusal (now (settings .entry)) x (wordsIn (now (desk .entry))) ⌝ }
 {
-    let lent = word_lent::words_of(52, settings);
-    let n = lent.len;
-    let own = lent.table;
-    let words = c_state::desk_words(desk);
-    x.check(&own[0..n], &words)
+    let seen = word_desk::see(settings, x.kept, x.termination, x.held, desk);
+    x.check_seen(settings, seen)
 }
 
 // Whether the bytes are a state that is sound with this desk: rows 1 to 3.
@@ -90,6 +90,8 @@ pub fn check_state(settings: &[u8], state: &[u8], desk: &[u8]) -> u32
     if refusal.code != 0 {
         return refusal.code;
     }
-    let check = check_lent(lent.state, settings, desk);
+    let n = lent.words;
+    let own = lent.settings;
+    let check = check_lent(lent.state, &own[0..n], desk);
     check.code
 }

@@ -19,7 +19,7 @@ ghost use Rattle.c_messages.specs.WriteCalls.{contentsWithin};
 pub fn check_settings(settings: &[u8]) -> u32
     ensures { λ r. ⌜ r ≡ checkAnswer (now (settings .entry)) ⌝ }
 {
-    let s = word_lent::words_of(52, settings);
+    let s = word_lent::settings_of(settings);
     let n = s.len;
     let words = s.table;
     if !settings_check::check(&words[0..n]) {
@@ -32,7 +32,7 @@ pub fn check_settings(settings: &[u8]) -> u32
 fn read_lent(form: Form, settings: &[u8], message: &[u8]) -> Reading
     ensures { λ r. ⌜ r ≡ readingOf form (wordsIn (now (settings .entry))) (wordsIn (now (message .entry))) ⌝ }
 {
-    let s = word_lent::words_of(52, settings);
+    let s = word_lent::settings_of(settings);
     let n = s.len;
     let own = s.table;
     let m = word_lent::words_of(512, message);
@@ -130,7 +130,7 @@ fn write_under(form: Form, settings: &[u8], c: Contents, words: &mut [u32]) -> W
     ensures answer { λ r. ⌜ r ≡ writingOf form (wordsIn (now (settings .entry))) c (now (words .entry)) ⌝ }
     ensures words { λ r. ⌜ now (words .exit) ≡ bufferAfter form (wordsIn (now (settings .entry))) c (now (words .entry)) ⌝ }
 {
-    let s = word_lent::words_of(52, settings);
+    let s = word_lent::settings_of(settings);
     let n = s.len;
     let own = s.table;
     message_writer::write(form, &own[0..n], c, words)

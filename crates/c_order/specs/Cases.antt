@@ -30,14 +30,6 @@ use Rattle.c_state.specs.Calls.{stateLent, entry}
 use Rattle.c_state.specs.CallLaws.{settings-whole, bytes-of-words, length-test, CallEntered, entry-refuses, entry-passes}
 use Rattle.c_order.specs.OrderCalls.{lengthsOk, orderRefused, orderAnswer, orderLeaves}
 
-module _ (x : State) (settings desk : List ℕ) (node : ℕ) (z s d : List ℕ) (h : settingsOk (wordsIn settings) ≡ true)
-    (e : s ≡ wordsWithin 52 settings) (f : d ≡ wordsIn desk) where
-  pub ordered-whole : ordered s x d node z ≡ ordered (wordsIn settings) x (wordsIn desk) node z
-  ordered-whole = ap₂ (λ (a : List ℕ) (b : List ℕ). ordered a x b node z) (e ∙ settings-whole settings h) f
-
-  pub buffer-whole : orderBuffer s x d node z ≡ orderBuffer (wordsIn settings) x (wordsIn desk) node z
-  buffer-whole = ap₂ (λ (a : List ℕ) (b : List ℕ). orderBuffer a x b node z) (e ∙ settings-whole settings h) f
-
 module _ (σ : List ℕ) (x : State) (d : List ℕ) (n : ℕ) (b z : List ℕ) (same : length b ≡ length z) where
   refusal-same : orderRefusal σ x d n b ≡ orderRefusal σ x d n z
   unfolding orderRefusal

@@ -2,12 +2,12 @@
 use base_ids::Node;
 use message_format::Writing;
 use state_planner::State;
-ghost use mathlib.Core.Bool.{true, _&&_};
+ghost use mathlib.Core.Bool.{_&&_};
 ghost use mathlib.Core.Path.{_≡_};
 ghost use lib.Dec.{eqb};
 ghost use lib.ListN.{length};
 ghost use Rattle.word_lent.specs.Lent.{wordsIn};
-ghost use Rattle.settings_values.specs.Settings.{settingsOk};
+ghost use Rattle.settings_values.specs.Settings.{Settings};
 ghost use Rattle.state_order.specs.Orders.{ordered, orderBuffer};
 ghost use Rattle.c_order.specs.OrderCalls.{orderAnswer, orderLeaves};
 
@@ -21,18 +21,20 @@ fn lengths_ok(desk: usize, buffer: usize) -> bool
     buffer == 2048
 }
 
-// Writes a node's order into words, beside lent settings and a lent desk.
-fn order_words(x: State, settings: &[u8], desk: &[u8], node: u32, words: &mut [u32]) -> Writing
-    requires { ⌜ settingsOk (wordsIn (now settings)) ≡ true ⌝ }
+// Writes a node's order into words, beside a lent desk.
+fn order_words(x: State, settings: &[u32], desk: &[u8], node: u32, words: &mut [u32]) -> Writing
+    requires { ⌜ Settings (now settings) ⌝ }
     requires { ⌜ length (now desk) ≡ 65536 ⌝ }
-    ensures answer { λ r. ⌜ r ≡ ordered (wordsIn (now (settings .entry))) x (wordsIn (now (desk .entry))) node (now (words .entry)) ⌝ }
-    ensures words { λ r. ⌜ now (words .exit) ≡ orderBuffer (wordsIn (now (settings .entry))) x (wordsIn (now (desk .entry))) node (now (words .entry)) ⌝ }
+    ensures answer { λ r. ⌜ r ≡ ordered (now (settings .entry)) x (wordsIn (now (desk .entry))) node (now (words .entry)) ⌝ }
+    ensures words { λ r. ⌜ now (words .exit) ≡ orderBuffer (now (settings .entry)) x (wordsIn (now (desk .entry))) node (now (words .entry)) ⌝ }
 {
-    let lent = word_lent::words_of(52, settings);
-    let n = lent.len;
-    let own = lent.table;
-    let d = c_state::desk_words(desk);
-    state_order::order(&own[0..n], x, &d, Node(node), words)
+    let seen = word_desk::see(settings, x.kept, x.termination, x.held, desk);
+    let refusal = state_order::order_refusal_seen(settings, x, seen, Node(node), words);
+    if refusal.code != 0 {
+        return Writing { refusal, length: 0 };
+    }
+    let cuts = word_desk::cuts(settings, x.plan, desk, Node(node));
+    state_order::write_order(settings, x, &cuts, Node(node), words)
 }
 
 // Writes a node's order into the lent buffer: rows 1 (desk or buffer), 2 to 4, 6 and 14.
@@ -47,7 +49,9 @@ pub fn order(settings: &[u8], state: &[u8], desk: &[u8], node: u32, buffer: &mut
         return first.code;
     }
     let mut words = [0u32; 512];
-    let written = order_words(entry.state, settings, desk, node, &mut words);
+    let n = entry.words;
+    let own = entry.settings;
+    let written = order_words(entry.state, &own[0..n], desk, node, &mut words);
     let refusal = written.refusal;
     if refusal.code != 0 {
         return refusal.code;

@@ -3,21 +3,22 @@
 -- ---- the words that are looked at
 -- a list that ends with a row that fails refuses
 -- ---- the cases
-use Prim.Native.Nat.{ℕ}
-use mathlib.Core.Bool.{Bool, true, false, cond}
+use Prim.Native.Nat.{ℕ, _%_, _<_, _≤_}
+use mathlib.Core.Bool.{Bool, true, false, cond, _&&_}
 use mathlib.Core.List.{List}
 use mathlib.Core.Logic.{⊎-elim}
 use mathlib.Core.Path.{_≡_, sym, ap, ap₂, _∙_}
-use lib.Dec.{eqb}
-use lib.ListN.{length}
-use borrow.Author.Tests.{eq-eqb, ne-eqb}
-use Rattle.base_laws.specs.Bools.{either}
-use Rattle.word_bytes.specs.Words.{bytesOf}
+use lib.Dec.{eqb, leb}
+use lib.ListN.{length, getD}
+use native.Mathlib.Omega.{arith}
+use borrow.Author.Tests.{eq-eqb, ne-eqb, leb-true}
+use Rattle.base_laws.specs.Bools.{either, clash, and-left, and-right}
+use Rattle.word_bytes.specs.Words.{wordAt, bytesOf, getD-words}
 use Rattle.word_lent.specs.Lent.{wordsIn, wordsWithin}
 use Rattle.word_lent.specs.Answers.{bytesLeft, told-refused, told-accepted}
 use Rattle.base_ids.specs.declared.Refusal.{Refusal}
 use Rattle.base_ids.specs.Refusals.{refused, accepted, unless-false, firstOf, first-refused}
-use Rattle.settings_values.specs.Settings.{settingsOk}
+use Rattle.settings_values.specs.Settings.{Settings}
 use Rattle.message_format.specs.declared.Form.the-variants.{Report}
 use Rattle.message_format.specs.Chain.{row5}
 use Rattle.message_format.specs.Messages.{messageRefusal, contentsOf}
@@ -27,12 +28,15 @@ use Rattle.state_planner.specs.declared.State.{State}
 use Rattle.state_planner.specs.declared.Outcome.{Outcome}
 use Rattle.state_planner.specs.declared.Answer.{Answer}
 use Rattle.state_planner.specs.Refusing.{isGathering, deskOk, entryRefusal, reportRefusal}
-use Rattle.state_planner.specs.Events.{afterReport, outcome, reported, deskAfter}
-use Rattle.state_planner.specs.EventLaws.{outcome-refused}
+use Rattle.state_planner.specs.Events.{afterReport, outcome, isAccepted, reported, deskAfter}
+use Rattle.state_planner.specs.EventLaws.{outcome-refused, answer-accepts}
+use Rattle.state_planner.specs.ReportLaws.{reporter-named, stored-desk}
+use Rattle.report_desk.specs.Desk.{deskWith}
+use Rattle.word_desk.specs.ByteDesk.{words-whole, whole-bytes}
 use Rattle.word_state.specs.StateWords.{stateWords}
 use Rattle.c_state.specs.declared.Entry.{Entry}
 use Rattle.c_state.specs.Calls.{stateLent, entry, refusalOf, eventRefused}
-use Rattle.c_state.specs.CallLaws.{settings-whole, desk-entry, desk-passes, entry-refuses, ToldEvent, event-refused, event-done}
+use Rattle.c_state.specs.CallLaws.{desk-entry, desk-passes, entry-refuses, ToldEvent, event-refused, event-done}
 use Rattle.c_report.specs.ReportCalls.{reportTaken, reportAnswer, reportLeaves, reportDesk}
 
 list-refuses : (r : Refusal) → accepted (firstOf r (refused 5)) ≡ false
@@ -58,31 +62,67 @@ module _ (σ : List ℕ) (x : State) (d : List ℕ) where
       ap (λ (r : Refusal). outcome r x (afterReport σ x (contentsOf w))) (length-refused w h)
       ∙ outcome-refused short x (afterReport σ x (contentsOf w)) (list-refuses (entryRefusal (deskOk d) σ x d (isGathering (x .phase))))
 
-  length-desk : (w : List ℕ) → row5 w ≡ false → deskAfter σ x d w ≡ d
-  unfolding deskAfter
-  length-desk w h = rw (length-refused w h, list-refuses (entryRefusal (deskOk d) σ x d (isGathering (x .phase))))
-
   report-within : (m : List ℕ) → reported σ x d (wordsWithin 512 m) ≡ reported σ x d (wordsIn m)
   report-within m =
       ⊎-elim (λ e. ap (reported σ x d) e)
       (λ c. length-outcome (wordsWithin 512 m) (c .0) ∙ sym (length-outcome (wordsIn m) (c .1)))
       (message-within m)
 
-  desk-within : (m : List ℕ) → deskAfter σ x d (wordsWithin 512 m) ≡ deskAfter σ x d (wordsIn m)
-  desk-within m =
-      ⊎-elim (λ e. ap (deskAfter σ x d) e)
-      (λ c. length-desk (wordsWithin 512 m) (c .0) ∙ sym (length-desk (wordsIn m) (c .1)))
-      (message-within m)
+-- the message is looked at whole, or it is too long
+pub report-whole : (σ : List ℕ) (x : State) (d message w : List ℕ) → w ≡ wordsWithin 512 message → reported σ x d w ≡ reported σ x d (wordsIn message)
+report-whole σ x d message w f = ap (reported σ x d) f ∙ report-within σ x d message
 
-module _ (x : State) (settings d message : List ℕ) (s w : List ℕ) (h : settingsOk (wordsIn settings) ≡ true)
-    (e : s ≡ wordsWithin 52 settings) (f : w ≡ wordsWithin 512 message) where
-  pub report-whole : reported s x d w ≡ reported (wordsIn settings) x d (wordsIn message)
-  report-whole =
-      ap₂ (λ (a : List ℕ) (b : List ℕ). reported a x d b) (e ∙ settings-whole settings h) f ∙ report-within (wordsIn settings) x d message
+-- an outcome that holds no refusal was accepted
+outcome-passes : (r : Refusal) (x next : State) (o : Outcome) → o ≡ outcome r x next → refusalOf (o .answer) .code ≡ 0 → accepted r ≡ true
+outcome-passes r x next o e h =
+    ⊎-elim (λ t. t)
+    (λ z. clash (eq-eqb (r .code) 0 (sym (ap (λ (k : Outcome). refusalOf (k .answer) .code) (e ∙ outcome-refused r x next z)) ∙ h)) z)
+    (either (accepted r))
 
-  pub desk-whole : deskAfter s x d w ≡ deskAfter (wordsIn settings) x d (wordsIn message)
-  desk-whole =
-      ap₂ (λ (a : List ℕ) (b : List ℕ). deskAfter a x d b) (e ∙ settings-whole settings h) f ∙ desk-within (wordsIn settings) x d message
+-- what a message that was taken is: whole words, few of them, and the first is the node's number
+pub record MessageTaken (message : List ℕ) : Type 0 where
+  pub some : 4 ≤ length message
+  pub whole : length message % 4 ≡ 0
+  pub few : length message ≤ 2048
+  pub first : wordAt message 0 ≡ getD (wordsIn message) 0 0
+
+module _ (σ : List ℕ) (x : State) (d message : List ℕ) (o : Outcome) (f : o ≡ reported σ x d (wordsIn message)) (h : refusalOf (o .answer) .code ≡ 0) where
+  abbrev sent : List ℕ
+  sent = wordsIn message
+
+  taken-accepted : accepted (reportRefusal σ x d sent) ≡ true
+  unfolding reported
+  taken-accepted = outcome-passes (reportRefusal σ x d sent) x (afterReport σ x (contentsOf sent)) o f h
+
+  taken-row5 : row5 sent ≡ true
+  taken-row5 =
+      ⊎-elim (λ t. t)
+      (λ z. clash (sym (ap accepted (length-refused σ x d sent z)) ∙ taken-accepted) (list-refuses (entryRefusal (deskOk d) σ x d (isGathering (x .phase)))))
+      (either (row5 sent))
+
+  answer-accepted : isAccepted (o .answer) ≡ true
+  unfolding reported
+  answer-accepted = answer-accepts (reportRefusal σ x d sent) x (afterReport σ x (contentsOf sent)) f ∙ taken-accepted
+
+  pub message-taken : MessageTaken message
+  unfolding row5
+  message-taken =
+      let both : (leb 1 (length sent) && leb (length sent) 512) ≡ true = and-left (leb 1 (length sent) && leb (length sent) 512) (eqb (length sent % 4) 0) taken-row5 in
+      let n : 1 ≤ length sent = leb-true 1 (length sent) (and-left (leb 1 (length sent)) (leb (length sent) 512) both) in
+      let m : length sent ≤ 512 = leb-true (length sent) 512 (and-right (leb 1 (length sent)) (leb (length sent) 512) both) in
+      let l = whole-bytes message n in
+      record {
+        some = omega arith;
+        whole = omega arith;
+        few = omega arith;
+        first = sym (ap (λ (k : List ℕ). getD k 0 0) (words-whole message (length sent) l) ∙ getD-words message (length sent) 0 n);
+      }
+
+  pub node-named : Settings σ → wordAt message 0 < 32
+  node-named right = let t = reporter-named σ x d sent o f answer-accepted right in rw (message-taken .first) t
+
+  pub desk-placed : deskWith d (wordAt message 0) sent ≡ deskAfter σ x d sent
+  desk-placed = stored-desk σ x d sent o f answer-accepted _ (ap (λ (n : ℕ). deskWith d n sent) (message-taken .first))
 
 module _ (settings state desk message : List ℕ) where
   abbrev pub ToldReport : ℕ → List ℕ → List ℕ → Type 0

@@ -2,7 +2,6 @@
 -- and after it.
 -- ---- the state's words
 -- whether words are a state
--- the state's words that a call looks at are those that were lent, or both are no state
 -- ---- the settings
 -- right settings are looked at whole
 -- ---- lengths
@@ -17,22 +16,23 @@ use mathlib.Core.Path.{_≡_, sym, ap, _∙_}
 use mathlib.Core.Logic.{⊎-elim}
 use mathlib.Core.Bool.{Bool, true, false}
 use mathlib.Core.List.{List}
-use Prim.Native.Nat.{ℕ, suc, _*_, _/_, _%_}
+use Prim.Native.Nat.{ℕ, suc, _*_, _-_, _/_, _%_, _≤_}
 use native.Mathlib.Omega.{arith}
 use lib.Dec.{eqb}
-use lib.ListN.{length}
+use lib.ListN.{length, take, drop}
 use borrow.Author.Tests.{eqb-true, eq-eqb, ne-eqb}
 use Rattle.base_laws.specs.Bools.{either, same, no-true}
+use Rattle.base_laws.specs.Tables.{length-padded, front-padded}
 use Rattle.word_bytes.specs.Words.{wordsOf, bytesOf, length-words}
-use Rattle.word_lent.specs.Lent.{wordCount, wordsIn, wordsWithin, within-cases, count-whole}
-use Rattle.word_lent.specs.Answers.{answerWord, Told, told-refused}
+use Rattle.word_lent.specs.Lent.{wordCount, countWithin, wordsIn, wordsWithin, within-le, count-whole, HoldsSettings}
+use Rattle.word_lent.specs.Answers.{Told, told-refused}
 use Rattle.base_ids.specs.declared.Refusal.{Refusal}
 use Rattle.base_ids.specs.Refusals.{none, accepted, accepted-none, unless, unless-ok, unless-rest, first-none, first-refused}
 use Rattle.settings_values.specs.Settings.{settingsOk}
-use Rattle.c_messages.specs.Answers.{checkAnswer}
-use Rattle.c_messages.specs.Limits.{settings-within}
+use Rattle.c_messages.specs.Limits.{settings-within, settings-same}
 use Rattle.state_planner.specs.declared.State.{State}
 use Rattle.state_planner.specs.declared.Outcome.{Outcome}
+use Rattle.state_planner.specs.States.{fresh}
 use Rattle.state_planner.specs.Refusing.{deskOk}
 use Rattle.word_state.specs.StateWords.{stateWords, isState, decoded}
 use Rattle.word_state.specs.Laws.{stated}
@@ -46,21 +46,6 @@ not-state w h = no-true (isState w) (λ s. h (stated w s .long))
 decoded-ok : (w : List ℕ) → decoded w .ok ≡ isState w
 unfolding decoded
 decoded-ok w = ⊎-elim (λ e. rw e) (λ e. rw e) (either (isState w))
-
-pub decoded-within : (b : List ℕ) → decoded (wordsWithin 160 b) ≡ decoded (wordsIn b)
-unfolding decoded
-decoded-within b =
-    ⊎-elim (λ e. ap decoded e)
-    (λ c. rw (not-state (wordsWithin 160 b) (λ e. omega (arith, c .0)), not-state (wordsIn b) (λ e. omega (arith, c .1))))
-    (within-cases 160 b)
-
-pub check-fails : (s : List ℕ) → (checkAnswer s ≡ 0 → ⊥) → settingsOk (wordsIn s) ≡ false
-unfolding checkAnswer answerWord unless
-check-fails s h = no-true (settingsOk (wordsIn s)) (λ e. h (rw e))
-
-pub check-holds : (s : List ℕ) → checkAnswer s ≡ 0 → settingsOk (wordsIn s) ≡ true
-unfolding checkAnswer answerWord unless
-check-holds s h = ⊎-elim (λ e. e) (λ e. absurd (let two : 2 ≡ 0 = rw e at h in omega arith)) (either (settingsOk (wordsIn s)))
 
 pub settings-whole : (s : List ℕ) → settingsOk (wordsIn s) ≡ true → wordsWithin 52 s ≡ wordsIn s
 settings-whole s h =
@@ -81,6 +66,11 @@ bytes-of-words b k e =
     counted : wordCount (length b) ≡ suc k
     counted = sym (length-lent b) ∙ e
 
+-- bytes of another length are no state
+pub decoded-other : (b : List ℕ) → (length b ≡ 640 → ⊥) → decoded (wordsIn b) ≡ record { ok = false; state = fresh }
+unfolding decoded
+decoded-other b h = rw (not-state (wordsIn b) (λ e. h (bytes-of-words b 159 e)))
+
 pub words-of-bytes : (b : List ℕ) (k : ℕ) → length b ≡ 4 * k → length (wordsIn b) ≡ k
 words-of-bytes b k e = length-lent b ∙ count-whole (length b) k e
 
@@ -95,11 +85,16 @@ unfolding wordsIn
 all-words b k e = ap (wordsOf b) (sym (count-whole (length b) k e))
 
 pub entry-of : (lengths : Bool) (settings state : List ℕ) (d : Decoded) → d ≡ decoded (wordsIn state)
-    → (r : Refusal) → r ≡ entryRefused lengths settings (d .ok)
-    → _≡_ {A = Entry} (record { refusal = r; state = d .state }) (entry lengths settings state)
-unfolding entry
-entry-of lengths settings state d e r f =
-    rw (f, e, decoded-ok (wordsIn state))
+    → (table : List ℕ) (n : ℕ) → HoldsSettings table n settings
+    → (right : Bool) → right ≡ settingsOk (take (n - 0) (drop 0 table))
+    → (r : Refusal) → r ≡ unless lengths 1 (unless right 2 (unless (d .ok) 3 none))
+    → _≡_ {A = Entry} (record { refusal = r; state = d .state; settings = table; words = n }) (entry lengths settings state)
+unfolding entry entryRefused
+entry-of lengths settings state d e table n h right q r f =
+    let checked : right ≡ settingsOk (wordsIn settings) = q ∙ ap settingsOk (h .front) ∙ settings-same settings in
+    let held = h .whole in
+    let counted = h .count in
+    rw (f, checked, e, decoded-ok (wordsIn state), held, counted)
 
 module _ (lengths : Bool) (settings state : List ℕ) where
   -- what an entry that does not refuse gives
@@ -115,6 +110,24 @@ module _ (lengths : Bool) (settings state : List ℕ) where
     refusal-is : e .refusal ≡ entryRefused lengths settings (isState (wordsIn state))
     unfolding entry
     refusal-is = ap (λ (x : Entry). x .refusal) given
+
+    -- the settings' table: its first words are the settings', where the entry does not refuse
+    pub settings-few : e .words ≤ 52
+    unfolding entry wordsWithin
+    settings-few =
+        omega (arith, ap (λ (x : Entry). x .words) given, length-words settings (countWithin 52 (length settings)), within-le 52 (length settings))
+
+    pub settings-long : length (e .settings) ≡ 52
+    unfolding entry
+    settings-long = ap (λ (x : Entry). length (x .settings)) given ∙ length-padded 52 (wordsWithin 52 settings)
+
+    pub settings-front : settingsOk (wordsIn settings) ≡ true → take (e .words - 0) (drop 0 (e .settings)) ≡ wordsIn settings
+    unfolding entry
+    settings-front h =
+        let count : e .words ≡ length (wordsWithin 52 settings) = ap (λ (x : Entry). x .words) given in
+        ap (λ (x : Entry). take (e .words - 0) (x .settings)) given
+        ∙ front-padded 52 (e .words - 0) (wordsWithin 52 settings) (omega (arith, count, settings-few)) (omega (arith, count))
+        ∙ settings-whole settings h
 
     -- the entry refuses: so does the call, whatever its event
     pub entry-refuses : (e .refusal .code ≡ 0 → ⊥) → (event : Refusal) (word : ℕ) (made bytes : List ℕ)

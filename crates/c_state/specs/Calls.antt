@@ -3,8 +3,10 @@
 use Prim.Native.Nat.{ℕ}
 use mathlib.Core.Bool.{Bool}
 use mathlib.Core.List.{List}
+use lib.ListN.{length}
+use Rattle.base_laws.specs.Tables.{padded}
 use Rattle.word_bytes.specs.Words.{bytesOf}
-use Rattle.word_lent.specs.Lent.{wordsIn}
+use Rattle.word_lent.specs.Lent.{wordsIn, wordsWithin}
 use Rattle.word_lent.specs.Answers.{answerWord, bytesLeft}
 use Rattle.base_ids.specs.declared.Refusal.{Refusal}
 use Rattle.base_ids.specs.Refusals.{none, unless, firstOf}
@@ -32,7 +34,12 @@ called lengths settings state event = firstOf (entryRefused lengths settings (is
 -- what a call finds before its event
 unfoldable pub entry : Bool → List ℕ → List ℕ → Entry
 entry lengths settings state =
-    record { refusal = entryRefused lengths settings (isState (wordsIn state)); state = decoded (wordsIn state) .state }
+    record {
+      refusal = entryRefused lengths settings (isState (wordsIn state));
+      state = decoded (wordsIn state) .state;
+      settings = padded 52 (wordsWithin 52 settings);
+      words = length (wordsWithin 52 settings);
+    }
 
 -- the refusal that an answer holds
 abbrev pub refusalOf : Answer → Refusal

@@ -10,32 +10,40 @@ ghost use Rattle.word_bytes.specs.Words.{bytesOf};
 ghost use Rattle.word_lent.specs.Lent.{wordsIn};
 ghost use Rattle.word_lent.specs.Answers.{Told};
 ghost use Rattle.word_state.specs.StateWords.{stateWords, decoded};
-ghost use Rattle.c_state.specs.Calls.{entry, entryRefused, refusalOf};
+ghost use Rattle.base_ids.specs.Refusals.{none, unless};
+ghost use Rattle.c_state.specs.Calls.{entry, refusalOf};
 
-// What a call finds before its event: a refusal, and the state.
+// What a call finds before its event: a refusal, the state, and the settings' words, which are the first of the table.
 pub struct Entry {
     pub refusal: Refusal,
     pub state: State,
+    pub settings: [u32; 52],
+    pub words: usize,
 }
 
 // The state that lent bytes say.
 fn decode_state(bytes: &[u8]) -> Decoded
     ensures { λ r. ⌜ r ≡ decoded (wordsIn (now (bytes .entry))) ⌝ }
 {
-    let lent = word_lent::words_of(160, bytes);
-    let n = lent.len;
-    let words = lent.table;
-    word_state::decode(&words[0..n])
+    if bytes.len() != 640 {
+        return Decoded {
+            ok: false,
+            state: State::fresh(),
+        };
+    }
+    let mut words = [0u32; 160];
+    word_bytes::decode(bytes, &mut words);
+    word_state::decode(&words)
 }
 
-// Rows 1 and 2, and row 3 where the bytes are no state.
-fn entry_refusal(lengths: bool, settings: &[u8], ok: bool) -> Refusal
-    ensures { λ r. ⌜ r ≡ entryRefused lengths (now (settings .entry)) ok ⌝ }
+// Row 1 by the lengths, row 2 by the settings, and row 3 where the bytes are no state.
+fn entry_refusal(lengths: bool, right: bool, ok: bool) -> Refusal
+    ensures { λ r. ⌜ r ≡ unless lengths 1 (unless right 2 (unless ok 3 none)) ⌝ }
 {
     if !lengths {
         return Refusal { code: 1 };
     }
-    if c_messages::check_settings(settings) != 0 {
+    if !right {
         return Refusal { code: 2 };
     }
     if !ok {
@@ -48,20 +56,19 @@ fn entry_refusal(lengths: bool, settings: &[u8], ok: bool) -> Refusal
 pub fn enter(lengths: bool, settings: &[u8], state: &[u8]) -> Entry
     ensures { λ r. ⌜ r ≡ entry lengths (now (settings .entry)) (now (state .entry)) ⌝ }
 {
+    let own = word_lent::settings_of(settings);
+    let words = own.len;
+    let table = own.table;
+    let right = settings_check::check(&table[0..words]);
     let lent = decode_state(state);
-    let refusal = entry_refusal(lengths, settings, lent.ok);
+    let refusal = entry_refusal(lengths, right, lent.ok);
     let x = lent.state;
-    Entry { refusal, state: x }
-}
-
-// The words of a lent desk.
-pub fn desk_words(desk: &[u8]) -> [u32; 16384]
-    requires { ⌜ length (now desk) ≡ 65536 ⌝ }
-    ensures { λ r. ⌜ r ≡ wordsIn (now (desk .entry)) ⌝ }
-{
-    let mut words = [0u32; 16384];
-    word_bytes::decode(desk, &mut words);
-    words
+    Entry {
+        refusal,
+        state: x,
+        settings: table,
+        words,
+    }
 }
 
 // Stores a state in lent bytes.

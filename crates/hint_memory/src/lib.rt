@@ -38,7 +38,7 @@ pub const LACK: u32 = 224;
 pub const FREE: u32 = 240;
 
 // One element each: the nodes that no shard has for good; those that are placed nowhere; those that have no owner at all; the shards
-// whose lists are ended; the weight of the placement; 1 where the copy is to be taken back.
+// whose lists are ended; the weight of the placement; 1 where the copy is to be taken back; 1 where all nodes are at one level.
 pub const OPEN: u32 = 208;
 
 pub const IDLE: u32 = 209;
@@ -50,6 +50,8 @@ pub const CLOSED: u32 = 211;
 pub const WEIGHT: u32 = 212;
 
 pub const STALE: u32 = 213;
+
+pub const FLAT: u32 = 214;
 
 // By node: the nodes of its failure set. One each: the cost of a move, and of a node placed nowhere; the
 // number of shards up to the last that may have nodes.

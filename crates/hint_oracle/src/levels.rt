@@ -70,40 +70,35 @@ fn need_weight(mem: &[u32; 1024], i: u32, room: u32) -> u32
     hint_memory::less(need_level(mem, i) + room % 65536, zero(mem))
 }
 
-// Of all shards' rooms. A shard that may have no node has no room at all, and weighs as such.
-pub(crate) fn rooms(mem: &[u32; 1024]) -> [u16; 16]
-    ensures { λ r. ⌜ length r ≡ 16 ⌝ }
+// Of all shards' rooms, up to the last that may have nodes.
+pub(crate) fn rooms(h: &mut [u16; 16], mem: &[u32; 1024])
+    ensures { λ r. ⌜ length (now (h .exit)) ≡ length (now (h .entry)) ⌝ }
 {
     let count = hint_owners::shards(mem);
-    let mut h = [8300u16; 16];
     let mut i: u32 = 0;
     while i < count {
         h[i as usize] = short(room_weight(mem, i));
         i += 1;
     }
-    h
 }
 
 // Of all shards' needs.
-pub(crate) fn wants(mem: &[u32; 1024], rooms: &[u16; 16]) -> [u16; 16]
-    ensures { λ r. ⌜ length r ≡ 16 ⌝ }
+pub(crate) fn wants(u: &mut [u16; 16], mem: &[u32; 1024], rooms: &[u16; 16])
+    ensures { λ r. ⌜ length (now (u .exit)) ≡ length (now (u .entry)) ⌝ }
 {
     let count = hint_owners::shards(mem);
-    let mut u = [0u16; 16];
     let mut i: u32 = 0;
     while i < count {
         u[i as usize] = short(need_weight(mem, i, wide(rooms[i as usize])));
         i += 1;
     }
-    u
 }
 
 // Of all nodes, as if no shard had any for good.
-fn open_nodes(mem: &[u32; 1024]) -> [u16; 32]
-    ensures { λ r. ⌜ length r ≡ 32 ⌝ }
+fn open_nodes(v: &mut [u16; 32], mem: &[u32; 1024])
+    ensures { λ r. ⌜ length (now (v .exit)) ≡ length (now (v .entry)) ⌝ }
 {
     let up = zero(mem);
-    let mut v = [0u16; 32];
     let mut n: u32 = 0;
     while n < 32 {
         v[n as usize] = short(hint_memory::less(
@@ -112,7 +107,6 @@ fn open_nodes(mem: &[u32; 1024]) -> [u16; 32]
         ));
         n += 1;
     }
-    v
 }
 
 // The weight of node n, which a shard has for good: what the shard's room and the node's cost leave.
@@ -127,17 +121,16 @@ fn fixed_weight(mem: &[u32; 1024], rooms: &[u16; 16], n: u32) -> u32
 }
 
 // Of all nodes.
-pub(crate) fn nodes(mem: &[u32; 1024], rooms: &[u16; 16]) -> [u16; 32]
-    ensures { λ r. ⌜ length r ≡ 32 ⌝ }
+pub(crate) fn nodes(v: &mut [u16; 32], mem: &[u32; 1024], rooms: &[u16; 16])
+    ensures { λ r. ⌜ length (now (v .exit)) ≡ length (now (v .entry)) ⌝ }
 {
-    let mut v = open_nodes(mem);
+    open_nodes(v, mem);
     let mut m = !hint_memory::nodes(mem, hint_memory::OPEN, 0);
     while m != 0 {
         let n = hint_memory::lowest(m);
         v[n as usize] = short(fixed_weight(mem, rooms, n));
         m = hint_memory::without_lowest(m);
     }
-    v
 }
 
 // The failure set of node n.

@@ -7,14 +7,6 @@ ghost use mathlib.Core.Path.{_≡_};
 ghost use Prim.Native.Nat.{_≤_};
 ghost use lib.ListN.{length};
 
-// Weights of shards for their needs and rooms, of nodes, and of pairs of a shard and a failure set at shard * 16 + set.
-pub struct Weights {
-    pub wants: [u16; 16],
-    pub rooms: [u16; 16],
-    pub nodes: [u16; 32],
-    pub pairs: [u16; 256],
-}
-
 // A claim of the least weight, or, by 65535, that there is no valid placement.
 pub fn solve(
     mem: &mut [u32; 1024],
@@ -43,26 +35,29 @@ pub fn close(mem: &mut [u32; 1024], shard: u32, most: u32) -> u32
     hint_claims::close(mem, shard % 16, most)
 }
 
-// The present weights, or those of the list that could not be ended.
-pub fn weigh(mem: &[u32; 1024], sets: &[u8; 32], costs: &[u8; 512]) -> Weights
-    ensures { λ r. ⌜ (length (r .wants) ≡ 16) × (length (r .rooms) ≡ 16) ⌝ }
-    ensures { λ r. ⌜ (length (r .nodes) ≡ 32) × (length (r .pairs) ≡ 256) ⌝ }
+// The present weights, or those of the list that could not be ended: of shards for their needs and rooms, up to the last that may have
+// nodes, of nodes, and of pairs of a shard and a failure set at shard * 16 + set. Others stay as they are.
+pub fn weigh(
+    mem: &[u32; 1024],
+    sets: &[u8; 32],
+    wants: &mut [u16; 16],
+    rooms: &mut [u16; 16],
+    nodes: &mut [u16; 32],
+    pairs: &mut [u16; 256],
+)
+    ensures { λ r. ⌜ length (now (wants .exit)) ≡ length (now (wants .entry)) ⌝ }
+    ensures { λ r. ⌜ length (now (rooms .exit)) ≡ length (now (rooms .entry)) ⌝ }
+    ensures { λ r. ⌜ length (now (nodes .exit)) ≡ length (now (nodes .entry)) ⌝ }
+    ensures { λ r. ⌜ length (now (pairs .exit)) ≡ length (now (pairs .entry)) ⌝ }
 {
-    let h = levels::rooms(mem);
-    let u = levels::wants(mem, &h);
-    let v = levels::nodes(mem, &h);
+    levels::rooms(rooms, mem);
+    levels::wants(wants, mem, rooms);
+    levels::nodes(nodes, mem, rooms);
     let count = hint_owners::shards(mem);
-    let mut w = [0u16; 256];
     let mut i: u32 = 0;
     while i < count {
-        levels::weigh_row(&mut w, mem, sets, &u, &h, i);
+        levels::weigh_row(pairs, mem, sets, wants, rooms, i);
         i += 1;
     }
-    levels::weigh_fixed(&mut w, mem, sets, &u);
-    Weights {
-        wants: u,
-        rooms: h,
-        nodes: v,
-        pairs: w,
-    }
+    levels::weigh_fixed(pairs, mem, sets, wants);
 }

@@ -135,18 +135,53 @@ fn enter_shards(mem: &mut [u32; 1024], needs: &[u8; 16], caps: &[u8; 16], costs:
     }
 }
 
-// All rooms.
-fn enter_rooms(mem: &mut [u32; 1024]) {
+// All rooms: how many nodes more they could take.
+fn enter_rooms(mem: &mut [u32; 1024]) -> u32
+    ensures { λ r. ⌜ r ≤ 1048576 ⌝ }
+{
+    let count = hint_owners::shards(mem);
+    let mut free: u32 = 0;
     let mut i: u32 = 0;
-    while i < 16 {
+    while i < count {
         keep_room(mem, i);
+        free += hint_owners::free_room(mem, i);
         i += 1;
+    }
+    free
+}
+
+// Nowhere at the level at which it takes any node, where no room could take one.
+fn raise_nowhere(mem: &mut [u32; 1024], free: u32, idle: u8) {
+    if free == 0 {
+        hint_memory::set(
+            mem,
+            hint_memory::LEVEL,
+            hint_memory::NOWHERE,
+            FIRST_LEVEL + hint_memory::wide(idle),
+        );
     }
 }
 
-// One node more for the need of shard i: whether there is a way.
+// Of some nodes, those placed nowhere that shard i takes at the least level, where all nodes are at one level.
+fn nearest(mem: &[u32; 1024], i: u32, nodes: u32) -> u32 {
+    if hint_memory::number(mem, hint_memory::FLAT, 0) == 0 {
+        return 0;
+    }
+    let stay = nodes & hint_memory::nodes(mem, hint_memory::STAY, i);
+    let idle = hint_memory::nodes(mem, hint_memory::IDLE, 0);
+    if stay == 0 { nodes & idle } else { stay & idle }
+}
+
+// One node more for the need of shard i: whether there is a way. A node that is placed nowhere is one, where no other is nearer.
 fn augment(mem: &mut [u32; 1024], i: u32) -> bool {
     let nodes = hint_owners::unused(mem, i);
+    let near = nearest(mem, i, nodes);
+    if near != 0 {
+        let n = hint_memory::lowest(near);
+        hint_owners::release(mem, n);
+        hint_owners::give(mem, n, i);
+        return true;
+    }
     let level = hint_owners::least_level(mem, i, nodes);
     hint_ways::from_shard(mem, i, nodes, level, BEYOND) != 0
 }
@@ -188,6 +223,7 @@ fn load(mem: &mut [u32; 1024], sets: &[u8; 32], idle: u8) {
     hint_memory::set(mem, hint_memory::CLOSED, 0, 0);
     hint_memory::set(mem, hint_memory::WEIGHT, 0, 0);
     hint_memory::set(mem, hint_memory::STALE, 0, 0);
+    hint_memory::set(mem, hint_memory::FLAT, 0, 1);
     hint_memory::set(mem, hint_memory::MOVE_COST, 0, 0);
     hint_memory::set(mem, hint_memory::SHARDS, 0, 0);
     hint_memory::set(mem, hint_memory::IDLE_COST, 0, hint_memory::wide(idle));
@@ -206,7 +242,8 @@ pub fn start(
 {
     load(mem, sets, idle);
     enter_shards(mem, needs, caps, costs);
-    enter_rooms(mem);
+    let free = enter_rooms(mem);
+    raise_nowhere(mem, free, idle);
     hint_ways::settle(mem);
     if complete(mem) {
         return hint_memory::number(mem, hint_memory::WEIGHT, 0);

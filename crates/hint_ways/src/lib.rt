@@ -302,6 +302,7 @@ fn raise(mem: &mut [u32; 1024], by: u32) {
     if by == 0 {
         return;
     }
+    hint_memory::set(mem, hint_memory::FLAT, 0, 0);
     let mut v: u32 = 0;
     while v < 33 {
         raise_vertex(mem, v, by);

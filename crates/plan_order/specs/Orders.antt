@@ -9,14 +9,21 @@ use Rattle.base_laws.specs.Tables.{tabulate}
 use Rattle.settings_values.specs.Settings.{shards}
 use Rattle.base_ids.specs.declared.Position.{Position}
 use Rattle.message_format.specs.declared.Contents.{Contents}
+use Rattle.report_views.specs.declared.Layout.{Layout}
 use Rattle.report_views.specs.declared.Plan.{Plan}
 use Rattle.report_views.specs.Reports.{reportOf, maskAt, holderAt, targetAt}
 use Rattle.report_views.specs.Cuts.{cutFrom}
+use Rattle.report_views.specs.Logs.{start}
+use Rattle.report_views.specs.PositionTables.{positionWord}
 use Rattle.base_laws.specs.Ranks.{nth}
+
+-- node n is a member of shard s in a view
+abbrev pub isMember : Layout → ℕ → ℕ → Bool
+isMember v n s = has (maskAt v s) n
 
 -- the plan gives node n shard s
 abbrev pub carries : Plan → ℕ → ℕ → Bool
-carries p n s = has (maskAt (p .layout) s) n
+carries p n s = isMember (p .layout) n s
 
 -- how many of the first s shards node n carries
 abbrev pub carriedBelow : Plan → ℕ → ℕ → ℕ
@@ -26,14 +33,21 @@ carriedBelow p n s = countBelow s (carries p n)
 abbrev pub carried : List ℕ → Plan → ℕ → ℕ → ℕ
 carried σ p n i = nth (shards σ) (carries p n) i
 
--- the cut for shard s of a node whose report has the body b of len records
-abbrev pub cutAgainst : Plan → List ℕ → List ℕ → ℕ → ℕ → Position
-cutAgainst p d b len s =
-    cutFrom b len (reportOf d (holderAt p s) .body) (reportOf d (holderAt p s) .len) s (targetAt p s)
+-- the cut for shard s of a node whose report has the body b of len records, against the report of node h and the target t
+abbrev pub cutBeside : List ℕ → List ℕ → ℕ → ℕ → ℕ → Position → Position
+cutBeside d b len s h t = cutFrom b len (reportOf d h .body) (reportOf d h .len) s t
 
 -- the cut of node n for shard s
 abbrev pub cutOf : Plan → List ℕ → ℕ → ℕ → Position
-cutOf p d n s = cutAgainst p d (reportOf d n .body) (reportOf d n .len) s
+cutOf p d n s = cutBeside d (reportOf d n .body) (reportOf d n .len) s (holderAt p s) (targetAt p s)
+
+-- the same where the node carries the shard, else (0, 0)
+abbrev pub cutCarried : Plan → List ℕ → ℕ → ℕ → Position
+cutCarried p d n s = cond (carries p n s) (cutOf p d n s) start
+
+-- the cuts of node n, two words for each shard, with zeros after them
+unfoldable pub cutsOf : List ℕ → Plan → List ℕ → ℕ → List ℕ
+cutsOf σ p d n = tabulate 32 (λ k. cond (ltb k (2 * shards σ)) (positionWord (cutCarried p d n) k) 0)
 
 -- three words of a record
 abbrev pub triple : ℕ → ℕ → ℕ → ℕ → ℕ

@@ -1,6 +1,6 @@
 -- An order's records stored one after another: each turn of a loop over the shards stores a record, or none where the node does
 -- not carry the shard. The four loops, from a body of zeros, make the body of the order.
-use Prim.Native.Nat.{ℕ, suc, _+_, _*_, _/_, _%_, _<_, _≤_}
+use Prim.Native.Nat.{ℕ, zero, suc, _+_, _*_, _/_, _%_, _<_, _≤_}
 use native.Mathlib.Omega.{arith}
 use native.Mathlib.Nat.{add-zero}
 use mathlib.Core.Bool.{Bool, true, false, cond}
@@ -11,16 +11,16 @@ use lib.Dec.{ltb}
 use lib.ListN.{length, getD, set, replicate, length-replicate, getD-replicate}
 use borrow.Author.Tests.{lt-ltb, le-ltb}
 use Rattle.base_laws.specs.Bools.{either, lt-or-le}
-use Rattle.base_laws.specs.Below.{count-zero, count-suc, count-hit, count-miss, count-le}
+use Rattle.base_laws.specs.Below.{countBelow, count-zero, count-suc, count-hit, count-miss, count-le}
 use Rattle.base_laws.specs.Loops.{turns, turns-none, turned, turns-hold}
 use Rattle.base_laws.specs.Tables.{filled, filled-none, filled-more, tabulate-ext, length-filled, getD-filled, getD-filled-rest}
 use Rattle.settings_values.specs.Settings.{shards}
-use Rattle.base_ids.specs.declared.Position.{Position}
 use Rattle.message_format.specs.declared.Contents.{Contents}
 use Rattle.report_views.specs.declared.Layout.{Layout}
 use Rattle.report_views.specs.declared.Plan.{Plan}
-use Rattle.report_views.specs.Reports.{reportOf, maskAt, holderAt, targetAt}
-use Rattle.plan_order.specs.Orders.{carries, carriedBelow, own, cutAgainst, triple, orderRecord, orderLen, orderWord, orderBody, orderContents}
+use Rattle.report_views.specs.Reports.{maskAt, holderAt, targetAt}
+use Rattle.plan_order.specs.Orders.{carries, carriedBelow, own, cutOf, cutsOf, triple, orderRecord, orderLen, orderWord, orderBody, orderContents}
+use Rattle.plan_order.specs.CutTables.{cut-view, cut-k}
 use Rattle.plan_order.specs.Recorded.{members-record, target-record, holder-record, cut-record, len-few}
 
 -- a body in which record j has the words x, y and z
@@ -35,79 +35,74 @@ storeMembers v s b = wordsStored b s (256 + s) (maskAt v s) 0
 abbrev pub storeTarget : ℕ → Plan → ℕ → List ℕ → List ℕ
 storeTarget count p s b = wordsStored b (count + s) (512 + s) (targetAt p s .view .0) (targetAt p s .k)
 
--- the record x s, y s, z s for shard s where node n carries it; the records of carried shards begin at `from`
-abbrev pub storeCarried : ℕ → Plan → ℕ → (ℕ → ℕ) → (ℕ → ℕ) → (ℕ → ℕ) → ℕ → List ℕ → List ℕ
-storeCarried from p n x y z s b = cond (carries p n s) (wordsStored b (from + carriedBelow p n s) (x s) (y s) (z s)) b
+-- the record x s, y s, z s for shard s where f holds of it; these records begin at `from`
+abbrev pub storeWhere : ℕ → (ℕ → Bool) → (ℕ → ℕ) → (ℕ → ℕ) → (ℕ → ℕ) → ℕ → List ℕ → List ℕ
+storeWhere from f x y z s b = cond (f s) (wordsStored b (from + countBelow s f) (x s) (y s) (z s)) b
 
 -- the holder of shard s
 abbrev pub storeHolder : ℕ → Plan → ℕ → ℕ → List ℕ → List ℕ
-storeHolder from p n = storeCarried from p n (λ s. 1024 + s) (λ s. holderAt p s) (λ s. 0)
-
--- the cut of shard s, of a node whose report has the body `own` of len records
-abbrev pub storeCutOf : ℕ → Plan → List ℕ → List ℕ → ℕ → ℕ → ℕ → List ℕ → List ℕ
-storeCutOf from p d own len n =
-    storeCarried from p n (λ s. 1280 + s) (λ s. cutAgainst p d own len s .view .0) (λ s. cutAgainst p d own len s .k)
+storeHolder from p n = storeWhere from (carries p n) (λ s. 1024 + s) (λ s. holderAt p s) (λ s. 0)
 
 -- the cut of shard s
 abbrev pub storeCut : ℕ → Plan → List ℕ → ℕ → ℕ → List ℕ → List ℕ
-storeCut from p d n = storeCutOf from p d (reportOf d n .body) (reportOf d n .len) n
+storeCut from p d n = storeWhere from (carries p n) (λ s. 1280 + s) (λ s. cutOf p d n s .view .0) (λ s. cutOf p d n s .k)
 
--- the record of a position that is q
-pub position-stored : (b m : List ℕ) (j x : ℕ) (t q : Position) → t ≡ q → m ≡ wordsStored b j x (t .view .0) (t .k) → m ≡ wordsStored b j x (q .view .0) (q .k)
-position-stored b m j x t q e d = d ∙ ap (λ (r : Position). wordsStored b j x (r .view .0) (r .k)) e
+-- the cut of shard s that stands in a table, where f holds of it
+abbrev pub storeTabled : ℕ → (ℕ → Bool) → List ℕ → ℕ → List ℕ → List ℕ
+storeTabled from f cuts = storeWhere from f (λ s. 1280 + s) (λ s. getD cuts (2 * s) 0) (λ s. getD cuts (2 * s + 1) 0)
 
--- ---- a loop over the shards that stores a record for each that the node carries
+-- ---- a loop over the shards that stores a record for each of which f holds
 
 -- s of the shards are done, and record j is the next
-pub record Storing (from : ℕ) (p : Plan) (n : ℕ) (g : ℕ → List ℕ → List ℕ) (count : ℕ) (b₀ b : List ℕ) (j s : ℕ) : Type 0 where
+pub record Storing (from : ℕ) (f : ℕ → Bool) (g : ℕ → List ℕ → List ℕ) (count : ℕ) (b₀ b : List ℕ) (j s : ℕ) : Type 0 where
   pub many : count ≤ 16
   pub done : s ≤ count
-  pub next : j ≡ from + carriedBelow p n s
+  pub next : j ≡ from + countBelow s f
   pub so-far : b ≡ turns s g b₀
 
-pub storing-start : (from : ℕ) (p : Plan) (n : ℕ) (g : ℕ → List ℕ → List ℕ) (count : ℕ) (b : List ℕ) → count ≤ 16
-    → Storing from p n g count b b from 0
-storing-start from p n g count b l =
-    record { many = l; done = omega arith; next = omega (arith, count-zero (carries p n)); so-far = sym (turns-none g b) }
+pub storing-start : (from : ℕ) (f : ℕ → Bool) (g : ℕ → List ℕ → List ℕ) (count : ℕ) (b : List ℕ) → count ≤ 16
+    → Storing from f g count b b from 0
+storing-start from f g count b l =
+    record { many = l; done = omega arith; next = omega (arith, count-zero f); so-far = sym (turns-none g b) }
 
-module _ {from : ℕ} {p : Plan} {n : ℕ} {g : ℕ → List ℕ → List ℕ} {count : ℕ} {b₀ b : List ℕ} {j s : ℕ} (i : Storing from p n g count b₀ b j s) where
+module _ {from : ℕ} {f : ℕ → Bool} {g : ℕ → List ℕ → List ℕ} {count : ℕ} {b₀ b : List ℕ} {j s : ℕ} (i : Storing from f g count b₀ b j s) where
   -- there is room
   pub storing-room : s < count → j < from + 16
-  storing-room l = omega (arith, i .next, i .many, count-le s (carries p n))
+  storing-room l = omega (arith, i .next, i .many, count-le s f)
 
-  pub storing-end : count ≤ s → (j ≡ from + carriedBelow p n count) × (b ≡ turns count g b₀)
+  pub storing-end : count ≤ s → (j ≡ from + countBelow count f) × (b ≡ turns count g b₀)
   storing-end l =
       let e : s ≡ count = omega (arith, i .done) in
-      (i .next ∙ ap (λ (k : ℕ). from + carriedBelow p n k) e, i .so-far ∙ ap (λ (k : ℕ). turns k g b₀) e)
+      (i .next ∙ ap (λ (k : ℕ). from + countBelow k f) e, i .so-far ∙ ap (λ (k : ℕ). turns k g b₀) e)
 
-  -- a turn for a shard that the node carries, and for one that it does not carry
-  pub storing-hit : (m : List ℕ) (k : ℕ) → s < count → carries p n s ≡ true → m ≡ g s b → k ≡ j + 1
-      → Storing from p n g count b₀ m k (s + 1)
+  -- a turn for a shard of which f holds, and for one of which it does not
+  pub storing-hit : (m : List ℕ) (k : ℕ) → s < count → f s ≡ true → m ≡ g s b → k ≡ j + 1
+      → Storing from f g count b₀ m k (s + 1)
   storing-hit m k l c d e =
       record {
         many = i .many;
         done = omega arith;
-        next = omega (arith, i .next, count-hit s (carries p n) c);
+        next = omega (arith, i .next, count-hit s f c);
         so-far = turned s g b₀ b m (i .so-far) d;
       }
 
-  pub storing-miss : (m : List ℕ) (k : ℕ) → s < count → carries p n s ≡ false → m ≡ g s b → k ≡ j
-      → Storing from p n g count b₀ m k (s + 1)
+  pub storing-miss : (m : List ℕ) (k : ℕ) → s < count → f s ≡ false → m ≡ g s b → k ≡ j
+      → Storing from f g count b₀ m k (s + 1)
   storing-miss m k l c d e =
       record {
         many = i .many;
         done = omega arith;
-        next = omega (arith, i .next, count-miss s (carries p n) c);
+        next = omega (arith, i .next, count-miss s f c);
         so-far = turned s g b₀ b m (i .so-far) d;
       }
 
 -- what such turns make of the list
-module _ (from : ℕ) (p : Plan) (n s : ℕ) (x y z : ℕ) (b m : List ℕ) where
-  pub record-hit : carries p n s ≡ true → (j : ℕ) → j ≡ from + carriedBelow p n s → m ≡ wordsStored b j x y z
-      → m ≡ cond (carries p n s) (wordsStored b (from + carriedBelow p n s) x y z) b
+module _ (from : ℕ) (f : ℕ → Bool) (s x y z : ℕ) (b m : List ℕ) where
+  pub record-hit : f s ≡ true → (j : ℕ) → j ≡ from + countBelow s f → m ≡ wordsStored b j x y z
+      → m ≡ cond (f s) (wordsStored b (from + countBelow s f) x y z) b
   record-hit c j e d = rw c (d ∙ ap (λ (i : ℕ). wordsStored b i x y z) e)
 
-  pub record-miss : carries p n s ≡ false → m ≡ b → m ≡ cond (carries p n s) (wordsStored b (from + carriedBelow p n s) x y z) b
+  pub record-miss : f s ≡ false → m ≡ b → m ≡ cond (f s) (wordsStored b (from + countBelow s f) x y z) b
   record-miss c d = rw c d
 
 module _ (f : ℕ → ℕ) (z : List ℕ) where
@@ -123,6 +118,13 @@ module _ (f : ℕ → ℕ) (z : List ℕ) where
       ap (λ (b : List ℕ). set (set b (3 * j + 1) y) (3 * j + 2) w) (word-stored (3 * j) (3 * j + 1) x (omega arith) refl d)
       ∙ ap (λ (b : List ℕ). set b (3 * j + 2) w) (word-stored (3 * j + 1) (3 * j + 2) y (omega arith) (omega arith) e)
       ∙ word-stored (3 * j + 2) (3 * k) w h (omega arith) g
+
+-- turns that are the same
+turns-same : (n : ℕ) (g h : ℕ → List ℕ → List ℕ) (b : List ℕ) → ((s : ℕ) → s < n → (y : List ℕ) → g s y ≡ h s y)
+    → turns n g b ≡ turns n h b
+unfolding turns
+turns-same zero g h b e = refl
+turns-same (suc n) g h b e = e n (omega arith) (turns n g b) ∙ ap (h n) (turns-same n g h b (λ s l. e s (omega arith)))
 
 -- ---- the order of node n
 
@@ -223,6 +225,16 @@ module _ (σ : List ℕ) (p : Plan) (d : List ℕ) (n : ℕ) (few : shards σ �
           ∙ getD-replicate 381 k 0 0 h
           ∙ rw (le-ltb k (3 * orderLen σ p n) l)
 
+  -- the cuts of the table
+  pub tabled-stored : (from : ℕ) (b : List ℕ) → turns S (storeTabled from (carries p n) (cutsOf σ p d n)) b ≡ turns S (storeCut from p d n) b
+  tabled-stored from b = turns-same S (storeTabled from (carries p n) (cutsOf σ p d n)) (storeCut from p d n) b (λ s l y. turn s l y (either (carries p n s)))
+    where
+      turn : (s : ℕ) → s < S → (y : List ℕ) → (carries p n s ≡ true) ⊎ (carries p n s ≡ false)
+          → storeTabled from (carries p n) (cutsOf σ p d n) s y ≡ storeCut from p d n s y
+      turn s l y (inl c) =
+          rw c (ap₂ (wordsStored y (from + carriedBelow p n s) (1280 + s)) (cut-view p d n σ few s l c) (cut-k p d n σ few s l c))
+      turn s l y (inr c) = rw c
+
   -- the four loops, one after another
   pub order-stored :
       turns S (storeCut (2 * S + own σ p n) p d n)
@@ -243,17 +255,18 @@ abbrev pub orderWith : Plan → ℕ → ℕ → List ℕ → Contents
 orderWith p n len b =
     record { node = record { 0 = n }; view = p .layout .number; members = p .layout .members; len = len; body = b }
 
-module _ (σ : List ℕ) (p : Plan) (d : List ℕ) (m : ℕ) (few : shards σ ≤ 16) where
-  -- count shards, node n, its report; the body after each loop, and the index of the record after the holders and the cuts
-  pub order-made : (count n next len : ℕ) (report : Contents) (b1 b2 b3 b4 : List ℕ)
-      → count ≡ shards σ → n ≡ m → report ≡ reportOf d n
+module _ (σ : List ℕ) (p : Plan) (d : List ℕ) (n : ℕ) (few : shards σ ≤ 16) where
+  -- count shards and the table of cuts; the body after each loop, and the index of the record after the holders and the cuts
+  pub order-made : (count next len : ℕ) (cuts b1 b2 b3 b4 : List ℕ)
+      → count ≡ shards σ → cuts ≡ cutsOf σ p d n
       → b1 ≡ turns count (storeMembers (p .layout)) (replicate 381 0)
       → b2 ≡ turns count (storeTarget count p) b1
       → next ≡ 2 * count + carriedBelow p n count
       → b3 ≡ turns count (storeHolder (2 * count) p n) b2
       → len ≡ next + carriedBelow p n count
-      → b4 ≡ turns count (storeCutOf next p d (report .body) (report .len) n) b3
-      → orderWith p m len b4 ≡ orderContents σ p d m
+      → b4 ≡ turns count (storeTabled next (carries p n) cuts) b3
+      → orderWith p n len b4 ≡ orderContents σ p d n
   unfolding orderContents
-  order-made count n next len report b1 b2 b3 b4 ec en er e1 e2 ej e3 el e4 =
-      ap₂ (orderWith p m) (el ∙ rw (ej, en, ec) (omega arith)) (rw (e4, e3, e2, e1, ej, er, en, ec) (order-stored σ p d m few))
+  order-made count next len cuts b1 b2 b3 b4 ec et e1 e2 ej e3 el e4 =
+      ap₂ (orderWith p n) (el ∙ rw (ej, ec) (omega arith))
+      (rw (e4, e3, e2, e1, ej, et, ec) (tabled-stored σ p d n few (2 * shards σ + own σ p n) _ ∙ order-stored σ p d n few))

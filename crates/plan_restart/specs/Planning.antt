@@ -1,4 +1,4 @@
--- From a standing and a placement to the verdict, and that it is what the held reports allow.
+-- From what is seen and a placement to the verdict, and that it is what the held reports allow.
 use Prim.Native.Nat.{ℕ, _+_, _≤_}
 use mathlib.Core.Bool.{Bool, true, false, cond, _||_}
 use mathlib.Core.List.{List}
@@ -13,20 +13,22 @@ use Rattle.settings_values.specs.Settings.{shards, Settings}
 use Rattle.report_views.specs.declared.Layout.{Layout}
 use Rattle.report_views.specs.declared.Termination.{Termination}
 use Rattle.report_views.specs.declared.Plan.{Plan}
-use Rattle.report_views.specs.declared.Standing.{Standing}
 use Rattle.report_views.specs.declared.Reason.{Reason}
 use Rattle.report_views.specs.declared.Reason.the-variants.{NoPlacement}
+use Rattle.report_views.specs.declared.Quorum.{Quorum}
 use Rattle.report_views.specs.declared.Quorum.the-variants.{Met, Short}
 use Rattle.report_views.specs.Reports.{maskAt}
 use Rattle.report_views.specs.Slots.{slotsOk}
 use Rattle.report_views.specs.Quorums.{quorumOf}
-use Rattle.report_views.specs.Standings.{standingOf}
 use Rattle.report_views.specs.Soundness.{layoutTidy, allMoves, keptSound}
 use Rattle.report_views.specs.Meets.{quorum-given}
 use Rattle.history_claims.specs.Claims.{claims}
 use Rattle.place_layout.specs.declared.Placed.{Placed}
 use Rattle.place_layout.specs.Post.{Laid, Unplaced, Placement}
 use Rattle.place_layout.specs.Unique.{laid-whole}
+use Rattle.plan_quorum.specs.Quorum.{quorumBy}
+use Rattle.plan_seen.specs.declared.Seen.{Seen}
+use Rattle.plan_seen.specs.Sight.{seenOf, seen-holders, seen-targets, quorum-seen}
 use Rattle.plan_restart.specs.declared.Verdict.{Verdict}
 use Rattle.plan_restart.specs.Kept.{members-below}
 use Rattle.plan_restart.specs.Restarts.{waiting, Plans, FindsPlan, FindsNone, Restarts}
@@ -36,23 +38,23 @@ abbrev pub viewBy : Layout → ℕ → Placed → Layout
 viewBy v held p = record { number = record { 0 = v .number .0 + 1 }; members = held; masks = p .masks }
 
 -- the plan that a placement of all subgroups gives
-unfoldable pub planBy : Layout → ℕ → Standing → Placed → Plan
-planBy v held st p =
-    record { layout = viewBy v held p; total = p .total; holders = st .holders; targets = st .targets }
+unfoldable pub planBy : Layout → ℕ → Seen → Placed → Plan
+planBy v held x p =
+    record { layout = viewBy v held p; total = p .total; holders = x .holders; targets = x .targets }
 
 -- the plan if every subgroup is placed, else wait 5
-unfoldable pub verdictBy : Layout → ℕ → Standing → Placed → Verdict
-verdictBy v held st p =
-    cond (p .found) (record { quorum = Met; plan = planBy v held st p }) (waiting (NoPlacement (p .group)))
+unfoldable pub verdictBy : Layout → ℕ → Seen → Placed → Verdict
+verdictBy v held x p =
+    cond (p .found) (record { quorum = Met; plan = planBy v held x p }) (waiting (NoPlacement (p .group)))
 
-module _ (v : Layout) (held : ℕ) (st : Standing) (p : Placed) where
-  pub verdict-plan : p .found ≡ true → verdictBy v held st p ≡ record { quorum = Met; plan = planBy v held st p }
+module _ (v : Layout) (held : ℕ) (x : Seen) (p : Placed) where
+  pub verdict-plan : p .found ≡ true → verdictBy v held x p ≡ record { quorum = Met; plan = planBy v held x p }
   unfolding verdictBy
-  verdict-plan e = ap (λ (b : Bool). cond b (record { quorum = Met; plan = planBy v held st p }) (waiting (NoPlacement (p .group)))) e
+  verdict-plan e = ap (λ (b : Bool). cond b (record { quorum = Met; plan = planBy v held x p }) (waiting (NoPlacement (p .group)))) e
 
-  pub verdict-none : p .found ≡ false → verdictBy v held st p ≡ waiting (NoPlacement (p .group))
+  pub verdict-none : p .found ≡ false → verdictBy v held x p ≡ waiting (NoPlacement (p .group))
   unfolding verdictBy
-  verdict-none e = ap (λ (b : Bool). cond b (record { quorum = Met; plan = planBy v held st p }) (waiting (NoPlacement (p .group)))) e
+  verdict-none e = ap (λ (b : Bool). cond b (record { quorum = Met; plan = planBy v held x p }) (waiting (NoPlacement (p .group)))) e
 
 -- nothing stands from S up
 tidy-of : (σ : List ℕ) (w : Layout) → ((s : ℕ) → shards σ ≤ s → maskAt w s ≡ 0) → layoutTidy σ w ≡ true
@@ -64,12 +66,13 @@ tidy-of σ w rest =
     (λ i. or-right (ltb s (shards σ)) (eq-eqb (maskAt w s) 0 (rest s i)))
     (lt-or-le s (shards σ)))
 
-module _ (σ : List ℕ) (v : Layout) (t : Termination) (held : ℕ) (d : List ℕ) where
-  module _ (right : Settings σ) (kept : keptSound σ v t held ≡ true) (slots : slotsOk σ v t held d ≡ true)
-      (met : quorumOf σ v t held d ≡ Met) (p : Placed) where
+-- x is what the desk tells, with sound slots
+module _ (σ : List ℕ) (v : Layout) (t : Termination) (held : ℕ) (d : List ℕ) (x : Seen) (e : x ≡ seenOf σ v t held d) (right : Settings σ)
+    (slots : slotsOk σ v t held d ≡ true) where
+  module _ (kept : keptSound σ v t held ≡ true) (met : quorumOf σ v t held d ≡ Met) (p : Placed) where
     -- a placement of all subgroups gives a plan
-    plans-by : Laid σ held (maskAt v) 4 p → Plans σ v t held d (planBy v held (standingOf σ v t held d) p)
-    unfolding planBy standingOf allMoves
+    plans-by : Laid σ held (maskAt v) 4 p → Plans σ v t held d (planBy v held x p)
+    unfolding planBy allMoves
     plans-by laid =
         let q = quorum-given σ v t held d met in
         record {
@@ -77,8 +80,8 @@ module _ (σ : List ℕ) (v : Layout) (t : Termination) (held : ℕ) (d : List �
           members = refl;
           sized = laid .sized;
           tidy = tidy-of σ (viewBy v held p) (laid .rest);
-          holders = refl;
-          targets = refl;
+          holders = seen-holders σ v t held d x e slots;
+          targets = seen-targets σ v t held d x e slots;
           chosen = laid .chosen;
           whole = laid-whole right laid;
           total = laid .total;
@@ -86,44 +89,42 @@ module _ (σ : List ℕ) (v : Layout) (t : Termination) (held : ℕ) (d : List �
           claims = claims σ v t held d (members-below σ v t held right kept) slots q;
         }
 
-    stuck-by : (st : Standing) → p .found ≡ false → Unplaced σ held p → FindsNone σ held (verdictBy v held st p)
-    stuck-by st e none =
+    stuck-by : p .found ≡ false → Unplaced σ held p → FindsNone σ held (verdictBy v held x p)
+    stuck-by f none =
         record {
           group = p .group;
-          given = verdict-none v held st p e;
+          given = verdict-none v held x p f;
           lowest = none .lowest;
         }
 
-    planned-by : p .found ≡ true → Laid σ held (maskAt v) 4 p
-        → FindsPlan σ v t held d (verdictBy v held (standingOf σ v t held d) p)
-    planned-by e laid =
-        subst⁻¹ (FindsPlan σ v t held d) (verdict-plan v held (standingOf σ v t held d) p e) (record { met = refl; plans = plans-by laid })
+    planned-by : p .found ≡ true → Laid σ held (maskAt v) 4 p → FindsPlan σ v t held d (verdictBy v held x p)
+    planned-by f laid =
+        subst⁻¹ (FindsPlan σ v t held d) (verdict-plan v held x p f) (record { met = refl; plans = plans-by laid })
 
     -- the verdict from a placement is a plan, or names the lowest subgroup without one
-    pub answers-by : Placement σ held (maskAt v) p
-        → FindsPlan σ v t held d (verdictBy v held (standingOf σ v t held d) p) ⊎ FindsNone σ held (verdictBy v held (standingOf σ v t held d) p)
-    answers-by w =
-        ⊎-elim (λ e. inl (planned-by e (w .laid e))) (λ e. inr (stuck-by (standingOf σ v t held d) e (w .unplaced e)))
-        (either (p .found))
+    answers-by : Placement σ held (maskAt v) p → FindsPlan σ v t held d (verdictBy v held x p) ⊎ FindsNone σ held (verdictBy v held x p)
+    answers-by w = ⊎-elim (λ f. inl (planned-by f (w .laid f))) (λ f. inr (stuck-by f (w .unplaced f))) (either (p .found))
 
-  -- a condition fails
-  pub restart-waits : (st : Standing) (reason : Reason) (r : Verdict) → st ≡ standingOf σ v t held d → st .quorum ≡ Short reason
-      → r ≡ waiting reason → Restarts σ v t held d r
-  unfolding standingOf
-  restart-waits st reason r e q a =
-      let found : quorumOf σ v t held d ≡ Short reason = sym (ap (λ (s : Standing). s .quorum) e) ∙ q in
-      record {
-        waits = λ other h. a ∙ ap (λ (k : Reason). waiting k) (cc);
-        answers = λ h. let z : _≡_ {A = ℕ} 0 1 = cc in absurd (omega arith);
-      }
+  -- q is the quorum of the holders
+  module _ (q : Quorum) (given : q ≡ quorumBy σ v held (x .holders)) where
+    quorum-is : q ≡ quorumOf σ v t held d
+    quorum-is = given ∙ quorum-seen σ v t held d x e right slots
 
-  -- none fails
-  pub restart-met : (st : Standing) (r : Verdict) → st ≡ standingOf σ v t held d → st .quorum ≡ Met
-      → (quorumOf σ v t held d ≡ Met → FindsPlan σ v t held d r ⊎ FindsNone σ held r) → Restarts σ v t held d r
-  unfolding standingOf
-  restart-met st r e q a =
-      let found : quorumOf σ v t held d ≡ Met = sym (ap (λ (s : Standing). s .quorum) e) ∙ q in
-      record {
-        waits = λ reason h. let z : _≡_ {A = ℕ} 0 1 = cc in absurd (omega arith);
-        answers = a;
-      }
+    -- a condition fails
+    pub restart-waits : (reason : Reason) (r : Verdict) → q ≡ Short reason → r ≡ waiting reason → Restarts σ v t held d r
+    restart-waits reason r f a =
+        let found : quorumOf σ v t held d ≡ Short reason = sym quorum-is ∙ f in
+        record {
+          waits = λ other h. a ∙ ap (λ (k : Reason). waiting k) (cc);
+          answers = λ h. let z : _≡_ {A = ℕ} 0 1 = cc in absurd (omega arith);
+        }
+
+    -- none fails
+    pub restart-met : keptSound σ v t held ≡ true → (p : Placed) (r : Verdict) → Placement σ held (maskAt v) p → q ≡ Met
+        → r ≡ verdictBy v held x p → Restarts σ v t held d r
+    restart-met kept p r w f a =
+        let found : quorumOf σ v t held d ≡ Met = sym quorum-is ∙ f in
+        record {
+          waits = λ reason h. let z : _≡_ {A = ℕ} 0 1 = cc in absurd (omega arith);
+          answers = λ h. subst⁻¹ (λ (y : Verdict). FindsPlan σ v t held d y ⊎ FindsNone σ held y) a (answers-by kept found p w);
+        }

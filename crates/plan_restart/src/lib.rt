@@ -2,20 +2,21 @@
 use base_ids::Node;
 use base_ids::View;
 use place_layout::Placed;
+use plan_seen::Seen;
 use report_views::Layout;
 use report_views::Plan;
 use report_views::Quorum;
 use report_views::Reason;
-use report_views::Standing;
-use report_views::Termination;
 ghost use mathlib.Core.Bool.{true};
 ghost use mathlib.Core.Path.{_≡_};
-ghost use Prim.Native.Nat.{_≤_};
-ghost use lib.ListN.{length};
-ghost use Rattle.settings_values.specs.Settings.{Settings};
+ghost use mathlib.Core.List.{List};
+ghost use Prim.Native.Nat.{ℕ, _^_, _<_, _≤_};
+ghost use Rattle.settings_values.specs.Settings.{nodes, Settings};
 ghost use Rattle.report_views.specs.Empty.{noView, noPlan};
 ghost use Rattle.report_views.specs.Slots.{slotsOk};
 ghost use Rattle.report_views.specs.Soundness.{keptSound};
+ghost use Rattle.report_views.specs.declared.Termination.{Termination};
+ghost use Rattle.plan_seen.specs.Sight.{seenOf};
 ghost use Rattle.plan_restart.specs.Restarts as Restarts;
 ghost use Rattle.plan_restart.specs.Planning as Planning;
 
@@ -59,15 +60,15 @@ fn waiting(reason: Reason) -> Verdict
     }
 }
 
-// The plan: the view after the kept one, with all held nodes, their placement, and the standing's holders and targets.
-fn plan_by(kept: Layout, held: u32, st: Standing, placed: Placed) -> Plan
+// The plan: the view after the kept one, with all held nodes, their placement, and the holders and targets that are seen.
+fn plan_by(kept: Layout, held: u32, seen: Seen, placed: Placed) -> Plan
     requires { ⌜ kept .number .0 ≤ 4294967294 ⌝ }
-    ensures { λ r. ⌜ r ≡ Planning.planBy kept held st placed ⌝ }
+    ensures { λ r. ⌜ r ≡ Planning.planBy kept held seen placed ⌝ }
 {
     let number = kept.number;
     let masks = placed.masks;
-    let holders = st.holders;
-    let targets = st.targets;
+    let holders = seen.holders;
+    let targets = seen.targets;
     Plan {
         layout: Layout {
             number: View(number.0 + 1),
@@ -81,41 +82,34 @@ fn plan_by(kept: Layout, held: u32, st: Standing, placed: Placed) -> Plan
 }
 
 // The plan if every subgroup is placed, else wait 5.
-fn verdict_by(kept: Layout, held: u32, st: Standing, placed: Placed) -> Verdict
+fn verdict_by(kept: Layout, held: u32, seen: Seen, placed: Placed) -> Verdict
     requires { ⌜ kept .number .0 ≤ 4294967294 ⌝ }
-    ensures { λ r. ⌜ r ≡ Planning.verdictBy kept held st placed ⌝ }
+    ensures { λ r. ⌜ r ≡ Planning.verdictBy kept held seen placed ⌝ }
 {
     if !placed.found {
         return waiting(Reason::NoPlacement(placed.group));
     }
     Verdict {
         quorum: Quorum::Met,
-        plan: plan_by(kept, held, st, placed),
+        plan: plan_by(kept, held, seen, placed),
     }
 }
 
 // A plan for the held nodes, or the first reason why there is none.
-pub fn restart(
-    settings: &[u32],
-    kept: Layout,
-    termination: Termination,
-    held: u32,
-    desk: &[u32],
-) -> Verdict
+pub fn restart(settings: &[u32], kept: Layout, held: u32, seen: Seen) -> Verdict
     requires { ⌜ Settings (now settings) ⌝ }
-    requires { ⌜ length (now desk) ≡ 16384 ⌝ }
-    requires { ⌜ keptSound (now settings) kept termination held ≡ true ⌝ }
-    requires { ⌜ slotsOk (now settings) kept termination held (now desk) ≡ true ⌝ }
-    ensures { λ r. ⌜ Restarts.Restarts (now (settings .entry)) kept termination held (now (desk .entry)) r ⌝ }
+    requires { ⌜ kept .number .0 ≤ 4294967294 ⌝ }
+    requires { ⌜ held < 2 ^ nodes (now settings) ⌝ }
+    ensures { λ r. ⌜ ((t : Termination) → (d : List ℕ) → keptSound (now (settings .entry)) kept t held ≡ true → slotsOk (now (settings .entry)) kept t held d ≡ true → seen ≡ seenOf (now (settings .entry)) kept t held d → Restarts.Restarts (now (settings .entry)) kept t held d r) ⌝ }
 {
-    let st = plan_standing::standing(settings, kept, termination, held, desk);
-    let quorum = st.quorum;
+    let holders = seen.holders;
+    let quorum = plan_quorum::quorum(settings, kept, held, holders);
     match quorum {
         Quorum::Short(reason) => waiting(reason),
         Quorum::Met => {
             let old = kept.masks;
             let placed = place_layout::place(settings, held, &old);
-            verdict_by(kept, held, st, placed)
+            verdict_by(kept, held, seen, placed)
         }
     }
 }

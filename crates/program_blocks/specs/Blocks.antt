@@ -108,22 +108,22 @@ needed-le : (b : List ℕ) → 4 ≤ length b → needed b ≤ 4 + 4 * blockCoun
 needed-le b h =
     ⊎-elim (λ m. let e = needed-short b h m in omega arith) (λ m. let e = needed-long b h m in omega arith) (lt-or-le (blockCount b) 513)
 
--- a byte more: no more bytes are there than are needed
-pub needed-more : (b : List ℕ) (x : ℕ) → length b < needed b → length (b ++ (x ∷ [])) ≤ needed (b ++ (x ∷ []))
+-- more bytes, though no more than are known to be needed: no more are there than are needed then
+pub needed-more : (b c : List ℕ) → length b < needed b → length (b ++ c) ≤ needed b → length (b ++ c) ≤ needed (b ++ c)
 unfolding needed
-needed-more b x h = ⊎-elim few many (lt-or-le (length b) 4)
+needed-more b c h l = ⊎-elim few many (lt-or-le (length b) 4)
   where
-    size : length (b ++ (x ∷ [])) ≡ length b + 1
-    size = length-append b (x ∷ [])
+    size : length (b ++ c) ≡ length b + length c
+    size = length-append b c
 
-    few : length b < 4 → length (b ++ (x ∷ [])) ≤ needed (b ++ (x ∷ []))
-    few m = omega (arith, size, needed-ends (b ++ (x ∷ [])) .0)
+    few : length b < 4 → length (b ++ c) ≤ needed (b ++ c)
+    few m = omega (arith, needed-few b m, needed-ends (b ++ c) .0)
 
-    many : 4 ≤ length b → length (b ++ (x ∷ [])) ≤ needed (b ++ (x ∷ []))
+    many : 4 ≤ length b → length (b ++ c) ≤ needed (b ++ c)
     many m =
-        let e : needed (b ++ (x ∷ [])) ≡ needed b =
-        rw (count-append b (x ∷ []) m, le-ltb (length b) 4 m, le-ltb (length (b ++ (x ∷ []))) 4 (omega (arith, size))) in
-        omega (arith, size)
+        let e : needed (b ++ c) ≡ needed b =
+        rw (count-append b c m, le-ltb (length b) 4 m, le-ltb (length (b ++ c)) 4 (omega (arith, size))) in
+        omega arith
 
 -- ---- the blocks of an input whose first block is there
 

@@ -1,11 +1,11 @@
 // The bytes of a block as they come in, and the words of a block that has come.
 use program_blocks::Block;
 ghost use mathlib.Core.Path.{_≡_};
-ghost use Prim.Native.Nat.{_≤_, _<_, _-_};
+ghost use Prim.Native.Nat.{_≤_, _-_, min};
 ghost use lib.ListN.{length, take, drop};
 ghost use Rattle.base_laws.specs.Tables as Tables;
 ghost use Rattle.program_blocks.specs.Held.{held};
-ghost use Rattle.program_intake.specs.Intake.{TakesByte};
+ghost use Rattle.program_intake.specs.Intake.{Lacks, BytesCome};
 
 // The words with zeros after them.
 pub fn padded(words: &[u32]) -> [u32; 52]
@@ -21,14 +21,24 @@ pub fn padded(words: &[u32]) -> [u32; 52]
     table
 }
 
-// Stores a byte, and answers how many bytes the block takes with its count, as far as they are looked at.
-pub fn keep(bytes: &mut [u8], at: usize, byte: u8) -> usize
-    requires { ⌜ (at < length (now bytes)) × (length (now bytes) ≡ 2056) ⌝ }
-    ensures { λ r. ⌜ TakesByte (now (bytes .entry)) at byte (now (bytes .exit)) r ⌝ }
+fn least(a: usize, b: usize) -> usize
+    ensures { λ r. ⌜ r ≡ min a b ⌝ }
 {
-    bytes[at] = byte;
-    let end = at + 1;
-    program_blocks::needed(&bytes[0..end])
+    if a < b { a } else { b }
+}
+
+// Stores, after the first `at` bytes of a block, what it lacks as far as is known, or all that was fed from place `from` on. Answers how many
+// bytes of the block are there then.
+pub fn gather(bytes: &mut [u8], at: usize, fed: &[u8], from: usize) -> usize
+    requires { ⌜ Lacks (now bytes) at × (from ≤ length (now fed)) ⌝ }
+    ensures { λ r. ⌜ BytesCome (now (bytes .entry)) at (now (fed .entry)) from (now (bytes .exit)) r ⌝ }
+{
+    let whole = program_blocks::needed(&bytes[0..at]);
+    let n = least(whole - at, fed.len() - from);
+    let end = at + n;
+    let to = from + n;
+    bytes::copy(&fed[from..to], &mut bytes[at..end]);
+    end
 }
 
 // The words of the block that takes the bytes below `end`: its count is no part of them.

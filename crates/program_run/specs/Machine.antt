@@ -42,15 +42,21 @@ abbrev pub closedBy : Run → Refusal → Run
 closedBy run r =
     record { stage = Closed r; state = run .state; settings = run .settings; words = run .words; pending = run .pending }
 
--- the run with no byte of the next block
-abbrev pub emptied : Run → Run
-emptied run =
-    record { stage = run .stage; state = run .state; settings = run .settings; words = run .words; pending = 0 }
+-- the run with n bytes of the next block
+abbrev pub pendingBytes : Run → ℕ → Run
+pendingBytes run n =
+    record { stage = run .stage; state = run .state; settings = run .settings; words = run .words; pending = n }
 
 -- the block that is coming in is not whole, and the memory for it has room
 pub record ReadyRun (run : Run) (bytes : List ℕ) : Type 0 where
   pub room : length bytes ≡ 2056
   pub coming : run .pending < needed (take (run .pending) bytes)
+  pub few : run .words ≤ length (run .settings)
+
+-- the bytes below `end` are of the block that is coming in, and no more than it takes
+pub record BytesGathered (run : Run) (bytes : List ℕ) (end : ℕ) : Type 0 where
+  pub room : length bytes ≡ 2056
+  pub within : end ≤ needed (take end bytes)
   pub few : run .words ≤ length (run .settings)
 
 -- the bytes below `end` are of one block, its count among them

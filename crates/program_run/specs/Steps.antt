@@ -2,12 +2,11 @@
 use Prim.Native.Nat.{ℕ, _+_, _-_, _≤_, _<_}
 use mathlib.Core.Bool.{true, false}
 use mathlib.Core.Logic.{⊎-elim}
-use mathlib.Core.List.{List, [], _∷_, _++_, append-assoc}
+use mathlib.Core.List.{List, [], _++_, append-assoc}
 use mathlib.Core.Path.{_≡_, refl, sym, ap, ap₂, _∙_, subst}
-use native.Mathlib.Numerals.{add-one}
 use native.Mathlib.Omega.{arith}
-use lib.ListN.{length, take, drop, getD, set, length-append, length-take, length-set}
-use lib.Seq.{take-all, take-suc, take-suc-set, append-snoc, length-take-le}
+use lib.ListN.{length, take, drop, length-take}
+use lib.Seq.{take-all, take-add, length-take-le}
 use Rattle.base_laws.specs.Bools.{either}
 use Rattle.base_laws.specs.Tables.{part-front, part-end, padded, length-padded, front-padded}
 use Rattle.settings_values.specs.Settings.{settingsOk, Settings}
@@ -26,8 +25,9 @@ use Rattle.state_planner.specs.Decide.{Decides}
 use Rattle.state_planner.specs.States.{fresh}
 use Rattle.message_format.specs.Messages.{contentsOf}
 use Rattle.program_blocks.specs.declared.Block.{Block}
-use Rattle.program_blocks.specs.Blocks.{blocks, needed, wholeWords, length-whole, needed-ends, needed-more}
+use Rattle.program_blocks.specs.Blocks.{blocks, needed, wholeWords, length-whole, needed-ends}
 use Rattle.program_blocks.specs.Held.{held}
+use Rattle.program_intake.specs.Intake.{Lacks, BytesCome, gathered-size, gathered-come, gathered-within, gathered-some, gathered-fed}
 use Rattle.program_text.specs.Text.{numberLine}
 use Rattle.program_lines.specs.Lines.{number-length}
 use Rattle.program_text.specs.Puts.{Puts}
@@ -37,7 +37,7 @@ use Rattle.program_run.specs.declared.Stage.the-variants.{Opening, Open,
 use Rattle.program_run.specs.declared.Run.{Run}
 use Rattle.program_run.specs.Runs.{Progress, Underway, Ended, opened, told, taking, after, Prints}
 use Rattle.program_run.specs.RunLaws.{after-block, after-cut, after-none}
-use Rattle.program_run.specs.Machine.{progress, progressAt, closedBy, emptied, ahead, ReadyRun, Comes, Takes, Opens, Feeds, Closes, Writes}
+use Rattle.program_run.specs.Machine.{progress, progressAt, closedBy, pendingBytes, ahead, ReadyRun, BytesGathered, Comes, Takes, Opens, Feeds, Closes, Writes}
 
 -- ---- a report
 
@@ -181,96 +181,100 @@ block-fits b bytes h e =
 pub comes-size : (run : Run) (bytes : List ℕ) (end : ℕ) → Comes run bytes end → length (take (end - 4) (drop 4 bytes)) ≤ 2052
 comes-size run bytes end c = omega (arith, c .room, c .within, length-take (end - 4) (drop 4 bytes))
 
--- ---- a byte
+-- ---- the block that is coming in
 
 module _ (run : Run) (bytes : List ℕ) (ready : ReadyRun run bytes) where
   pub pending-room : run .pending < length bytes
   pending-room = omega (arith, needed-ends (take (run .pending) bytes) .1)
 
-  pub pending-few : run .pending < 2056
-  pending-few = omega (arith, pending-room, ready .room)
-
   come-size : length (take (run .pending) bytes) ≡ run .pending
   come-size = length-take-le (run .pending) bytes (omega (arith, pending-room))
 
-  module _ (d : List ℕ) (x : ℕ) (now : List ℕ) (stored : now ≡ set bytes (run .pending) x) where
-    -- the bytes that have come now
-    come : List ℕ
-    come = take (run .pending) bytes ++ (x ∷ [])
+  pub ready-lacks : Lacks bytes (run .pending)
+  ready-lacks = record { room = ready .room; coming = ready .coming }
 
-    come-now : take (run .pending + 1) now ≡ come
-    unfolding come
-    come-now =
-        ap (take (run .pending + 1)) stored ∙ ap (λ (k : ℕ). take k (set bytes (run .pending) x)) (add-one (run .pending))
-        ∙ take-suc-set bytes (run .pending) x pending-room
+module _ (run : Run) (bytes : List ℕ) (end : ℕ) (gathered : BytesGathered run bytes end) where
+  pub gathered-room : end ≤ length bytes
+  gathered-room = omega (arith, gathered .room, gathered .within, needed-ends (take end bytes) .1)
 
-    room-now : length now ≡ 2056
-    room-now = ap length stored ∙ length-set bytes (run .pending) x ∙ ready .room
+  -- the block is not whole yet
+  pub settle-waits : (d : List ℕ) → end < needed (take (end - 0) bytes) → Feeds (pendingBytes run end) d bytes [] (pendingBytes run end) d bytes
+  settle-waits d h =
+      record {
+        ready =
+            record {
+              room = gathered .room;
+              coming = subst (λ (l : List ℕ). end < needed l) (part-front end bytes) h;
+              few = gathered .few;
+            };
+        same = λ rest. refl;
+      }
 
-    come-more : length come ≡ run .pending + 1
-    unfolding come
-    come-more = length-append (take (run .pending) bytes) (x ∷ []) ∙ ap (λ (k : ℕ). k + 1) come-size
+  -- the block is whole, and is taken
+  module _ (h : needed (take (end - 0) bytes) ≤ end) where
+    whole : length (take end bytes) ≡ needed (take end bytes)
+    whole =
+        let e : needed (take (end - 0) bytes) ≡ needed (take end bytes) = ap needed (part-front end bytes) in
+        length-take-le end bytes gathered-room ∙ omega (arith, gathered .within)
 
-    come-then : (rest : List ℕ) → come ++ rest ≡ take (run .pending) bytes ++ (x ∷ rest)
-    unfolding come
-    come-then rest = append-snoc (take (run .pending) bytes) x rest
+    pub whole-comes : Comes run bytes end
+    whole-comes =
+        record {
+          room = gathered .room;
+          count = omega (arith, whole, length-take-le end bytes gathered-room, needed-ends (take end bytes) .0);
+          within = gathered-room;
+          few = gathered .few;
+        }
 
-    -- the block is not whole yet
-    pub push-waits : run .pending + 1 < needed (take (run .pending + 1 - 0) now)
-        → Feeds run d bytes (x ∷ [])
-        (record { stage = run .stage; state = run .state; settings = run .settings; words = run .words; pending = run .pending + 1 })
-        d now
+    pub settle-takes : (d : List ℕ) (r : Run) (e : List ℕ) → Takes (pendingBytes run 0) d (wholeWords (take (end - 4) (drop 4 bytes))) r e
+        → Feeds (pendingBytes run end) d bytes [] r e bytes
     unfolding ahead
-    push-waits h =
+    settle-takes d r e t =
+        let none : r .pending ≡ 0 = t .pending in
         record {
           ready =
               record {
-                room = room-now;
-                coming = subst (λ (l : List ℕ). run .pending + 1 < needed l) (part-front (run .pending + 1) now) h;
-                few = ready .few;
+                room = gathered .room;
+                coming = omega (arith, none, needed-ends (take (r .pending) bytes) .0);
+                few = t .few;
               };
-          same = λ rest. ap (λ (l : List ℕ). after (progress run d) (blocks l)) (ap (λ (l : List ℕ). l ++ rest) come-now ∙ come-then rest);
+          same =
+              λ rest.
+              ap₂ (λ (p : Progress) (k : ℕ). after p (blocks (take k bytes ++ rest)))
+              (t .leads ∙ ap (λ (l : List ℕ). taking (progress run d) (wholeWords l)) (part-end 4 end bytes)) none
+              ∙ sym (after-block (progress run d) (take end bytes) rest whole);
         }
 
-    -- the block is whole, and is taken
-    module _ (h : needed (take (run .pending + 1 - 0) now) ≤ run .pending + 1) where
-      whole : length come ≡ needed come
-      unfolding come
-      whole =
-          let e : needed (take (run .pending + 1 - 0) now) ≡ needed come =
-          ap needed (part-front (run .pending + 1) now ∙ come-now) in
-          let c : run .pending < needed (take (run .pending) bytes) = ready .coming in
-          omega (arith, come-more, come-size, needed-more (take (run .pending) bytes) x (omega (arith, come-size)))
+-- ---- bytes that are gathered
 
-      whole-from : 4 ≤ run .pending + 1
-      whole-from = omega (arith, whole, come-more, needed-ends come .0)
+module _ (run : Run) (bytes fed : List ℕ) (i : ℕ) (now : List ℕ) (end : ℕ) (ready : ReadyRun run bytes) (g : BytesCome bytes (run .pending) fed i now end) where
+  pub gathers-gathered : BytesGathered run now end
+  gathers-gathered =
+      record {
+        room = gathered-size bytes (run .pending) fed i now end (ready-lacks run bytes ready) g;
+        within = gathered-within bytes (run .pending) fed i now end (ready-lacks run bytes ready) g;
+        few = ready .few;
+      }
 
-      pub whole-comes : Comes run now (run .pending + 1)
-      whole-comes =
-          record { room = room-now; count = whole-from; within = omega (arith, pending-room, ready .room, room-now); few = ready .few }
+  -- a byte at least, and no more than were fed
+  pub gathers-on : i < length fed → (run .pending < end) × (i + (end - run .pending) ≤ length fed)
+  gathers-on h =
+      (gathered-some bytes (run .pending) fed i now end (ready-lacks run bytes ready) g h, gathered-fed bytes (run .pending) fed i now end (ready-lacks run bytes ready) g (omega arith))
 
-      pub push-takes : (r : Run) (e : List ℕ)
-          → Takes (emptied run) d (wholeWords (take (run .pending + 1 - 4) (drop 4 now))) r e
-          → Feeds run d bytes (x ∷ []) r e now
-      unfolding ahead
-      push-takes r e t =
-          let none : r .pending ≡ 0 = t .pending in
-          let block : take (run .pending + 1 - 4) (drop 4 now) ≡ drop 4 come =
-          part-end 4 (run .pending + 1) now ∙ ap (drop 4) come-now in
-          record {
-            ready =
-                record {
-                  room = room-now;
-                  coming = omega (arith, none, needed-ends (take (r .pending) now) .0);
-                  few = t .few;
-                };
-            same =
-                λ rest.
-                ap₂ (λ (p : Progress) (k : ℕ). after p (blocks (take k now ++ rest)))
-                (t .leads ∙ ap (λ (l : List ℕ). taking (progress run d) (wholeWords l)) block) none
-                ∙ sym (after-block (progress run d) come rest whole)
-                ∙ ap (λ (l : List ℕ). after (progress run d) (blocks l)) (come-then rest);
-          }
+  -- the block that they are of is settled: they are fed
+  pub gathers-feed : (d : List ℕ) (r : Run) (e b : List ℕ) → Feeds (pendingBytes run end) d now [] r e b
+      → Feeds run d bytes (take (end - run .pending) (drop i fed)) r e b
+  unfolding ahead
+  gathers-feed d r e b f =
+      record {
+        ready = f .ready;
+        same =
+            λ rest.
+            f .same rest
+            ∙ ap (λ (l : List ℕ). after (progress run d) (blocks l))
+            (ap (λ (l : List ℕ). l ++ rest) (gathered-come bytes (run .pending) fed i now end (ready-lacks run bytes ready) g)
+            ∙ append-assoc (take (run .pending) bytes) (take (end - run .pending) (drop i fed)) rest);
+      }
 
 -- ---- bytes one after another
 
@@ -286,10 +290,10 @@ module _ {run : Run} {d bytes : List ℕ} where
         same = λ rest. q .same rest ∙ p .same (t ++ rest) ∙ ap (ahead run d bytes) (sym (append-assoc s t rest));
       }
 
-  pub feeds-more : (fed : List ℕ) (i : ℕ) {r s : Run} {e f b c : List ℕ} → i < length fed
-      → Feeds run d bytes (take i fed) r e b → Feeds r e b (getD fed i 0 ∷ []) s f c → Feeds run d bytes (take (i + 1) fed) s f c
-  feeds-more fed i {s = s} {f = f} {c = c} l p q =
-      subst (λ (x : List ℕ). Feeds run d bytes x s f c) (sym (ap (λ (k : ℕ). take k fed) (add-one i) ∙ take-suc fed i 0 l)) (feeds-then p q)
+  pub feeds-more : (fed : List ℕ) (i n : ℕ) {r s : Run} {e f b c : List ℕ} → Feeds run d bytes (take i fed) r e b
+      → Feeds r e b (take n (drop i fed)) s f c → Feeds run d bytes (take (i + n) fed) s f c
+  feeds-more fed i n {s = s} {f = f} {c = c} p q =
+      subst (λ (x : List ℕ). Feeds run d bytes x s f c) (sym (take-add i n fed)) (feeds-then p q)
 
   pub feeds-all : (fed : List ℕ) (i : ℕ) {r : Run} {e b : List ℕ} → length fed ≤ i
       → Feeds run d bytes (take i fed) r e b → Feeds run d bytes fed r e b
@@ -306,7 +310,7 @@ module _ (run : Run) (d bytes : List ℕ) (ready : ReadyRun run bytes) where
   pub cut-comes : 4 ≤ run .pending → Comes run bytes (run .pending)
   cut-comes h = record { room = ready .room; count = h; within = omega (arith, pending-room run bytes ready); few = ready .few }
 
-  pub close-cut : 4 ≤ run .pending → (r : Run) (e : List ℕ) → Takes (emptied run) d (wholeWords (take (run .pending - 4) (drop 4 bytes))) r e
+  pub close-cut : 4 ≤ run .pending → (r : Run) (e : List ℕ) → Takes (pendingBytes run 0) d (wholeWords (take (run .pending - 4) (drop 4 bytes))) r e
       → Closes run d bytes r e
   unfolding ahead
   close-cut h r e t =

@@ -3,7 +3,7 @@
 use base_ids::Refusal;
 use state_planner::Answer;
 use state_planner::State;
-ghost use mathlib.Core.List.{_∷_, []};
+ghost use mathlib.Core.List.{[]};
 ghost use mathlib.Core.Path.{_≡_};
 ghost use Prim.Native.Nat.{_≤_, _-_};
 ghost use lib.ListN.{length, take, drop};
@@ -90,7 +90,7 @@ fn take_block(run: Run, desk: &mut [u32], block: &[u32]) -> Run
 // The block whose bytes below `end` have come in, cut short or not.
 fn take_bytes(run: Run, desk: &mut [u32], bytes: &[u8], end: usize) -> Run
     requires { ⌜ Machine.Comes run (now bytes) end ⌝ }
-    ensures { λ r. ⌜ Machine.Takes (Machine.emptied run) (now (desk .entry)) (wholeWords (take (end - 4) (drop 4 (now (bytes .entry))))) r (now (desk .exit)) ⌝ }
+    ensures { λ r. ⌜ Machine.Takes (Machine.pendingBytes run 0) (now (desk .entry)) (wholeWords (take (end - 4) (drop 4 (now (bytes .entry))))) r (now (desk .exit)) ⌝ }
 {
     let block = program_intake::block_of(bytes, end);
     let len = block.len;
@@ -100,15 +100,12 @@ fn take_bytes(run: Run, desk: &mut [u32], bytes: &[u8], end: usize) -> Run
     take_block(next, desk, &table[0..len])
 }
 
-// A byte.
-fn push(run: Run, desk: &mut [u32], bytes: &mut [u8], byte: u8) -> Run
-    requires { ⌜ Machine.ReadyRun run (now bytes) ⌝ }
-    ensures { λ r. ⌜ Machine.Feeds run (now (desk .entry)) (now (bytes .entry)) (byte ∷ []) r (now (desk .exit)) (now (bytes .exit)) ⌝ }
+// The block whose bytes below `end` are there: it is taken where it is whole.
+fn settle(run: Run, desk: &mut [u32], bytes: &[u8], end: usize) -> Run
+    requires { ⌜ Machine.BytesGathered run (now bytes) end ⌝ }
+    ensures { λ r. ⌜ Machine.Feeds (Machine.pendingBytes run end) (now (desk .entry)) (now (bytes .entry)) [] r (now (desk .exit)) (now (bytes .entry)) ⌝ }
 {
-    let at = run.pending;
-    let needed = program_intake::keep(bytes, at, byte);
-    let end = at + 1;
-    if end < needed {
+    if end < program_blocks::needed(&bytes[0..end]) {
         let mut waiting = run;
         waiting.pending = end;
         return waiting;
@@ -164,8 +161,10 @@ impl Run {
         let mut run = self;
         let mut i = 0;
         while i < fed.len() {
-            run = push(run, desk, bytes, fed[i]);
-            i += 1;
+            let at = run.pending;
+            let end = program_intake::gather(bytes, at, fed, i);
+            run = settle(run, desk, bytes, end);
+            i += end - at;
         }
         run
     }

@@ -1,12 +1,8 @@
-// The ends of the logs of all held nodes: a row for each node, two words for each shard.
-use base_ids::Node;
-use base_ids::Position;
-use base_ids::Shard;
-use base_ids::View;
+// The ends of a report's logs: two words for each shard.
 ghost use mathlib.Core.Path.{_≡_};
 ghost use Prim.Native.Nat.{_<_, _≤_, _+_, _*_};
 ghost use lib.ListN.{set};
-ghost use Rattle.report_ends.specs.Ends.{endsOf, endNoted, endsRow, endsTable, tableEnd, ReadableDesk};
+ghost use Rattle.report_ends.specs.Ends.{endsOf, endNoted};
 
 // Stores the two words of the position of shard s.
 fn put_position(list: &mut [u32; 32], s: usize, view: u32, k: u32)
@@ -33,7 +29,7 @@ fn note_end(ends: &mut [u32; 32], body: &[u32; 381], j: usize)
 }
 
 // The end of each shard's log.
-fn ends_of(body: &[u32; 381], len: usize) -> [u32; 32]
+pub fn ends_of(body: &[u32; 381], len: usize) -> [u32; 32]
     requires { ⌜ len ≤ 127 ⌝ }
     ensures { λ r. ⌜ r ≡ endsOf (now (body .entry)) len ⌝ }
 {
@@ -44,45 +40,4 @@ fn ends_of(body: &[u32; 381], len: usize) -> [u32; 32]
         j += 1;
     }
     ends
-}
-
-// The ends of a held node's logs; zeros of a node that is not held.
-fn ends_row(held: u32, desk: &[u32], node: Node) -> [u32; 32]
-    requires { ⌜ ReadableDesk held (now desk) ⌝ }
-    requires { ⌜ node .0 < 32 ⌝ }
-    ensures { λ r. ⌜ r ≡ endsRow held (now (desk .entry)) (node .0) ⌝ }
-{
-    if !base_masks::has(held, node.0 as usize) {
-        return [0u32; 32];
-    }
-    let c = report_slots::report_at(desk, node);
-    let len = c.len;
-    ends_of(&c.body, len)
-}
-
-// The ends of every held node's logs.
-pub fn ends_table(held: u32, desk: &[u32]) -> [[u32; 32]; 32]
-    requires { ⌜ ReadableDesk held (now desk) ⌝ }
-    ensures { λ r. ⌜ r ≡ endsTable held (now (desk .entry)) ⌝ }
-{
-    let mut table = [[0u32; 32]; 32];
-    let mut n: usize = 0;
-    while n < 32 {
-        table[n] = ends_row(held, desk, Node(n as u32));
-        n += 1;
-    }
-    table
-}
-
-// The end of a node's log of a shard.
-pub fn end_at(table: &[[u32; 32]; 32], shard: Shard, node: Node) -> Position
-    requires { ⌜ (shard .0 < 16) × (node .0 < 32) ⌝ }
-    ensures { λ r. ⌜ r ≡ tableEnd (now (table .entry)) (shard .0) (node .0) ⌝ }
-{
-    let s = shard.0 as usize;
-    let n = node.0 as usize;
-    Position {
-        view: View(table[n][2 * s]),
-        k: table[n][2 * s + 1],
-    }
 }

@@ -1,22 +1,23 @@
 -- The functions' answers as the definitions: a view and a termination from the words of the body, what is kept case by
 -- case, and what acceptance gives of a report.
 use Prim.Native.Nat.{ℕ, _-_, _<_, _≤_}
-use mathlib.Core.Bool.{true, false}
+use mathlib.Core.Bool.{Bool, true, false, cond}
 use mathlib.Core.List.{List}
 use mathlib.Core.Logic.{⊎-elim}
 use mathlib.Core.Path.{_≡_, refl, sym, ap, _∙_}
 use native.Mathlib.Omega.{arith}
-use lib.ListN.{getD, replicate}
-use borrow.Author.Tests.{eq-eqb, ne-eqb, lt-ltb, le-ltb, ltb-true}
-use Rattle.base_laws.specs.Bools.{either}
+use lib.ListN.{length, getD, replicate}
+use borrow.Author.Tests.{eq-eqb, ne-eqb, lt-ltb, le-ltb, ltb-true, leb-true}
+use Rattle.base_laws.specs.Bools.{either, and-left}
 use Rattle.base_laws.specs.Tables.{tabulate-same}
 use Rattle.settings_values.specs.Settings.{nodes, shards, Settings}
 use Rattle.base_ids.specs.declared.Position.{Position}
 use Rattle.base_ids.specs.declared.Refusal.{Refusal}
-use Rattle.base_ids.specs.Refusals.{none, accepted, accepted-none, first-left, first-none, first-refused}
+use Rattle.base_ids.specs.Refusals.{refused, none, accepted, accepted-none, first-left, first-none, first-refused}
 use Rattle.message_format.specs.declared.Form.the-variants.{Report}
 use Rattle.message_format.specs.declared.Contents.{Contents}
 use Rattle.message_format.specs.declared.Reading.{Reading}
+use Rattle.message_format.specs.Chain.{row5}
 use Rattle.message_format.specs.Rows.{row6}
 use Rattle.message_format.specs.Messages.{messageRefusal, contentsOf}
 use Rattle.message_format.specs.Passed.{message-given}
@@ -26,13 +27,15 @@ use Rattle.report_views.specs.declared.Termination.{Termination}
 use Rattle.report_views.specs.Logs.{start}
 use Rattle.report_views.specs.Reports.{terminated}
 use Rattle.report_latest.specs.declared.Latest.{Latest}
-use Rattle.report_kept.specs.Reports.{keptRefusal, refusalBeside, readingBeside, layoutOf, terminationOf, keeps, renewed}
+use Rattle.report_kept.specs.declared.Kept.{Kept}
+use Rattle.report_kept.specs.declared.Received.{Received}
+use Rattle.report_kept.specs.Reports.{keptRefusal, refusalBeside, readingBeside, layoutOf, terminationOf, keeps, renewed, takesIn, leaves, takenIn}
 use Rattle.report_kept.specs.Words.{masksIn, positionsIn, madeFirst}
 
 -- ---- rows 5 to 13 with 18
 
 -- the node of a report is one of the settings
-message-node : (σ w : List ℕ) → Settings σ → messageRefusal Report σ w ≡ none → getD w 0 0 < 32
+pub message-node : (σ w : List ℕ) → Settings σ → messageRefusal Report σ w ≡ none → getD w 0 0 < 32
 unfolding row6
 message-node σ w right h =
     omega (arith, ltb-true (getD w 0 0) (nodes σ) (message-given Report σ w h .head-passes .node-passes), right .sizes .nodes-to)
@@ -80,6 +83,11 @@ module _ (σ : List ℕ) (v : Layout) (t : Termination) (m : Latest) (w : List �
   pub taken-node : Settings σ → getD w 0 0 < 32
   taken-node right = message-node σ w right taken-message
 
+  -- and its first word is there
+  pub taken-words : 1 ≤ length w
+  unfolding row5
+  taken-words = leb-true 1 (length w) (and-left _ _ (and-left _ _ (message-given Report σ w taken-message .words-pass)))
+
 -- ---- the view and the termination
 
 module _ (σ : List ℕ) (c : Contents) (n : ℕ) (e : n ≡ shards σ) where
@@ -113,3 +121,38 @@ module _ (σ : List ℕ) (v : Layout) (t : Termination) (c : Contents) where
   renewed-equal h =
       ⊎-elim (λ m. rw (le-ltb (v .number .0) (c .view .0) (omega arith), eq-eqb (v .number .0) (c .view .0) h, m))
       (λ m. rw (le-ltb (v .number .0) (c .view .0) (omega arith), eq-eqb (v .number .0) (c .view .0) h, m)) (either (t .made))
+
+-- ---- a report taken in
+
+module _ (σ : List ℕ) (v : Layout) (t : Termination) (m : Latest) (w : List ℕ) where
+  pub in-refused : accepted (refusalBeside σ v t m w) ≡ false → takenIn σ v t m w ≡ leaves (refusalBeside σ v t m w) v t
+  unfolding takenIn
+  in-refused h = rw h
+
+  pub in-taken : accepted (refusalBeside σ v t m w) ≡ true → takenIn σ v t m w ≡ takesIn (contentsOf w) (renewed σ v t (contentsOf w))
+  unfolding takenIn
+  in-taken h = rw h
+
+  -- its refusal is the report's
+  pub in-refusal : takenIn σ v t m w .refusal ≡ refusalBeside σ v t m w
+  in-refusal =
+      ⊎-elim (λ h. ap (λ (x : Received). x .refusal) (in-taken h) ∙ sym (accepted-none (refusalBeside σ v t m w) h))
+      (λ h. ap (λ (x : Received). x .refusal) (in-refused h)) (either (accepted (refusalBeside σ v t m w)))
+
+  -- r: what the reading gives
+  module _ (r : Reading) (e : r ≡ readingBeside σ v t m w) where
+    beside-refusal : r .refusal ≡ refusalBeside σ v t m w
+    unfolding readingBeside
+    beside-refusal = ap (λ (x : Reading). x .refusal) e
+
+    pub reading-leaves : (r .refusal .code ≡ 0 → ⊥) → leaves (r .refusal) v t ≡ takenIn σ v t m w
+    reading-leaves h =
+        ap (λ (k : Refusal). leaves k v t) beside-refusal ∙ sym (in-refused (sym (ap accepted beside-refusal) ∙ ne-eqb (r .refusal .code) 0 h))
+
+    pub reading-takes : r .refusal .code ≡ 0 → (k : Kept) → k ≡ renewed σ v t (r .contents)
+        → record { refusal = r .refusal; node = r .contents .node; view = r .contents .view; kept = k .view; termination = k .termination } ≡ takenIn σ v t m w
+    unfolding readingBeside
+    reading-takes h k f =
+        let good : accepted (refusalBeside σ v t m w) ≡ true = sym (ap accepted beside-refusal) ∙ eq-eqb (r .refusal .code) 0 h in
+        let same : r .contents ≡ contentsOf w = ap (λ (x : Reading). x .contents) e ∙ taken-contents σ v t m w good in
+        rw (ap refused h, f, same, in-taken good)

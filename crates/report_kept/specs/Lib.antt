@@ -2,3 +2,4 @@
 pub mod Reports
 pub mod Words
 pub mod Laws
+pub mod AtOnce

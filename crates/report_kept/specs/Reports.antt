@@ -6,7 +6,7 @@ use lib.Dec.{eqb, ltb}
 use Rattle.base_laws.specs.Tables.{tabulate}
 use Rattle.settings_values.specs.Settings.{shards}
 use Rattle.base_ids.specs.declared.Refusal.{Refusal}
-use Rattle.base_ids.specs.Refusals.{none, unless, firstOf}
+use Rattle.base_ids.specs.Refusals.{none, accepted, unless, firstOf}
 use Rattle.message_format.specs.declared.Form.the-variants.{Report}
 use Rattle.message_format.specs.declared.Contents.{Contents}
 use Rattle.message_format.specs.declared.Reading.{Reading}
@@ -21,6 +21,7 @@ use Rattle.report_views.specs.Slots.{row12, row13}
 use Rattle.report_latest.specs.declared.Latest.{Latest}
 use Rattle.report_latest.specs.Remembered.{row18}
 use Rattle.report_kept.specs.declared.Kept.{Kept}
+use Rattle.report_kept.specs.declared.Received.{Received}
 
 -- row 18, then rows 12 and 13 of what a report says
 unfoldable pub keptRefusal : List ℕ → Layout → Termination → Latest → Contents → Refusal
@@ -64,3 +65,16 @@ unfoldable pub renewed : List ℕ → Layout → Termination → Contents → Ke
 renewed σ v t c =
     cond (ltb (v .number .0) (c .view .0)) (keeps (layoutOf σ c) (terminationOf σ c))
     (cond (eqb (v .number .0) (c .view .0) && not (t .made)) (keeps v (terminationOf σ c)) (keeps v t))
+
+-- a report that says c, after which k is kept
+abbrev pub takesIn : Contents → Kept → Received
+takesIn c k = record { refusal = none; node = c .node; view = c .view; kept = k .view; termination = k .termination }
+
+-- a report with a refusal leaves what is kept
+abbrev pub leaves : Refusal → Layout → Termination → Received
+leaves r v t = record { refusal = r; node = record { 0 = 0 }; view = record { 0 = 0 }; kept = v; termination = t }
+
+-- a report beside what is kept and remembered
+unfoldable pub takenIn : List ℕ → Layout → Termination → Latest → List ℕ → Received
+takenIn σ v t m w =
+    cond (accepted (refusalBeside σ v t m w)) (takesIn (contentsOf w) (renewed σ v t (contentsOf w))) (leaves (refusalBeside σ v t m w) v t)

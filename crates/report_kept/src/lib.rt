@@ -1,4 +1,5 @@
 // A report taken in: rows 5 to 13 with 18, the view and the termination that it gives, what is kept afterwards, and its slot of the desk.
+use base_ids::Node;
 use base_ids::Position;
 use base_ids::Refusal;
 use base_ids::View;
@@ -8,15 +9,28 @@ use message_format::Reading;
 use report_latest::Latest;
 use report_views::Layout;
 use report_views::Termination;
+ghost use mathlib.Core.Bool.{true};
 ghost use mathlib.Core.Path.{_≡_};
-ghost use Prim.Native.Nat.{_<_, _≤_};
+ghost use Prim.Native.Nat.{_%_, _<_, _≤_};
+ghost use lib.ListN.{length};
 ghost use Rattle.settings_values.specs.Settings.{Settings};
 ghost use Rattle.report_kept.specs.Reports as Reports;
 ghost use Rattle.report_kept.specs.Words.{maskIn, masksIn, positionIn, positionsIn, madeFirst};
+ghost use Rattle.report_kept.specs.AtOnce.{OfKept, TakenAtOnce, keptStays};
 
 // What is kept of the reports: the view and its termination.
 pub struct Kept {
     pub view: Layout,
+    pub termination: Termination,
+}
+
+// A report beside what is kept and remembered: its refusal; its node and view, and what is kept afterwards. A refused one gives node 0,
+// view 0 and what was kept.
+pub struct Received {
+    pub refusal: Refusal,
+    pub node: Node,
+    pub view: View,
+    pub kept: Layout,
     pub termination: Termination,
 }
 
@@ -39,7 +53,7 @@ fn kept_refusal(settings: &[u32], v: Layout, t: Termination, latest: Latest, c: 
 }
 
 // Reads a report beside what is kept and remembered: rows 5 to 11, 18, 12 and 13, and what it says.
-pub fn read_beside(
+fn read_beside(
     settings: &[u32],
     v: Layout,
     t: Termination,
@@ -156,7 +170,7 @@ fn made_first(t: Termination, u: Termination) -> Termination
 }
 
 // What is kept after a report: a greater view with its termination or none; of an equal view the termination if none is kept.
-pub fn renew(settings: &[u32], v: Layout, t: Termination, c: Contents) -> Kept
+fn renew(settings: &[u32], v: Layout, t: Termination, c: Contents) -> Kept
     requires { ⌜ Settings (now settings) ⌝ }
     ensures { λ r. ⌜ r ≡ Reports.renewed (now (settings .entry)) v t c ⌝ }
 {
@@ -170,4 +184,132 @@ pub fn renew(settings: &[u32], v: Layout, t: Termination, c: Contents) -> Kept
         return keep(v, made_first(t, own));
     }
     keep(v, t)
+}
+
+// Reads a report beside what is kept and remembered, record by record, and says what is kept after it.
+fn read_in(settings: &[u32], v: Layout, t: Termination, latest: Latest, message: &[u32]) -> Received
+    requires { ⌜ Settings (now settings) ⌝ }
+    ensures { λ r. ⌜ r ≡ Reports.takenIn (now (settings .entry)) v t latest (now (message .entry)) ⌝ }
+{
+    let reading = read_beside(settings, v, t, latest, message);
+    let refusal = reading.refusal;
+    if refusal.code != 0 {
+        return Received {
+            refusal,
+            node: Node(0),
+            view: View(0),
+            kept: v,
+            termination: t,
+        };
+    }
+    let c = reading.contents;
+    let node = c.node;
+    let view = c.view;
+    let renewed = renew(settings, v, t, c);
+    let kept = renewed.view;
+    let termination = renewed.termination;
+    Received {
+        refusal,
+        node,
+        view,
+        kept,
+        termination,
+    }
+}
+
+// A report of the kept view whose records stand one after another: it passes rows 5 to 13, and what it says is kept.
+fn of_kept(settings: &[u32], v: Layout, t: Termination, message: &[u32]) -> bool
+    requires { ⌜ Settings (now settings) ⌝ }
+    requires { ⌜ (4 ≤ length (now message)) × (length (now message) ≤ 512) × (length (now message) % 4 ≡ 0) ⌝ }
+    ensures { λ r. ⌜ (r ≡ true → OfKept (now (settings .entry)) v t (now (message .entry))) ⌝ }
+{
+    if !report_walk::ready(settings, v, t) {
+        return false;
+    }
+    let count = settings_values::shards(settings) as usize;
+    let masks = report_walk::mask_records(&v.masks);
+    let ends = t.positions;
+    let positions = report_walk::position_records(ends, count);
+    let b = report_walk::pairs(message);
+    let node = Node(message[0]);
+    let mut last = [0usize; 16];
+    let n = report_walk::told(
+        v.number,
+        v.members,
+        &masks,
+        t.made,
+        &positions,
+        count,
+        &b,
+        node,
+        &mut last,
+    );
+    n < message.len() / 4
+}
+
+// A report of the kept view that is taken and changes nothing that is kept. Of other reports nothing is said.
+fn taken_at_once(
+    settings: &[u32],
+    v: Layout,
+    t: Termination,
+    latest: Latest,
+    message: &[u32],
+) -> bool
+    requires { ⌜ Settings (now settings) ⌝ }
+    ensures { λ r. ⌜ (r ≡ true → TakenAtOnce (now (settings .entry)) v t latest (now (message .entry))) ⌝ }
+{
+    let n = message.len();
+    if n < 4 {
+        return false;
+    }
+    if 512 < n {
+        return false;
+    }
+    if n % 4 != 0 {
+        return false;
+    }
+    let number = v.number;
+    if message[1] != number.0 {
+        return false;
+    }
+    if !of_kept(settings, v, t, message) {
+        return false;
+    }
+    report_latest::row18(latest, Node(message[0]), number)
+}
+
+// What is kept stays: the view, and its termination if one was made.
+fn kept_stays(node: Node, v: Layout, t: Termination) -> Received
+    ensures { λ r. ⌜ r ≡ keptStays (node .0) v t ⌝ }
+{
+    let none = Termination {
+        made: false,
+        positions: report_views::no_positions(),
+    };
+    let view = v.number;
+    let termination = made_first(t, none);
+    Received {
+        refusal: Refusal { code: 0 },
+        node,
+        view,
+        kept: v,
+        termination,
+    }
+}
+
+// Reads a report beside what is kept and remembered, and says what is kept after it.
+pub fn take_in(
+    settings: &[u32],
+    v: Layout,
+    t: Termination,
+    latest: Latest,
+    message: &[u32],
+) -> Received
+    requires { ⌜ Settings (now settings) ⌝ }
+    ensures { λ r. ⌜ r ≡ Reports.takenIn (now (settings .entry)) v t latest (now (message .entry)) ⌝ }
+{
+    if taken_at_once(settings, v, t, latest, message) {
+        return kept_stays(Node(message[0]), v, t);
+    }
+    read_in(settings, v, t, latest, message)
 }

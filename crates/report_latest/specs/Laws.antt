@@ -1,21 +1,20 @@
 -- What is remembered after a report, node by node, and what a sound memory gives.
-use Prim.Native.Nat.{ℕ, _+_, _*_, max, _<_, _≤_}
+use Prim.Native.Nat.{ℕ, max, _<_, _≤_}
 use mathlib.Core.Bool.{Bool, true, false, cond, not, _&&_, _||_}
 use mathlib.Core.List.{List}
-use mathlib.Core.Logic.{⊎-elim}
+use mathlib.Core.Logic.{_⊎_, inl, inr, ⊎-elim}
 use mathlib.Core.Path.{_≡_, refl, sym, ap, _∙_}
 use native.Mathlib.Omega.{arith}
 use lib.Dec.{eqb, leb, ltb}
-use lib.ListN.{length, getD, getD-replicate}
+use lib.ListN.{getD, getD-replicate}
 use borrow.Author.Tests.{eqb-true, eq-eqb, ne-eqb, leb-true, le-leb, ltb-true, lt-ltb}
 use Rattle.base_laws.specs.Bools.{either, asked, lt-or-le, eq-or-ne, and-both, and-left, and-right, and-fails-left, and-rest, or-left, or-right, or-holds, not-of-false}
-use Rattle.base_laws.specs.Below.{all-at, all-of}
+use Rattle.base_laws.specs.Below.{allBelow, all-at, all-of, all-cong}
 use Rattle.base_laws.specs.Masks.{has}
 use Rattle.base_laws.specs.Tables.{getD-tabulate}
 use Rattle.settings_values.specs.Settings.{nodes}
 use Rattle.base_ids.specs.declared.View.{View}
 use Rattle.report_views.specs.Reports.{viewOf}
-use Rattle.report_ends.specs.Ends.{view-at}
 use Rattle.report_latest.specs.declared.Latest.{Latest}
 use Rattle.report_latest.specs.Remembered.{noLatest, latestAt, notedAt, noted, recalled, latestSound}
 
@@ -80,17 +79,41 @@ module _ (σ : List ℕ) (number held : ℕ) (d : List ℕ) (m : Latest) where
       (λ p. or-right (not (has held n)) (and-both (le-leb _ _ (r .from-report n l p)) (le-leb _ _ (r .to-kept n l p))))
       (λ p. or-left (leb (viewOf d n) (latestAt m n) && leb (latestAt m n) number) (not-of-false p)) (either (has held n))))
 
--- one node by the code's tests; w: what is remembered of it
-module _ (σ : List ℕ) (number held : ℕ) (d : List ℕ) (m : Latest) (n w : ℕ) (e : w ≡ latestAt m n) where
-  pub not-known : (ltb n (nodes σ) || eqb w 0) ≡ false → false ≡ recalled σ number held d m n
-  unfolding recalled
-  not-known h = sym (and-fails-left _ (rw e at h))
+-- ---- one node, from the view that it reported and the remembered one
 
-  pub not-held : (ltb n (nodes σ) || eqb w 0) ≡ true → has held n ≡ false → true ≡ recalled σ number held d m n
-  unfolding recalled
-  not-held h p = sym (and-both (rw e at h) (or-left _ (not-of-false p)))
+unfoldable pub recalledBy : List ℕ → ℕ → ℕ → ℕ → ℕ → ℕ → Bool
+recalledBy σ number held reported view n =
+    (ltb n (nodes σ) || eqb view 0) && (not (has held n) || (leb reported view && leb view number))
 
-  pub is-held : (ltb n (nodes σ) || eqb w 0) ≡ true → has held n ≡ true → length d ≡ 16384 → n < 32
-      → (leb (getD d (512 * n + 1) 0) w && leb w number) ≡ recalled σ number held d m n
-  unfolding recalled
-  is-held h p whole l = rw (e, view-at d n whole l) (asked _ p ∙ and-rest _ (rw e at h))
+module _ (σ : List ℕ) (number held reported view n : ℕ) where
+  pub not-known : (ltb n (nodes σ) || eqb view 0) ≡ false → false ≡ recalledBy σ number held reported view n
+  unfolding recalledBy
+  not-known h = sym (and-fails-left _ h)
+
+  pub not-held : (ltb n (nodes σ) || eqb view 0) ≡ true → has held n ≡ false → true ≡ recalledBy σ number held reported view n
+  unfolding recalledBy
+  not-held h p = sym (and-both h (or-left _ (not-of-false p)))
+
+  pub is-held : (ltb n (nodes σ) || eqb view 0) ≡ true → has held n ≡ true
+      → (leb reported view && leb view number) ≡ recalledBy σ number held reported view n
+  unfolding recalledBy
+  is-held h p = asked _ p ∙ and-rest _ h
+
+abbrev pub recalledAt : List ℕ → ℕ → ℕ → List ℕ → List View → ℕ → Bool
+recalledAt σ number held reported views n = recalledBy σ number held (getD reported n 0) (getD views n (record { 0 = 0 }) .0) n
+
+-- the views are those that the held nodes of the desk d reported
+module _ (σ : List ℕ) (number held : ℕ) (views : List ℕ) (m : Latest) (d : List ℕ) (told : (n : ℕ) → n < 32 → has held n ≡ true → getD views n 0 ≡ viewOf d n) where
+  recalled-told : (n : ℕ) → n < 32 → recalledAt σ number held views (m .views) n ≡ recalled σ number held d m n
+  unfolding recalledBy recalled
+  recalled-told n l = go (either (has held n))
+    where
+      go : (has held n ≡ true) ⊎ (has held n ≡ false)
+          → ((ltb n (nodes σ) || eqb (latestAt m n) 0) && (not (has held n) || (leb (getD views n 0) (latestAt m n) && leb (latestAt m n) number)))
+          ≡ ((ltb n (nodes σ) || eqb (latestAt m n) 0) && (not (has held n) || (leb (viewOf d n) (latestAt m n) && leb (latestAt m n) number)))
+      go (inl p) = rw (told n l p)
+      go (inr p) = rw p
+
+  pub latest-told : allBelow 32 (recalledAt σ number held views (m .views)) ≡ latestSound σ number held d m
+  unfolding latestSound
+  latest-told = all-cong 32 (recalledAt σ number held views (m .views)) (recalled σ number held d m) recalled-told

@@ -1,13 +1,17 @@
 // The greatest view that each node has reported: row 18, when a state remembers soundly, and what it remembers after a report.
 use base_ids::Node;
 use base_ids::View;
-ghost use mathlib.Core.Bool.{_||_};
+ghost use mathlib.Core.Bool.{true, _||_};
+ghost use mathlib.Core.List.{List};
 ghost use mathlib.Core.Path.{_≡_};
-ghost use Prim.Native.Nat.{_<_, max};
+ghost use Prim.Native.Nat.{ℕ, _<_, max};
 ghost use lib.Dec.{eqb, leb, ltb};
-ghost use lib.ListN.{length};
+ghost use lib.ListN.{getD};
+ghost use Rattle.base_laws.specs.Masks.{has};
 ghost use Rattle.settings_values.specs.Settings.{Settings, nodes};
+ghost use Rattle.report_views.specs.Reports.{viewOf};
 ghost use Rattle.report_latest.specs.Remembered as Remembered;
+ghost use Rattle.report_latest.specs.Laws.{recalledBy};
 
 // Each node's greatest reported view since the fresh state; 0: none. Entries from N up are 0.
 pub struct Latest {
@@ -84,39 +88,51 @@ fn known_or_none(settings: &[u32], node: Node, view: View) -> bool
     view.0 == 0
 }
 
-// What is remembered of one node is sound.
+// What is remembered of one node is sound: of a held one a view from the reported one up to the kept one.
 fn recalled(
     settings: &[u32],
     number: View,
     held: u32,
-    desk: &[u32],
-    latest: Latest,
+    reported: View,
+    view: View,
     node: Node,
 ) -> bool
     requires { ⌜ Settings (now settings) ⌝ }
-    requires { ⌜ (length (now desk) ≡ 16384) × (node .0 < 32) ⌝ }
-    ensures { λ r. ⌜ r ≡ Remembered.recalled (now (settings .entry)) (number .0) held (now (desk .entry)) latest (node .0) ⌝ }
+    requires { ⌜ node .0 < 32 ⌝ }
+    ensures { λ r. ⌜ r ≡ recalledBy (now (settings .entry)) (number .0) held (reported .0) (view .0) (node .0) ⌝ }
 {
-    let n = node.0 as usize;
-    let view = latest_at(latest, node);
     if !known_or_none(settings, node, view) {
         return false;
     }
-    if !base_masks::has(held, n) {
+    if !base_masks::has(held, node.0 as usize) {
         return true;
     }
-    settings_values::from_to(desk[512 * n + 1], number.0, view.0)
+    settings_values::from_to(reported.0, number.0, view.0)
 }
 
 // What is remembered is sound: of each held node a view from its report's up to the kept one, and nothing of nodes from N up.
-pub fn latest_sound(settings: &[u32], number: View, held: u32, desk: &[u32], latest: Latest) -> bool
+// views: the view that each held node reported.
+pub fn latest_sound(
+    settings: &[u32],
+    number: View,
+    held: u32,
+    views: &[u32; 32],
+    latest: Latest,
+) -> bool
     requires { ⌜ Settings (now settings) ⌝ }
-    requires { ⌜ length (now desk) ≡ 16384 ⌝ }
-    ensures { λ r. ⌜ r ≡ Remembered.latestSound (now (settings .entry)) (number .0) held (now (desk .entry)) latest ⌝ }
+    ensures { λ r. ⌜ ((d : List ℕ) → ((n : ℕ) → n < 32 → has held n ≡ true → getD (now (views .entry)) n 0 ≡ viewOf d n) → r ≡ Remembered.latestSound (now (settings .entry)) (number .0) held d latest) ⌝ }
 {
+    let remembered = latest.views;
     let mut n: usize = 0;
     while n < 32 {
-        if !recalled(settings, number, held, desk, latest, Node(n as u32)) {
+        if !recalled(
+            settings,
+            number,
+            held,
+            View(views[n]),
+            remembered[n],
+            Node(n as u32),
+        ) {
             return false;
         }
         n += 1;

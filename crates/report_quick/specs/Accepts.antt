@@ -16,7 +16,7 @@ use Rattle.base_laws.specs.Masks.{has, subset, subset-of, has-below}
 use Rattle.settings_values.specs.Settings.{shards, Settings}
 use Rattle.base_ids.specs.declared.Refusal.{Refusal}
 use Rattle.message_format.specs.declared.Form.the-variants.{Report}
-use Rattle.message_format.specs.Chain.{next, following, row5, row8}
+use Rattle.message_format.specs.Chain.{records, next, following, row5, row8}
 use Rattle.message_format.specs.Records.{tag, word1, word2, kind, shard, precedes, shardsWhere, shardsOf, membersOf}
 use Rattle.message_format.specs.Rows.{position, viewFits, kindOk, plain, kindAt, shardAt, surplus, sequenceAt, everyShard, complete, row10, legal, row11At}
 use Rattle.message_format.specs.Rising.{precedes-tag, precedes-view}
@@ -105,23 +105,23 @@ module _ (σ : List ℕ) (w : List ℕ) (view m n : ℕ) (right : Settings σ) (
       (lt-or-le j m))
       (lt-or-le j many)
 
-  on : (i : ℕ) → i < n → next w i ≡ i + 1
+  pub on : (i : ℕ) → i < n → next w i ≡ i + 1
   on i l = zone i l (λ h t. t .linked) (λ s e q h t. t .linked) (λ h t. t .linked)
 
-  tag-is : (j : ℕ) → j < n → tag (bodyOf w) j ≡ getD w (4 * j + 4) 0
+  pub tag-is : (j : ℕ) → j < n → tag (bodyOf w) j ≡ getD w (4 * j + 4) 0
   tag-is j l = straight-tag w n on (r .end) (r .few) j l
 
-  word1-is : (j : ℕ) → j < n → word1 (bodyOf w) j ≡ getD w (4 * j + 5) 0
+  pub word1-is : (j : ℕ) → j < n → word1 (bodyOf w) j ≡ getD w (4 * j + 5) 0
   word1-is j l = straight-word1 w n on (r .end) (r .few) j l
 
-  word2-is : (j : ℕ) → j < n → word2 (bodyOf w) j ≡ getD w (4 * j + 6) 0
+  pub word2-is : (j : ℕ) → j < n → word2 (bodyOf w) j ≡ getD w (4 * j + 6) 0
   word2-is j l = straight-word2 w n on (r .end) (r .few) j l
 
   pub front-following : following w ≡ n
   front-following = straight-following w n on (r .end) (r .few)
 
-  pub front-row8 : length w ≡ 512 → row8 w ≡ true
-  front-row8 e = straight-row8 w n on (r .end) (r .few) (omega (arith, r .few))
+  pub front-row8 : n < records w → row8 w ≡ true
+  front-row8 e = straight-row8 w n on (r .end) (r .few) e
 
   told : (j : ℕ) → j < n → RecordTold many view (tag (bodyOf w) j) (word1 (bodyOf w) j) (word2 (bodyOf w) j)
   told j l =
@@ -229,13 +229,12 @@ module _ (σ : List ℕ) (w : List ℕ) (view m n : ℕ) (right : Settings σ) (
   front-mask s l = word1-is s (omega (arith, low, within-all))
 
   -- rows 5 to 11
-  front-passes : length w ≡ 512 → HeadPasses Report σ (getD w 0 0) (getD w 1 0) (getD w 2 0) → getD w 1 0 ≡ view → row10 σ (getD w 2 0) (maskTold w) ≡ true → MessagePasses Report σ w
-  unfolding row5
-  front-passes e h i k =
+  pub front-passes : row5 w ≡ true → n < records w → HeadPasses Report σ (getD w 0 0) (getD w 1 0) (getD w 2 0) → getD w 1 0 ≡ view → row10 σ (getD w 2 0) (maskTold w) ≡ true → MessagePasses Report σ w
+  front-passes e whole h i k =
       record {
-        words-pass = rw e refl;
+        words-pass = e;
         head-passes = h;
-        chain-passes = front-row8 e;
+        chain-passes = front-row8 whole;
         records-pass = subst (λ (j : ℕ). RecordsPass Report σ (getD w 0 0) (getD w 1 0) (getD w 2 0) (bodyOf w) j) (sym front-following) (record {
           kinds-pass = front-kinds;
           shards-pass = front-shards;
@@ -249,7 +248,7 @@ module _ (σ : List ℕ) (w : List ℕ) (view m n : ℕ) (right : Settings σ) (
   -- the report is of the kept view and has a termination
   module _ (v : Layout) (t : Termination) (i : getD w 1 0 ≡ view) where
     -- rows 12 and 13, and a termination that is kept
-    front-row12 : MasksFit σ v w → row12 σ v (contentsOf w) ≡ true
+    pub front-row12 : MasksFit σ v w → row12 σ v (contentsOf w) ≡ true
     unfolding row12 sameView contentsOf
     front-row12 k =
         ⊎-elim
@@ -259,10 +258,10 @@ module _ (σ : List ℕ) (w : List ℕ) (view m n : ℕ) (right : Settings σ) (
         (either (eqb (getD w 1 0) (v .number .0)))
 
     -- a report of the kept view with a termination has the kept one
-    Ending : Type 0
+    unfoldable pub Ending : Type 0
     Ending = (m ≡ many) ⊎ ((m ≡ many + many) × EndFits σ v t w)
 
-    front-row13 : Ending → row13 σ v t (contentsOf w) ≡ true
+    pub front-row13 : Ending → row13 σ v t (contentsOf w) ≡ true
     unfolding row13 sameTermination contentsOf Ending
     front-row13 (inl e) =
         or-left _ (not-of-false (and-fails-left (t .made) (and-fails-right (eqb (getD w 1 0) (v .number .0)) (subst (λ (k : ℕ). (ltb many k && eqb (kind (bodyOf w) many) 2) ≡ false) (sym front-following) (no-end e)))))
@@ -274,13 +273,18 @@ module _ (σ : List ℕ) (w : List ℕ) (view m n : ℕ) (right : Settings σ) (
         (λ d. or-left _ (not-of-false (and-fails-left (t .made) (and-fails-left _ d))))
         (either (eqb (getD w 1 0) (v .number .0)))
 
-    front-kept : Ending → termKept σ v t (contentsOf w) ≡ true
+    pub front-kept : Ending → termKept σ v t (contentsOf w) ≡ true
     unfolding termKept contentsOf Ending
     front-kept (inl e) =
         or-left (t .made) (not-of-false (and-fails-right (eqb (getD w 1 0) (v .number .0)) (subst (λ (k : ℕ). (ltb many k && eqb (kind (bodyOf w) many) 2) ≡ false) (sym front-following) (no-end e))))
     front-kept (inr e) =
         ⊎-elim (λ d. or-right (not (eqb (getD w 1 0) (v .number .0) && (ltb many (following w) && eqb (kind (bodyOf w) many) 2))) (e .1 .made (eqb-true (getD w 1 0) (v .number .0) d))) (λ d. or-left (t .made) (not-of-false (and-fails-left _ d)))
         (either (eqb (getD w 1 0) (v .number .0)))
+
+-- row 5 by the length
+pub few-words : (w : List ℕ) → 1 ≤ length w → length w ≤ 512 → length w % 4 ≡ 0 → row5 w ≡ true
+unfolding row5
+few-words w h i j = and-both (and-both (le-leb 1 (length w) h) (le-leb (length w) 512 i)) (eq-eqb (length w % 4) 0 j)
 
 -- a slot of a desk is 512 words long
 pub length-slot : (d : List ℕ) (n : ℕ) → length d ≡ 16384 → n < 32 → length (slot d n) ≡ 512
@@ -314,7 +318,7 @@ accepts σ v t d j right long f =
     let p : FrontTold w (shards σ) view m = record { members = f .members; positions = f .rest .positions } in
     let r = f .rest .runs in
     let h = f .head in
-    let pass = message-none Report σ w (front-passes σ w view m n right p r long (record { node-passes = h .known; view-passes = h .seen }) refl (f .masks .sound)) in
+    let pass = message-none Report σ w (front-passes σ w view m n right p r (few-words w (omega arith) (omega arith) (omega arith)) (omega (arith, r .few)) (record { node-passes = h .known; view-passes = h .seen }) refl (f .masks .sound)) in
     and-both (and-both (and-both (and-both (and-both
     (eq-eqb _ 0 (ap (λ (x : Refusal). x .code) pass))
     (eq-eqb _ j (h .own)))

@@ -14,7 +14,6 @@ ghost use lib.ListN.{length, getD};
 ghost use Rattle.settings_values.specs.Settings.{Settings, shards};
 ghost use Rattle.message_format.specs.Rows.{row10};
 ghost use Rattle.report_views.specs.Reports.{maskAt};
-ghost use Rattle.report_views.specs.Slots.{slotOk};
 ghost use Rattle.report_quick.specs.Told.{MemberTold, PositionTold, RunFits, RunsTold, HeadTold, maskTold, MasksFit, PositionFits, EndFits};
 ghost use Rattle.report_quick.specs.Accepts.{RestFits, WordsFit};
 
@@ -283,7 +282,7 @@ fn rest_fits(settings: &[u32], v: Layout, t: Termination, w: &[u32], count: usiz
 }
 
 // The words of a node's slot are sound, as far as is seen at once.
-fn words_fit(
+pub fn words_fit(
     settings: &[u32],
     v: Layout,
     t: Termination,
@@ -307,22 +306,4 @@ fn words_fit(
         return false;
     }
     rest_fits(settings, v, t, w, count)
-}
-
-// A node's slot is sound, as far as is seen at once. sound: the kept view passes row 10.
-pub fn accepts(
-    settings: &[u32],
-    v: Layout,
-    t: Termination,
-    sound: bool,
-    desk: &[u32],
-    node: Node,
-) -> bool
-    requires { ⌜ Settings (now settings) ⌝ }
-    requires { ⌜ (length (now desk) ≡ 16384) × (node .0 < 32) ⌝ }
-    requires { ⌜ (sound ≡ true → row10 (now settings) (v .members) (maskAt v) ≡ true) ⌝ }
-    ensures { λ r. ⌜ (r ≡ true → slotOk (now (settings .entry)) v t (now (desk .entry)) (node .0) ≡ true) ⌝ }
-{
-    let at = 512 * (node.0 as usize);
-    words_fit(settings, v, t, sound, &desk[at..at + 512], node)
 }

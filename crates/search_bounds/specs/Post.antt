@@ -3,7 +3,7 @@ use mathlib.Core.Path.{_≡_, sym, ap, ap₂, _∙_}
 use mathlib.Core.Bool.{Bool, true, cond}
 use mathlib.Core.List.{List}
 use mathlib.Core.Logic.{_⊎_}
-use Prim.Native.Nat.{ℕ, _+_, _*_, _≤_, _<_}
+use Prim.Native.Nat.{ℕ, _+_, _*_, _≤_, _<_, min}
 use lib.Dec.{ltb, leb}
 use borrow.Author.Tests.{lt-ltb, le-ltb}
 use lib.ListN.{length, getD}
@@ -12,7 +12,8 @@ use Rattle.search_theory.specs.Case.{Case, Valid, weight}
 use Rattle.search_theory.specs.Order.{Agree}
 use Rattle.search_theory.specs.Duality.{DualWeights, asked}
 
--- weights of shards' needs and rooms, of nodes, and of shard i and set f at i * 16 + f; those of nodes are counted from 16384
+-- weights of shards' needs and rooms, of nodes, and of shard i and set f at i * 16 + f, at most the need's; those of nodes are counted
+-- from 16384
 abbrev pub weightsOf : List ℕ → List ℕ → List ℕ → List ℕ → DualWeights
 weightsOf wants rooms nodes pairs =
     record {
@@ -20,7 +21,7 @@ weightsOf wants rooms nodes pairs =
       need = λ i. getD wants i 0;
       room = λ i. getD rooms i 0;
       node = λ n. getD nodes n 0;
-      pair = λ i f. getD pairs (i * 16 + f) 0;
+      pair = λ i f. min (getD wants i 0) (getD pairs (i * 16 + f) 0);
     }
 
 -- every failure set is below 16

@@ -23,10 +23,6 @@ use Rattle.search_theory.specs.Duality.{DualWeights, Modest, asked, gain, toll}
 use Rattle.search_bounds.specs.Fair.{FairOpen, floor, dear, away, held}
 use Rattle.search_bounds.specs.Post.{weightsOf, Small, OpenFor, SoundBound, steady}
 
--- none of the first k pairs of shard i weighs more than top
-pub record Covers (pairs : List ℕ) (i k top : ℕ) : Type 0 where
-  pub below : (f : ℕ) → f < k → getD pairs (i * 16 + f) 0 ≤ top
-
 -- the nodes of m whose pairs with shard i are not before t
 pub record Onward (m t i r : ℕ) : Type 0 where
   pub from : (n : ℕ) → n < 32 → t ≤ i * 32 + n → has m n ≡ true → has r n ≡ true
@@ -47,33 +43,8 @@ pub record RowCut (K : Case) (W : DualWeights) (free t low high i : ℕ) (rows a
 
 -- ---- the leaves
 
-pub covers-none : (pairs : List ℕ) (i top : ℕ) → Covers pairs i 0 top
-covers-none pairs i top = record { below = λ f l. absurd (omega arith) }
-
-pub covers-more : {pairs : List ℕ} {i k top more : ℕ} → Covers pairs i k top → top ≤ more → getD pairs (i * 16 + k) 0 ≤ more → Covers pairs i (k + 1) more
-covers-more {pairs} {i} {k} {top} {more} c h g =
-    record {
-      below = λ f l. ⊎-elim (λ e. subst (λ (j : ℕ). getD pairs (i * 16 + j) 0 ≤ more) (sym e) g) (λ e. omega (arith, c .below f (omega arith))) (eq-or-ne f k);
-    }
-
--- no pair of the first k shards weighs more than its shard's need
-pub record ModestBelow (wants pairs : List ℕ) (k : ℕ) : Type 0 where
-  pub below : (i f : ℕ) → i < k → f < 16 → getD pairs (i * 16 + f) 0 ≤ getD wants i 0
-
-pub modest-none : (wants pairs : List ℕ) → ModestBelow wants pairs 0
-modest-none wants pairs = record { below = λ i f l q. absurd (omega arith) }
-
-pub modest-more : {wants pairs : List ℕ} {k top : ℕ} → ModestBelow wants pairs k → Covers pairs k 16 top → top ≤ getD wants k 0 → ModestBelow wants pairs (k + 1)
-modest-more {wants} {pairs} {k} {top} m c h =
-    record {
-      below = λ i f l q. ⊎-elim (λ e. subst (λ (j : ℕ). getD pairs (j * 16 + f) 0 ≤ getD wants j 0) (sym e) (omega (arith, c .below f q))) (λ e. m .below i f (omega arith) q) (eq-or-ne i k);
-    }
-
-pub modest-all : {wants pairs : List ℕ} {k : ℕ} → 16 ≤ k → ModestBelow wants pairs k → (rooms nodes : List ℕ) → Modest (weightsOf wants rooms nodes pairs)
-modest-all h m rooms nodes = record { below = λ i f l q. m .below i f (omega arith) q }
-
-pub modest-with : (wants rooms nodes pairs : List ℕ) → Modest (weightsOf wants [] [] pairs) → Modest (weightsOf wants rooms nodes pairs)
-modest-with wants rooms nodes pairs m = record { below = λ i f l q. m .below i f l q }
+pub modest-of : (wants rooms nodes pairs : List ℕ) → Modest (weightsOf wants rooms nodes pairs)
+modest-of wants rooms nodes pairs = record { below = λ i f l q. omega arith }
 
 pub onward-all : (m t i : ℕ) → Onward m t i m
 onward-all m t i = record { from = λ n l h p. p; within = λ n p. p }

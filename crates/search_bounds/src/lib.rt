@@ -4,7 +4,7 @@
 ghost use mathlib.Core.Path.{_≡_};
 ghost use mathlib.Core.Bool.{true, false, cond};
 ghost use mathlib.Core.List.{[]};
-ghost use Prim.Native.Nat.{_+_, _*_, _-_, _/_, _^_, _≤_, _<_};
+ghost use Prim.Native.Nat.{_+_, _*_, _-_, _/_, _^_, _≤_, _<_, min};
 ghost use lib.ListN.{length, getD};
 ghost use lib.Dec.{leb, ltb};
 ghost use Rattle.base_laws.specs.Below.{allBelow};
@@ -13,9 +13,9 @@ ghost use Rattle.base_laws.specs.Picked.{maskBelow};
 ghost use Rattle.base_sums.specs.Sums.{sumBelow};
 ghost use Rattle.search_theory.specs.Tables.{caseOf, ownersOf};
 ghost use Rattle.search_theory.specs.Order.{Begun};
-ghost use Rattle.search_theory.specs.Duality.{Modest, gain, toll};
+ghost use Rattle.search_theory.specs.Duality.{gain, toll};
 ghost use Rattle.search_bounds.specs.Post.{weightsOf, Small, steady, SoundBound};
-ghost use Rattle.search_bounds.specs.Rows.{Covers, Onward, Sifted, RowCut};
+ghost use Rattle.search_bounds.specs.Rows.{Onward, Sifted, RowCut};
 use search_judge::wide;
 
 // A weight as a number.
@@ -72,28 +72,31 @@ fn counted(x: u32) -> usize
     x as usize
 }
 
-// The sum of shard i's pairs.
-fn row(pairs: &[u16; 256], i: usize) -> u32
+// The sum of shard i's pairs, each at most the need's weight.
+fn row(want: u16, pairs: &[u16; 256], i: usize) -> u32
     requires { ⌜ i < 16 ⌝ }
-    ensures { λ r. ⌜ (r ≡ sumBelow 16 (λ f. getD (now (pairs .entry)) (i * 16 + f) 0)) × (r ≤ 1048576) ⌝ }
+    ensures { λ r. ⌜ (r ≡ sumBelow 16 (λ f. min want (getD (now (pairs .entry)) (i * 16 + f) 0))) × (r ≤ 1048576) ⌝ }
 {
+    if want == 0 {
+        return 0;
+    }
     let mut sum: u32 = 0;
     let mut f: usize = 0;
     while f < 16 {
-        sum += word(pairs[i * 16 + f]);
+        sum += word(smaller(want, pairs[i * 16 + f]));
         f += 1;
     }
     sum
 }
 
 // The sum of all pairs.
-fn all_pairs(pairs: &[u16; 256]) -> u32
-    ensures { λ r. ⌜ (r ≡ sumBelow 16 (λ i. sumBelow 16 (λ f. getD (now (pairs .entry)) (i * 16 + f) 0))) × (r ≤ 16777216) ⌝ }
+fn all_pairs(wants: &[u16; 16], pairs: &[u16; 256]) -> u32
+    ensures { λ r. ⌜ (r ≡ sumBelow 16 (λ i. sumBelow 16 (λ f. min (getD (now (wants .entry)) i 0) (getD (now (pairs .entry)) (i * 16 + f) 0)))) × (r ≤ 16777216) ⌝ }
 {
     let mut sum: u32 = 0;
     let mut i: usize = 0;
     while i < 16 {
-        sum += row(pairs, i);
+        sum += row(wants[i], pairs, i);
         i += 1;
     }
     sum
@@ -107,54 +110,40 @@ fn grants(needs: &[u8; 16], wants: &[u16; 16]) -> usize
 }
 
 // What the weights take.
-fn takes(caps: &[u8; 16], rooms: &[u16; 16], nodes: &[u16; 32], pairs: &[u16; 256]) -> usize
-    ensures { λ r. ⌜ (r ≡ toll (caseOf [] [] (now (caps .entry)) [] 0) (weightsOf [] (now (rooms .entry)) (now (nodes .entry)) (now (pairs .entry)))) × (r ≤ 536870912) ⌝ }
+fn takes(
+    caps: &[u8; 16],
+    wants: &[u16; 16],
+    rooms: &[u16; 16],
+    nodes: &[u16; 32],
+    pairs: &[u16; 256],
+) -> usize
+    ensures { λ r. ⌜ (r ≡ toll (caseOf [] [] (now (caps .entry)) [] 0) (weightsOf (now (wants .entry)) (now (rooms .entry)) (now (nodes .entry)) (now (pairs .entry)))) × (r ≤ 536870912) ⌝ }
 {
-    counted(all_pairs(pairs)) + weighted(caps, rooms) + all_nodes(nodes)
+    counted(all_pairs(wants, pairs)) + weighted(caps, rooms) + all_nodes(nodes)
 }
 
-// The larger of two weights.
-fn larger(a: u16, b: u16) -> u16
-    ensures { λ r. ⌜ (a ≤ r) × (b ≤ r) ⌝ }
+// The smaller of two weights.
+fn smaller(a: u16, b: u16) -> u16
+    ensures { λ r. ⌜ r ≡ min a b ⌝ }
 {
-    if a < b { b } else { a }
-}
-
-// A weight that no pair of shard i passes.
-fn greatest(pairs: &[u16; 256], i: usize) -> u16
-    requires { ⌜ i < 16 ⌝ }
-    ensures { λ r. ⌜ Covers (now (pairs .entry)) i 16 r ⌝ }
-{
-    let mut top: u16 = 0;
-    let mut f: usize = 0;
-    while f < 16 {
-        top = larger(top, pairs[i * 16 + f]);
-        f += 1;
-    }
-    top
-}
-
-// No pair weighs more than its shard's need.
-fn modest(wants: &[u16; 16], pairs: &[u16; 256]) -> bool
-    ensures { λ r. ⌜ (r ≡ true → Modest (weightsOf (now (wants .entry)) [] [] (now (pairs .entry)))) ⌝ }
-{
-    let mut i: usize = 0;
-    while i < 16 {
-        if greatest(pairs, i) > wants[i] {
-            return false;
-        }
-        i += 1;
-    }
-    true
+    if a < b { a } else { b }
 }
 
 // What node n at cost c asks of shard i, its room not counted.
-fn asks(sets: &[u8; 32], nodes: &[u16; 32], pairs: &[u16; 256], c: u8, i: usize, n: usize) -> usize
+fn asks(
+    sets: &[u8; 32],
+    want: u16,
+    nodes: &[u16; 32],
+    pairs: &[u16; 256],
+    c: u8,
+    i: usize,
+    n: usize,
+) -> usize
     requires { ⌜ (i < 16) × (n < 32) ⌝ }
     requires { ⌜ Small (now sets) ⌝ }
-    ensures { λ r. ⌜ (r ≡ c + getD (now (pairs .entry)) (i * 16 + getD (now (sets .entry)) n 0) 0 + getD (now (nodes .entry)) n 0) × (r ≤ 196608) ⌝ }
+    ensures { λ r. ⌜ (r ≡ c + min want (getD (now (pairs .entry)) (i * 16 + getD (now (sets .entry)) n 0) 0) + getD (now (nodes .entry)) n 0) × (r ≤ 196608) ⌝ }
 {
-    wide(c) + large(pairs[i * 16 + wide(sets[n])]) + large(nodes[n])
+    wide(c) + large(smaller(want, pairs[i * 16 + wide(sets[n])])) + large(nodes[n])
 }
 
 // A weight from the base.
@@ -189,7 +178,8 @@ fn steady(
 {
     let o = wide(owner[n]);
     if o < 16 {
-        based(wants[o]) <= asks(sets, nodes, pairs, costs[o * 32 + n], o, n) + large(rooms[o])
+        let want = wants[o];
+        based(want) <= asks(sets, want, nodes, pairs, costs[o * 32 + n], o, n) + large(rooms[o])
     } else {
         16384 <= rests(idle, nodes[n])
     }
@@ -298,6 +288,7 @@ struct OpenRow {
 fn sift(
     sets: &[u8; 32],
     costs: &[u8; 512],
+    want: u16,
     nodes: &[u16; 32],
     pairs: &[u16; 256],
     i: usize,
@@ -308,13 +299,13 @@ fn sift(
 ) -> OpenRow
     requires { ⌜ i < 16 ⌝ }
     requires { ⌜ Small (now sets) ⌝ }
-    ensures { λ r. ⌜ (r .good ≡ true → Sifted (λ n. getD (now (costs .entry)) (i * 32 + n) 0 + getD (now (pairs .entry)) (i * 16 + getD (now (sets .entry)) n 0) 0 + getD (now (nodes .entry)) n 0) row from least most (r .row)) ⌝ }
+    ensures { λ r. ⌜ (r .good ≡ true → Sifted (λ n. getD (now (costs .entry)) (i * 32 + n) 0 + min want (getD (now (pairs .entry)) (i * 16 + getD (now (sets .entry)) n 0) 0) + getD (now (nodes .entry)) n 0) row from least most (r .row)) ⌝ }
 {
     let mut m = row & from;
     let mut kept = row;
     while m > 0 {
         let n = lowest(m);
-        let x = asks(sets, nodes, pairs, costs[i * 32 + n], i, n);
+        let x = asks(sets, want, nodes, pairs, costs[i * 32 + n], i, n);
         if x < least {
             return OpenRow {
                 good: false,
@@ -357,11 +348,13 @@ fn cut_row(
     requires { ⌜ Small (now sets) ⌝ }
     ensures { λ r. ⌜ (r ≡ true → RowCut (caseOf (now (sets .entry)) [] [] (now (costs .entry)) 0) (weightsOf (now (wants .entry)) (now (rooms .entry)) (now (nodes .entry)) (now (pairs .entry))) free t low high i (now (rows .entry)) (now (rows .exit))) ⌝ }
 {
-    let u = based(wants[i]);
+    let want = wants[i];
+    let u = based(want);
     let h = large(rooms[i]);
     let v = sift(
         sets,
         costs,
+        want,
         nodes,
         pairs,
         i,
@@ -413,13 +406,10 @@ pub fn cut(
     requires { ⌜ Begun (ownersOf (now owner)) t ⌝ }
     ensures { λ r. ⌜ (r .good ≡ true → SoundBound (caseOf (now (sets .entry)) (now (needs .entry)) (now (caps .entry)) (now (costs .entry)) idle) k (r .floor) (ownersOf (now (owner .entry))) t (now (rows .entry)) (now (rows .exit))) ⌝ }
 {
-    if !modest(wants, pairs) {
-        return bad();
-    }
     if !all_steady(sets, costs, owner, wants, rooms, nodes, pairs, idle) {
         return bad();
     }
-    let low = k + takes(caps, rooms, nodes, pairs);
+    let low = k + takes(caps, wants, rooms, nodes, pairs);
     let high = grants(needs, wants);
     let free = unowned(owner);
     let mut i = t / 32;

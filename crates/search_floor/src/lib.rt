@@ -49,13 +49,24 @@ pub fn floor(needs: &[u8; 16], sheet: &[[u8; 16]; 16]) -> usize
     sum
 }
 
-// Whether some shard's row has fewer entries below 2 than the shard needs nodes: then there is no valid placement.
+// Whether the row of shard i has fewer entries below 2 than the shard needs nodes.
+fn short_at(needs: &[u8; 16], sheet: &[[u8; 16]; 16], i: usize) -> bool
+    requires { ⌜ i < 16 ⌝ }
+    ensures { λ r. ⌜ r ≡ shortAt (caseOf [] (now (needs .entry)) [] [] 0) (now (sheet .entry)) i ⌝ }
+{
+    if needs[i] == 0 {
+        return false;
+    }
+    entries(sheet, i, 2) < search_judge::wide(needs[i])
+}
+
+// Whether some shard's row has fewer: then there is no valid placement.
 pub fn short(needs: &[u8; 16], sheet: &[[u8; 16]; 16]) -> bool
     ensures { λ r. ⌜ r ≡ tooFew (caseOf [] (now (needs .entry)) [] [] 0) (now (sheet .entry)) ⌝ }
 {
     let mut i: usize = 0;
     while i < 16 {
-        if entries(sheet, i, 2) < search_judge::wide(needs[i]) {
+        if short_at(needs, sheet, i) {
             return true;
         }
         i += 1;

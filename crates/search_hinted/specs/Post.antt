@@ -1,11 +1,14 @@
 -- What the search by hints promises, and the laws of its start and its end.
-use mathlib.Core.Path.{_≡_, ap, _∙_, subst}
+use mathlib.Core.Path.{_≡_, refl, ap, _∙_, subst}
 use mathlib.Core.Bool.{true}
 use mathlib.Core.List.{List}
 use Prim.Native.Nat.{ℕ, _+_, _/_, _≤_, _<_, min}
 use native.Mathlib.Omega.{arith}
+use lib.Dec.{eqb}
 use lib.ListN.{getD}
+use borrow.Author.Tests.{eq-eqb}
 use Rattle.base_laws.specs.Bools.{clash}
+use Rattle.base_laws.specs.Below.{count-pos}
 use Rattle.base_laws.specs.Masks.{has, has-zero}
 use Rattle.search_theory.specs.Case.{Case, Valid, Within}
 use Rattle.search_theory.specs.Tables.{caseOf, ownersOf}
@@ -32,12 +35,15 @@ sure-start s =
 pub sure-next : {K : Case} {k p r : ℕ} {o rows q after : List ℕ} → Sure K k o p rows → Moved K k o p q after r → Sure K k q r after
 sure-next s a = record { at = a .at; first = λ z f. s .first z (a .first z f) }
 
--- a valid placement takes pairs that are allowed
-open-all : (sets needs caps prices : List ℕ) (idle : ℕ) {y : ℕ → ℕ} {rows : List ℕ} → Valid (caseOf sets needs caps prices idle) y → OpenBelow prices 16 rows → OpenFor rows y
-open-all sets needs caps prices idle {y} v s = record { bit = λ n l h. s .bit (y n) n h l (v .allowed n l h) }
+-- a valid placement takes pairs that are allowed, of shards that may have nodes
+open-all : (sets needs caps prices : List ℕ) (idle : ℕ) {y : ℕ → ℕ} {rows : List ℕ} → Valid (caseOf sets needs caps prices idle) y → OpenBelow caps prices 16 rows → OpenFor rows y
+open-all sets needs caps prices idle {y} v s =
+    record {
+      bit = λ n l h. s .bit (y n) n h l (omega (arith, v .most (y n) h, count-pos 32 (λ j. eqb (y j) (y n)) n l (eq-eqb (y n) (y n) refl))) (v .allowed n l h);
+    }
 
 -- nothing is excluded at first
-pub stage-start : (sets needs caps prices : List ℕ) (idle k : ℕ) {rows : List ℕ} → OpenBelow prices 16 rows → Narrowed (caseOf sets needs caps prices idle) k noOwners 0 rows
+pub stage-start : (sets needs caps prices : List ℕ) (idle k : ℕ) {rows : List ℕ} → OpenBelow caps prices 16 rows → Narrowed (caseOf sets needs caps prices idle) k noOwners 0 rows
 stage-start sets needs caps prices idle k s =
     record {
       ready = ready-blank;
@@ -47,7 +53,7 @@ stage-start sets needs caps prices idle k s =
       placed = λ n l h. clash h (ap (λ (x : ℕ). has x n) (s .none) ∙ has-zero n);
     }
 
-pub at-least : (sets needs caps prices : List ℕ) (idle k floor : ℕ) {rows after : List ℕ} → OpenBelow prices 16 rows →
+pub at-least : (sets needs caps prices : List ℕ) (idle k floor : ℕ) {rows after : List ℕ} → OpenBelow caps prices 16 rows →
     SoundBound (caseOf sets needs caps prices idle) k floor (ownersOf noOwners) 0 rows after → AtLeast (caseOf sets needs caps prices idle) floor
 at-least sets needs caps prices idle k floor s c = record { bound = λ y v. c .bound y v (agree-start y (ownersOf noOwners)) (open-all sets needs caps prices idle v s) }
 

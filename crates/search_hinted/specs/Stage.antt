@@ -50,10 +50,14 @@ pub record OnlyHere (rows : List ℕ) (i : ℕ) : Type 0 where
   pub must : has (getD rows 16 0) node ≡ true
   pub last : (j : ℕ) → i < j → j < 16 → has (getD rows j 0) node ≡ false
 
--- the rows of the first k shards have each pair that is allowed, and no node must be placed
-pub record OpenBelow (prices : List ℕ) (k : ℕ) (rows : List ℕ) : Type 0 where
+-- m has each pair of shard i that is allowed, if the shard may have nodes
+pub record AllowedRow (caps prices : List ℕ) (i m : ℕ) : Type 0 where
+  pub bit : (n : ℕ) → n < 32 → 0 < getD caps i 0 → getD prices (i * 32 + n) 0 < 255 → has m n ≡ true
+
+-- so have the rows of the first k shards, and no node must be placed
+pub record OpenBelow (caps prices : List ℕ) (k : ℕ) (rows : List ℕ) : Type 0 where
   pub long : length rows ≡ 17
-  pub bit : (i n : ℕ) → i < k → n < 32 → getD prices (i * 32 + n) 0 < 255 → has (getD rows i 0) n ≡ true
+  pub bit : (i n : ℕ) → i < k → n < 32 → 0 < getD caps i 0 → getD prices (i * 32 + n) 0 < 255 → has (getD rows i 0) n ≡ true
   pub none : getD rows 16 0 ≡ 0
 
 -- before pair t a shard has no more nodes than were looked at
@@ -95,20 +99,28 @@ only-here-by {rows} {i} {m} {r} s e l h =
       last = λ j a b. no-true (has (getD rows j 0) n) (λ d. clash (s .has-all j n a b d) (of-not-true (has m n) (and-right (has (getD rows 16 0) n) (not (has m n)) both)));
     }
 
-pub open-none : {prices rows : List ℕ} → length rows ≡ 17 → getD rows 16 0 ≡ 0 → OpenBelow prices 0 rows
+pub allowed-none : {caps prices : List ℕ} {i : ℕ} → getD caps i 0 ≡ 0 → AllowedRow caps prices i 0
+allowed-none e = record { bit = λ n l h. absurd (omega arith) }
+
+pub allowed-all : {caps prices : List ℕ} {i m : ℕ} → m ≡ maskBelow 32 (λ n. ltb (getD prices (i * 32 + n) 0) 255) → AllowedRow caps prices i m
+allowed-all {caps} {prices} {i} {m} e =
+    record {
+      bit = λ n q h p. ap (λ (x : ℕ). has x n) e ∙ (mask-at 32 (λ j. ltb (getD prices (i * 32 + j) 0) 255) n q ∙ lt-ltb (getD prices (i * 32 + n) 0) 255 p);
+    }
+
+pub open-none : {caps prices rows : List ℕ} → length rows ≡ 17 → getD rows 16 0 ≡ 0 → OpenBelow caps prices 0 rows
 open-none l e = record { long = l; bit = λ i n h. absurd (omega arith); none = e }
 
-pub open-more : {prices rows : List ℕ} {k m : ℕ} → k < 16 → OpenBelow prices k rows → m ≡ maskBelow 32 (λ n. ltb (getD prices (k * 32 + n) 0) 255) →
-    OpenBelow prices (k + 1) (set rows k m)
-open-more {prices} {rows} {k} {m} l s e =
+pub open-more : {caps prices rows : List ℕ} {k m : ℕ} → k < 16 → OpenBelow caps prices k rows → AllowedRow caps prices k m →
+    OpenBelow caps prices (k + 1) (set rows k m)
+open-more {caps} {prices} {rows} {k} {m} l s e =
     record {
       long = length-set rows k m ∙ s .long;
-      bit = λ i n h q p. ⊎-elim
+      bit = λ i n h q u p. ⊎-elim
           (λ d. ap (λ (x : ℕ). has (getD (set rows k m) x 0) n) d
-          ∙ (ap (λ (x : ℕ). has x n) (getD-set-same rows k m 0 (omega (arith, s .long)) ∙ e)
-          ∙ (mask-at 32 (λ j. ltb (getD prices (k * 32 + j) 0) 255) n q
-          ∙ lt-ltb (getD prices (k * 32 + n) 0) 255 (subst (λ (x : ℕ). getD prices (x * 32 + n) 0 < 255) d p))))
-          (λ d. ap (λ (x : ℕ). has x n) (getD-set-other rows k i m 0 d) ∙ s .bit i n (omega arith) q p)
+          ∙ (ap (λ (x : ℕ). has x n) (getD-set-same rows k m 0 (omega (arith, s .long)))
+          ∙ e .bit n q (subst (λ (x : ℕ). 0 < getD caps x 0) d u) (subst (λ (x : ℕ). getD prices (x * 32 + n) 0 < 255) d p)))
+          (λ d. ap (λ (x : ℕ). has x n) (getD-set-other rows k i m 0 d) ∙ s .bit i n (omega arith) q u p)
           (eq-or-ne i k);
       none = getD-set-other rows k 16 m 0 (λ d. omega arith) ∙ s .none;
     }

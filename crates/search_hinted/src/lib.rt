@@ -17,7 +17,7 @@ ghost use Rattle.search_theory.specs.Floor.{SheetFor};
 ghost use Rattle.search_bounds.specs.Post.{Small, SoundBound};
 ghost use Rattle.search_total.specs.Post.{WithinAnswer, LeastAnswer, noOwners};
 ghost use Rattle.search_total.specs.Answers.{Empty};
-ghost use Rattle.search_hinted.specs.Stage.{Narrowed, Advanced, Exceeded, Later, OnlyHere, OpenBelow, At, Moved};
+ghost use Rattle.search_hinted.specs.Stage.{Narrowed, Advanced, Exceeded, Later, OnlyHere, AllowedRow, OpenBelow, At, Moved};
 ghost use Rattle.search_hinted.specs.Post.{Found};
 use search_bounds::Bound;
 use search_total::Solution;
@@ -36,20 +36,31 @@ fn allowed(prices: &[u8; 512], i: usize) -> u32
     m
 }
 
-// All pairs that are allowed, and no node that must be placed.
-fn all_allowed(prices: &[u8; 512]) -> [u32; 17]
-    ensures { λ r. ⌜ OpenBelow (now (prices .entry)) 16 r ⌝ }
+// The same, and none where the shard may have no node.
+fn allowed_row(caps: &[u8; 16], prices: &[u8; 512], i: usize) -> u32
+    requires { ⌜ i < 16 ⌝ }
+    ensures { λ r. ⌜ AllowedRow (now (caps .entry)) (now (prices .entry)) i r ⌝ }
+{
+    if caps[i] == 0 {
+        return 0;
+    }
+    allowed(prices, i)
+}
+
+// All pairs that are allowed of shards that may have nodes, and no node that must be placed.
+fn all_allowed(caps: &[u8; 16], prices: &[u8; 512]) -> [u32; 17]
+    ensures { λ r. ⌜ OpenBelow (now (caps .entry)) (now (prices .entry)) 16 r ⌝ }
 {
     let mut rows = [0u32; 17];
     let mut i: usize = 0;
     while i < 16 {
-        rows[i] = allowed(prices, i);
+        rows[i] = allowed_row(caps, prices, i);
         i += 1;
     }
     rows
 }
 
-// Cuts with the present weights.
+// Cuts with the present weights. A shard that may have no node has a room that weighs more than any placement.
 fn prune(
     sets: &[u8; 32],
     needs: &[u8; 16],
@@ -68,11 +79,11 @@ fn prune(
     requires { ⌜ Begun (ownersOf (now owner)) t ⌝ }
     ensures { λ r. ⌜ (r .good ≡ true → SoundBound (caseOf (now (sets .entry)) (now (needs .entry)) (now (caps .entry)) (now (prices .entry)) idle) k (r .floor) (ownersOf (now (owner .entry))) t (now (rows .entry)) (now (rows .exit))) ⌝ }
 {
-    let q = hint_oracle::weigh(mem, sets, prices);
-    let wants = q.wants;
-    let rooms = q.rooms;
-    let nodes = q.nodes;
-    let pairs = q.pairs;
+    let mut wants = [0u16; 16];
+    let mut rooms = [8300u16; 16];
+    let mut nodes = [0u16; 32];
+    let mut pairs = [0u16; 256];
+    hint_oracle::weigh(mem, sets, &mut wants, &mut rooms, &mut nodes, &mut pairs);
     search_bounds::cut(
         sets,
         needs,
@@ -147,6 +158,9 @@ fn stuck(rows: &[u32; 17], i: usize) -> bool
     requires { ⌜ i < 16 ⌝ }
     ensures { λ r. ⌜ (r ≡ true → OnlyHere (now (rows .entry)) i) ⌝ }
 {
+    if rows[16] == 0 {
+        return false;
+    }
     let m = base_masks::minus(rows[16], later(rows, i));
     if m == 0 {
         return false;
@@ -174,7 +188,8 @@ fn lacks(sets: &[u8; 32], needs: &[u8; 16], owner: &[u8; 32], t: usize) -> bool
     search_judge::spread(sets, owner, t / 32) < need
 }
 
-// Whether shard t / 32 can't end its list at pair t. 0: no proof was found. 1: its list is ended. 2: it can't be.
+// Whether shard t / 32 can't end its list at pair t. 0: no proof was found. 1: its list is ended. 2: it can't be. Where no pair of the
+// shard is open its list is ended.
 fn ends(
     sets: &[u8; 32],
     needs: &[u8; 16],
@@ -193,10 +208,13 @@ fn ends(
     ensures { λ r. ⌜ (r ≡ 2 → None (From (Within (caseOf (now (sets .entry)) (now (needs .entry)) (now (caps .entry)) (now (prices .entry)) idle) k) (ownersOf (now (owner .entry))) (shardEnd t))) ⌝ }
     ensures { λ r. ⌜ r ≤ 2 ⌝ }
 {
-    if stuck(rows, t / 32) {
-        return 2;
+    if rows[t / 32] == 0 {
+        return 1;
     }
     if lacks(sets, needs, owner, t) {
+        return 2;
+    }
+    if stuck(rows, t / 32) {
         return 2;
     }
     let hint = hint_oracle::close(mem, (t / 32) as u32, k as u32);
@@ -480,7 +498,7 @@ fn quick_within(
     }
     let most = capped(k);
     let mut mem = [0u32; 1024];
-    let mut rows = all_allowed(prices);
+    let mut rows = all_allowed(caps, prices);
     let owner = [16u8; 32];
     hint_oracle::solve(&mut mem, sets, needs, caps, prices, idle);
     let v = prune(
@@ -516,7 +534,7 @@ fn by_claim(
     ensures { λ r. ⌜ (r .sure ≡ true → LeastAnswer (caseOf (now (sets .entry)) (now (needs .entry)) (now (caps .entry)) (now (prices .entry)) idle) (r .answer)) ⌝ }
 {
     let mut mem = [0u32; 1024];
-    let mut rows = all_allowed(prices);
+    let mut rows = all_allowed(caps, prices);
     let owner = [16u8; 32];
     let claim = hint_oracle::solve(&mut mem, sets, needs, caps, prices, idle);
     let most = capped(claim as usize);

@@ -1,18 +1,20 @@
 // Tests on a subgroup's tables: sets and owners by node, needs and caps by shard, costs at shard * 32 + node (from 255 up
 // not allowed). An owner below 16 is the node's shard; any other means that the node is placed nowhere, which costs idle.
 ghost use mathlib.Core.Path.{_≡_};
-ghost use mathlib.Core.Bool.{cond, true};
+ghost use mathlib.Core.Bool.{cond, true, false};
 ghost use mathlib.Core.List.{[]};
 ghost use Prim.Native.Nat.{_+_, _*_, _/_, _%_, _<_, _≤_};
 ghost use lib.ListN.{getD};
 ghost use lib.Dec.{eqb, ltb};
 ghost use Rattle.base_laws.specs.Below.{allBelow, anyBelow};
+ghost use Rattle.base_laws.specs.Masks.{has};
 ghost use Rattle.search_theory.specs.Case.{size, spread, weight};
 ghost use Rattle.search_theory.specs.Tables.{caseOf, ownersOf};
 ghost use Rattle.search_theory.specs.Tests.{stands, needsMet};
 ghost use Rattle.search_theory.specs.Order.{Begun};
 ghost use Rattle.search_judge.specs.Post.{Judged, Barred, hopelessFrom};
 ghost use Rattle.search_judge.specs.Met.{Joined, Met};
+ghost use Rattle.search_judge.specs.Owners.{OwnersHeld};
 
 // A byte as an index.
 pub fn wide(x: u8) -> usize
@@ -22,23 +24,39 @@ pub fn wide(x: u8) -> usize
 }
 
 // 1 where a and b are equal, else 0.
-fn equal(a: usize, b: usize) -> usize
+fn equal(a: u8, b: u8) -> u8
     ensures { λ r. ⌜ (r ≡ cond (eqb a b) 1 0) × (r ≤ 1) ⌝ }
 {
     if a == b { 1 } else { 0 }
 }
 
-// How many nodes shard i has.
-pub fn size(owner: &[u8; 32], i: usize) -> usize
+// How many nodes have owner i.
+fn owned(owner: &[u8; 32], i: u8) -> u8
     ensures { λ r. ⌜ r ≡ size (ownersOf (now (owner .entry))) i ⌝ }
 {
-    let mut count: usize = 0;
+    let mut count: u8 = 0;
     let mut n: usize = 0;
     while n < 32 {
-        count += equal(wide(owner[n]), i);
+        count += equal(owner[n], i);
         n += 1;
     }
     count
+}
+
+// A shard as an owner.
+fn narrow(i: usize) -> u8
+    requires { ⌜ i < 16 ⌝ }
+    ensures { λ r. ⌜ r ≡ i ⌝ }
+{
+    i as u8
+}
+
+// How many nodes shard i has.
+pub fn size(owner: &[u8; 32], i: usize) -> usize
+    requires { ⌜ i < 16 ⌝ }
+    ensures { λ r. ⌜ r ≡ size (ownersOf (now (owner .entry))) i ⌝ }
+{
+    wide(owned(owner, narrow(i)))
 }
 
 // The shard of pair t.
@@ -83,11 +101,46 @@ pub fn spread(sets: &[u8; 32], owner: &[u8; 32], i: usize) -> usize
     base_masks::count(met(sets, owner, i)) as usize
 }
 
-// Shard i has no more nodes than its cap, and no fewer sets than its need.
-fn filled_at(sets: &[u8; 32], needs: &[u8; 16], caps: &[u8; 16], owner: &[u8; 32], i: usize) -> bool
+// The owners, as a mask.
+fn owners(owner: &[u8; 32]) -> u32
+    ensures { λ r. ⌜ OwnersHeld (now (owner .entry)) 32 r ⌝ }
+{
+    let mut m: u32 = 0;
+    let mut n: usize = 0;
+    while n < 32 {
+        m = base_masks::with(m, wide(owner[n]) % 32);
+        n += 1;
+    }
+    m
+}
+
+// Whether shard i needs no node and is none of the owners.
+fn bare(needs: &[u8; 16], used: u32, i: usize) -> bool
     requires { ⌜ i < 16 ⌝ }
+    ensures { λ r. ⌜ (r ≡ true → (getD (now (needs .entry)) i 0 ≡ 0) × (has used i ≡ false)) ⌝ }
+{
+    if needs[i] > 0 {
+        return false;
+    }
+    !base_masks::has(used, i)
+}
+
+// Shard i has no more nodes than its cap, and no fewer sets than its need. The mask has all owners.
+fn filled_at(
+    sets: &[u8; 32],
+    needs: &[u8; 16],
+    caps: &[u8; 16],
+    owner: &[u8; 32],
+    used: u32,
+    i: usize,
+) -> bool
+    requires { ⌜ i < 16 ⌝ }
+    requires { ⌜ OwnersHeld (now owner) 32 used ⌝ }
     ensures { λ r. ⌜ r ≡ needsMet (caseOf (now (sets .entry)) (now (needs .entry)) (now (caps .entry)) [] 0) (ownersOf (now (owner .entry))) i ⌝ }
 {
+    if bare(needs, used, i) {
+        return true;
+    }
     if size(owner, i) <= wide(caps[i]) {
         wide(needs[i]) <= spread(sets, owner, i)
     } else {
@@ -99,9 +152,10 @@ fn filled_at(sets: &[u8; 32], needs: &[u8; 16], caps: &[u8; 16], owner: &[u8; 32
 fn filled(sets: &[u8; 32], needs: &[u8; 16], caps: &[u8; 16], owner: &[u8; 32]) -> bool
     ensures { λ r. ⌜ r ≡ allBelow 16 (needsMet (caseOf (now (sets .entry)) (now (needs .entry)) (now (caps .entry)) [] 0) (ownersOf (now (owner .entry)))) ⌝ }
 {
+    let used = owners(owner);
     let mut i: usize = 0;
     while i < 16 {
-        if !filled_at(sets, needs, caps, owner, i) {
+        if !filled_at(sets, needs, caps, owner, used, i) {
             return false;
         }
         i += 1;

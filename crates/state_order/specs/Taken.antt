@@ -3,16 +3,18 @@
 use Prim.Native.Nat.{ℕ, _<_}
 use mathlib.Core.Bool.{Bool, true, false, _&&_}
 use mathlib.Core.List.{List, _++_}
-use mathlib.Core.Path.{_≡_, refl, ap, _∙_}
+use mathlib.Core.Path.{_≡_, refl, sym, ap, _∙_}
 use lib.Dec.{eqb}
 use lib.ListN.{length}
-use borrow.Author.Tests.{eqb-true}
+use borrow.Author.Tests.{eqb-true, ne-eqb}
 use Rattle.base_laws.specs.Bools.{clash, and-left, and-right, and-fails-right}
 use Rattle.base_laws.specs.Masks.{has}
 use Rattle.settings_values.specs.Settings.{shards, settingsOk, Settings}
 use Rattle.settings_values.specs.Laws.{settings-give}
+use Rattle.base_ids.specs.declared.Refusal.{Refusal}
 use Rattle.base_ids.specs.Refusals.{refused, none, unless-false, first-refused}
 use Rattle.message_format.specs.declared.Form.the-variants.{Order}
+use Rattle.message_format.specs.declared.Writing.{Writing}
 use Rattle.message_format.specs.Messages.{writeRefusal, writingOf, bufferAfter}
 use Rattle.message_format.specs.Passed.{write-none}
 use Rattle.report_views.specs.declared.Layout.{Layout}
@@ -27,7 +29,8 @@ use Rattle.plan_order.specs.Orders.{cutOf, orderContents}
 use Rattle.plan_order.specs.Readable.{ReadableSlot, Holders}
 use Rattle.plan_order_laws.specs.Accepted.{planned-holders, held-readable, order-restored, order-accepted}
 use Rattle.state_planner.specs.declared.State.{State}
-use Rattle.state_planner.specs.Refusing.{isOrdered, deskOk, entryRefusal, eventRefusal, orderRefusal}
+use Rattle.state_planner.specs.Refusing.{isOrdered, deskOk, callRefusal, entryRefusal, eventRefusal, orderRefusal}
+use Rattle.state_planner.specs.CallLaws.{call-event}
 use Rattle.state_planner.specs.Entry.{Sound, sound-given, node-given}
 use Rattle.state_order.specs.Orders.{ordered, orderBuffer}
 
@@ -47,6 +50,10 @@ module _ (σ : List ℕ) (x : State) (d : List ℕ) (n : ℕ) (buffer : List ℕ
       go : (b : Bool) → (b && true) ≡ b
       go true = refl
       go false = refl
+
+  -- rows 1 and 2 of desk and settings, beside a buffer of the right length
+  pub call-refuses : eqb (length buffer) 512 ≡ true → (r : Refusal) → r ≡ callRefusal σ d → (r .code ≡ 0 → ⊥) → r ≡ orderRefusal σ x d n buffer
+  call-refuses h r e k = call-event σ d r e k x (isOrdered (x .phase)) n (has (x .held) n) ∙ sym (buffer-right h)
 
 -- a state that is ordered has a sound plan
 ordered-plan : (phase : Phase) (σ : List ℕ) (v : Layout) (t : Termination) (held : ℕ) (d : List ℕ) (p : Plan) → isOrdered phase ≡ true
@@ -133,3 +140,21 @@ module _ (σ : List ℕ) (x : State) (d : List ℕ) (n : ℕ) (buffer : List ℕ
   pub written-leaves : bufferAfter Order σ (orderContents σ (x .plan) d n) buffer ≡ orderBuffer σ x d n buffer
   unfolding bufferAfter orderBuffer
   written-leaves = rw (writer-takes, h)
+
+-- ---- what is answered and left beside a refusal
+
+-- what is answered beside the refusal r
+abbrev writing : Refusal → ℕ → Writing
+writing r n = record { refusal = r; length = n }
+
+module _ (σ : List ℕ) (x : State) (d : List ℕ) (n : ℕ) (buffer : List ℕ) (r : Refusal) (e : r ≡ orderRefusal σ x d n buffer) where
+  pub refused-answer : (r .code ≡ 0 → ⊥) → writing r 0 ≡ ordered σ x d n buffer
+  unfolding ordered
+  refused-answer h = rw (sym e, ne-eqb (r .code) 0 h)
+
+  pub refused-words : (r .code ≡ 0 → ⊥) → buffer ≡ orderBuffer σ x d n buffer
+  unfolding orderBuffer
+  refused-words h = rw (sym e, ne-eqb (r .code) 0 h)
+
+  pub not-refused : r .code ≡ 0 → orderRefusal σ x d n buffer ≡ none
+  not-refused h = sym e ∙ ap refused h

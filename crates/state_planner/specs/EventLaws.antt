@@ -2,20 +2,21 @@
 use Prim.Native.Nat.{ℕ, _<_}
 use mathlib.Core.Bool.{Bool, true, false}
 use mathlib.Core.List.{List}
+use mathlib.Core.Logic.{⊎-elim}
 use mathlib.Core.Path.{_≡_, refl, sym, ap, ap₂, _∙_}
 use native.Mathlib.Omega.{arith}
 use borrow.Author.Tests.{eq-eqb, ne-eqb}
+use Rattle.base_laws.specs.Bools.{either}
 use Rattle.settings_values.specs.Settings.{Settings}
 use Rattle.settings_values.specs.Laws.{settings-give}
 use Rattle.base_ids.specs.declared.Refusal.{Refusal}
 use Rattle.base_ids.specs.Refusals.{accepted, accepted-none}
 use Rattle.report_views.specs.declared.Phase.{Phase}
 use Rattle.state_planner.specs.declared.State.{State}
-use Rattle.state_planner.specs.declared.Answer.{Answer}
 use Rattle.state_planner.specs.declared.Outcome.{Outcome}
 use Rattle.state_planner.specs.Refusing.{deskOk, entryRefusal, eventRefusal}
 use Rattle.state_planner.specs.Entry.{entry-given, node-given}
-use Rattle.state_planner.specs.Events.{outcome}
+use Rattle.state_planner.specs.Events.{refusing, accepting, outcome, isAccepted}
 
 module _ (lengths : Bool) (σ : List ℕ) (x : State) (d : List ℕ) (inPhase : Bool) where
   pub entry-settings : accepted (entryRefusal lengths σ x d inPhase) ≡ true → Settings σ
@@ -23,20 +24,28 @@ module _ (lengths : Bool) (σ : List ℕ) (x : State) (d : List ℕ) (inPhase : 
       settings-give σ (entry-given lengths σ x d inPhase (accepted-none (entryRefusal lengths σ x d inPhase) h) .settings-ok)
 
 module _ (r : Refusal) (x next : State) where
-  pub outcome-accepted : accepted r ≡ true → outcome r x next ≡ record { state = next; answer = Answer.Accepted }
+  pub outcome-accepted : accepted r ≡ true → outcome r x next ≡ accepting next
   unfolding outcome
   outcome-accepted h = rw h
 
-  pub outcome-refused : accepted r ≡ false → outcome r x next ≡ record { state = x; answer = Answer.Refused r }
+  pub outcome-refused : accepted r ≡ false → outcome r x next ≡ refusing x r
   unfolding outcome
   outcome-refused h = rw h
 
+  -- an answer accepts where nothing is refused
+  pub answer-accepts : {o : Outcome} → o ≡ outcome r x next → isAccepted (o .answer) ≡ accepted r
+  unfolding isAccepted
+  answer-accepts {o} f =
+      ap (λ (k : Outcome). isAccepted (k .answer)) f
+      ∙ ⊎-elim (λ h. ap (λ (k : Outcome). isAccepted (k .answer)) (outcome-accepted h) ∙ sym h)
+      (λ h. ap (λ (k : Outcome). isAccepted (k .answer)) (outcome-refused h) ∙ sym h) (either (accepted r))
+
 -- r is what the code found of the refusal s
 module _ {r s : Refusal} (e : r ≡ s) (x next : State) where
-  pub settles-refused : (r .code ≡ 0 → ⊥) → record { state = x; answer = Answer.Refused r } ≡ outcome s x next
+  pub settles-refused : (r .code ≡ 0 → ⊥) → refusing x r ≡ outcome s x next
   settles-refused h = sym (outcome-refused r x next (ne-eqb (r .code) 0 h)) ∙ ap (λ (k : Refusal). outcome k x next) e
 
-  pub settles-accepted : r .code ≡ 0 → record { state = next; answer = Answer.Accepted } ≡ outcome s x next
+  pub settles-accepted : r .code ≡ 0 → accepting next ≡ outcome s x next
   settles-accepted h = sym (outcome-accepted r x next (eq-eqb (r .code) 0 h)) ∙ ap (λ (k : Refusal). outcome k x next) e
 
 -- an event that names node n: p and q are what its code found of the phase and of the node, y of the next state

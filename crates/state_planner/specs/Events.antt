@@ -1,6 +1,6 @@
 -- What each event leads to, and what it hands back.
 use Prim.Native.Nat.{ℕ}
-use mathlib.Core.Bool.{cond}
+use mathlib.Core.Bool.{Bool, true, false, cond}
 use mathlib.Core.List.{List}
 use lib.Dec.{eqb}
 use lib.ListN.{getD}
@@ -45,10 +45,22 @@ unfoldable pub afterPrepared : State → ℕ → State
 afterPrepared x n =
     marked x (cond (eqb (with (x .prepared) n) (x .held)) Committed Preparing) (x .fetched) (with (x .prepared) n)
 
+-- the state as it was, beside a refusal
+abbrev pub refusing : State → Refusal → Outcome
+refusing x r = record { state = x; answer = Answer.Refused r }
+
+-- the next state
+abbrev pub accepting : State → Outcome
+accepting next = record { state = next; answer = Answer.Accepted }
+
 -- the next state, or beside a refusal the state as it was
 unfoldable pub outcome : Refusal → State → State → Outcome
-outcome r x next =
-    cond (accepted r) (record { state = next; answer = Answer.Accepted }) (record { state = x; answer = Answer.Refused r })
+outcome r x next = cond (accepted r) (accepting next) (refusing x r)
+
+-- an answer that accepts
+unfoldable pub isAccepted : Answer → Bool
+isAccepted Answer.Accepted = true
+isAccepted (Answer.Refused r) = false
 
 unfoldable pub reported : List ℕ → State → List ℕ → List ℕ → Outcome
 reported σ x d w = outcome (reportRefusal σ x d w) x (afterReport σ x (contentsOf w))

@@ -4,6 +4,7 @@ pub mod Refusing
 pub mod Entry
 pub mod Events
 pub mod Decide
+pub mod CallLaws
 pub mod EventLaws
 pub mod ReportLaws
 pub mod DecideLaws

@@ -7,7 +7,7 @@ use lib.ListN.{length}
 use Rattle.base_laws.specs.Masks.{has}
 use Rattle.settings_values.specs.Settings.{settingsOk}
 use Rattle.base_ids.specs.declared.Refusal.{Refusal}
-use Rattle.base_ids.specs.Refusals.{firstOf}
+use Rattle.base_ids.specs.Refusals.{none, unless, firstOf}
 pub use Rattle.state_rows.specs.Phases.{isGathering, isOrdered, isPreparing, isCommitted}
 pub use Rattle.state_rows.specs.Rows.{entryRows, nodeRefusal}
 use Rattle.report_kept.specs.Reports.{refusalBeside}
@@ -20,6 +20,10 @@ entryRefusal lengths σ x d inPhase = entryRows lengths (settingsOk σ) (sound �
 
 abbrev pub deskOk : List ℕ → Bool
 deskOk d = eqb (length d) 16384
+
+-- rows 1 and 2 alone: the desk's length and the settings
+unfoldable pub callRefusal : List ℕ → List ℕ → Refusal
+callRefusal σ d = unless (deskOk d) 1 (unless (settingsOk σ) 2 none)
 
 -- an event that names node n, in its phase, where n is as it should be
 unfoldable pub eventRefusal : Bool → List ℕ → State → List ℕ → Bool → ℕ → Bool → Refusal

@@ -1,107 +1,113 @@
--- The report event from its parts: what comes back where rows 1 to 4 refuse, where the report's own rows do, and where none does.
-use Prim.Native.Nat.{ℕ, _<_}
+-- The report event from its parts: what comes back where rows 1 to 4 refuse, where the report's own rows do, and where none does; and the
+-- desk after each.
+use Prim.Native.Nat.{ℕ, _<_, _≤_}
 use mathlib.Core.Bool.{Bool, true, false}
 use mathlib.Core.List.{List}
 use mathlib.Core.Path.{_≡_, sym, ap, _∙_}
 use lib.ListN.{length, getD}
-use borrow.Author.Tests.{eqb-true, ne-eqb}
+use borrow.Author.Tests.{eq-eqb, ne-eqb}
+use Rattle.base_laws.specs.Masks.{with}
 use Rattle.settings_values.specs.Settings.{Settings}
-use Rattle.settings_values.specs.Laws.{settings-give}
 use Rattle.base_ids.specs.declared.Refusal.{Refusal}
-use Rattle.base_ids.specs.Refusals.{refused, accepted, first-none, first-refused}
-use Rattle.message_format.specs.declared.Contents.{Contents}
-use Rattle.message_format.specs.declared.Reading.{Reading}
+use Rattle.base_ids.specs.Refusals.{accepted, accepted-none, first-right, rows-refused, rows-followed}
 use Rattle.message_format.specs.Messages.{contentsOf}
-use Rattle.report_kept.specs.Reports.{refusalBeside, readingBeside}
+use Rattle.report_latest.specs.Remembered.{noted}
+use Rattle.report_kept.specs.declared.Received.{Received}
+use Rattle.report_kept.specs.Reports.{refusalBeside, renewed, takesIn, takenIn}
+use Rattle.report_kept.specs.Laws.{in-refusal, in-taken, taken-node, taken-words}
 use Rattle.report_desk.specs.Desk.{deskWith}
-use Rattle.report_kept.specs.Laws.{taken-contents, taken-node}
 use Rattle.state_planner.specs.declared.State.{State}
-use Rattle.state_planner.specs.declared.Answer.{Answer}
 use Rattle.state_planner.specs.declared.Outcome.{Outcome}
+use Rattle.state_planner.specs.States.{keeping}
 use Rattle.state_planner.specs.Refusing.{isGathering, deskOk, entryRefusal, reportRefusal}
-use Rattle.state_planner.specs.Events.{outcome, afterReport, reported, deskAfter}
-use Rattle.state_planner.specs.Entry.{Entered, entry-given}
-use Rattle.state_planner.specs.EventLaws.{outcome-accepted, outcome-refused}
+use Rattle.state_planner.specs.Events.{refusing, accepting, outcome, isAccepted, afterReport, reported, deskAfter}
+use Rattle.state_planner.specs.EventLaws.{settles-refused, settles-accepted, answer-accepts}
 
--- what a report hands back, and the desk afterwards
-pub record HandsBack (σ : List ℕ) (x : State) (d w : List ℕ) (o : Outcome) (b : List ℕ) : Type 0 where
-  pub outcome-is : o ≡ reported σ x d w
-  pub desk-is : b ≡ deskAfter σ x d w
+-- r: the report beside what is kept and remembered
+module _ (σ : List ℕ) (x : State) (w : List ℕ) (r : Received) (e : r ≡ takenIn σ (x .kept) (x .termination) (x .latest) w) where
+  refusal-is : r .refusal ≡ refusalBeside σ (x .kept) (x .termination) (x .latest) w
+  refusal-is = ap (λ (y : Received). y .refusal) e ∙ in-refusal σ (x .kept) (x .termination) (x .latest) w
 
-refuses : (σ : List ℕ) (x : State) (d w : List ℕ) (r : Refusal) → r ≡ reportRefusal σ x d w → (r .code ≡ 0 → ⊥)
-    → HandsBack σ x d w (record { state = x; answer = Answer.Refused r }) d
-unfolding reported deskAfter
-refuses σ x d w r e h =
-    let no : accepted r ≡ false = ne-eqb (r .code) 0 h in
-    record {
-      outcome-is =
-          sym (outcome-refused r x (afterReport σ x (contentsOf w)) no) ∙ ap (λ (s : Refusal). outcome s x (afterReport σ x (contentsOf w))) e;
-      desk-is = rw (sym e, no);
-    }
+  module _ (h : r .refusal .code ≡ 0) where
+    beside : accepted (refusalBeside σ (x .kept) (x .termination) (x .latest) w) ≡ true
+    beside = sym (ap accepted refusal-is) ∙ eq-eqb (r .refusal .code) 0 h
+
+    taken-is : r ≡ takesIn (contentsOf w) (renewed σ (x .kept) (x .termination) (contentsOf w))
+    taken-is = e ∙ in-taken σ (x .kept) (x .termination) (x .latest) w beside
+
+    pub reporter-below : Settings σ → r .node .0 < 32
+    unfolding contentsOf
+    reporter-below right =
+        let same : r .node .0 ≡ getD w 0 0 = ap (λ (y : Received). y .node .0) taken-is in
+        rw same (taken-node σ (x .kept) (x .termination) (x .latest) w beside right)
+
+    -- the next state
+    next-is : (y : State) → y ≡ keeping x (r .kept) (r .termination) (with (x .held) (r .node .0)) (noted (x .latest) (r .node .0) (r .view .0))
+        → y ≡ afterReport σ x (contentsOf w)
+    unfolding afterReport
+    next-is y f =
+        f
+        ∙ ap (λ (k : Received). keeping x (k .kept) (k .termination) (with (x .held) (k .node .0)) (noted (x .latest) (k .node .0) (k .view .0))) taken-is
 
 -- g: the phase is gathering; e: the refusal of rows 1 to 4
 module _ (σ : List ℕ) (x : State) (d w : List ℕ) (g : Bool) (phase : g ≡ isGathering (x .phase)) (e : Refusal) (entry : e ≡ entryRefusal (deskOk d) σ x d g) where
   entry-is : e ≡ entryRefusal (deskOk d) σ x d (isGathering (x .phase))
   entry-is = entry ∙ ap (entryRefusal (deskOk d) σ x d) phase
 
-  pub entry-refuses : (e .code ≡ 0 → ⊥) → HandsBack σ x d w (record { state = x; answer = Answer.Refused e }) d
-  unfolding reportRefusal
-  entry-refuses h =
-      refuses σ x d w e
-      (entry-is
-      ∙ sym (first-refused (entryRefusal (deskOk d) σ x d (isGathering (x .phase))) (refusalBeside σ (x .kept) (x .termination) (x .latest) w)
-      (ap accepted (sym entry-is) ∙ ne-eqb (e .code) 0 h))) h
+  pub entry-refuses : (e .code ≡ 0 → ⊥) → refusing x e ≡ reported σ x d w
+  unfolding reported reportRefusal
+  entry-refuses h = settles-refused (rows-refused entry-is _ (ne-eqb (e .code) 0 h)) x (afterReport σ x (contentsOf w)) h
 
-  module _ (h : e .code ≡ 0) where
-    entered : Entered (deskOk d) σ x d g
-    entered = entry-given (deskOk d) σ x d g (sym entry ∙ ap refused h)
-
-    pub entered-settings : Settings σ
-    entered-settings = settings-give σ (entered .settings-ok)
-
-    pub entered-desk : length d ≡ 16384
-    entered-desk = eqb-true (length d) 16384 (entered .lengths-ok)
-
-    beside-is : reportRefusal σ x d w ≡ refusalBeside σ (x .kept) (x .termination) (x .latest) w
+  -- r: the report beside what is kept and remembered
+  module _ (h : e .code ≡ 0) (r : Received) (f : r ≡ takenIn σ (x .kept) (x .termination) (x .latest) w) where
+    report-is : r .refusal ≡ reportRefusal σ x d w
     unfolding reportRefusal
-    beside-is =
-        first-none (entryRefusal (deskOk d) σ x d (isGathering (x .phase))) (refusalBeside σ (x .kept) (x .termination) (x .latest) w)
-        (sym entry-is ∙ ap refused h)
+    report-is = rows-followed entry-is (refusal-is σ x w r f) (eq-eqb (e .code) 0 h)
 
-    -- r: the report's own rows, and what it says
-    module _ (r : Reading) (reading : r ≡ readingBeside σ (x .kept) (x .termination) (x .latest) w) where
-      refusal-is : r .refusal ≡ refusalBeside σ (x .kept) (x .termination) (x .latest) w
-      unfolding readingBeside
-      refusal-is = ap (λ (y : Reading). y .refusal) reading
+    pub beside-refuses : (r .refusal .code ≡ 0 → ⊥) → refusing x (r .refusal) ≡ reported σ x d w
+    unfolding reported
+    beside-refuses k = settles-refused report-is x (afterReport σ x (contentsOf w)) k
 
-      pub beside-refuses : (r .refusal .code ≡ 0 → ⊥) → HandsBack σ x d w (record { state = x; answer = Answer.Refused (r .refusal) }) d
-      beside-refuses = refuses σ x d w (r .refusal) (refusal-is ∙ sym beside-is)
+    pub taken-reports : r .refusal .code ≡ 0 → (y : State)
+        → y ≡ keeping x (r .kept) (r .termination) (with (x .held) (r .node .0)) (noted (x .latest) (r .node .0) (r .view .0))
+        → accepting y ≡ reported σ x d w
+    unfolding reported
+    taken-reports k y q =
+        ap accepting (next-is σ x w r f k y q) ∙ settles-accepted report-is x (afterReport σ x (contentsOf w)) k
 
-      module _ (k : r .refusal .code ≡ 0) where
-        taken : accepted (refusalBeside σ (x .kept) (x .termination) (x .latest) w) ≡ true
-        taken = ap accepted (sym refusal-is ∙ ap refused k)
+-- ---- the desk
 
-        contents-are : r .contents ≡ contentsOf w
-        unfolding readingBeside
-        contents-are = ap (λ (y : Reading). y .contents) reading ∙ taken-contents σ (x .kept) (x .termination) (x .latest) w taken
+-- a refused report leaves the desk
+module _ (σ : List ℕ) (x : State) (d w : List ℕ) where
+  leaves-desk : accepted (reportRefusal σ x d w) ≡ false → d ≡ deskAfter σ x d w
+  unfolding deskAfter
+  leaves-desk h = rw h
 
-        node-is : r .contents .node .0 ≡ getD w 0 0
-        unfolding contentsOf
-        node-is = ap (λ (c : Contents). c .node .0) contents-are
+  pub refusal-leaves : (r : Refusal) → r ≡ entryRefusal (deskOk d) σ x d (isGathering (x .phase)) → (r .code ≡ 0 → ⊥) → d ≡ deskAfter σ x d w
+  unfolding reportRefusal
+  refusal-leaves r e h =
+      leaves-desk (sym (ap accepted (rows-refused e (refusalBeside σ (x .kept) (x .termination) (x .latest) w) (ne-eqb (r .code) 0 h))) ∙ ne-eqb (r .code) 0 h)
 
-        pub reporter-below : r .contents .node .0 < 32
-        reporter-below = rw node-is (taken-node σ (x .kept) (x .termination) (x .latest) w taken entered-settings)
+  -- o: what the event hands back
+  module _ (o : Outcome) (e : o ≡ reported σ x d w) where
+    answer-is : isAccepted (o .answer) ≡ accepted (reportRefusal σ x d w)
+    unfolding reported
+    answer-is = answer-accepts (reportRefusal σ x d w) x (afterReport σ x (contentsOf w)) e
 
-        -- y: the next state; b: the desk with the message
-        pub taken-reports : (y : State) (b : List ℕ) → y ≡ afterReport σ x (r .contents) → b ≡ deskWith d (r .contents .node .0) w
-            → HandsBack σ x d w (record { state = y; answer = Answer.Accepted }) b
-        unfolding reported deskAfter
-        taken-reports y b p q =
-            let yes : accepted (reportRefusal σ x d w) ≡ true = ap accepted beside-is ∙ taken in
-            let next : y ≡ afterReport σ x (contentsOf w) = p ∙ ap (afterReport σ x) contents-are in
-            record {
-              outcome-is =
-                  ap (λ (s : State). record { state = s; answer = Answer.Accepted }) next
-                  ∙ sym (outcome-accepted (reportRefusal σ x d w) x (afterReport σ x (contentsOf w)) yes);
-              desk-is = q ∙ ap (λ (n : ℕ). deskWith d n w) node-is ∙ rw yes;
-            }
+    pub answer-leaves : isAccepted (o .answer) ≡ false → d ≡ deskAfter σ x d w
+    answer-leaves h = leaves-desk (sym answer-is ∙ h)
+
+    module _ (h : isAccepted (o .answer) ≡ true) where
+      passes : accepted (refusalBeside σ (x .kept) (x .termination) (x .latest) w) ≡ true
+      unfolding reportRefusal
+      passes = ap accepted (first-right _ _ (accepted-none (reportRefusal σ x d w) (sym answer-is ∙ h)))
+
+      pub reporter-told : 1 ≤ length w
+      reporter-told = taken-words σ (x .kept) (x .termination) (x .latest) w passes
+
+      pub reporter-named : Settings σ → getD w 0 0 < 32
+      reporter-named = taken-node σ (x .kept) (x .termination) (x .latest) w passes
+
+      pub stored-desk : (b : List ℕ) → b ≡ deskWith d (getD w 0 0) w → b ≡ deskAfter σ x d w
+      unfolding deskAfter
+      stored-desk b f = f ∙ rw (sym answer-is, h)

@@ -3,8 +3,9 @@ use base_ids::Node;
 use base_ids::Refusal;
 use base_ids::Shard;
 use base_ids::View;
-use message_format::Contents;
 use plan_restart::Verdict;
+use plan_seen::Seen;
+use report_kept::Received;
 use report_latest::Latest;
 use report_views::Layout;
 use report_views::Phase;
@@ -12,9 +13,16 @@ use report_views::Plan;
 use report_views::Quorum;
 use report_views::Reason;
 use report_views::Termination;
+ghost use mathlib.Core.Bool.{true};
+ghost use mathlib.Core.List.{List};
 ghost use mathlib.Core.Path.{_≡_};
-ghost use Prim.Native.Nat.{_<_};
+ghost use Prim.Native.Nat.{ℕ, _<_};
+ghost use lib.ListN.{length};
+ghost use Rattle.base_laws.specs.Masks.{with};
 ghost use Rattle.settings_values.specs.Settings.{Settings};
+ghost use Rattle.report_views.specs.Soundness.{keptSound};
+ghost use Rattle.report_latest.specs.Remembered.{noted};
+ghost use Rattle.plan_seen.specs.Sight.{seenOf};
 ghost use Rattle.state_planner.specs.States as States;
 ghost use Rattle.state_planner.specs.Refusing as Refusing;
 ghost use Rattle.state_planner.specs.Events as Events;
@@ -58,40 +66,60 @@ pub struct Decided {
     pub decision: Decision,
 }
 
-// A state of its parts.
-fn of_parts(
-    phase: Phase,
-    kept: Layout,
-    termination: Termination,
-    held: u32,
-    fetched: u32,
-    prepared: u32,
-    plan: Plan,
-    latest: Latest,
-) -> State
-    ensures { λ r. ⌜ r ≡ States.ofParts phase kept termination held fetched prepared plan latest ⌝ }
+// Rows 1 and 2.
+fn call_refusal(settings: &[u32], desk: &[u32]) -> Refusal
+    ensures { λ r. ⌜ r ≡ Refusing.callRefusal (now (settings .entry)) (now (desk .entry)) ⌝ }
 {
-    State {
-        phase,
-        kept,
-        termination,
-        held,
-        fetched,
-        prepared,
-        plan,
-        latest,
+    if desk.len() != 16384 {
+        return Refusal { code: 1 };
     }
+    if !settings_check::check(settings) {
+        return Refusal { code: 2 };
+    }
+    Refusal { code: 0 }
 }
 
-// Rows 1 to 4.
-fn entry_refusal(settings: &[u32], x: State, desk: &[u32], in_phase: bool) -> Refusal
-    ensures { λ r. ⌜ r ≡ Refusing.entryRefusal (Refusing.deskOk (now (desk .entry))) (now (settings .entry)) x (now (desk .entry)) in_phase ⌝ }
+// Rows 3 and 4, beside what the desk tells.
+fn entry_refusal(settings: &[u32], x: State, seen: Seen, in_phase: bool) -> Refusal
+    requires { ⌜ Settings (now settings) ⌝ }
+    ensures refusal { λ r. ⌜ ((d : List ℕ) → length d ≡ 16384 → seen ≡ seenOf (now (settings .entry)) (x .kept) (x .termination) (x .held) d → r ≡ Refusing.entryRefusal (Refusing.deskOk d) (now (settings .entry)) x d in_phase) ⌝ }
+    ensures kept { λ r. ⌜ (r .code ≡ 0 → keptSound (now (settings .entry)) (x .kept) (x .termination) (x .held) ≡ true) ⌝ }
 {
     let phase = x.phase;
-    state_rows::entry_refusal(
+    state_rows::sound_refusal(
         settings,
-        desk,
+        seen,
         in_phase,
+        phase,
+        x.kept,
+        x.termination,
+        x.held,
+        x.fetched,
+        x.prepared,
+        x.plan,
+        x.latest,
+    )
+}
+
+// Rows 3, 4, 6 and 14, beside what the desk tells: the refusal of an event that names a node.
+pub fn event_refusal_seen(
+    settings: &[u32],
+    x: State,
+    seen: Seen,
+    in_phase: bool,
+    node: Node,
+    ok: bool,
+) -> Refusal
+    requires { ⌜ Settings (now settings) ⌝ }
+    ensures { λ r. ⌜ ((d : List ℕ) → length d ≡ 16384 → seen ≡ seenOf (now (settings .entry)) (x .kept) (x .termination) (x .held) d → r ≡ Refusing.eventRefusal (Refusing.deskOk d) (now (settings .entry)) x d in_phase (node .0) ok) ⌝ }
+{
+    let phase = x.phase;
+    state_rows::event_refusal(
+        settings,
+        seen,
+        in_phase,
+        node,
+        ok,
         phase,
         x.kept,
         x.termination,
@@ -114,46 +142,41 @@ pub fn event_refusal(
 ) -> Refusal
     ensures { λ r. ⌜ r ≡ Refusing.eventRefusal (Refusing.deskOk (now (desk .entry))) (now (settings .entry)) x (now (desk .entry)) in_phase (node .0) ok ⌝ }
 {
-    let phase = x.phase;
-    state_rows::event_refusal(
-        settings,
-        desk,
-        in_phase,
-        node,
-        ok,
-        phase,
-        x.kept,
-        x.termination,
-        x.held,
-        x.fetched,
-        x.prepared,
-        x.plan,
-        x.latest,
-    )
+    let refusal = call_refusal(settings, desk);
+    if refusal.code != 0 {
+        return refusal;
+    }
+    let seen = plan_seen::see(settings, x.kept, x.termination, x.held, desk);
+    event_refusal_seen(settings, x, seen, in_phase, node, ok)
 }
 
-// The next state, or beside a refusal the state as it was: the outcome of an event that names a node.
-fn settled(
-    settings: &[u32],
-    x: State,
-    desk: &[u32],
-    in_phase: bool,
-    node: Node,
-    ok: bool,
-    next: State,
-) -> Outcome
-    ensures { λ r. ⌜ r ≡ Events.outcome (Refusing.eventRefusal (Refusing.deskOk (now (desk .entry))) (now (settings .entry)) x (now (desk .entry)) in_phase (node .0) ok) x next ⌝ }
+// The state as it was, beside a refusal.
+fn refuse(x: State, refusal: Refusal) -> Outcome
+    ensures { λ r. ⌜ r ≡ Events.refusing x refusal ⌝ }
 {
-    let refusal = event_refusal(settings, x, desk, in_phase, node, ok);
-    if refusal.code != 0 {
-        return Outcome {
-            state: x,
-            answer: Answer::Refused(refusal),
-        };
+    Outcome {
+        state: x,
+        answer: Answer::Refused(refusal),
     }
+}
+
+// The next state.
+fn accept(next: State) -> Outcome
+    ensures { λ r. ⌜ r ≡ Events.accepting next ⌝ }
+{
     Outcome {
         state: next,
         answer: Answer::Accepted,
+    }
+}
+
+// Whether an event was accepted.
+fn is_accepted(answer: Answer) -> bool
+    ensures { λ r. ⌜ r ≡ Events.isAccepted answer ⌝ }
+{
+    match answer {
+        Answer::Accepted => true,
+        Answer::Refused(_) => false,
     }
 }
 
@@ -161,39 +184,33 @@ fn settled(
 fn restarted(x: State) -> State
     ensures { λ r. ⌜ r ≡ States.restarted x ⌝ }
 {
-    of_parts(
-        Phase::Gathering,
-        x.kept,
-        x.termination,
-        0,
-        0,
-        0,
-        plan_restart::no_plan(),
-        x.latest,
-    )
+    State {
+        phase: Phase::Gathering,
+        held: 0,
+        fetched: 0,
+        prepared: 0,
+        plan: plan_restart::no_plan(),
+        ..x
+    }
 }
 
 // The node that reports is held, what is kept is renewed, and its view is remembered.
-fn after_report(settings: &[u32], x: State, c: Contents) -> State
-    requires { ⌜ Settings (now settings) ⌝ }
-    requires { ⌜ c .node .0 < 32 ⌝ }
-    ensures { λ r. ⌜ r ≡ Events.afterReport (now (settings .entry)) x c ⌝ }
+fn after_report(x: State, taken: Received) -> State
+    requires { ⌜ taken .node .0 < 32 ⌝ }
+    ensures { λ r. ⌜ r ≡ States.keeping x (taken .kept) (taken .termination) (with (x .held) (taken .node .0)) (noted (x .latest) (taken .node .0) (taken .view .0)) ⌝ }
 {
-    let renewed = report_kept::renew(settings, x.kept, x.termination, c);
-    let node = c.node;
+    let node = taken.node;
+    let kept = taken.kept;
+    let termination = taken.termination;
     let held = base_masks::with(x.held, node.0 as usize);
-    let latest = report_latest::note(x.latest, node, c.view);
-    let phase = x.phase;
-    of_parts(
-        phase,
-        renewed.view,
-        renewed.termination,
+    let latest = report_latest::note(x.latest, node, taken.view);
+    State {
+        kept,
+        termination,
         held,
-        x.fetched,
-        x.prepared,
-        x.plan,
         latest,
-    )
+        ..x
+    }
 }
 
 // While gathering the node is no longer held; while ordered or preparing gathering starts again.
@@ -204,16 +221,7 @@ fn after_drop(x: State, node: Node) -> State
     match phase {
         Phase::Gathering => {
             let held = base_masks::without(x.held, node.0 as usize);
-            of_parts(
-                phase,
-                x.kept,
-                x.termination,
-                held,
-                x.fetched,
-                x.prepared,
-                x.plan,
-                x.latest,
-            )
+            State { held, ..x }
         }
         Phase::Ordered => restarted(x),
         Phase::Preparing => restarted(x),
@@ -227,16 +235,11 @@ fn after_fetched(x: State, node: Node) -> State
 {
     let fetched = state_rows::mark(x.fetched, node);
     let phase = state_rows::phase_after(fetched, x.held, Phase::Ordered, Phase::Preparing);
-    of_parts(
+    State {
         phase,
-        x.kept,
-        x.termination,
-        x.held,
         fetched,
-        x.prepared,
-        x.plan,
-        x.latest,
-    )
+        ..x
+    }
 }
 
 // The node is marked, and committed follows when every held node is.
@@ -245,16 +248,11 @@ fn after_prepared(x: State, node: Node) -> State
 {
     let prepared = state_rows::mark(x.prepared, node);
     let phase = state_rows::phase_after(prepared, x.held, Phase::Preparing, Phase::Committed);
-    of_parts(
+    State {
         phase,
-        x.kept,
-        x.termination,
-        x.held,
-        x.fetched,
         prepared,
-        x.plan,
-        x.latest,
-    )
+        ..x
+    }
 }
 
 // A plan leads to ordered, and a wait changes nothing.
@@ -262,16 +260,11 @@ fn after_quorum(x: State, quorum: Quorum, plan: Plan) -> State
     ensures { λ r. ⌜ r ≡ Decide.stateBy quorum x plan ⌝ }
 {
     match quorum {
-        Quorum::Met => of_parts(
-            Phase::Ordered,
-            x.kept,
-            x.termination,
-            x.held,
-            x.fetched,
-            x.prepared,
+        Quorum::Met => State {
+            phase: Phase::Ordered,
             plan,
-            x.latest,
-        ),
+            ..x
+        },
         Quorum::Short(_) => x,
     }
 }
@@ -317,118 +310,181 @@ impl State {
         }
     }
 
-    // A node reports: its message is copied to its slot of the desk, and the node is held.
-    pub fn report(self, settings: &[u32], desk: &mut [u32], message: &[u32]) -> Outcome
-        ensures outcome { λ r. ⌜ r ≡ Events.reported (now (settings .entry)) self (now (desk .entry)) (now (message .entry)) ⌝ }
-        ensures desk { λ r. ⌜ now (desk .exit) ≡ Events.deskAfter (now (settings .entry)) self (now (desk .entry)) (now (message .entry)) ⌝ }
+    // A node reports, beside what the desk tells; the desk is left to the caller.
+    pub fn report_seen(self, settings: &[u32], seen: Seen, message: &[u32]) -> Outcome
+        requires { ⌜ Settings (now settings) ⌝ }
+        ensures { λ r. ⌜ ((d : List ℕ) → length d ≡ 16384 → seen ≡ seenOf (now (settings .entry)) (self .kept) (self .termination) (self .held) d → r ≡ Events.reported (now (settings .entry)) self d (now (message .entry))) ⌝ }
     {
         let phase = self.phase;
         let in_phase = state_rows::is_gathering(phase);
-        let entry = entry_refusal(settings, self, desk, in_phase);
+        let entry = entry_refusal(settings, self, seen, in_phase);
         if entry.code != 0 {
-            return Outcome {
-                state: self,
-                answer: Answer::Refused(entry),
-            };
+            return refuse(self, entry);
         }
-        let reading = report_kept::read_beside(
+        let taken = report_kept::take_in(
             settings,
             self.kept,
             self.termination,
             self.latest,
             message,
         );
-        let refusal = reading.refusal;
+        let refusal = taken.refusal;
         if refusal.code != 0 {
-            return Outcome {
-                state: self,
-                answer: Answer::Refused(refusal),
-            };
+            return refuse(self, refusal);
         }
-        let contents = reading.contents;
-        let node = contents.node;
-        report_desk::store(desk, node, message);
-        Outcome {
-            state: after_report(settings, self, contents),
-            answer: Answer::Accepted,
+        accept(after_report(self, taken))
+    }
+
+    // A node reports: its message is copied to its slot of the desk, and the node is held.
+    pub fn report(self, settings: &[u32], desk: &mut [u32], message: &[u32]) -> Outcome
+        ensures outcome { λ r. ⌜ r ≡ Events.reported (now (settings .entry)) self (now (desk .entry)) (now (message .entry)) ⌝ }
+        ensures desk { λ r. ⌜ now (desk .exit) ≡ Events.deskAfter (now (settings .entry)) self (now (desk .entry)) (now (message .entry)) ⌝ }
+    {
+        let refusal = call_refusal(settings, desk);
+        if refusal.code != 0 {
+            return refuse(self, refusal);
         }
+        let seen = plan_seen::see(settings, self.kept, self.termination, self.held, desk);
+        let outcome = State::report_seen(self, settings, seen, message);
+        let answer = outcome.answer;
+        if !is_accepted(answer) {
+            return outcome;
+        }
+        report_desk::store(desk, Node(message[0]), message);
+        outcome
+    }
+
+    // A node is no longer there, beside what the desk tells.
+    pub fn drop_seen(self, settings: &[u32], seen: Seen, node: Node) -> Outcome
+        requires { ⌜ Settings (now settings) ⌝ }
+        ensures { λ r. ⌜ ((d : List ℕ) → length d ≡ 16384 → seen ≡ seenOf (now (settings .entry)) (self .kept) (self .termination) (self .held) d → r ≡ Events.dropped (now (settings .entry)) self d (node .0)) ⌝ }
+    {
+        let phase = self.phase;
+        let in_phase = !state_rows::is_committed(phase);
+        let known = base_masks::has(self.held, node.0 as usize);
+        let refusal = event_refusal_seen(settings, self, seen, in_phase, node, known);
+        if refusal.code != 0 {
+            return refuse(self, refusal);
+        }
+        accept(after_drop(self, node))
     }
 
     // A node is no longer there.
     pub fn drop(self, settings: &[u32], desk: &[u32], node: Node) -> Outcome
         ensures { λ r. ⌜ r ≡ Events.dropped (now (settings .entry)) self (now (desk .entry)) (node .0) ⌝ }
     {
+        let refusal = call_refusal(settings, desk);
+        if refusal.code != 0 {
+            return refuse(self, refusal);
+        }
+        let seen = plan_seen::see(settings, self.kept, self.termination, self.held, desk);
+        State::drop_seen(self, settings, seen, node)
+    }
+
+    // A node has fetched what it lacked, beside what the desk tells.
+    pub fn fetched_seen(self, settings: &[u32], seen: Seen, node: Node) -> Outcome
+        requires { ⌜ Settings (now settings) ⌝ }
+        ensures { λ r. ⌜ ((d : List ℕ) → length d ≡ 16384 → seen ≡ seenOf (now (settings .entry)) (self .kept) (self .termination) (self .held) d → r ≡ Events.fetchedOf (now (settings .entry)) self d (node .0)) ⌝ }
+    {
         let phase = self.phase;
-        let in_phase = !state_rows::is_committed(phase);
-        let known = base_masks::has(self.held, node.0 as usize);
-        settled(
-            settings,
-            self,
-            desk,
-            in_phase,
-            node,
-            known,
-            after_drop(self, node),
-        )
+        let in_phase = state_rows::is_ordered(phase);
+        let known = state_rows::lacks(self.held, self.fetched, node);
+        let refusal = event_refusal_seen(settings, self, seen, in_phase, node, known);
+        if refusal.code != 0 {
+            return refuse(self, refusal);
+        }
+        accept(after_fetched(self, node))
     }
 
     // A node has fetched what it lacked.
     pub fn fetched(self, settings: &[u32], desk: &[u32], node: Node) -> Outcome
         ensures { λ r. ⌜ r ≡ Events.fetchedOf (now (settings .entry)) self (now (desk .entry)) (node .0) ⌝ }
     {
+        let refusal = call_refusal(settings, desk);
+        if refusal.code != 0 {
+            return refuse(self, refusal);
+        }
+        let seen = plan_seen::see(settings, self.kept, self.termination, self.held, desk);
+        State::fetched_seen(self, settings, seen, node)
+    }
+
+    // A node has prepared the new view, beside what the desk tells.
+    pub fn prepared_seen(self, settings: &[u32], seen: Seen, node: Node) -> Outcome
+        requires { ⌜ Settings (now settings) ⌝ }
+        ensures { λ r. ⌜ ((d : List ℕ) → length d ≡ 16384 → seen ≡ seenOf (now (settings .entry)) (self .kept) (self .termination) (self .held) d → r ≡ Events.preparedOf (now (settings .entry)) self d (node .0)) ⌝ }
+    {
         let phase = self.phase;
-        let in_phase = state_rows::is_ordered(phase);
-        let known = state_rows::lacks(self.held, self.fetched, node);
-        settled(
-            settings,
-            self,
-            desk,
-            in_phase,
-            node,
-            known,
-            after_fetched(self, node),
-        )
+        let in_phase = state_rows::is_preparing(phase);
+        let known = state_rows::lacks(self.held, self.prepared, node);
+        let refusal = event_refusal_seen(settings, self, seen, in_phase, node, known);
+        if refusal.code != 0 {
+            return refuse(self, refusal);
+        }
+        accept(after_prepared(self, node))
     }
 
     // A node has prepared the new view.
     pub fn prepared(self, settings: &[u32], desk: &[u32], node: Node) -> Outcome
         ensures { λ r. ⌜ r ≡ Events.preparedOf (now (settings .entry)) self (now (desk .entry)) (node .0) ⌝ }
     {
-        let phase = self.phase;
-        let in_phase = state_rows::is_preparing(phase);
-        let known = state_rows::lacks(self.held, self.prepared, node);
-        settled(
-            settings,
-            self,
-            desk,
-            in_phase,
-            node,
-            known,
-            after_prepared(self, node),
-        )
+        let refusal = call_refusal(settings, desk);
+        if refusal.code != 0 {
+            return refuse(self, refusal);
+        }
+        let seen = plan_seen::see(settings, self.kept, self.termination, self.held, desk);
+        State::prepared_seen(self, settings, seen, node)
     }
 
-    // A plan for the held nodes, or the first reason to wait.
-    pub fn decide(self, settings: &[u32], desk: &[u32]) -> Decided
-        ensures { λ r. ⌜ Decide.Decides (now (settings .entry)) self (now (desk .entry)) r ⌝ }
+    // A plan for the held nodes, or the first reason to wait, beside what the desk tells.
+    pub fn decide_seen(self, settings: &[u32], seen: Seen) -> Decided
+        requires { ⌜ Settings (now settings) ⌝ }
+        ensures { λ r. ⌜ ((d : List ℕ) → length d ≡ 16384 → seen ≡ seenOf (now (settings .entry)) (self .kept) (self .termination) (self .held) d → Decide.Decides (now (settings .entry)) self d r) ⌝ }
     {
         let phase = self.phase;
         let in_phase = state_rows::is_gathering(phase);
-        let refusal = entry_refusal(settings, self, desk, in_phase);
+        let refusal = entry_refusal(settings, self, seen, in_phase);
         if refusal.code != 0 {
             return Decided {
                 state: self,
                 decision: Decision::Refused(refusal),
             };
         }
-        let verdict = plan_restart::restart(settings, self.kept, self.termination, self.held, desk);
+        let verdict = plan_restart::restart(settings, self.kept, self.held, seen);
         after_verdict(self, verdict)
+    }
+
+    // A plan for the held nodes, or the first reason to wait.
+    pub fn decide(self, settings: &[u32], desk: &[u32]) -> Decided
+        ensures { λ r. ⌜ Decide.Decides (now (settings .entry)) self (now (desk .entry)) r ⌝ }
+    {
+        let refusal = call_refusal(settings, desk);
+        if refusal.code != 0 {
+            return Decided {
+                state: self,
+                decision: Decision::Refused(refusal),
+            };
+        }
+        let seen = plan_seen::see(settings, self.kept, self.termination, self.held, desk);
+        State::decide_seen(self, settings, seen)
+    }
+
+    // Whether the state is sound beside these settings and what the desk tells, in whatever phase it is: row 3.
+    pub fn check_seen(self, settings: &[u32], seen: Seen) -> Refusal
+        requires { ⌜ Settings (now settings) ⌝ }
+        ensures { λ r. ⌜ ((d : List ℕ) → length d ≡ 16384 → seen ≡ seenOf (now (settings .entry)) (self .kept) (self .termination) (self .held) d → r ≡ Refusing.checkRefusal (now (settings .entry)) self d) ⌝ }
+    {
+        entry_refusal(settings, self, seen, true)
     }
 
     // Whether the state is sound beside these settings and this desk, in whatever phase it is: rows 1 to 3.
     pub fn check(self, settings: &[u32], desk: &[u32]) -> Refusal
         ensures { λ r. ⌜ r ≡ Refusing.checkRefusal (now (settings .entry)) self (now (desk .entry)) ⌝ }
     {
-        entry_refusal(settings, self, desk, true)
+        let refusal = call_refusal(settings, desk);
+        if refusal.code != 0 {
+            return refusal;
+        }
+        let seen = plan_seen::see(settings, self.kept, self.termination, self.held, desk);
+        State::check_seen(self, settings, seen)
     }
 }

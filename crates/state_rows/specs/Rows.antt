@@ -26,6 +26,10 @@ partsSound σ d phase v t held fetched prepared p m =
 abbrev pub entryRows : Bool → Bool → Bool → Bool → Refusal
 entryRows lengths settings sound inPhase = unless lengths 1 (unless settings 2 (unless sound 3 (unless inPhase 4 none)))
 
+-- rows 3 and 4: what follows where lengths and settings are right
+abbrev pub soundRows : Bool → Bool → Refusal
+soundRows sound inPhase = unless sound 3 (unless inPhase 4 none)
+
 -- row 14, after row 6, for a node that an event names
 unfoldable pub nodeRefusal : List ℕ → ℕ → Bool → Refusal
 nodeRefusal σ n ok = unless (ltb n (nodes σ)) 6 (unless ok 14 none)

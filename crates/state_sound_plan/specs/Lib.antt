@@ -1,2 +1,2 @@
--- A plan held against the standing of the held reports.
+-- A plan held against what the desk tells.
 pub mod Matches

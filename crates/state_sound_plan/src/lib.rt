@@ -1,20 +1,21 @@
-// Whether a plan is sound: the standing of the held reports is found once, and the plan is held against it part by part.
+// Whether a plan is sound: it is held, part by part, against the holders and targets that the desk tells.
 use base_ids::Node;
 use base_ids::Position;
+use plan_seen::Seen;
 use report_views::Layout;
 use report_views::Phase;
 use report_views::Plan;
 use report_views::Quorum;
-use report_views::Standing;
-use report_views::Termination;
 ghost use mathlib.Core.Bool.{true, _&&_};
+ghost use mathlib.Core.List.{List};
 ghost use mathlib.Core.Path.{_≡_};
-ghost use Prim.Native.Nat.{_<_, _^_};
+ghost use Prim.Native.Nat.{ℕ, _<_, _^_};
 ghost use lib.Dec.{eqb};
-ghost use lib.ListN.{length};
 ghost use Rattle.settings_values.specs.Settings.{Settings, nodes};
 ghost use Rattle.report_views.specs.Slots.{samePosition, slotsOk};
+ghost use Rattle.report_views.specs.declared.Termination.{Termination};
 ghost use Rattle.report_views.specs.Soundness as Soundness;
+ghost use Rattle.plan_seen.specs.Sight.{seenOf};
 ghost use Rattle.state_sound_plan.specs.Matches as Matches;
 
 // Waits 1 to 4 do not apply.
@@ -42,14 +43,14 @@ fn same_shard(holder: Node, target: Position, other: Node, goal: Position) -> bo
     target.k == goal.k
 }
 
-// The plan's holders and targets are the standing's.
-fn same_shards(p: Plan, st: Standing) -> bool
-    ensures { λ r. ⌜ r ≡ Matches.sameShards p st ⌝ }
+// The plan's holders and targets are those that the desk tells.
+fn same_shards(p: Plan, seen: Seen) -> bool
+    ensures { λ r. ⌜ r ≡ Matches.sameShards p seen ⌝ }
 {
     let holders = p.holders;
     let targets = p.targets;
-    let others = st.holders;
-    let goals = st.targets;
+    let others = seen.holders;
+    let goals = seen.targets;
     let mut s: usize = 0;
     while s < 16 {
         if !same_shard(holders[s], targets[s], others[s], goals[s]) {
@@ -102,13 +103,14 @@ fn all_moves(settings: &[u32], old: Layout, new: Layout) -> usize
     total
 }
 
-// The plan agrees with the standing, its placements are valid and its total is that of their moves.
-fn matches(settings: &[u32], v: Layout, held: u32, p: Plan, st: Standing) -> bool
+// The plan agrees with what the desk tells, its placements are valid and its total is that of their moves.
+fn matches(settings: &[u32], v: Layout, held: u32, p: Plan, seen: Seen) -> bool
     requires { ⌜ Settings (now settings) ⌝ }
     requires { ⌜ held < 2 ^ nodes (now settings) ⌝ }
-    ensures { λ r. ⌜ r ≡ Matches.matches (now (settings .entry)) v held p st ⌝ }
+    ensures { λ r. ⌜ r ≡ Matches.matches (now (settings .entry)) v held p seen ⌝ }
 {
-    let quorum = st.quorum;
+    let holders = seen.holders;
+    let quorum = plan_quorum::quorum(settings, v, held, holders);
     if !is_met(quorum) {
         return false;
     }
@@ -118,7 +120,7 @@ fn matches(settings: &[u32], v: Layout, held: u32, p: Plan, st: Standing) -> boo
     if !state_sound_parts::layout_tidy(settings, p.layout) {
         return false;
     }
-    if !same_shards(p, st) {
+    if !same_shards(p, seen) {
         return false;
     }
     if !groups_valid(settings, held, p.layout) {
@@ -128,44 +130,34 @@ fn matches(settings: &[u32], v: Layout, held: u32, p: Plan, st: Standing) -> boo
 }
 
 // The plan is sound beside what is kept and the held reports.
-pub fn plan_sound(
-    settings: &[u32],
-    v: Layout,
-    t: Termination,
-    held: u32,
-    desk: &[u32],
-    p: Plan,
-) -> bool
+fn plan_sound(settings: &[u32], v: Layout, held: u32, seen: Seen, p: Plan) -> bool
     requires { ⌜ Settings (now settings) ⌝ }
-    requires { ⌜ length (now desk) ≡ 16384 ⌝ }
-    requires { ⌜ slotsOk (now settings) v t held (now desk) ≡ true ⌝ }
     requires { ⌜ held < 2 ^ nodes (now settings) ⌝ }
-    ensures { λ r. ⌜ r ≡ Soundness.planSound (now (settings .entry)) v t held (now (desk .entry)) p ⌝ }
+    ensures { λ r. ⌜ ((t : Termination) (d : List ℕ) → slotsOk (now (settings .entry)) v t held d ≡ true → seen ≡ seenOf (now (settings .entry)) v t held d → r ≡ Soundness.planSound (now (settings .entry)) v t held d p) ⌝ }
 {
-    let st = plan_standing::standing(settings, v, t, held, desk);
-    matches(settings, v, held, p, st)
+    matches(settings, v, held, p, seen)
+}
+
+// The phases in which a plan stands.
+fn has_plan(phase: Phase) -> bool
+    ensures { λ r. ⌜ r ≡ Matches.hasPlan phase ⌝ }
+{
+    match phase {
+        Phase::Gathering => false,
+        Phase::Ordered => true,
+        Phase::Preparing => true,
+        Phase::Committed => true,
+    }
 }
 
 // The plan is as the phase says.
-pub fn plan_fits(
-    phase: Phase,
-    settings: &[u32],
-    v: Layout,
-    t: Termination,
-    held: u32,
-    desk: &[u32],
-    p: Plan,
-) -> bool
+pub fn plan_fits(phase: Phase, settings: &[u32], v: Layout, held: u32, seen: Seen, p: Plan) -> bool
     requires { ⌜ Settings (now settings) ⌝ }
-    requires { ⌜ length (now desk) ≡ 16384 ⌝ }
-    requires { ⌜ slotsOk (now settings) v t held (now desk) ≡ true ⌝ }
     requires { ⌜ held < 2 ^ nodes (now settings) ⌝ }
-    ensures { λ r. ⌜ r ≡ Soundness.planFits phase (now (settings .entry)) v t held (now (desk .entry)) p ⌝ }
+    ensures { λ r. ⌜ ((t : Termination) (d : List ℕ) → slotsOk (now (settings .entry)) v t held d ≡ true → seen ≡ seenOf (now (settings .entry)) v t held d → r ≡ Soundness.planFits phase (now (settings .entry)) v t held d p) ⌝ }
 {
-    match phase {
-        Phase::Gathering => state_sound_parts::plan_blank(p),
-        Phase::Ordered => plan_sound(settings, v, t, held, desk, p),
-        Phase::Preparing => plan_sound(settings, v, t, held, desk, p),
-        Phase::Committed => plan_sound(settings, v, t, held, desk, p),
+    if !has_plan(phase) {
+        return state_sound_parts::plan_blank(p);
     }
+    plan_sound(settings, v, held, seen, p)
 }

@@ -17,6 +17,10 @@ unfoldable pub wordAt : List ℕ → ℕ → ℕ
 wordAt bytes i =
     wordFrom (getD bytes (4 * i) 0) (getD bytes (4 * i + 1) 0) (getD bytes (4 * i + 2) 0) (getD bytes (4 * i + 3) 0)
 
+-- words 2 i and 2 i + 1 of the bytes as one number, word 2 i in the lower half
+abbrev pub pairAt : List ℕ → ℕ → ℕ
+pairAt bytes i = wordAt bytes (2 * i) + 4294967296 * wordAt bytes (2 * i + 1)
+
 -- the first n words of the bytes
 unfoldable pub wordsOf : List ℕ → ℕ → List ℕ
 wordsOf bytes n = tabulate n (wordAt bytes)
@@ -75,6 +79,20 @@ pub byte-of-zero : (words : List ℕ) (i : ℕ) → byteAt words (4 * i) ≡ get
 byte-of-zero words i =
     let e : getD words i 0 / 256 ^ 0 ≡ getD words i 0 = omega arith in
     ap (byteAt words) (sym (add-zero (4 * i))) ∙ byte-of words i 0 (omega arith) ∙ ap (λ (x : ℕ). x % 256) e
+
+-- bytes 8 i to 8 i + 7 make words 2 i and 2 i + 1
+pub pair-bytes : (bytes : List ℕ) (i : ℕ)
+    → wordFrom (getD bytes (8 * i) 0) (getD bytes (8 * i + 1) 0) (getD bytes (8 * i + 2) 0) (getD bytes (8 * i + 3) 0)
+    + 4294967296 * wordFrom (getD bytes (8 * i + 4) 0) (getD bytes (8 * i + 5) 0) (getD bytes (8 * i + 6) 0) (getD bytes (8 * i + 7) 0)
+    ≡ pairAt bytes i
+unfolding wordAt
+pair-bytes bytes i =
+    let e0 : 4 * (2 * i) ≡ 8 * i = omega arith in
+    let e4 : 4 * (2 * i + 1) ≡ 8 * i + 4 = omega arith in
+    let e5 : 8 * i + 4 + 1 ≡ 8 * i + 5 = omega arith in
+    let e6 : 8 * i + 4 + 2 ≡ 8 * i + 6 = omega arith in
+    let e7 : 8 * i + 4 + 3 ≡ 8 * i + 7 = omega arith in
+    rw (e0, e4, e5, e6, e7)
 
 -- ---- loops that store
 

@@ -66,36 +66,43 @@ within-cases most bytes = ⊎-elim (λ e. inl (rw e)) (λ e. inr (few e, many e)
 
 -- ---- a table that holds, in its first n places, the words that a call looks at, and zeros after them
 
-pub record HoldsWords (table : List ℕ) (n most : ℕ) (bytes : List ℕ) : Type 0 where
+pub record HoldsIn (size : ℕ) (table : List ℕ) (n most : ℕ) (bytes : List ℕ) : Type 0 where
   pub few : n ≤ most
   pub count : n ≡ length (wordsWithin most bytes)
-  pub room : length table ≡ 512
+  pub room : length table ≡ size
   pub front : take (n - 0) (drop 0 table) ≡ wordsWithin most bytes
-  pub whole : table ≡ padded 512 (wordsWithin most bytes)
+  pub whole : table ≡ padded size (wordsWithin most bytes)
+
+-- a table of 512 words, and one for settings
+abbrev pub HoldsWords : List ℕ → ℕ → ℕ → List ℕ → Type 0
+HoldsWords = HoldsIn 512
+
+abbrev pub HoldsSettings : List ℕ → ℕ → List ℕ → Type 0
+HoldsSettings table n bytes = HoldsIn 52 table n 52 bytes
 
 -- the part of a table of zeros into which the words are stored
 module _ (most n : ℕ) (bytes : List ℕ) (e : n ≡ countWithin most (length bytes)) where
   pub part-fits : (table : List ℕ) → 4 * length (take (n - 0) table) ≤ length bytes
   part-fits table = omega (arith, length-take (n - 0) table, within-fits most (length bytes))
 
-  pub part-holds : n ≤ 512 → (front : List ℕ) → front ≡ wordsOf bytes (length (take (n - 0) (zeros 512)))
-      → HoldsWords (front ++ drop (n - 0) (zeros 512)) n most bytes
+  pub part-holds : (size : ℕ) → n ≤ size → (front : List ℕ) → front ≡ wordsOf bytes (length (take (n - 0) (zeros size)))
+      → HoldsIn size (front ++ drop (n - 0) (zeros size)) n most bytes
   unfolding wordsWithin
-  part-holds room front f =
-      let long : length (take (n - 0) (zeros 512)) ≡ countWithin most (length bytes) =
-      omega (arith, length-take (n - 0) (zeros 512), length-replicate {A = ℕ} 512 0) in
+  part-holds size room front f =
+      let long : length (take (n - 0) (zeros size)) ≡ countWithin most (length bytes) =
+      omega (arith, length-take (n - 0) (zeros size), length-replicate {A = ℕ} size 0) in
       let words : front ≡ wordsOf bytes (countWithin most (length bytes)) =
       f ∙ ap (wordsOf bytes) long in
       let len : length front ≡ n = ap length words ∙ length-words bytes (countWithin most (length bytes)) ∙ sym e in
-      let rest : 512 - (n - 0) ≡ 512 - length front = omega arith in
+      let rest : size - (n - 0) ≡ size - length front = omega arith in
       record {
         few = omega (arith, within-le most (length bytes));
         count = sym len ∙ ap length words;
-        room = length-append front (drop (n - 0) (zeros 512)) ∙ omega (arith, length-drop (n - 0) (zeros 512), length-replicate {A = ℕ} 512 0);
-        front = take-at front (drop (n - 0) (zeros 512)) (n - 0) (omega arith) ∙ words;
+        room = length-append front (drop (n - 0) (zeros size)) ∙ omega (arith, length-drop (n - 0) (zeros size), length-replicate {A = ℕ} size 0);
+        front = take-at front (drop (n - 0) (zeros size)) (n - 0) (omega arith) ∙ words;
         whole =
             ap (λ (r : List ℕ). front ++ r)
-            (zeros-left 512 (n - 0) (omega arith) ∙ ap zeros rest)
-            ∙ padded-append 512 front (omega arith)
-            ∙ ap (padded 512) words;
+            (zeros-left size (n - 0) (omega arith) ∙ ap zeros rest)
+            ∙ padded-append size front (omega arith)
+            ∙ ap (padded size) words;
       }

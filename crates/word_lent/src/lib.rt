@@ -2,12 +2,18 @@
 ghost use mathlib.Core.Path.{_≡_};
 ghost use Prim.Native.Nat.{_≤_};
 ghost use Rattle.word_lent.specs.Answers.{withLength};
-ghost use Rattle.word_lent.specs.Lent.{countWithin, HoldsWords};
+ghost use Rattle.word_lent.specs.Lent.{countWithin, HoldsWords, HoldsSettings};
 
 // The words of lent bytes: the first len of the table.
 pub struct Lent {
     pub len: usize,
     pub table: [u32; 512],
+}
+
+// The words of lent settings: the first len of the table.
+pub struct LentSettings {
+    pub len: usize,
+    pub table: [u32; 52],
 }
 
 // How many words so many bytes are, for a call that looks at no more than `most`; 0 where they are more, or no whole words.
@@ -32,6 +38,16 @@ pub fn words_of(most: usize, bytes: &[u8]) -> Lent
     let mut table = [0u32; 512];
     word_bytes::decode(bytes, &mut table[0..len]);
     Lent { len, table }
+}
+
+// The words of settings, which are at most 52.
+pub fn settings_of(bytes: &[u8]) -> LentSettings
+    ensures { λ r. ⌜ HoldsSettings (r .table) (r .len) (now (bytes .entry)) ⌝ }
+{
+    let len = count_within(52, bytes.len());
+    let mut table = [0u32; 52];
+    word_bytes::decode(bytes, &mut table[0..len]);
+    LentSettings { len, table }
 }
 
 // The number of words, of which there are few, as an answer.

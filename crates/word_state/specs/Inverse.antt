@@ -215,12 +215,13 @@ module _ (x : State) where
           let half : (2 * s + 1) / 2 ≡ s = omega arith in
           sym (word (at + 2 * s + 1) (omega arith) ∙ h (at + 2 * s + 1) (omega arith) (omega arith) ∙ rw (back, odd, half))
 
-  masks-at : (k : ℕ) → 4 ≤ k → k < 20 → stateWord x k ≡ getD (x .kept .masks) (k - 4) 0
+  -- the words of each part
+  pub masks-at : (k : ℕ) → 4 ≤ k → k < 20 → stateWord x k ≡ getD (x .kept .masks) (k - 4) 0
   unfolding stateWord keptWord
   masks-at k l m =
       simp (lt-ltb k 52 (omega arith), le-ltb k 1 (omega arith), le-ltb k 2 (omega arith), le-ltb k 3 (omega arith), le-ltb k 4 l, lt-ltb k 20 m)
 
-  positions-at : (k : ℕ) → 20 ≤ k → k < 52 → stateWord x k ≡ positionWord (positionAt (x .termination)) (k - 20)
+  pub positions-at : (k : ℕ) → 20 ≤ k → k < 52 → stateWord x k ≡ positionWord (positionAt (x .termination)) (k - 20)
   unfolding stateWord keptWord
   positions-at k l m =
       simp (lt-ltb k 52 m, le-ltb k 1 (omega arith), le-ltb k 2 (omega arith), le-ltb k 3 (omega arith), le-ltb k 4 (omega arith), le-ltb k 20 l)
@@ -230,30 +231,30 @@ module _ (x : State) where
   plan-at k l m =
       simp (le-ltb k 52 (omega arith), le-ltb k 53 (omega arith), le-ltb k 54 (omega arith), le-ltb k 55 l, lt-ltb k 122 m)
 
-  plan-masks-at : (k : ℕ) → 58 ≤ k → k < 74 → stateWord x k ≡ getD (x .plan .layout .masks) (k - 58) 0
+  pub plan-masks-at : (k : ℕ) → 58 ≤ k → k < 74 → stateWord x k ≡ getD (x .plan .layout .masks) (k - 58) 0
   unfolding planWord
   plan-masks-at k l m =
       plan-at k (omega arith) (omega arith)
       ∙ simp (le-ltb k 56 (omega arith), le-ltb k 57 (omega arith), le-ltb k 58 l, lt-ltb k 74 m)
 
-  holders-at : (k : ℕ) → 74 ≤ k → k < 90 → stateWord x k ≡ holderAt (x .plan) (k - 74)
+  pub holders-at : (k : ℕ) → 74 ≤ k → k < 90 → stateWord x k ≡ holderAt (x .plan) (k - 74)
   unfolding planWord
   holders-at k l m =
       plan-at k (omega arith) (omega arith)
       ∙ simp (le-ltb k 56 (omega arith), le-ltb k 57 (omega arith), le-ltb k 58 (omega arith), le-ltb k 74 l, lt-ltb k 90 m)
 
-  targets-at : (k : ℕ) → 90 ≤ k → k < 122 → stateWord x k ≡ positionWord (targetAt (x .plan)) (k - 90)
+  pub targets-at : (k : ℕ) → 90 ≤ k → k < 122 → stateWord x k ≡ positionWord (targetAt (x .plan)) (k - 90)
   unfolding planWord
   targets-at k l m =
       plan-at k (omega arith) m
       ∙ simp (le-ltb k 56 (omega arith), le-ltb k 57 (omega arith), le-ltb k 58 (omega arith), le-ltb k 74 (omega arith), le-ltb k 90 l)
 
-  views-at : (k : ℕ) → 122 ≤ k → k < 154 → stateWord x k ≡ latestAt (x .latest) (k - 122)
+  pub views-at : (k : ℕ) → 122 ≤ k → k < 154 → stateWord x k ≡ latestAt (x .latest) (k - 122)
   unfolding stateWord latestWord
   views-at k l m =
       simp (le-ltb k 52 (omega arith), le-ltb k 53 (omega arith), le-ltb k 54 (omega arith), le-ltb k 55 (omega arith), le-ltb k 122 l, lt-ltb k 154 m)
 
-  rest-at : (k : ℕ) → 154 ≤ k → stateWord x k ≡ 0
+  pub rest-at : (k : ℕ) → 154 ≤ k → stateWord x k ≡ 0
   unfolding stateWord
   rest-at k l =
       simp (le-ltb k 52 (omega arith), le-ltb k 53 (omega arith), le-ltb k 54 (omega arith), le-ltb k 55 (omega arith), le-ltb k 122 (omega arith), le-ltb k 154 l)

@@ -4,19 +4,12 @@ use mathlib.Core.Bool.{true, _&&_}
 use mathlib.Core.List.{List}
 use Prim.Native.Nat.{ℕ, _+_, _≤_, _<_}
 use lib.Dec.{eqb, leb}
-use lib.ListN.{length, getD, replicate, length-replicate}
+use lib.ListN.{length, getD}
 use borrow.Author.Tests.{eqb-true, leb-true}
 use Rattle.base_laws.specs.Bools.{and-left, and-right}
 use Rattle.base_laws.specs.Below.{all-at}
 use Rattle.base_laws.specs.Tables.{filled, filled-all}
-use Rattle.state_planner.specs.declared.State.{State}
-use Rattle.word_state.specs.StateWords.{stateWord, stateWords, span, restZero, isState}
-
-pub words-filled : (x : State) (k : ℕ) → k ≡ 160 → filled k (stateWord x) (replicate 160 0) ≡ stateWords x
-unfolding stateWords
-words-filled x k e =
-    ap (λ (n : ℕ). filled n (stateWord x) (replicate 160 0)) e
-    ∙ filled-all 160 (stateWord x) (replicate 160 0) (length-replicate {A = ℕ} 160 0)
+use Rattle.word_state.specs.StateWords.{span, restZero, isState}
 
 pub span-filled : (w : List ℕ) (at : ℕ) (l : List ℕ) (k : ℕ) → k ≡ length l
     → filled k (λ i. getD w (at + i) 0) l ≡ span w at (length l)

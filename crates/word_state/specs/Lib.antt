@@ -2,3 +2,4 @@
 pub mod StateWords
 pub mod Laws
 pub mod Inverse
+pub mod Stores

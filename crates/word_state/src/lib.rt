@@ -9,10 +9,13 @@ use report_views::Plan;
 use report_views::Termination;
 use state_planner::State;
 ghost use mathlib.Core.Path.{_≡_};
-ghost use Prim.Native.Nat.{_+_, _≤_, _<_};
-ghost use lib.ListN.{length};
-ghost use Rattle.report_views.specs.PositionTables.{positionWord};
+ghost use Prim.Native.Nat.{_+_, _≤_};
+ghost use lib.ListN.{length, getD, set};
+ghost use Rattle.base_laws.specs.Loops.{turns};
+ghost use Rattle.report_views.specs.Logs.{start};
+ghost use Rattle.report_views.specs.Reports.{nodeAt};
 ghost use Rattle.word_state.specs.StateWords as StateWords;
+ghost use Rattle.word_state.specs.Stores as Stores;
 
 // What words say: whether they are a state, and the state; the fresh state where they are none.
 pub struct Decoded {
@@ -37,106 +40,90 @@ fn flag(made: bool) -> u32
     if made { 1 } else { 0 }
 }
 
-// A word of a position: its view where i is even, its k where i is odd.
-fn position_word(p: Position, i: usize) -> u32
-    ensures { λ r. ⌜ r ≡ positionWord (λ s. p) i ⌝ }
+// Stores the two words of a position from a place on.
+fn put_position(words: &mut [u32; 160], at: usize, p: Position)
+    requires { ⌜ at + 2 ≤ 160 ⌝ }
+    ensures { λ _. ⌜ now (words .exit) ≡ set (set (now (words .entry)) at (p .view .0)) (at + 1) (p .k) ⌝ }
 {
     let view = p.view;
-    if i % 2 == 0 {
-        return view.0;
-    }
-    p.k
+    words[at] = view.0;
+    words[at + 1] = p.k;
 }
 
-// Words 0 to 51: the phase, the kept view and its termination.
-fn kept_word(x: State, k: usize) -> u32
-    requires { ⌜ k < 52 ⌝ }
-    ensures { λ r. ⌜ r ≡ StateWords.keptWord x k ⌝ }
+// Stores 16 positions from a place on, two words each.
+fn put_positions(words: &mut [u32; 160], at: usize, positions: [Position; 16])
+    requires { ⌜ at + 32 ≤ 160 ⌝ }
+    ensures { λ _. ⌜ now (words .exit) ≡ turns 16 (Stores.storePosition (λ s. getD positions s start) at) (now (words .entry)) ⌝ }
 {
-    let phase = x.phase;
-    let kept = x.kept;
-    let masks = kept.masks;
-    let termination = x.termination;
+    let mut s: usize = 0;
+    while s < 16 {
+        put_position(words, at + 2 * s, positions[s]);
+        s += 1;
+    }
+}
+
+// Stores 16 masks from a place on.
+fn put_masks(words: &mut [u32; 160], at: usize, masks: &[u32; 16])
+    requires { ⌜ at + 16 ≤ 160 ⌝ }
+    ensures { λ _. ⌜ now (words .exit) ≡ turns 16 (Stores.storeWord (λ s. getD (now (masks .entry)) s 0) at) (now (words .entry)) ⌝ }
+{
+    let mut s: usize = 0;
+    while s < 16 {
+        words[at + s] = masks[s];
+        s += 1;
+    }
+}
+
+// Stores the plan's holders.
+fn put_holders(words: &mut [u32; 160], holders: [Node; 16])
+    ensures { λ _. ⌜ now (words .exit) ≡ turns 16 (Stores.storeWord (nodeAt holders) 74) (now (words .entry)) ⌝ }
+{
+    let mut s: usize = 0;
+    while s < 16 {
+        let holder = holders[s];
+        words[74 + s] = holder.0;
+        s += 1;
+    }
+}
+
+// Stores each node's greatest reported view.
+fn put_views(words: &mut [u32; 160], views: [View; 32])
+    ensures { λ _. ⌜ now (words .exit) ≡ turns 32 (Stores.storeWord (Stores.viewNumberAt views) 122) (now (words .entry)) ⌝ }
+{
+    let mut n: usize = 0;
+    while n < 32 {
+        let view = views[n];
+        words[122 + n] = view.0;
+        n += 1;
+    }
+}
+
+// Stores the phase, the kept view and its termination.
+fn put_kept(words: &mut [u32; 160], phase: u32, kept: Layout, termination: Termination)
+    ensures { λ _. ⌜ now (words .exit) ≡ Stores.storeKept phase kept termination (now (words .entry)) ⌝ }
+{
+    words[0] = phase;
+    words[1] = kept.number.0;
+    words[2] = kept.members;
+    words[3] = flag(termination.made);
+    put_masks(words, 4, &kept.masks);
     let positions = termination.positions;
-    if k < 1 {
-        return phase_number(phase);
-    }
-    if k < 2 {
-        return kept.number.0;
-    }
-    if k < 3 {
-        return kept.members;
-    }
-    if k < 4 {
-        return flag(termination.made);
-    }
-    if k < 20 {
-        return masks[k - 4];
-    }
-    position_word(positions[(k - 20) / 2], k - 20)
+    put_positions(words, 20, positions);
 }
 
-// Words 55 to 121: the plan.
-fn plan_word(p: Plan, k: usize) -> u32
-    requires { ⌜ (55 ≤ k) × (k < 122) ⌝ }
-    ensures { λ r. ⌜ r ≡ StateWords.planWord p k ⌝ }
+// Stores the plan.
+fn put_plan(words: &mut [u32; 160], plan: Plan)
+    ensures { λ _. ⌜ now (words .exit) ≡ Stores.storePlan plan (now (words .entry)) ⌝ }
 {
-    let layout = p.layout;
-    let masks = layout.masks;
-    let holders = p.holders;
-    let targets = p.targets;
-    if k < 56 {
-        return layout.number.0;
-    }
-    if k < 57 {
-        return layout.members;
-    }
-    if k < 58 {
-        return p.total;
-    }
-    if k < 74 {
-        return masks[k - 58];
-    }
-    if k < 90 {
-        let holder = holders[k - 74];
-        return holder.0;
-    }
-    position_word(targets[(k - 90) / 2], k - 90)
-}
-
-// Words 122 to 153: each node's greatest reported view.
-fn latest_word(m: Latest, k: usize) -> u32
-    requires { ⌜ (122 ≤ k) × (k < 154) ⌝ }
-    ensures { λ r. ⌜ r ≡ StateWords.latestWord m k ⌝ }
-{
-    let views = m.views;
-    let view = views[k - 122];
-    view.0
-}
-
-// Word k of a state.
-fn state_word(x: State, k: usize) -> u32
-    ensures { λ r. ⌜ r ≡ StateWords.stateWord x k ⌝ }
-{
-    if k < 52 {
-        return kept_word(x, k);
-    }
-    if k < 53 {
-        return x.held;
-    }
-    if k < 54 {
-        return x.fetched;
-    }
-    if k < 55 {
-        return x.prepared;
-    }
-    if k < 122 {
-        return plan_word(x.plan, k);
-    }
-    if k < 154 {
-        return latest_word(x.latest, k);
-    }
-    0
+    let layout = plan.layout;
+    words[55] = layout.number.0;
+    words[56] = layout.members;
+    words[57] = plan.total;
+    put_masks(words, 58, &layout.masks);
+    let holders = plan.holders;
+    put_holders(words, holders);
+    let targets = plan.targets;
+    put_positions(words, 90, targets);
 }
 
 // The words of a state.
@@ -144,11 +131,15 @@ pub fn encode(x: State) -> [u32; 160]
     ensures { λ r. ⌜ r ≡ StateWords.stateWords x ⌝ }
 {
     let mut words = [0u32; 160];
-    let mut k: usize = 0;
-    while k < 160 {
-        words[k] = state_word(x, k);
-        k += 1;
-    }
+    let phase = x.phase;
+    put_kept(&mut words, phase_number(phase), x.kept, x.termination);
+    words[52] = x.held;
+    words[53] = x.fetched;
+    words[54] = x.prepared;
+    put_plan(&mut words, x.plan);
+    let latest = x.latest;
+    let views = latest.views;
+    put_views(&mut words, views);
     words
 }
 

@@ -1,14 +1,13 @@
--- The settings are looked at whole, and the desk is.
-use Rattle.c_decide.specs.Cases.{decided-whole}
+-- The desk's words tell what the walk over its bytes tells.
 use borrow.Author.Needs.{needs}
+use Rattle.word_desk.specs.ByteDesk.{desk-length}
 use Rattle.c_decide.proofs.decided.Statement.{statement}
 use Rattle.c_decide.proofs.decided.Tie as tie
 
 returns : tie.Need-returns
-returns c = decided-whole _ _ _ _ _ _ (c .before .before .before .before .before .before .before .before .before .pre .0) (c .before .before .before .before .before .before .words-of .ensures .front) (c .before .before .before .before .desk-words .ensures) (c .decide .ensures)
+returns c =
+    let s = c .before .before .before .before in
+    c .decide-seen .ensures _ (desk-length (s .args .desk .now) (s .pre .1)) (c .before .see .ensures)
 
 pub decided-spec : {M : Type 1} → statement M
-decided-spec =
-    tie.close
-    (tie.spec (λ c κs. search needs) (λ c κs. search needs) (λ c. search needs) (λ c. search needs) (λ c. search needs) (λ c. search needs)
-    (λ c κs. search needs) returns)
+decided-spec = tie.close (tie.spec (λ c κs. search needs) (λ c κs. search needs) returns)

@@ -9,19 +9,19 @@ use Rattle.c_messages.proofs.check_settings.Statement.{statement}
 use Rattle.c_messages.proofs.check_settings.Tie as tie
 
 part-check-end : tie.Need-part-check-end
-part-check-end c = let h = c .before .before .words-of .ensures in omega arith
+part-check-end c = let h = c .before .before .settings-of .ensures in omega arith
 
 returns : tie.Need-returns
 returns c =
     check-wrong _
-    (ap settingsOk (sym (c .before .before .before .before .before .words-of .ensures .front))
+    (ap settingsOk (sym (c .before .before .before .before .before .settings-of .ensures .front))
     ∙ sym (c .before .check .ensures)
     ∙ not-true _ (c .if1 .taken))
 
 returns-2 : tie.Need-returns-2
 returns-2 c =
     check-right _
-    (ap settingsOk (sym (c .before .before .before .before .before .words-of .ensures .front))
+    (ap settingsOk (sym (c .before .before .before .before .before .settings-of .ensures .front))
     ∙ sym (c .before .check .ensures)
     ∙ not-false _ (c .if1 .left))
 

@@ -9,7 +9,7 @@ use Rattle.c_messages.proofs.read_lent.Tie as tie
 returns : tie.Need-returns
 returns c =
     c .read .ensures
-    ∙ ap₂ (readingOf _) (c .before .before .before .before .before .before .before .before .words-of .ensures .front) (c .before .before .before .before .before .before .words-of2 .ensures .front)
+    ∙ ap₂ (readingOf _) (c .before .before .before .before .before .before .before .before .settings-of .ensures .front) (c .before .before .before .before .before .before .words-of .ensures .front)
     ∙ reading-within _ _ _
 
 pub read-lent-spec : {M : Type 1} → statement M

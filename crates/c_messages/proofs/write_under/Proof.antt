@@ -7,7 +7,7 @@ use Rattle.c_messages.proofs.write_under.Tie as tie
 
 returns : tie.Need-returns
 returns c =
-    let front = c .before .before .before .before .before .before .before .words-of .ensures .front in
+    let front = c .before .before .before .before .before .before .before .settings-of .ensures .front in
     let given = c .before .before .write .ensures in
     (given .0 ∙ writing-within _ _ _ _ _ front, given .1 ∙ buffer-within _ _ _ _ _ front)
 

@@ -1,29 +1,24 @@
 -- Each answer follows from the tests on the way to it.
-use mathlib.Core.Path.{sym, _∙_}
 use borrow.Author.Tests.{not-true, not-false}
-use Rattle.c_state.specs.Calls.{entryRefused}
 use Rattle.base_ids.specs.Refusals.{unless}
-use Rattle.c_state.specs.CallLaws.{check-fails, check-holds}
-use borrow.Author.Needs.{needs}
 use Rattle.c_state.proofs.entry_refusal.Statement.{statement}
 use Rattle.c_state.proofs.entry_refusal.Tie as tie
 
 returns : tie.Need-returns
-unfolding entryRefused unless
-returns c = simp (not-true (c .before .before .args .lengths) (c .if1 .taken))
+unfolding unless
+returns c = simp (not-true (c .before .args .lengths) (c .if1 .taken))
 
 returns-2 : tie.Need-returns-2
-unfolding entryRefused unless
-returns-2 c = simp (not-false (c .before .before .before .before .args .lengths) (c .before .before .if1 .left), check-fails _ (λ e. c .if2 .taken (c .before .check-settings .ensures ∙ e)))
+unfolding unless
+returns-2 c = simp (not-false (c .before .before .args .lengths) (c .before .if1 .left), not-true (c .before .before .args .right) (c .if2 .taken))
 
 returns-3 : tie.Need-returns-3
-unfolding entryRefused unless
-returns-3 c = simp (not-false (c .before .before .before .before .before .args .lengths) (c .before .before .before .if1 .left), check-holds _ (sym (c .before .before .check-settings .ensures) ∙ c .before .if2 .left), not-true (c .before .before .before .before .before .args .ok) (c .if3 .taken))
+unfolding unless
+returns-3 c = simp (not-false (c .before .before .before .args .lengths) (c .before .before .if1 .left), not-false (c .before .before .before .args .right) (c .before .if2 .left), not-true (c .before .before .before .args .ok) (c .if3 .taken))
 
 returns-4 : tie.Need-returns-4
-unfolding entryRefused unless
-returns-4 c = simp (not-false (c .before .before .before .before .before .args .lengths) (c .before .before .before .if1 .left), check-holds _ (sym (c .before .before .check-settings .ensures) ∙ c .before .if2 .left), not-false (c .before .before .before .before .before .args .ok) (c .if3 .left))
+unfolding unless
+returns-4 c = simp (not-false (c .before .before .before .args .lengths) (c .before .before .if1 .left), not-false (c .before .before .before .args .right) (c .before .if2 .left), not-false (c .before .before .before .args .ok) (c .if3 .left))
 
 pub entry-refusal-spec : {M : Type 1} → statement M
-entry-refusal-spec =
-    tie.close (tie.spec returns (λ c κs. search needs) returns-2 returns-3 returns-4)
+entry-refusal-spec = tie.close (tie.spec returns returns-2 returns-3 returns-4)

@@ -7,10 +7,10 @@ use Rattle.hint_oracle.proofs.weigh.Statement.{statement}
 use Rattle.hint_oracle.proofs.weigh.Tie as tie
 
 abbrev Inv-loop : tie.InvT-loop
-Inv-loop mem sets costs h u v count w₀ i₀ w i = (i ≤ count) × (count ≤ 16) × (length w ≡ 256) × (length h ≡ 16) × (length u ≡ 16) × (length v ≡ 32)
+Inv-loop mem sets wants₀ rooms₀ nodes₀ pairs₀ count i₀ pairs i = (i ≤ count) × (count ≤ 16) × (length pairs ≡ length pairs₀)
 
 abbrev μ-loop : tie.MeasureT-loop
-μ-loop mem sets costs h u v count w₀ i₀ w i = count - i
+μ-loop mem sets wants₀ rooms₀ nodes₀ pairs₀ count i₀ pairs i = count - i
 
 pub weigh-spec : {M : Type 1} → statement M
 weigh-spec =

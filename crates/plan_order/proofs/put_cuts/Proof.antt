@@ -4,51 +4,52 @@ use native.Mathlib.Omega.{arith}
 use mathlib.Core.Logic.{⊎-elim}
 use mathlib.Core.Path.{sym, _∙_}
 use borrow.Author.Needs.{needs}
-use Rattle.plan_order.specs.Stores.{storeCutOf, position-stored, Storing, storing-start, storing-room, storing-end, storing-hit, storing-miss, record-hit, record-miss}
+use Rattle.plan_order.specs.Orders.{isMember}
+use Rattle.plan_order.specs.Stores.{storeTabled, Storing, storing-start, storing-room, storing-end, storing-hit, storing-miss, record-hit, record-miss}
 use Rattle.plan_order.proofs.put_cuts.Statement.{statement}
 use Rattle.plan_order.proofs.put_cuts.Tie as tie
 
 abbrev Inv-loop : tie.InvT-loop
-Inv-loop body₀ own len plan count desk node from layout j₀ s₀ body j s =
-    Storing from plan (node .0) (storeCutOf from plan desk own len (node .0)) count body₀ body j s
+Inv-loop body₀ cuts count node from layout j₀ s₀ body j s =
+    Storing from (isMember layout (node .0)) (storeTabled from (isMember layout (node .0)) cuts) count body₀ body j s
 
 abbrev μ-loop : tie.MeasureT-loop
-μ-loop body₀ own len plan count desk node from layout j₀ s₀ body j s = count - s
+μ-loop body₀ cuts count node from layout j₀ s₀ body j s = count - s
 
 loop-holds : tie.Need-loop-holds Inv-loop μ-loop
-loop-holds c = storing-start _ _ _ _ _ _ (c .before .before .pre .0 .0)
+loop-holds c = storing-start _ _ _ _ _ (c .pre .0)
 
-carries-requires : tie.Need-carries-requires Inv-loop μ-loop
-carries-requires c κs = omega (arith, c .loop-test .taken, c .before .before .before .before .pre .0 .0)
+element-copy-out-has : tie.Need-element-copy-out-has Inv-loop μ-loop
+element-copy-out-has c = omega (arith, c .loop-test .taken, c .before .loop .inv .many)
 
-cut-for-requires : tie.Need-cut-for-requires Inv-loop μ-loop
-cut-for-requires c κs =
-    let known = c .before .before .before .before .before .before .pre in
-    let l = c .before .before .loop-test .taken in
-    ((omega (arith, known .0 .0), known .0 .2), known .1 .holder (c .before .before .before .loop .s) l)
+element-copy-out-put : tie.Need-element-copy-out-put Inv-loop μ-loop
+element-copy-out-put c = omega (arith, c .before .before .before .before .before .loop-test .taken, c .before .before .before .before .before .before .loop .inv .many)
+
+element-copy-out-put-2 : tie.Need-element-copy-out-put-2 Inv-loop μ-loop
+element-copy-out-put-2 c = omega (arith, c .before .before .before .before .before .before .loop-test .taken, c .before .before .before .before .before .before .before .loop .inv .many)
 
 put-requires : tie.Need-put-requires Inv-loop μ-loop
-put-requires c κs = omega (arith, storing-room (c .before .before .before .before .before .before .loop .inv) (c .before .before .before .before .before .loop-test .taken), c .before .before .before .before .before .before .before .before .before .pre .0 .1)
+put-requires c κs = omega (arith, storing-room (c .before .before .before .before .before .before .before .before .loop .inv) (c .before .before .before .before .before .before .before .loop-test .taken), c .before .before .before .before .before .before .before .before .before .pre .1)
 
 add-j : tie.Need-add-j Inv-loop μ-loop
-add-j c = omega (arith, storing-room (c .before .before .before .before .before .before .before .loop .inv) (c .before .before .before .before .before .before .loop-test .taken), c .before .before .before .before .before .before .before .before .before .before .pre .0 .1)
+add-j c = omega (arith, storing-room (c .before .before .before .before .before .before .before .before .before .loop .inv) (c .before .before .before .before .before .before .before .before .loop-test .taken), c .before .before .before .before .before .before .before .before .before .before .pre .1)
 
 loop-again : tie.Need-loop-again Inv-loop μ-loop
 loop-again c =
-    let i = c .before .before .before .loop in
+    let i = c .before .before .before .before .before .loop in
     let a = c .before .before .before .before .before .before .args in
-    let l = c .before .before .loop-test .taken in
+    let l = c .before .before .before .before .loop-test .taken in
+    let f = isMember (a .t3) (a .node .0) in
     ⊎-elim
     (λ w.
-    let carried = sym (c .before .carries .ensures) ∙ w .0 .taken in
+    let carried = sym (c .before .has .ensures) ∙ w .0 .taken in
     storing-hit (i .inv) (c .if1 .body) (c .if1 .j) l carried
-    (record-hit (a .from) (a .plan) (a .node .0) (i .s) (1280 + i .s) _ _ (i .body) (c .if1 .body) carried (i .j) (i .inv .next)
-    (position-stored (i .body) (c .if1 .body) (i .j) (1280 + i .s) (w .1 .result) _ (w .1 .ensures) (w .5 ∙ w .4 .ensures)))
+    (record-hit (a .from) f (i .s) _ _ _ (i .body) (c .if1 .body) carried (i .j) (i .inv .next) (w .5 ∙ w .4 .ensures))
     (w .6))
     (λ w.
-    let skipped = sym (c .before .carries .ensures) ∙ w .0 .left in
+    let skipped = sym (c .before .has .ensures) ∙ w .0 .left in
     storing-miss (i .inv) (c .if1 .body) (c .if1 .j) l skipped
-    (record-miss (a .from) (a .plan) (a .node .0) (i .s) (1280 + i .s) _ _ (i .body) (c .if1 .body) skipped (w .1))
+    (record-miss (a .from) f (i .s) (1280 + i .s) _ _ (i .body) (c .if1 .body) skipped (w .1))
     (w .2))
     (c .if1 .came)
 
@@ -58,4 +59,4 @@ returns c = storing-end (c .before .loop .inv) (c .loop-test .left)
 pub put-cuts-spec : {M : Type 1} → statement M
 put-cuts-spec =
     tie.close
-    (tie.spec Inv-loop μ-loop loop-holds (λ c. search needs) carries-requires (λ c. search needs) cut-for-requires (λ c. search needs) (λ c. search needs) put-requires add-j (λ c. search needs) (λ c. search needs) loop-again returns)
+    (tie.spec Inv-loop μ-loop loop-holds (λ c. search needs) element-copy-out-has (λ c. search needs) (λ c κs. search needs) (λ c. search needs) (λ c. search needs) (λ c. search needs) (λ c. search needs) element-copy-out-put (λ c. search needs) (λ c. search needs) (λ c. search needs) element-copy-out-put-2 put-requires add-j (λ c. search needs) (λ c. search needs) loop-again returns)

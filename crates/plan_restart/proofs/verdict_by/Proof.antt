@@ -10,12 +10,12 @@ use Rattle.plan_restart.proofs.verdict_by.Tie as tie
 
 returns : tie.Need-returns
 returns c = let a = c .before .before .before .args in
-    c .waiting .ensures ∙ sym (verdict-none (a .kept) (a .held) (a .st) (a .placed) (not-true (a .placed .found) (c .before .if1 .taken)))
+    c .waiting .ensures ∙ sym (verdict-none (a .kept) (a .held) (a .seen) (a .placed) (not-true (a .placed .found) (c .before .if1 .taken)))
 
 returns-2 : tie.Need-returns-2
 returns-2 c = let a = c .before .before .before .args in
     ap (λ (p : Plan). record { quorum = Met; plan = p }) (c .plan-by .ensures)
-    ∙ sym (verdict-plan (a .kept) (a .held) (a .st) (a .placed) (not-false (a .placed .found) (c .before .if1 .left)))
+    ∙ sym (verdict-plan (a .kept) (a .held) (a .seen) (a .placed) (not-false (a .placed .found) (c .before .if1 .left)))
 
 pub verdict-by-spec : {M : Type 1} → statement M
 verdict-by-spec = tie.close (tie.spec (λ c κs. search needs) returns (λ c κs. search needs) returns-2)

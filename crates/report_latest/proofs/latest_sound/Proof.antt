@@ -7,35 +7,38 @@ use lib.Dec.{lit≤}
 use borrow.Author.Needs.{needs}
 use borrow.Author.Tests.{not-true, not-false}
 use Rattle.base_laws.specs.Below.{allBelow, all-none, all-more, all-fails, all-fewer}
-use Rattle.report_latest.specs.Remembered.{recalled, latestSound}
+use Rattle.report_latest.specs.Laws.{recalledAt, latest-told}
 use Rattle.report_latest.proofs.latest_sound.Statement.{statement}
 use Rattle.report_latest.proofs.latest_sound.Tie as tie
 
 abbrev Inv-loop : tie.InvT-loop
-Inv-loop settings number held desk latest n₀ n = (n ≤ 32) × (allBelow n (recalled settings (number .0) held desk latest) ≡ true)
+Inv-loop settings number held views remembered n₀ n = (n ≤ 32) × (allBelow n (recalledAt settings (number .0) held views remembered) ≡ true)
 
 abbrev μ-loop : tie.MeasureT-loop
-μ-loop settings number held desk latest n₀ n = 32 - n
+μ-loop settings number held views remembered n₀ n = 32 - n
 
 loop-holds : tie.Need-loop-holds Inv-loop μ-loop
 loop-holds c = (lit≤ tt, all-none _)
 
 returns : tie.Need-returns Inv-loop μ-loop
-unfolding latestSound
-returns c =
+returns c d told =
+    let a = c .before .before .before .before .before .before .before .before .args in
     let k = c .before .recalled in
-    sym (all-fails 32 _ (c .before .before .before .loop .n) (omega arith) (sym (k .ensures) ∙ not-true (k .result) (c .if1 .taken)))
+    sym (all-fails 32 _ (c .before .before .before .before .before .loop .n) (omega arith) (sym (k .ensures) ∙ not-true (k .result) (c .if1 .taken)))
+    ∙ latest-told (a .settings .now) (a .number .0) (a .held) (a .views .now) (a .latest) d told
 
 loop-again : tie.Need-loop-again Inv-loop μ-loop
 loop-again c =
     let k = c .before .recalled in
-    (omega arith, all-more _ _ (c .before .before .before .loop .inv .1) (sym (k .ensures) ∙ not-false (k .result) (c .if1 .left)))
+    (omega arith, all-more _ _ (c .before .before .before .before .before .loop .inv .1) (sym (k .ensures) ∙ not-false (k .result) (c .if1 .left)))
 
 returns-2 : tie.Need-returns-2 Inv-loop μ-loop
-unfolding latestSound
-returns-2 c = sym (all-fewer 32 (c .before .loop .n) _ (omega arith) (c .before .loop .inv .1))
+returns-2 c d told =
+    let a = c .before .before .before .before .args in
+    sym (all-fewer 32 (c .before .loop .n) _ (omega arith) (c .before .loop .inv .1))
+    ∙ latest-told (a .settings .now) (a .number .0) (a .held) (a .views .now) (a .latest) d told
 
 pub latest-sound-spec : {M : Type 1} → statement M
 latest-sound-spec =
     tie.close
-    (tie.spec Inv-loop μ-loop loop-holds (λ c. search needs) (λ c κs. search needs) returns (λ c. search needs) (λ c. search needs) loop-again returns-2)
+    (tie.spec Inv-loop μ-loop loop-holds (λ c. search needs) (λ c. search needs) (λ c. search needs) (λ c. search needs) (λ c. search needs) (λ c κs. search needs) returns (λ c. search needs) (λ c. search needs) loop-again returns-2)

@@ -1,4 +1,4 @@
--- `report_latest::recalled` meets its contract: one test after the other; the view that a node reported is word 1 of its slot. Assumes nothing.
+-- `report_latest::recalled` meets its contract: one test after the other. Assumes nothing.
 use mathlib.Core.Path.{sym, _∙_}
 use borrow.Author.Needs.{needs}
 use borrow.Author.Tests.{not-true, not-false}
@@ -8,31 +8,28 @@ use Rattle.report_latest.proofs.recalled.Tie as tie
 
 returns : tie.Need-returns
 returns c =
-    let a = c .before .before .before .before .before .before .args in
+    let a = c .before .before .before .args in
     let k = c .before .known-or-none in
-    not-known (a .settings .now) (a .number .0) (a .held) (a .desk .now) (a .latest) (a .node .0) _ (c .before .before .latest-at .ensures)
+    not-known (a .settings .now) (a .number .0) (a .held) (a .reported .0) (a .view .0) (a .node .0)
     (sym (k .ensures) ∙ not-true (k .result) (c .if1 .taken))
 
 returns-2 : tie.Need-returns-2
 returns-2 c =
-    let a = c .before .before .before .before .before .before .before .before .args in
-    let k = c .before .before .before .known-or-none in
+    let a = c .before .before .before .before .before .before .args in
+    let k = c .before .before .before .before .known-or-none in
     let h = c .before .has in
-    not-held (a .settings .now) (a .number .0) (a .held) (a .desk .now) (a .latest) (a .node .0) _ (c .before .before .before .before .latest-at .ensures)
-    (sym (k .ensures) ∙ not-false (k .result) (c .before .before .if1 .left)) (sym (h .ensures) ∙ not-true (h .result) (c .if2 .taken))
+    not-held (a .settings .now) (a .number .0) (a .held) (a .reported .0) (a .view .0) (a .node .0)
+    (sym (k .ensures) ∙ not-false (k .result) (c .before .before .before .if1 .left)) (sym (h .ensures) ∙ not-true (h .result) (c .if2 .taken))
 
 returns-3 : tie.Need-returns-3
 returns-3 c =
-    let b = c .before .before .before .before .before .before .before .before .before .before in
-    let a = b .args in
+    let a = c .before .before .before .before .before .before .before .args in
     let k = c .before .before .before .before .before .known-or-none in
-    let h = c .before .before .before .has in
+    let h = c .before .before .has in
     c .from-to .ensures
-    ∙ is-held (a .settings .now) (a .number .0) (a .held) (a .desk .now) (a .latest) (a .node .0) _
-    (c .before .before .before .before .before .before .latest-at .ensures) (sym (k .ensures) ∙ not-false (k .result) (c .before .before .before .before .if1 .left))
-    (sym (h .ensures) ∙ not-false (h .result) (c .before .before .if2 .left)) (b .pre .1 .0) (b .pre .1 .1)
+    ∙ is-held (a .settings .now) (a .number .0) (a .held) (a .reported .0) (a .view .0) (a .node .0)
+    (sym (k .ensures) ∙ not-false (k .result) (c .before .before .before .before .if1 .left)) (sym (h .ensures) ∙ not-false (h .result) (c .before .if2 .left))
 
 pub recalled-spec : {M : Type 1} → statement M
 recalled-spec =
-    tie.close
-    (tie.spec (λ c. search needs) (λ c κs. search needs) (λ c κs. search needs) returns (λ c κs. search needs) returns-2 (λ c. search needs) (λ c. search needs) (λ c. search needs) (λ c. search needs) (λ c κs. search needs) returns-3)
+    tie.close (tie.spec (λ c κs. search needs) returns (λ c. search needs) (λ c κs. search needs) returns-2 (λ c κs. search needs) returns-3)

@@ -1,6 +1,6 @@
 -- The loop's invariant: the sum so far is that of the shards below i. Assumes nothing.
 use borrow.Author.Needs.{needs}
-use Prim.Native.Nat.{ℕ, _≤_, _<_, _-_, _+_, _*_, _/_, _%_}
+use Prim.Native.Nat.{ℕ, _≤_, _<_, _-_, _+_, _*_, _/_, _%_, min}
 use mathlib.Core.Path.{_≡_, refl, sym, _∙_, ap, ap₂, subst}
 use mathlib.Core.Bool.{Bool, true, false, cond, _&&_, false≢true}
 use mathlib.Core.List.{[]}
@@ -17,16 +17,16 @@ use Rattle.search_bounds.proofs.all_pairs.Statement.{statement}
 use Rattle.search_bounds.proofs.all_pairs.Tie as tie
 
 abbrev Inv-loop : tie.InvT-loop
-Inv-loop pairs sum₀ i₀ sum i = (i ≤ 16) × (sum ≤ 1048576 * i) × (sum ≡ sumBelow i (λ j. sumBelow 16 (λ f. getD pairs (j * 16 + f) 0)))
+Inv-loop wants pairs sum₀ i₀ sum i = (i ≤ 16) × (sum ≤ 1048576 * i) × (sum ≡ sumBelow i (λ j. sumBelow 16 (λ f. min (getD wants j 0) (getD pairs (j * 16 + f) 0))))
 
 abbrev μ-loop : tie.MeasureT-loop
-μ-loop pairs sum₀ i₀ sum i = 16 - i
+μ-loop wants pairs sum₀ i₀ sum i = 16 - i
 
 loop-holds : tie.Need-loop-holds Inv-loop μ-loop
 loop-holds c = (omega arith, omega arith, sym (sum-zero _))
 
 loop-again : tie.Need-loop-again Inv-loop μ-loop
-loop-again c = (omega arith, omega arith, sum-turn _ _ _ _ (c .before .before .loop .inv .2) (c .row .ensures .0))
+loop-again c = (omega arith, omega arith, sum-turn _ _ _ _ (c .before .before .before .loop .inv .2) (c .row .ensures .0))
 
 returns : tie.Need-returns Inv-loop μ-loop
 returns c = (sum-done (c .before .loop .inv .0) (c .loop-test .left) _ _ (c .before .loop .inv .2), omega arith)
@@ -34,4 +34,4 @@ returns c = (sum-done (c .before .loop .inv .0) (c .loop-test .left) _ _ (c .bef
 pub all-pairs-spec : {M : Type 1} → statement M
 all-pairs-spec =
     tie.close
-    (tie.spec Inv-loop μ-loop loop-holds (λ c κs. search needs) (λ c. search needs) (λ c. search needs) (λ c. search needs) loop-again returns)
+    (tie.spec Inv-loop μ-loop loop-holds (λ c. search needs) (λ c. search needs) (λ c κs. search needs) (λ c. search needs) (λ c. search needs) (λ c. search needs) loop-again returns)

@@ -1,6 +1,6 @@
 -- The loop's invariant: of the nodes that are not to be looked at any more, none asks too little, and those that were dropped ask too much. Assumes nothing.
 use borrow.Author.Needs.{needs}
-use Prim.Native.Nat.{ℕ, _+_, _*_, _≤_, _<_}
+use Prim.Native.Nat.{ℕ, _+_, _*_, _≤_, _<_, min}
 use mathlib.Core.Path.{_≡_, sym, subst, subst₂}
 use mathlib.Core.Bool.{true, false≢true}
 use mathlib.Core.List.{List}
@@ -13,14 +13,14 @@ use Rattle.search_bounds.proofs.sift.Statement.{statement}
 use Rattle.search_bounds.proofs.sift.Tie as tie
 
 -- what node n asks of shard i
-abbrev ask : List ℕ → List ℕ → List ℕ → List ℕ → ℕ → ℕ → ℕ
-ask sets costs nodes pairs i n = getD costs (i * 32 + n) 0 + getD pairs (i * 16 + getD sets n 0) 0 + getD nodes n 0
+abbrev ask : List ℕ → List ℕ → ℕ → List ℕ → List ℕ → ℕ → ℕ → ℕ
+ask sets costs want nodes pairs i n = getD costs (i * 32 + n) 0 + min want (getD pairs (i * 16 + getD sets n 0) 0) + getD nodes n 0
 
 abbrev Inv-loop : tie.InvT-loop
-Inv-loop sets costs nodes pairs i row from least most m₀ kept₀ m kept = Sifting (ask sets costs nodes pairs i) row from least most m kept
+Inv-loop sets costs want nodes pairs i row from least most m₀ kept₀ m kept = Sifting (ask sets costs want nodes pairs i) row from least most m kept
 
 abbrev μ-loop : tie.MeasureT-loop
-μ-loop sets costs nodes pairs i row from least most m₀ kept₀ m kept = count m
+μ-loop sets costs want nodes pairs i row from least most m₀ kept₀ m kept = count m
 
 loop-holds : tie.Need-loop-holds Inv-loop μ-loop
 loop-holds c = sift-start _ _ _ _ _
@@ -38,9 +38,9 @@ loop-again c = let s = c .before .before .before .before .before .before .before
     let l = c .before .before .before .before .before .before .before .loop in
     let n = c .before .before .before .before .before .lowest in
     let x = c .before .before .before .asks in
-    subst₂ (λ (a b : ℕ). Sifting (ask (s .args .sets .now) (s .args .costs .now) (s .args .nodes .now) (s .args .pairs .now) (s .args .i)) (s .args .row) (s .args .from) (s .args .least) (s .args .most) a b)
+    subst₂ (λ (a b : ℕ). Sifting (ask (s .args .sets .now) (s .args .costs .now) (s .args .want) (s .args .nodes .now) (s .args .pairs .now) (s .args .i)) (s .args .row) (s .args .from) (s .args .least) (s .args .most) a b)
     (sym (c .without .ensures)) (sym (c .before .dropped .ensures))
-    (sift-turn (ask (s .args .sets .now) (s .args .costs .now) (s .args .nodes .now) (s .args .pairs .now) (s .args .i)) (s .args .row) (s .args .from) (s .args .least) (s .args .most)
+    (sift-turn (ask (s .args .sets .now) (s .args .costs .now) (s .args .want) (s .args .nodes .now) (s .args .pairs .now) (s .args .i)) (s .args .row) (s .args .from) (s .args .least) (s .args .most)
     (n .result) (x .result) _ (n .ensures .0) (x .ensures .0) (c .before .before .if1 .left) (λ e. ltb-true _ _ e) (l .inv))
 
 returns-2 : tie.Need-returns-2 Inv-loop μ-loop

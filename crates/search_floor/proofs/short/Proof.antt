@@ -1,11 +1,9 @@
 -- The loop's invariant: no shard below i needs more sets than have a node for it. Assumes nothing.
-use Prim.Native.Nat.{ℕ, _≤_, _-_}
-use mathlib.Core.Path.{_≡_, sym, ap₂, _∙_}
+use Prim.Native.Nat.{_≤_, _-_}
+use mathlib.Core.Path.{_≡_, sym, _∙_}
 use mathlib.Core.Bool.{false}
 use mathlib.Core.List.{[]}
 use native.Mathlib.Omega.{arith}
-use lib.Dec.{ltb}
-use borrow.Author.Tests.{lt-ltb, le-ltb}
 use borrow.Author.Needs.{needs}
 use Rattle.base_laws.specs.Below.{anyBelow, any-none, any-more, any-at}
 use Rattle.base_laws.specs.Loops.{any-done}
@@ -24,18 +22,13 @@ loop-holds : tie.Need-loop-holds Inv-loop μ-loop
 loop-holds c = (omega arith, any-none _)
 
 returns : tie.Need-returns Inv-loop μ-loop
-unfolding tooFew shortAt
-returns c =
-    sym
-    (any-at 16 _ (c .before .before .before .before .before .loop .i) (omega arith)
-    (ap₂ (λ (a b : ℕ). ltb a b) (sym (c .before .before .before .entries .ensures)) (sym (c .before .wide .ensures .0)) ∙ lt-ltb _ _ (c .if1 .taken)))
+unfolding tooFew
+returns c = sym (any-at 16 _ (c .before .before .before .loop .i) (omega arith) (sym (c .before .short-at .ensures) ∙ c .if1 .taken))
 
 loop-again : tie.Need-loop-again Inv-loop μ-loop
-unfolding shortAt
 loop-again c = (
   omega arith,
-  any-more _ _ (c .before .before .before .before .before .loop .inv .1)
-      (ap₂ (λ (a b : ℕ). ltb a b) (sym (c .before .before .before .entries .ensures)) (sym (c .before .wide .ensures .0)) ∙ le-ltb _ _ (c .if1 .left)),
+  any-more _ _ (c .before .before .before .loop .inv .1) (sym (c .before .short-at .ensures) ∙ c .if1 .left),
 )
 
 returns-2 : tie.Need-returns-2 Inv-loop μ-loop
@@ -44,6 +37,4 @@ returns-2 c = sym (any-done (c .before .loop .inv .0) (c .loop-test .left) false
 
 pub short-spec : {M : Type 1} → statement M
 short-spec =
-    tie.close
-    (tie.spec Inv-loop μ-loop loop-holds (λ c κs. search needs) (λ c. search needs) (λ c κs. search needs) returns (λ c. search needs)
-    (λ c. search needs) loop-again returns-2)
+    tie.close (tie.spec Inv-loop μ-loop loop-holds (λ c κs. search needs) returns (λ c. search needs) (λ c. search needs) loop-again returns-2)

@@ -11,9 +11,12 @@ returns : tie.Need-returns
 returns c = λ e. absurd (false≢true e)
 
 returns-2 : tie.Need-returns-2
-returns-2 c = λ e. only-here-by (c .before .before .later .ensures) (c .before .minus .ensures) (omega arith) (c .if1 .left)
+returns-2 c = λ e. absurd (false≢true e)
+
+returns-3 : tie.Need-returns-3
+returns-3 c = λ e. only-here-by (c .before .before .later .ensures) (c .before .minus .ensures) (omega arith) (c .if2 .left)
 
 pub stuck-spec : {M : Type 1} → statement M
 stuck-spec =
     tie.close
-    (tie.spec (λ c. search needs) (λ c κs. search needs) (λ c κs. search needs) returns returns-2)
+    (tie.spec (λ c. search needs) returns (λ c. search needs) (λ c κs. search needs) (λ c κs. search needs) returns-2 returns-3)

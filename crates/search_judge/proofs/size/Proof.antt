@@ -1,38 +1,16 @@
--- The loop's invariant: the count so far is that of the nodes below n. Assumes nothing.
-use Prim.Native.Nat.{ℕ, _≤_, _-_}
-use mathlib.Core.Path.{_≡_, ap, _∙_, sym}
-use mathlib.Core.Bool.{cond}
-use native.Mathlib.Omega.{arith}
+-- The count of the shard as an owner. Assumes nothing.
+use Prim.Native.Nat.{ℕ}
+use mathlib.Core.Path.{ap, _∙_}
 use borrow.Author.Needs.{needs}
-use lib.Dec.{eqb}
-use Rattle.base_laws.specs.Below.{countBelow, count-zero}
-use Rattle.base_laws.specs.Loops.{count-turn, count-done}
+use Rattle.search_theory.specs.Case.{size}
 use Rattle.search_theory.specs.Tables.{ownersOf}
 use Rattle.search_judge.proofs.size.Statement.{statement}
 use Rattle.search_judge.proofs.size.Tie as tie
 
-abbrev Inv-loop : tie.InvT-loop
-Inv-loop owner i count₀ n₀ count n = (n ≤ 32) × (count ≤ n) × (count ≡ countBelow n (λ m. eqb (ownersOf owner m) i))
-
-abbrev μ-loop : tie.MeasureT-loop
-μ-loop owner i count₀ n₀ count n = 32 - n
-
-loop-holds : tie.Need-loop-holds Inv-loop μ-loop
-loop-holds c = (omega arith, omega arith, sym (count-zero _))
-
-loop-again : tie.Need-loop-again Inv-loop μ-loop
-loop-again c = (
-  omega arith,
-  omega arith,
-  count-turn _ _ _ _ (c .before .before .before .before .loop .inv .2)
-      (c .equal .ensures .0 ∙ ap (λ (x : ℕ). cond (eqb x (c .before .before .before .before .before .args .i)) 1 0) (c .before .wide .ensures .0)),
-)
-
-returns : tie.Need-returns Inv-loop μ-loop
-returns c = count-done (c .before .loop .inv .0) (c .loop-test .left) _ _ (c .before .loop .inv .2)
+returns : tie.Need-returns
+returns c =
+    c .wide .ensures .0
+    ∙ (c .before .owned .ensures ∙ ap (λ (x : ℕ). size (ownersOf (c .before .before .before .args .owner .now)) x) (c .before .before .narrow .ensures))
 
 pub size-spec : {M : Type 1} → statement M
-size-spec =
-    tie.close
-    (tie.spec Inv-loop μ-loop loop-holds (λ c. search needs) (λ c κs. search needs) (λ c κs. search needs) (λ c. search needs) (λ c. search needs)
-    (λ c. search needs) loop-again returns)
+size-spec = tie.close (tie.spec (λ c κs. search needs) (λ c κs. search needs) (λ c κs. search needs) returns)

@@ -1,7 +1,7 @@
 -- `state_planner::after_fetched` meets its contract: the node is marked, and the phase follows from the marks. Assumes nothing.
 use Prim.Native.Nat.{ℕ}
 use mathlib.Core.Bool.{Bool, cond}
-use mathlib.Core.Path.{ap, _∙_}
+use mathlib.Core.Path.{refl, ap, _∙_}
 use lib.Dec.{eqb}
 use borrow.Author.Tests.{lt-ltb}
 use Rattle.base_laws.specs.Masks.{with}
@@ -17,10 +17,12 @@ use Rattle.state_planner.proofs.after_fetched.Tie as tie
 returns : tie.Need-returns
 unfolding afterFetched marked
 returns c =
-    let a = c .before .before .before .args in
+    let a = c .before .before .before .before .before .before .args in
     λ h.
     marks-step (λ (p : Phase) (f : ℕ). marked (a .x) p f (a .x .prepared)) (λ (f : ℕ). cond (eqb f (a .x .held)) Preparing Ordered)
-    (c .of-parts .ensures) (c .before .phase-after .ensures) (c .before .before .mark .ensures ∙ ap (λ (b : Bool). cond b (with (a .x .fetched) (a .node .0)) (a .x .fetched)) (lt-ltb (a .node .0) 32 h))
+    refl (c .before .before .before .before .phase-after .ensures) (c .before .before .before .before .before .mark .ensures ∙ ap (λ (b : Bool). cond b (with (a .x .fetched) (a .node .0)) (a .x .fetched)) (lt-ltb (a .node .0) 32 h))
 
 pub after-fetched-spec : {M : Type 1} → statement M
-after-fetched-spec = tie.close (tie.spec (λ c κs. search needs) (λ c κs. search needs) (λ c κs. search needs) returns)
+after-fetched-spec =
+    tie.close
+    (tie.spec (λ c κs. search needs) (λ c κs. search needs) returns)

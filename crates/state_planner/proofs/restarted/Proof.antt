@@ -1,5 +1,5 @@
 -- `state_planner::restarted` meets its contract: part by part. Assumes nothing.
-use mathlib.Core.Path.{ap, _∙_}
+use mathlib.Core.Path.{ap}
 use Rattle.report_views.specs.declared.Plan.{Plan}
 use Rattle.report_views.specs.declared.Phase.the-variants.{Gathering}
 use Rattle.state_planner.specs.States.{ofParts, restarted}
@@ -10,8 +10,10 @@ use Rattle.state_planner.proofs.restarted.Tie as tie
 returns : tie.Need-returns
 unfolding restarted
 returns c =
-    let x = c .before .before .args .x in
-    c .of-parts .ensures ∙ ap (λ (p : Plan). ofParts Gathering (x .kept) (x .termination) 0 0 0 p (x .latest)) (c .before .no-plan .ensures)
+    let x = c .before .before .before .before .args .x in
+    ap (λ (p : Plan). ofParts Gathering (x .kept) (x .termination) 0 0 0 p (x .latest)) (c .before .before .before .no-plan .ensures)
 
 pub restarted-spec : {M : Type 1} → statement M
-restarted-spec = tie.close (tie.spec (λ c κs. search needs) (λ c κs. search needs) returns)
+restarted-spec =
+    tie.close
+    (tie.spec (λ c κs. search needs) returns)

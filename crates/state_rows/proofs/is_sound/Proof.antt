@@ -1,37 +1,72 @@
 -- `state_rows::is_sound` meets its contract: part by part, as the definition has them. Assumes nothing.
-use mathlib.Core.Path.{sym, _∙_}
+use mathlib.Core.Path.{refl, sym, _∙_}
 use borrow.Author.Tests.{not-true, not-false}
+use Rattle.base_laws.specs.Bools.{clash}
 use Rattle.plan_restart.specs.Kept.{held-below}
+use Rattle.plan_seen.specs.Sight.{seen-ok, seen-view}
 use borrow.Author.Needs.{needs}
 use Rattle.state_rows.proofs.is_sound.Statement.{statement}
 use Rattle.state_rows.proofs.is_sound.Tie as tie
 
 returns : tie.Need-returns
-returns c = simp (sym (c .before .kept-sound .ensures), not-true (c .before .kept-sound .result) (c .if1 .taken))
+returns c =
+    let k = c .before .kept-sound in (
+      λ d e.
+          simp (sym (k .ensures), not-true (k .result) (c .if1 .taken)),
+      λ h. clash h refl,
+    )
 
 returns-2 : tie.Need-returns-2
-returns-2 c = simp (sym (c .before .before .before .kept-sound .ensures), not-false (c .before .before .before .kept-sound .result) (c .before .before .if1 .left), sym (c .before .slots-ok .ensures), not-true (c .before .slots-ok .result) (c .if2 .taken))
+returns-2 c =
+    let a = c .before .before .before .before .args in
+    let k = c .before .before .kept-sound in (
+      λ d e.
+          simp (sym (k .ensures), not-false (k .result) (c .before .if1 .left), sym (seen-ok (a .settings .now) (a .kept) (a .termination) (a .held) d (a .t2) e), not-true (a .t2 .ok) (c .if2 .taken)),
+      λ h. clash h refl,
+    )
 
 returns-3 : tie.Need-returns-3
-returns-3 c = simp (sym (c .before .before .before .before .before .kept-sound .ensures), not-false (c .before .before .before .before .before .kept-sound .result) (c .before .before .before .before .if1 .left), sym (c .before .before .before .slots-ok .ensures), not-false (c .before .before .before .slots-ok .result) (c .before .before .if2 .left), sym (c .before .marks-sound .ensures), not-true (c .before .marks-sound .result) (c .if3 .taken))
+returns-3 c =
+    let a = c .before .before .before .before .before .before .args in
+    let k = c .before .before .before .before .kept-sound in
+    let m = c .before .marks-sound in (
+      λ d e.
+          simp (sym (k .ensures), not-false (k .result) (c .before .before .before .if1 .left), sym (seen-ok (a .settings .now) (a .kept) (a .termination) (a .held) d (a .t2) e), not-false (a .t2 .ok) (c .before .before .if2 .left), sym (m .ensures), not-true (m .result) (c .if3 .taken)),
+      λ h. clash h refl,
+    )
 
 returns-4 : tie.Need-returns-4
-returns-4 c = simp (sym (c .before .before .before .before .before .before .before .kept-sound .ensures), not-false (c .before .before .before .before .before .before .before .kept-sound .result) (c .before .before .before .before .before .before .if1 .left), sym (c .before .before .before .before .before .slots-ok .ensures), not-false (c .before .before .before .before .before .slots-ok .result) (c .before .before .before .before .if2 .left), sym (c .before .before .before .marks-sound .ensures), not-false (c .before .before .before .marks-sound .result) (c .before .before .if3 .left), sym (c .before .latest-sound .ensures), not-true (c .before .latest-sound .result) (c .if4 .taken))
+returns-4 c =
+    let a = c .before .before .before .before .before .before .before .before .before .before .args in
+    let k = c .before .before .before .before .before .before .before .before .kept-sound in
+    let m = c .before .before .before .before .before .marks-sound in
+    let l = c .before .latest-sound in (
+      λ d e.
+          let ok = sym (seen-ok (a .settings .now) (a .kept) (a .termination) (a .held) d (a .t2) e) ∙ not-false (a .t2 .ok) (c .before .before .before .before .before .before .if2 .left) in
+          simp (sym (k .ensures), not-false (k .result) (c .before .before .before .before .before .before .before .if1 .left), ok, sym (m .ensures), not-false (m .result) (c .before .before .before .before .if3 .left), sym (l .ensures d (seen-view (a .settings .now) (a .kept) (a .termination) (a .held) d (a .t2) e ok)), not-true (l .result) (c .if4 .taken)),
+      λ h. clash h refl,
+    )
 
 plan-fits-requires : tie.Need-plan-fits-requires
 plan-fits-requires c κs =
-    let p = c .before .before .before .before .before .before .before .before .before .before .pre in
-    let a = c .before .before .before .before .before .before .before .before .before .before .args in
-    let s = c .before .before .before .before .before .slots-ok in
-    let k = c .before .before .before .before .before .before .before .kept-sound in
-    let ok = sym (s .ensures) ∙ not-false (s .result) (c .before .before .before .before .if2 .left) in
-    let below = held-below (a .settings .now) (a .kept) (a .termination) (a .held) (sym (k .ensures) ∙ not-false (k .result) (c .before .before .before .before .before .before .if1 .left)) in
-    (p .0, (p .1, (ok, below)))
+    let s = c .before .before .before .before .before .before .before .before .before .before in
+    let a = s .args in
+    let k = c .before .before .before .before .before .before .before .before .kept-sound in
+    (s .pre, held-below (a .settings .now) (a .kept) (a .termination) (a .held) (sym (k .ensures) ∙ not-false (k .result) (c .before .before .before .before .before .before .before .if1 .left)))
 
 returns-5 : tie.Need-returns-5
-returns-5 c = simp (sym (c .before .before .before .before .before .before .before .before .kept-sound .ensures), not-false (c .before .before .before .before .before .before .before .before .kept-sound .result) (c .before .before .before .before .before .before .before .if1 .left), sym (c .before .before .before .before .before .before .slots-ok .ensures), not-false (c .before .before .before .before .before .before .slots-ok .result) (c .before .before .before .before .before .if2 .left), sym (c .before .before .before .before .marks-sound .ensures), not-false (c .before .before .before .before .marks-sound .result) (c .before .before .before .if3 .left), sym (c .before .before .latest-sound .ensures), not-false (c .before .before .latest-sound .result) (c .before .if4 .left), sym (c .plan-fits .ensures))
+returns-5 c =
+    let a = c .before .before .before .before .before .before .before .before .before .before .before .args in
+    let k = c .before .before .before .before .before .before .before .before .before .kept-sound in
+    let m = c .before .before .before .before .before .before .marks-sound in
+    let l = c .before .before .latest-sound in (
+      λ d e.
+          let ok = sym (seen-ok (a .settings .now) (a .kept) (a .termination) (a .held) d (a .t2) e) ∙ not-false (a .t2 .ok) (c .before .before .before .before .before .before .before .if2 .left) in
+          simp (sym (k .ensures), not-false (k .result) (c .before .before .before .before .before .before .before .before .if1 .left), ok, sym (m .ensures), not-false (m .result) (c .before .before .before .before .before .if3 .left), sym (l .ensures d (seen-view (a .settings .now) (a .kept) (a .termination) (a .held) d (a .t2) e ok)), not-false (l .result) (c .before .if4 .left), sym (c .plan-fits .ensures (a .termination) d ok e)),
+      λ h. sym (k .ensures) ∙ not-false (k .result) (c .before .before .before .before .before .before .before .before .if1 .left),
+    )
 
 pub is-sound-spec : {M : Type 1} → statement M
 is-sound-spec =
     tie.close
-    (tie.spec (λ c κs. search needs) returns (λ c κs. search needs) returns-2 (λ c κs. search needs) returns-3 (λ c κs. search needs) returns-4 plan-fits-requires returns-5)
+    (tie.spec (λ c κs. search needs) returns returns-2 (λ c κs. search needs) returns-3 (λ c κs. search needs) returns-4 plan-fits-requires returns-5)

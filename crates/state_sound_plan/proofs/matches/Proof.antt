@@ -6,45 +6,32 @@ use borrow.Author.Needs.{needs}
 use Rattle.state_sound_plan.proofs.matches.Statement.{statement}
 use Rattle.state_sound_plan.proofs.matches.Tie as tie
 
--- src/rt:105:9
--- src/rt:106:9
 returns : tie.Need-returns
 unfolding matches
-returns c = simp (sym (c .before .is-met .ensures), not-true (c .before .is-met .result) (c .if1 .taken))
+returns c = simp (sym (c .before .before .quorum .ensures), sym (c .before .is-met .ensures), not-true (c .before .is-met .result) (c .if1 .taken))
 
--- src/rt:108:9
--- src/rt:109:9
 returns-2 : tie.Need-returns-2
 unfolding matches
-returns-2 c = simp (sym (c .before .before .before .is-met .ensures), not-false (c .before .before .before .is-met .result) (c .before .before .if1 .left), sym (c .before .follows .ensures), not-true (c .before .follows .result) (c .if2 .taken))
+returns-2 c = simp (sym (c .before .before .before .before .quorum .ensures), sym (c .before .before .before .is-met .ensures), not-false (c .before .before .before .is-met .result) (c .before .before .if1 .left), sym (c .before .follows .ensures), not-true (c .before .follows .result) (c .if2 .taken))
 
--- src/rt:111:9
--- src/rt:112:9
 returns-3 : tie.Need-returns-3
 unfolding matches
-returns-3 c = simp (sym (c .before .before .before .before .before .is-met .ensures), not-false (c .before .before .before .before .before .is-met .result) (c .before .before .before .before .if1 .left), sym (c .before .before .before .follows .ensures), not-false (c .before .before .before .follows .result) (c .before .before .if2 .left), sym (c .before .layout-tidy .ensures), not-true (c .before .layout-tidy .result) (c .if3 .taken))
+returns-3 c = simp (sym (c .before .before .before .before .before .before .quorum .ensures), sym (c .before .before .before .before .before .is-met .ensures), not-false (c .before .before .before .before .before .is-met .result) (c .before .before .before .before .if1 .left), sym (c .before .before .before .follows .ensures), not-false (c .before .before .before .follows .result) (c .before .before .if2 .left), sym (c .before .layout-tidy .ensures), not-true (c .before .layout-tidy .result) (c .if3 .taken))
 
--- src/rt:114:9
--- src/rt:115:9
 returns-4 : tie.Need-returns-4
 unfolding matches
-returns-4 c = simp (sym (c .before .before .before .before .before .before .before .is-met .ensures), not-false (c .before .before .before .before .before .before .before .is-met .result) (c .before .before .before .before .before .before .if1 .left), sym (c .before .before .before .before .before .follows .ensures), not-false (c .before .before .before .before .before .follows .result) (c .before .before .before .before .if2 .left), sym (c .before .before .before .layout-tidy .ensures), not-false (c .before .before .before .layout-tidy .result) (c .before .before .if3 .left), sym (c .before .same-shards .ensures), not-true (c .before .same-shards .result) (c .if4 .taken))
+returns-4 c = simp (sym (c .before .before .before .before .before .before .before .before .quorum .ensures), sym (c .before .before .before .before .before .before .before .is-met .ensures), not-false (c .before .before .before .before .before .before .before .is-met .result) (c .before .before .before .before .before .before .if1 .left), sym (c .before .before .before .before .before .follows .ensures), not-false (c .before .before .before .before .before .follows .result) (c .before .before .before .before .if2 .left), sym (c .before .before .before .layout-tidy .ensures), not-false (c .before .before .before .layout-tidy .result) (c .before .before .if3 .left), sym (c .before .same-shards .ensures), not-true (c .before .same-shards .result) (c .if4 .taken))
 
--- src/rt:117:9
--- src/rt:118:9
 returns-5 : tie.Need-returns-5
 unfolding matches
-returns-5 c = simp (sym (c .before .before .before .before .before .before .before .before .before .is-met .ensures), not-false (c .before .before .before .before .before .before .before .before .before .is-met .result) (c .before .before .before .before .before .before .before .before .if1 .left), sym (c .before .before .before .before .before .before .before .follows .ensures), not-false (c .before .before .before .before .before .before .before .follows .result) (c .before .before .before .before .before .before .if2 .left), sym (c .before .before .before .before .before .layout-tidy .ensures), not-false (c .before .before .before .before .before .layout-tidy .result) (c .before .before .before .before .if3 .left), sym (c .before .before .before .same-shards .ensures), not-false (c .before .before .before .same-shards .result) (c .before .before .if4 .left), sym (c .before .groups-valid .ensures), not-true (c .before .groups-valid .result) (c .if5 .taken))
+returns-5 c = simp (sym (c .before .before .before .before .before .before .before .before .before .before .quorum .ensures), sym (c .before .before .before .before .before .before .before .before .before .is-met .ensures), not-false (c .before .before .before .before .before .before .before .before .before .is-met .result) (c .before .before .before .before .before .before .before .before .if1 .left), sym (c .before .before .before .before .before .before .before .follows .ensures), not-false (c .before .before .before .before .before .before .before .follows .result) (c .before .before .before .before .before .before .if2 .left), sym (c .before .before .before .before .before .layout-tidy .ensures), not-false (c .before .before .before .before .before .layout-tidy .result) (c .before .before .before .before .if3 .left), sym (c .before .before .before .same-shards .ensures), not-false (c .before .before .before .same-shards .result) (c .before .before .if4 .left), sym (c .before .groups-valid .ensures), not-true (c .before .groups-valid .result) (c .if5 .taken))
 
--- src/rt:120:5
--- src/rt:120:25
--- src/rt:99:1
 returns-6 : tie.Need-returns-6
 unfolding matches
-returns-6 c = simp (sym (c .before .before .before .before .before .before .before .before .before .before .before .is-met .ensures), not-false (c .before .before .before .before .before .before .before .before .before .before .before .is-met .result) (c .before .before .before .before .before .before .before .before .before .before .if1 .left), sym (c .before .before .before .before .before .before .before .before .before .follows .ensures), not-false (c .before .before .before .before .before .before .before .before .before .follows .result) (c .before .before .before .before .before .before .before .before .if2 .left), sym (c .before .before .before .before .before .before .before .layout-tidy .ensures), not-false (c .before .before .before .before .before .before .before .layout-tidy .result) (c .before .before .before .before .before .before .if3 .left), sym (c .before .before .before .before .before .same-shards .ensures), not-false (c .before .before .before .before .before .same-shards .result) (c .before .before .before .before .if4 .left), sym (c .before .before .before .groups-valid .ensures), not-false (c .before .before .before .groups-valid .result) (c .before .before .if5 .left), sym (c .all-moves .ensures))
+returns-6 c = simp (sym (c .before .before .before .before .before .before .before .before .before .before .before .before .quorum .ensures), sym (c .before .before .before .before .before .before .before .before .before .before .before .is-met .ensures), not-false (c .before .before .before .before .before .before .before .before .before .before .before .is-met .result) (c .before .before .before .before .before .before .before .before .before .before .if1 .left), sym (c .before .before .before .before .before .before .before .before .before .follows .ensures), not-false (c .before .before .before .before .before .before .before .before .before .follows .result) (c .before .before .before .before .before .before .before .before .if2 .left), sym (c .before .before .before .before .before .before .before .layout-tidy .ensures), not-false (c .before .before .before .before .before .before .before .layout-tidy .result) (c .before .before .before .before .before .before .if3 .left), sym (c .before .before .before .before .before .same-shards .ensures), not-false (c .before .before .before .before .before .same-shards .result) (c .before .before .before .before .if4 .left), sym (c .before .before .before .groups-valid .ensures), not-false (c .before .before .before .groups-valid .result) (c .before .before .if5 .left), sym (c .all-moves .ensures))
 
 pub matches-spec : {M : Type 1} → statement M
 matches-spec =
     tie.close
-    (tie.spec (λ c κs. search needs) returns (λ c κs. search needs) returns-2 (λ c κs. search needs) returns-3 (λ c κs. search needs) returns-4
+    (tie.spec (λ c κs. search needs) (λ c κs. search needs) returns (λ c κs. search needs) returns-2 (λ c κs. search needs) returns-3 (λ c κs. search needs) returns-4
     (λ c κs. search needs) returns-5 (λ c. search needs) (λ c κs. search needs) returns-6)

@@ -11,11 +11,11 @@ use Rattle.base_laws.specs.Below.{allBelow, all-none, all-more, all-fails, all-
 use Rattle.base_ids.specs.declared.Node.{Node}
 use Rattle.base_ids.specs.declared.Position.{Position}
 use Rattle.report_views.specs.declared.Plan.{Plan}
-use Rattle.report_views.specs.declared.Standing.{Standing}
 use Rattle.report_views.specs.Logs.{start}
 use Rattle.report_views.specs.Reports.{nodeAt}
 use Rattle.report_views.specs.Slots.{samePosition}
 use Rattle.report_views.specs.PlanLaws.{sameShard}
+use Rattle.plan_seen.specs.declared.Seen.{Seen}
 use Rattle.state_sound_plan.specs.Matches.{sameShards}
 use borrow.Author.Needs.{needs}
 use Rattle.state_sound_plan.proofs.same_shards.Statement.{statement}
@@ -24,8 +24,8 @@ use Rattle.state_sound_plan.proofs.same_shards.Tie as tie
 abbrev same : List Node → List Position → List Node → List Position → ℕ → Bool
 same holders targets others goals s = eqb (nodeAt holders s) (nodeAt others s) && samePosition (getD targets s start) (getD goals s start)
 
-abbrev ok : Plan → Standing → ℕ → Bool
-ok p st = same (p .holders) (p .targets) (st .holders) (st .targets)
+abbrev ok : Plan → Seen → ℕ → Bool
+ok p x = same (p .holders) (p .targets) (x .holders) (x .targets)
 
 abbrev Inv-loop : tie.InvT-loop
 Inv-loop holders targets others goals s₀ s = (s ≤ 16) × (allBelow s (same holders targets others goals) ≡ true)
@@ -35,25 +35,25 @@ abbrev μ-loop : tie.MeasureT-loop
 
 loop-holds : tie.Need-loop-holds Inv-loop μ-loop
 loop-holds c = let a = c .before .before .before .before .args in
-    (search needs, all-none (ok (a .p) (a .st)))
+    (search needs, all-none (ok (a .p) (a .seen)))
 
 returns : tie.Need-returns Inv-loop μ-loop
 unfolding sameShards sameShard
 returns c = let a = c .before .before .before .before .before .before .before .before .before .before .before .before .args in
     let k = c .before .same-shard in
-    sym (all-fails 16 (ok (a .p) (a .st)) (c .before .before .before .before .before .before .before .loop .s) (omega arith) (sym (k .ensures) ∙ not-true (k .result) (c .if1 .taken)))
+    sym (all-fails 16 (ok (a .p) (a .seen)) (c .before .before .before .before .before .before .before .loop .s) (omega arith) (sym (k .ensures) ∙ not-true (k .result) (c .if1 .taken)))
 
 loop-again : tie.Need-loop-again Inv-loop μ-loop
 loop-again c = let a = c .before .before .before .before .before .before .before .before .before .before .before .before .args in
     let k = c .before .same-shard in
     let l = c .before .before .before .before .before .before .before .loop in
-    (omega arith, all-more (l .s) (ok (a .p) (a .st)) (l .inv .1) (sym (k .ensures) ∙ not-false (k .result) (c .if1 .left)))
+    (omega arith, all-more (l .s) (ok (a .p) (a .seen)) (l .inv .1) (sym (k .ensures) ∙ not-false (k .result) (c .if1 .left)))
 
 returns-2 : tie.Need-returns-2 Inv-loop μ-loop
 unfolding sameShards sameShard
 returns-2 c = let a = c .before .before .before .before .before .before .args in
     let l = c .before .loop in
-    sym (all-fewer 16 (l .s) (ok (a .p) (a .st)) (omega arith) (l .inv .1))
+    sym (all-fewer 16 (l .s) (ok (a .p) (a .seen)) (omega arith) (l .inv .1))
 
 pub same-shards-spec : {M : Type 1} → statement M
 same-shards-spec =

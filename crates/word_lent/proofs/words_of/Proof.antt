@@ -20,7 +20,7 @@ returns c =
     let room : n ≤ 512 =
     omega (arith, within-le (c .before .before .before .before .before .args .most) (length (c .before .before .before .before .before .args .bytes .now))) in
     part-holds (c .before .before .before .before .before .args .most) _ (c .before .before .before .before .before .args .bytes .now)
-    (c .before .before .before .count-within .ensures) room _ (c .before .decode .ensures)
+    (c .before .before .before .count-within .ensures) 512 room _ (c .before .decode .ensures)
 
 pub words-of-spec : {M : Type 1} → statement M
 words-of-spec =

@@ -7,10 +7,10 @@ use Rattle.hint_oracle.proofs.levels.nodes.Statement.{statement}
 use Rattle.hint_oracle.proofs.levels.nodes.Tie as tie
 
 abbrev Inv-loop : tie.InvT-loop
-Inv-loop mem rooms v₀ m₀ v m = length v ≡ 32
+Inv-loop v₀ mem rooms m₀ v m = length v ≡ length v₀
 
 abbrev μ-loop : tie.MeasureT-loop
-μ-loop mem rooms v₀ m₀ v m = m
+μ-loop v₀ mem rooms m₀ v m = m
 
 pub nodes-spec : {M : Type 1} → statement M
 nodes-spec =

@@ -7,10 +7,10 @@ use Rattle.hint_oracle.proofs.levels.open_nodes.Statement.{statement}
 use Rattle.hint_oracle.proofs.levels.open_nodes.Tie as tie
 
 abbrev Inv-loop : tie.InvT-loop
-Inv-loop mem up v₀ n₀ v n = (n ≤ 32) × (length v ≡ 32)
+Inv-loop v₀ mem up n₀ v n = (n ≤ 32) × (length v ≡ length v₀)
 
 abbrev μ-loop : tie.MeasureT-loop
-μ-loop mem up v₀ n₀ v n = 32 - n
+μ-loop v₀ mem up n₀ v n = 32 - n
 
 pub open-nodes-spec : {M : Type 1} → statement M
 open-nodes-spec =

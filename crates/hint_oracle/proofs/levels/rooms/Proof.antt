@@ -7,10 +7,10 @@ use Rattle.hint_oracle.proofs.levels.rooms.Statement.{statement}
 use Rattle.hint_oracle.proofs.levels.rooms.Tie as tie
 
 abbrev Inv-loop : tie.InvT-loop
-Inv-loop mem count h₀ i₀ h i = (i ≤ count) × (count ≤ 16) × (length h ≡ 16)
+Inv-loop h₀ mem count i₀ h i = (i ≤ count) × (count ≤ 16) × (length h ≡ length h₀)
 
 abbrev μ-loop : tie.MeasureT-loop
-μ-loop mem count h₀ i₀ h i = count - i
+μ-loop h₀ mem count i₀ h i = count - i
 
 pub rooms-spec : {M : Type 1} → statement M
 rooms-spec =

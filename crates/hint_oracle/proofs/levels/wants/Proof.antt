@@ -7,10 +7,10 @@ use Rattle.hint_oracle.proofs.levels.wants.Statement.{statement}
 use Rattle.hint_oracle.proofs.levels.wants.Tie as tie
 
 abbrev Inv-loop : tie.InvT-loop
-Inv-loop mem rooms count u₀ i₀ u i = (i ≤ count) × (count ≤ 16) × (length u ≡ 16)
+Inv-loop u₀ mem rooms count i₀ u i = (i ≤ count) × (count ≤ 16) × (length u ≡ length u₀)
 
 abbrev μ-loop : tie.MeasureT-loop
-μ-loop mem rooms count u₀ i₀ u i = count - i
+μ-loop u₀ mem rooms count i₀ u i = count - i
 
 pub wants-spec : {M : Type 1} → statement M
 wants-spec =

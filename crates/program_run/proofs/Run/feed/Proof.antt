@@ -5,7 +5,7 @@ use native.Mathlib.Omega.{arith}
 use lib.ListN.{length, take}
 use borrow.Author.Needs.{needs}
 use Rattle.program_run.specs.Machine.{Feeds}
-use Rattle.program_run.specs.Steps.{feeds-none, feeds-more, feeds-all}
+use Rattle.program_run.specs.Steps.{ready-lacks, gathers-gathered, gathers-on, gathers-feed, feeds-none, feeds-more, feeds-all}
 use Rattle.program_run.proofs.Run.feed.Statement.{statement}
 use Rattle.program_run.proofs.Run.feed.Tie as tie
 
@@ -18,14 +18,31 @@ abbrev μ-loop : tie.MeasureT-loop
 loop-holds : tie.Need-loop-holds Inv-loop μ-loop
 loop-holds c = (search needs, (feeds-none (c .before .before .before .pre), search needs))
 
-push-requires : tie.Need-push-requires Inv-loop μ-loop
-push-requires c κs = c .before .before .before .before .loop .inv .1 .0 .ready
+gather-requires : tie.Need-gather-requires Inv-loop μ-loop
+gather-requires c κs = (ready-lacks (c .before .before .loop .run) (c .before .before .loop .bytes) (c .before .before .loop .inv .1 .0 .ready), c .before .before .loop .inv .0)
+
+settle-requires : tie.Need-settle-requires Inv-loop μ-loop
+settle-requires c κs = gathers-gathered (c .before .before .before .before .before .before .before .loop .run) (c .before .before .before .before .before .before .before .loop .bytes) (c .before .before .before .before .before .before .before .before .before .before .before .args .fed .now) (c .before .before .before .before .before .before .before .loop .i) _ _ (c .before .before .before .before .before .before .before .loop .inv .1 .0 .ready) (c .before .before .before .before .gather .ensures)
+
+sub-i : tie.Need-sub-i Inv-loop μ-loop
+sub-i c = omega (arith, gathers-on (c .before .before .before .before .before .before .before .before .before .before .loop .run) (c .before .before .before .before .before .before .before .before .before .before .loop .bytes) (c .before .before .before .before .before .before .before .before .before .before .before .before .before .before .args .fed .now) (c .before .before .before .before .before .before .before .before .before .before .loop .i) _ _ (c .before .before .before .before .before .before .before .before .before .before .loop .inv .1 .0 .ready) (c .before .before .before .before .before .before .before .gather .ensures) (c .before .before .before .before .before .before .before .before .before .loop-test .taken) .0)
 
 add-i : tie.Need-add-i Inv-loop μ-loop
-add-i c = omega (arith, c .before .before .before .before .before .before .before .before .before .before .before .before .before .good .1 .1 .1)
+add-i c = omega (arith, gathers-on (c .before .before .before .before .before .before .before .before .before .before .loop .run) (c .before .before .before .before .before .before .before .before .before .before .loop .bytes) (c .before .before .before .before .before .before .before .before .before .before .before .before .before .before .args .fed .now) (c .before .before .before .before .before .before .before .before .before .before .loop .i) _ _ (c .before .before .before .before .before .before .before .before .before .before .loop .inv .1 .0 .ready) (c .before .before .before .before .before .before .before .gather .ensures) (c .before .before .before .before .before .before .before .before .before .loop-test .taken) .1, c .before .before .before .before .before .before .before .before .before .before .before .before .before .before .good .1 .1 .1)
+
+loop-less : tie.Need-loop-less Inv-loop μ-loop
+loop-less c =
+    let on = gathers-on (c .before .before .before .before .before .before .before .before .before .before .loop .run) (c .before .before .before .before .before .before .before .before .before .before .loop .bytes) (c .before .before .before .before .before .before .before .before .before .before .before .before .before .before .args .fed .now) (c .before .before .before .before .before .before .before .before .before .before .loop .i) _ _ (c .before .before .before .before .before .before .before .before .before .before .loop .inv .1 .0 .ready) (c .before .before .before .before .before .before .before .gather .ensures) (c .before .before .before .before .before .before .before .before .before .loop-test .taken) in
+    omega (arith, on .0, on .1)
 
 loop-again : tie.Need-loop-again Inv-loop μ-loop
-loop-again c = (search needs, (feeds-more (c .before .before .before .before .before .before .before .before .before .before .before .before .before .args .fed .now) _ (c .before .before .before .before .before .before .before .before .loop-test .taken) (c .before .before .before .before .before .before .before .before .before .loop .inv .1 .0) (c .before .before .before .before .push .ensures), c .before .before .before .before .push .kept .1 .0 ∙ c .before .before .before .before .before .before .before .before .before .loop .inv .1 .1))
+loop-again c = (
+  gathers-on (c .before .before .before .before .before .before .before .before .before .before .loop .run) (c .before .before .before .before .before .before .before .before .before .before .loop .bytes) (c .before .before .before .before .before .before .before .before .before .before .before .before .before .before .args .fed .now) (c .before .before .before .before .before .before .before .before .before .before .loop .i) _ _ (c .before .before .before .before .before .before .before .before .before .before .loop .inv .1 .0 .ready) (c .before .before .before .before .before .before .before .gather .ensures) (c .before .before .before .before .before .before .before .before .before .loop-test .taken) .1,
+  (
+    feeds-more (c .before .before .before .before .before .before .before .before .before .before .before .before .before .before .args .fed .now) (c .before .before .before .before .before .before .before .before .before .before .loop .i) (c .before .before .before .before .before .before .before .gather .result - c .before .before .before .before .before .before .before .before .before .before .loop .run .pending) (c .before .before .before .before .before .before .before .before .before .before .loop .inv .1 .0) (gathers-feed (c .before .before .before .before .before .before .before .before .before .before .loop .run) (c .before .before .before .before .before .before .before .before .before .before .loop .bytes) (c .before .before .before .before .before .before .before .before .before .before .before .before .before .before .args .fed .now) (c .before .before .before .before .before .before .before .before .before .before .loop .i) _ _ (c .before .before .before .before .before .before .before .before .before .before .loop .inv .1 .0 .ready) (c .before .before .before .before .before .before .before .gather .ensures) _ _ _ _ (c .before .before .settle .ensures)),
+    c .before .before .settle .kept .1 .0 ∙ c .before .before .before .before .before .before .before .before .before .before .loop .inv .1 .1,
+  ),
+)
 
 same-length : tie.Need-same-length Inv-loop μ-loop
 same-length c = c .before .loop .inv .1 .1
@@ -39,4 +56,4 @@ returns c = feeds-all (c .before .before .before .before .before .args .fed .now
 pub feed-spec : {M : Type 1} → statement M
 feed-spec =
     tie.close
-    (tie.spec Inv-loop μ-loop loop-holds (λ c. search needs) push-requires add-i (λ c. search needs) loop-again same-length same-length-2 returns)
+    (tie.spec Inv-loop μ-loop loop-holds gather-requires settle-requires sub-i add-i loop-less loop-again same-length same-length-2 returns)

@@ -1,9 +1,11 @@
--- `state_planner::State::drop` meets its contract: the refusal is the definition's, and the state follows. Assumes nothing.
+-- `state_planner::State::drop` meets its contract: rows 1 and 2, then the event beside what the desk tells. Assumes nothing.
 use mathlib.Core.Bool.{not}
-use mathlib.Core.Path.{ap}
-use Rattle.state_planner.specs.Refusing.{dropRefusal}
-use Rattle.state_planner.specs.Events.{dropped}
-use Rattle.state_planner.specs.EventLaws.{event-settles}
+use Rattle.base_laws.specs.Masks.{has}
+use mathlib.Core.Path.{_∙_}
+use Rattle.state_planner.specs.Refusing.{isCommitted, dropRefusal}
+use Rattle.state_planner.specs.Events.{afterDrop, dropped}
+use Rattle.state_planner.specs.CallLaws.{called-settings, called-desk, call-event}
+use Rattle.state_planner.specs.EventLaws.{settles-refused}
 use borrow.Author.Needs.{needs}
 use Rattle.state_planner.proofs.State.drop.Statement.{statement}
 use Rattle.state_planner.proofs.State.drop.Tie as tie
@@ -11,9 +13,28 @@ use Rattle.state_planner.proofs.State.drop.Tie as tie
 returns : tie.Need-returns
 unfolding dropped dropRefusal
 returns c =
-    let a = c .before .before .before .before .before .before .before .args in
-    event-settles (a .settings .now) (a .self) (a .desk .now) _ (a .node .0) _ (ap not (c .before .before .before .before .is-committed .ensures)) (c .before .before .has .ensures) _ _
-    (c .settled .ensures) (λ h. c .before .after-drop .ensures)
+    let a = c .before .before .before .before .before .before .args in
+    let r = c .before .before .before .call-refusal in
+    c .refuse .ensures
+    ∙ settles-refused
+    (call-event (a .settings .now) (a .desk .now) (r .result) (r .ensures) (c .before .if1 .taken) (a .self) (not (isCommitted (a .self .phase))) (a .node .0) (has (a .self .held) (a .node .0)))
+    (a .self) (afterDrop (a .self) (a .node .0)) (c .before .if1 .taken)
+
+see-requires : tie.Need-see-requires
+see-requires c κs = (
+  called-settings (c .before .before .before .before .before .args .settings .now) (c .before .before .before .before .before .args .desk .now) (c .before .before .call-refusal .result) (c .before .before .call-refusal .ensures) (c .if1 .left),
+  called-desk (c .before .before .before .before .before .args .settings .now) (c .before .before .before .before .before .args .desk .now) (c .before .before .call-refusal .result) (c .before .before .call-refusal .ensures) (c .if1 .left),
+)
+
+drop-seen-requires : tie.Need-drop-seen-requires
+drop-seen-requires c κs =
+    called-settings (c .before .before .before .before .before .before .args .settings .now) (c .before .before .before .before .before .before .args .desk .now) (c .before .before .before .call-refusal .result) (c .before .before .before .call-refusal .ensures) (c .before .if1 .left)
+
+returns-2 : tie.Need-returns-2
+returns-2 c =
+    c .drop-seen .ensures (c .before .before .before .before .before .before .before .args .desk .now) (called-desk (c .before .before .before .before .before .before .before .args .settings .now) (c .before .before .before .before .before .before .before .args .desk .now) (c .before .before .before .before .call-refusal .result) (c .before .before .before .before .call-refusal .ensures) (c .before .before .if1 .left)) (c .before .see .ensures)
 
 pub drop-spec : {M : Type 1} → statement M
-drop-spec = tie.close (tie.spec (λ c κs. search needs) (λ c. search needs) (λ c κs. search needs) (λ c κs. search needs) (λ c κs. search needs) returns)
+drop-spec =
+    tie.close
+    (tie.spec (λ c κs. search needs) (λ c κs. search needs) returns see-requires drop-seen-requires returns-2)

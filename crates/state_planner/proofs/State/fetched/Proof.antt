@@ -1,7 +1,11 @@
--- `state_planner::State::fetched` meets its contract: the refusal is the definition's, and the state follows. Assumes nothing.
-use Rattle.state_planner.specs.Refusing.{fetchedRefusal}
-use Rattle.state_planner.specs.Events.{fetchedOf}
-use Rattle.state_planner.specs.EventLaws.{event-settles}
+-- `state_planner::State::fetched` meets its contract: rows 1 and 2, then the event beside what the desk tells. Assumes nothing.
+use mathlib.Core.Bool.{not, _&&_}
+use Rattle.base_laws.specs.Masks.{has}
+use mathlib.Core.Path.{_∙_}
+use Rattle.state_planner.specs.Refusing.{isOrdered, fetchedRefusal}
+use Rattle.state_planner.specs.Events.{afterFetched, fetchedOf}
+use Rattle.state_planner.specs.CallLaws.{called-settings, called-desk, call-event}
+use Rattle.state_planner.specs.EventLaws.{settles-refused}
 use borrow.Author.Needs.{needs}
 use Rattle.state_planner.proofs.State.fetched.Statement.{statement}
 use Rattle.state_planner.proofs.State.fetched.Tie as tie
@@ -10,8 +14,27 @@ returns : tie.Need-returns
 unfolding fetchedOf fetchedRefusal
 returns c =
     let a = c .before .before .before .before .before .before .args in
-    event-settles (a .settings .now) (a .self) (a .desk .now) _ (a .node .0) _ (c .before .before .before .is-ordered .ensures) (c .before .before .lacks .ensures) _ _
-    (c .settled .ensures) (c .before .after-fetched .ensures)
+    let r = c .before .before .before .call-refusal in
+    c .refuse .ensures
+    ∙ settles-refused
+    (call-event (a .settings .now) (a .desk .now) (r .result) (r .ensures) (c .before .if1 .taken) (a .self) (isOrdered (a .self .phase)) (a .node .0) (has (a .self .held) (a .node .0) && not (has (a .self .fetched) (a .node .0))))
+    (a .self) (afterFetched (a .self) (a .node .0)) (c .before .if1 .taken)
+
+see-requires : tie.Need-see-requires
+see-requires c κs = (
+  called-settings (c .before .before .before .before .before .args .settings .now) (c .before .before .before .before .before .args .desk .now) (c .before .before .call-refusal .result) (c .before .before .call-refusal .ensures) (c .if1 .left),
+  called-desk (c .before .before .before .before .before .args .settings .now) (c .before .before .before .before .before .args .desk .now) (c .before .before .call-refusal .result) (c .before .before .call-refusal .ensures) (c .if1 .left),
+)
+
+fetched-seen-requires : tie.Need-fetched-seen-requires
+fetched-seen-requires c κs =
+    called-settings (c .before .before .before .before .before .before .args .settings .now) (c .before .before .before .before .before .before .args .desk .now) (c .before .before .before .call-refusal .result) (c .before .before .before .call-refusal .ensures) (c .before .if1 .left)
+
+returns-2 : tie.Need-returns-2
+returns-2 c =
+    c .fetched-seen .ensures (c .before .before .before .before .before .before .before .args .desk .now) (called-desk (c .before .before .before .before .before .before .before .args .settings .now) (c .before .before .before .before .before .before .before .args .desk .now) (c .before .before .before .before .call-refusal .result) (c .before .before .before .before .call-refusal .ensures) (c .before .before .if1 .left)) (c .before .see .ensures)
 
 pub fetched-spec : {M : Type 1} → statement M
-fetched-spec = tie.close (tie.spec (λ c κs. search needs) (λ c κs. search needs) (λ c κs. search needs) (λ c κs. search needs) returns)
+fetched-spec =
+    tie.close
+    (tie.spec (λ c κs. search needs) (λ c κs. search needs) returns see-requires fetched-seen-requires returns-2)

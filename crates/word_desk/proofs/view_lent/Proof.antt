@@ -1,0 +1,29 @@
+-- `word_desk::view_lent` meets its contract: the view that a node reported is word 1 of its slot.
+use mathlib.Core.Path.{sym, _∙_}
+use Rattle.word_lent.specs.Lent.{wordsIn}
+use Rattle.word_desk.specs.ByteDesk.{desk-length, desk-word}
+use native.Mathlib.Omega.{arith}
+use Prim.Native.Nat.{_+_, _*_}
+use borrow.Author.Needs.{needs}
+use borrow.Author.Tests.{not-true, not-false}
+use Rattle.report_ends.specs.Ends.{view-at}
+use Rattle.plan_seen.specs.Sight.{view-unheld, view-held}
+use Rattle.word_desk.proofs.view_lent.Statement.{statement}
+use Rattle.word_desk.proofs.view_lent.Tie as tie
+
+returns : tie.Need-returns
+returns c = let a = c .before .before .before .before .args in
+    let h = c .before .has in
+    view-unheld (a .held) (wordsIn (a .desk .now)) (a .node .0) (sym (h .ensures) ∙ not-true (h .result) (c .if1 .taken))
+
+returns-2 : tie.Need-returns-2
+returns-2 c = let s = c .before .before .before .before .before in
+    let a = s .args in
+    let h = c .before .before .has in
+    c .word-at .ensures
+    ∙ sym (desk-word (a .desk .now) (s .pre .0) (512 * a .node .0 + 1) (omega (arith, s .pre .1)))
+    ∙ view-at (wordsIn (a .desk .now)) (a .node .0) (desk-length (a .desk .now) (s .pre .0)) (s .pre .1)
+    ∙ view-held (a .held) (wordsIn (a .desk .now)) (a .node .0) (sym (h .ensures) ∙ not-false (h .result) (c .before .if1 .left))
+
+pub view-lent-spec : {M : Type 1} → statement M
+view-lent-spec = tie.close (tie.spec (λ c. search needs) (λ c κs. search needs) returns (λ c. search needs) (λ c. search needs) (λ c κs. search needs) returns-2)

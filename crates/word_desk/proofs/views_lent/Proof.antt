@@ -1,0 +1,40 @@
+-- `word_desk::views_lent` meets its contract. The invariant: the views of the nodes below n are stored.
+use Prim.Native.Nat.{ℕ, _≤_, _-_}
+use mathlib.Core.Path.{_≡_, sym, ap, _∙_}
+use native.Mathlib.Omega.{arith}
+use lib.ListN.{replicate, length-replicate}
+use Rattle.word_lent.specs.Lent.{wordsIn}
+use borrow.Author.Needs.{needs}
+use Rattle.base_laws.specs.Tables.{filled, filled-none, filled-turn, filled-all}
+use Rattle.plan_seen.specs.Sight.{viewSeen, viewsSeen}
+use Rattle.word_desk.proofs.views_lent.Statement.{statement}
+use Rattle.word_desk.proofs.views_lent.Tie as tie
+
+abbrev Inv-loop : tie.InvT-loop
+Inv-loop held desk views₀ n₀ views n = (n ≤ 32) × (views ≡ filled n (viewSeen held (wordsIn desk)) (replicate 32 0))
+
+abbrev μ-loop : tie.MeasureT-loop
+μ-loop held desk views₀ n₀ views n = 32 - n
+
+loop-holds : tie.Need-loop-holds Inv-loop μ-loop
+loop-holds c = let a = c .before .args in
+    (search needs, sym (filled-none (viewSeen (a .held) (wordsIn (a .desk .now))) (replicate 32 0)))
+
+loop-again : tie.Need-loop-again Inv-loop μ-loop
+loop-again c = let a = c .before .before .before .before .args in
+    let l = c .before .before .loop in
+    let few = length-replicate {A = ℕ} 32 0 in
+    (omega arith, filled-turn (l .n) (viewSeen (a .held) (wordsIn (a .desk .now))) (replicate 32 0) (l .views) (c .view-lent .result) (omega (arith, few)) (l .inv .1) (c .view-lent .ensures))
+
+returns : tie.Need-returns Inv-loop μ-loop
+unfolding viewsSeen
+returns c = let a = c .before .before .before .args in
+    let l = c .before .loop in
+    let f = viewSeen (a .held) (wordsIn (a .desk .now)) in
+    let z : l .n ≡ 32 = omega arith in
+    l .inv .1 ∙ ap (λ (k : ℕ). filled k f (replicate 32 0)) z ∙ filled-all 32 f (replicate 32 0) (length-replicate {A = ℕ} 32 0)
+
+pub views-lent-spec : {M : Type 1} → statement M
+views-lent-spec =
+    tie.close
+    (tie.spec Inv-loop μ-loop loop-holds (λ c. search needs) (λ c κs. search needs) (λ c. search needs) (λ c. search needs) (λ c. search needs) (λ c. search needs) loop-again returns)
