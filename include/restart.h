@@ -17,10 +17,11 @@
  * enum restart_number. That order is 1, 2, 3, 4, 5, 6, 7, 8, 9, 16, 17, 10, 11, 18, 12, 13, 14, not
  * the order of their size.
  *
- * What is proved: the calls under "Settings and messages" and "Events" are proved functions. For
- * any bytes whatever they end, touch nothing but what was lent, and answer and leave what their
- * definitions say. The functions under "Answers", "Words in lent bytes" and "Versions and texts"
- * are plain C beside them (c/restart_extra.c): tested, not proved, and never called by a proved one.
+ * What is proved: the calls under "Settings and messages", "Open views" and "Events" are proved
+ * functions. For any bytes whatever they end, touch nothing but what was lent, and answer and leave
+ * what their definitions say. The functions under "Answers", "Words in lent bytes" and "Versions and
+ * texts" are plain C beside them (c/restart_extra.c): tested, not proved, and never called by a
+ * proved one.
  *
  * Stack: a call needs up to RESTART_STACK_BYTES of it. No call allocates memory.
  *
@@ -46,9 +47,9 @@ extern "C" {
 
 #define RESTART_VERSION_MAJOR 0
 #define RESTART_VERSION_MINOR 4
-#define RESTART_VERSION_PATCH 1
-#define RESTART_VERSION "0.4.1"
-#define RESTART_VERSION_NUMBER 401 /* major * 10000 + minor * 100 + patch */
+#define RESTART_VERSION_PATCH 2
+#define RESTART_VERSION "0.4.2"
+#define RESTART_VERSION_NUMBER 402 /* major * 10000 + minor * 100 + patch */
 
 /* Of the settings, the messages and the state. It is raised when any of their words changes its
  * meaning; save it beside a state, and start fresh where it differs. */
@@ -164,6 +165,19 @@ enum restart_reason {
     RESTART_NO_PLACEMENT = 5
 };
 
+/* ---- What is found of an open view ---- */
+
+enum restart_view {
+    /* it counts */
+    RESTART_VIEW_SURE = 1,
+    /* it was never served */
+    RESTART_VIEW_NEVER = 2,
+    /* neither is known */
+    RESTART_VIEW_UNDECIDED = 3,
+    /* both are said */
+    RESTART_VIEW_CONTRADICTED = 4
+};
+
 /* ---- The state's words ----
  * What is not there is zero, and so are the places of shards and nodes that the settings do not
  * have.
@@ -235,9 +249,16 @@ enum restart_kind {
  *   class 1   accepted; the rest is a length in words
  *   class 2   a plan stands in the state
  *   class 3   a wait: 256 * reason + value
+ *   class 4   what is found of an open view, enum restart_view
  */
 
-enum restart_class { RESTART_PLAIN = 0, RESTART_LENGTH = 1, RESTART_PLAN = 2, RESTART_WAIT = 3 };
+enum restart_class {
+    RESTART_PLAIN = 0,
+    RESTART_LENGTH = 1,
+    RESTART_PLAN = 2,
+    RESTART_WAIT = 3,
+    RESTART_VIEW = 4
+};
 
 #define RESTART_ACCEPTED UINT32_C(0)
 #define RESTART_CLASS_UNIT UINT32_C(16777216)
@@ -307,6 +328,12 @@ RESTART_INLINE uint32_t restart_length_of(uint32_t answer)
     return restart_class_of(answer) == RESTART_LENGTH ? answer % RESTART_CLASS_UNIT : 0;
 }
 
+/* What is found of an open view, enum restart_view; 0 of another answer. */
+RESTART_INLINE uint32_t restart_view_of(uint32_t answer)
+{
+    return restart_class_of(answer) == RESTART_VIEW ? answer % RESTART_CLASS_UNIT : 0;
+}
+
 /* ---- Words in lent bytes ---- */
 
 /* Word `index` of the bytes. */
@@ -334,10 +361,12 @@ extern const char *restart_version_text(void);
 extern uint32_t restart_format(void);
 
 /* A short text, in English and without a full stop, for a refusal's number, a wait's reason, a
- * phase; of any other word one that says so. The texts are constant and never null. */
+ * phase, what is found of an open view; of any other word one that says so. The texts are constant
+ * and never null. */
 extern const char *restart_number_text(uint32_t number);
 extern const char *restart_reason_text(uint32_t reason);
 extern const char *restart_phase_text(uint32_t phase);
+extern const char *restart_view_text(uint32_t view);
 
 /* ---- Settings and messages ---- */
 
@@ -379,6 +408,35 @@ uint32_t restart_write_report(const uint8_t *settings, size_t settings_len, cons
 uint32_t restart_write_order(const uint8_t *settings, size_t settings_len, const uint8_t *contents,
                              size_t contents_len, uint8_t *buffer,
                              size_t buffer_len) RESTART_NONNULL RESTART_CHECKED;
+
+/* ---- Open views ----
+ * A view on a machine's disk is sure, where the machine knows that it was committed, or open, where
+ * the machine has prepared it and knows no more. With each view it has the list of all views before
+ * it. A view is told by its number and its members.
+ */
+
+/*
+ * Whether an open view counts. Asked after every machine that is back has sent its views with their
+ * lists, once for each open view that one of them has, and before any report is handed to
+ * restart_report. Each argument is a mask:
+ *   members   the view's members
+ *   known     the machines that have it as sure, or sent a view in whose list it stands
+ *   have      those that have it as an open view; also those whose disk an operator says is gone
+ *             for ever
+ *   lack      those that sent their views, and it is neither among these nor in their lists
+ *   passed    those that sent a sure view of its number or a greater one, which is another view and
+ *             has it not in its list
+ * Answers class 4, and is never refused. What the leader does then:
+ *   RESTART_VIEW_SURE          tells the machines that have it that it is sure
+ *   RESTART_VIEW_NEVER         lets them forget it with its logs, on disk, before they report
+ *   RESTART_VIEW_UNDECIDED     waits for the members that are in none of known, have and lack, and
+ *                              plans nothing meanwhile
+ *   RESTART_VIEW_CONTRADICTED  plans nothing and calls an operator: a machine went back in time, or
+ *                              a duty was broken
+ * Changes nothing.
+ */
+uint32_t restart_open_view(uint32_t members, uint32_t known, uint32_t have, uint32_t lack,
+                           uint32_t passed) RESTART_CHECKED;
 
 /* ---- Events ----
  * A restart is a state of 640 bytes and a desk of 65536. The caller keeps both between the calls,
