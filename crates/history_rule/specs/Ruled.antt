@@ -84,12 +84,17 @@ module _ {S : ℕ} {G : History} (o : Orderly G) (r : Restart S G) where
   last-wide = subst (λ (m : ℕ). m < 2 ^ 32) kept-members (r .wide)
 
   -- the plan's number is above every view's
-  number-above : (i : ℕ) → i < length (G .views) → numberAt G i < r .w .number .0
+  pub number-above : (i : ℕ) → i < length (G .views) → numberAt G i < r .w .number .0
   number-above i l =
       ⊎-elim
       (λ e. omega (arith, r .next .number, at-last .listed .number, ap (λ (k : ℕ). numberAt G k) e))
       (λ e. omega (arith, r .next .number, at-last .listed .number, o .rule .rises i (at-last .place) (omega (arith, last-kept)) (at-last .listed .listed)))
       (eq-or-ne i (at-last .place))
+
+  -- it is the one after the last view's
+  pub number-next : (0 < length (G .views)) × (r .w .number .0 ≡ numberAt G (lastOf G) + 1)
+  number-next =
+      (omega (arith, last-kept), omega (arith, r .next .number, at-last .listed .number, ap (λ (i : ℕ). numberAt G i) last-place))
 
   -- its members are the machines that are held
   held-of : (n : ℕ) → has (r .w .members) n ≡ true → has (r .held) n ≡ true
