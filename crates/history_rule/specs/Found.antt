@@ -27,7 +27,7 @@ use Rattle.history_rule.specs.Disks.{Attempt, planView, Each, each-more,
 use Rattle.history_rule.specs.Sent.{OneView, Among, among-first, among-later, Known, as-sure, in-list, in-plan, PassedBy, Sent}
 use Rattle.history_rule.specs.Ruled.{Closed, Machines, InHistory, Overtaken, OnlyLatest, latest-is, Ruled, ruled, number-above, number-next}
 
-each-at : {A : Type 0} {P : A → Type 0} {x : A} {l : List A} → Among x l → Each P l → P x
+pub each-at : {A : Type 0} {P : A → Type 0} {x : A} {l : List A} → Among x l → Each P l → P x
 each-at (among-first l) (each-more _ _ p e) = p
 each-at (among-later y l m) (each-more _ _ p e) = each-at m e
 

@@ -73,14 +73,14 @@ module _ {S : ℕ} {G : History} (o : Orderly G) (r : Restart S G) where
   last-place : at-last .place ≡ lastOf G
   last-place = omega (arith, last-kept)
 
-  kept-members : r .v .members ≡ membersAt G (lastOf G)
+  pub kept-members : r .v .members ≡ membersAt G (lastOf G)
   kept-members = at-last .listed .members ∙ ap (λ (i : ℕ). membersAt G i) last-place
 
   -- more than half of the last view's members are held, and its members are nodes
-  held-most : count (membersAt G (lastOf G)) < 2 * count (bitAnd (r .held) (membersAt G (lastOf G)))
+  pub held-most : count (membersAt G (lastOf G)) < 2 * count (bitAnd (r .held) (membersAt G (lastOf G)))
   held-most = subst (λ (m : ℕ). count m < 2 * count (bitAnd (r .held) m)) kept-members (r .met .most)
 
-  last-wide : membersAt G (lastOf G) < 2 ^ 32
+  pub last-wide : membersAt G (lastOf G) < 2 ^ 32
   last-wide = subst (λ (m : ℕ). m < 2 ^ 32) kept-members (r .wide)
 
   -- the plan's number is above every view's
@@ -100,7 +100,7 @@ module _ {S : ℕ} {G : History} (o : Orderly G) (r : Restart S G) where
   held-of : (n : ℕ) → has (r .w .members) n ≡ true → has (r .held) n ≡ true
   held-of n h = subst (λ (m : ℕ). has m n ≡ true) (r .next .members) h
 
-  of-held : (n : ℕ) → has (r .held) n ≡ true → has (r .w .members) n ≡ true
+  pub of-held : (n : ℕ) → has (r .held) n ≡ true → has (r .w .members) n ≡ true
   of-held n h = subst⁻¹ (λ (m : ℕ). has m n ≡ true) (r .next .members) h
 
 -- ---- what holds of the disks
@@ -126,6 +126,7 @@ pub record InHistory {S : ℕ} (G : History) (a : Attempt S) : Type 0 where
 
 -- of two attempts from one history, the members of the later have reported without the view of the earlier
 pub record Replaced {S : ℕ} (a b : Attempt S) : Type 0 where
+  pub earlier : length (b .since .views) ≤ length (a .since .views)
   pub without : length (b .since .views) ≡ length (a .since .views) → (n : ℕ) → n < 32 → has (planView a .members) n ≡ true → has (b .out) n ≡ true
 
 -- the members of the view that stands where an attempt's would have stood have reported without it
@@ -192,7 +193,7 @@ pass-closed p m e =
 
 pass-replaced : {S : ℕ} (a : Attempt S) (have out : ℕ) {l u : List (Attempt S)} → Passing l u → Each (Replaced a) l → Each (Replaced (seenOn a have out)) u
 pass-replaced a have out p e =
-    each-pass (λ x more gone c (h : Replaced a x). record { without = λ k n l i. out-grows c n (h .without k n l i) }) p e
+    each-pass (λ x more gone c (h : Replaced a x). record { earlier = h .earlier; without = λ k n l i. out-grows c n (h .without k n l i) }) p e
 
 pass-latest : {S : ℕ} {G : History} {l u : List (Attempt S)} → Passing l u → Each Machines l → OnlyLatest G l → OnlyLatest G u
 pass-latest pass-none m latest-none = latest-none
@@ -223,6 +224,7 @@ module _ {S : ℕ} {G : History} (o : Orderly G) (r : Restart S G) where
       each-zip
       (λ b (h : InHistory G b) (k : Without (r .held) b).
       record {
+        earlier = h .short;
         without = λ e n l i.
             k .asked (no-true (b .counts) (λ c. absurd (omega (arith, h .stands c .0, e)))) n l (held-of o r n i);
       })
@@ -239,7 +241,7 @@ module _ {S : ℕ} {G : History} (o : Orderly G) (r : Restart S G) where
 
 -- ---- a view counts
 
-each-head : {A : Type 0} {P : A → Type 0} {x : A} {l : List A} → Each P (x ∷ l) → P x
+pub each-head : {A : Type 0} {P : A → Type 0} {x : A} {l : List A} → Each P (x ∷ l) → P x
 each-head (each-more _ _ p e) = p
 
 each-tail : {A : Type 0} {P : A → Type 0} {x : A} {l : List A} → Each P (x ∷ l) → Each P l
@@ -355,7 +357,7 @@ module _ {S : ℕ} {H : History} (o : Orderly H) where
                 (told-more (G .views) (planView a) lists (a .before) (z .told) (h .listed ∙ ap (λ (X : History). X .views) e));
             latest =
                 latest-is (counting a) l (λ x. clash refl x) (rest-of (z .latest))
-                (each-map (λ b (x : Replaced a b). record { without = x .without }) (older-of (z .latest)));
+                (each-map (λ b (x : Replaced a b). record { earlier = x .earlier; without = x .without }) (older-of (z .latest)));
             machines =
                 let m = each-head (z .machines) in
                 each-more (counting a) l (record { apart = m .apart; own = m .own; all = λ x. all }) (each-tail (z .machines));
