@@ -422,7 +422,7 @@ uint32_t restart_write_order(const uint8_t *settings, size_t settings_len, const
  *   members   the view's members
  *   known     the machines that have it as sure, or sent a view in whose list it stands
  *   have      those that have it as an open view; also those whose disk an operator says is gone
- *             for ever
+ *             for ever, under the condition in restart(3), PERSISTENCE
  *   lack      those that sent their views, and it is neither among these nor in their lists
  *   passed    those that sent a sure view of its number or a greater one, which is another view and
  *             has it not in its list
