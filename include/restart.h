@@ -444,21 +444,26 @@ uint32_t restart_open_view(uint32_t members, uint32_t known, uint32_t have, uint
  * of 2048 bytes for each node; before the first report its bytes may be any.
  *
  * What the caller must do, in short; restart(3) has the reasons and what happens otherwise:
- *    1  one restart at a time; a committed view is on the disk of all its members before one serves
- *    2  take acknowledgements of the present attempt only: tag each attempt
+ *    1  a view is served once all its members have it on disk; one leader at a time
+ *    2  messages of the present attempt only: tag each attempt
  *    3  take a machine's reports in the order in which it made them; the library refuses an earlier
  *       view (number 18), not an earlier report of the same view
- *    4  a machine says "prepared" once the new view and all that it fetched are on its disk
+ *    4  "fetched": the ordered logs and the order are on disk; "prepared": the new view too
  *    5  targets of a plan that was given up are no termination, and are not reported as one
- *    6  reports are true: the latest view that the machine logged, and exactly the updates it has
- *    7  a machine with more runs than 128 records can name cannot report
+ *    6  reports are true: the latest view that counts, and exactly the updates it has, or what 7 asks
+ *    7  reports are short: of each carried shard the run of the reported view (Long logs)
  *    8  a holder serves its log until every member of the shard has fetched
  *    9  the library has no clock: drop a machine that is too slow
  *   10  a corrupt high view is kept until a fresh state: start anew without its report
- *   11  an update's view and k name the same update on every disk
+ *   11  an update's view and k name the same update on every disk; after a stop nothing is stored
+ *       under a view from before it
  *   12  state and desk come back as they were left
  *   13  moves are counted, not bytes
- * And before an order leaves: settings, state, desk and the attempt's tag are on disk together.
+ *   14  a termination ends no shard before what is stored
+ *   15  what an order cuts and fetches is written beside the logs until the new view is sure
+ *   16  open views are settled (restart_open_view) before anything is reported
+ *   17  the running service keeps what is stored; the number of shards stays
+ * What is on disk when: restart(3), PERSISTENCE. A leader needs no file.
  */
 
 /*

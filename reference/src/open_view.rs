@@ -21,8 +21,7 @@ pub enum Finding {
 /// The finding on a view with these `members`. The masks are of machines:
 /// - `known`: they have it as committed, or sent a view in whose list of earlier
 ///   views it stands
-/// - `have`: they have it on disk as open, or their disk is gone for ever by an
-///   operator's word
+/// - `have`: they have it on disk as open
 /// - `lack`: they have sent their views, and it is neither among them nor in
 ///   their lists
 /// - `passed`: they sent a committed view of its number or a greater one, which
