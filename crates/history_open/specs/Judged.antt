@@ -1,8 +1,7 @@
 -- An open view is one that a machine has on disk and does not know to be committed. What machines have sent in says that it counts, that it
 -- was never served, both or neither. members: the view's own; known: the machines that have it as sure, or sent a view in whose list of
--- earlier views it stands; have: those that have it as an open view; lack: those that sent their
--- views, and it is neither among these nor in their lists; passed: those that sent a sure view of its number or a greater one, which is
--- another view and has it not in its list.
+-- earlier views it stands; have: those that have it as an open view; lack: those that sent their views, and it is neither among these nor in
+-- their lists; passed: those that sent a sure view of its number or a greater one, which is another view and has it not in its list.
 use Prim.Native.Nat.{ℕ}
 use mathlib.Core.Bool.{Bool, cond, not, _&&_, _||_}
 use lib.Dec.{eqb}

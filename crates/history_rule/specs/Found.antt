@@ -51,6 +51,10 @@ module _ {S : ℕ} {H : History} (o : Orderly H) {G : History} {lists : ℕ → 
   m : Machines a
   m = each-at at (z .machines)
 
+  -- the list on disk with a plan's view has the views that counted when it was planned, and no others
+  pub open-list-tells : a .before ≡ take (length (a .since .views)) (G .views)
+  open-list-tells = h .listed ∙ h .begins
+
   -- an earlier view that stands on disk counts
   prefix-stands : (k : ℕ) (v : List Layout) → k ≤ length (G .views) → v ≡ take k (G .views) → (j : ℕ) → j < length v
       → (j < length (G .views)) × (viewAt G j ≡ getD v j noView)

@@ -400,3 +400,8 @@ module _ {S : ℕ} {H : History} (o : Orderly H) where
       idle-latest : {G K : History} {l : List (Attempt S)} → Idle l → OnlyLatest G l → OnlyLatest K l
       idle-latest idle latest-none = latest-none
       idle-latest idle (latest-is a l live rest older) = latest-is a l (λ c. clash (idle .latest a l refl) c) rest older
+
+  -- the list on disk with a view that counts has the views before it, and no others
+  pub lists-tell : {G : History} {lists : ℕ → List Layout} {l : List (Attempt S)} → Disks S H G lists l → (i : ℕ) → i < length (G .views)
+      → lists i ≡ take i (G .views)
+  lists-tell d = ruled d .told
