@@ -8,7 +8,7 @@ use mathlib.Core.Path.{_≡_, refl, sym, ap, _∙_}
 use native.Mathlib.Omega.{arith}
 use lib.ListN.{length, getD, replicate}
 use borrow.Author.Tests.{eq-eqb, ne-eqb, lt-ltb, le-ltb, ltb-true, leb-true}
-use Rattle.base_laws.specs.Bools.{either, and-left}
+use Rattle.base_laws.specs.Bools.{either, and-left, and-right}
 use Rattle.base_laws.specs.Tables.{tabulate-same}
 use Rattle.settings_values.specs.Settings.{nodes, shards, Settings}
 use Rattle.base_ids.specs.declared.Position.{Position}
@@ -87,6 +87,10 @@ module _ (σ : List ℕ) (v : Layout) (t : Termination) (m : Latest) (w : List �
   pub taken-words : 1 ≤ length w
   unfolding row5
   taken-words = leb-true 1 (length w) (and-left _ _ (and-left _ _ (message-given Report σ w taken-message .words-pass)))
+
+  pub taken-few : length w ≤ 512
+  unfolding row5
+  taken-few = leb-true (length w) 512 (and-right _ _ (and-left _ _ (message-given Report σ w taken-message .words-pass)))
 
 -- ---- the view and the termination
 
