@@ -28,7 +28,7 @@ report-under-requires c κs =
     )
 
 returns-2 : tie.Need-returns-2
-returns-2 c = ?
+returns-2 c = c .before .before .report-under .ensures
 
 pub report-spec : {M : Type 1} → statement M
 report-spec =
