@@ -1,9 +1,9 @@
 // The planner's state lent as bytes: what every C call over it does first and last.
 use base_ids::Refusal;
+use c_state_words::Decoded;
 use state_planner::Answer;
 use state_planner::Outcome;
 use state_planner::State;
-use c_state_words::Decoded;
 ghost use mathlib.Core.Path.{_≡_};
 ghost use lib.ListN.{length};
 ghost use Rattle.base_bytes.specs.Words.{bytesOf};
