@@ -5,7 +5,7 @@ use mathlib.Core.List.{List, [], _++_}
 use mathlib.Core.Path.{_≡_, refl, sym, ap, ap₂, _∙_, subst}
 use native.Mathlib.Omega.{arith}
 use lib.ListN.{length, getD, take, replicate, length-append, length-take, length-replicate, getD-replicate}
-use Rattle.base_laws.specs.Tables.{tabulate-same}
+use Rattle.base_laws.specs.Tables.{tabulate-same, zeros}
 use Rattle.base_bytes.specs.Words.{wordAt, wordsOf}
 use Rattle.base_lent.specs.Lent.{wordsIn, all-words}
 use Rattle.program_input.specs.declared.Source.{Source}
@@ -123,13 +123,20 @@ answers-none {d} {bytes} {r} {e} {b} out p l h =
     }
 
 -- a desk of zeros
-zero-words : (n : ℕ) → replicate n 0 ≡ wordsIn (replicate (4 * n) 0)
+zero-byte : (n k : ℕ) → k < n → getD (zeros n) k 0 ≡ 0
+zero-byte n k l = getD-replicate {A = ℕ} n k 0 0 l
+
+zero-words : (n : ℕ) → zeros n ≡ wordsIn (zeros (4 * n))
 unfolding wordsOf wordAt
 zero-words n =
-    tabulate-same n 0 (wordAt (replicate (4 * n) 0)) (λ k l.
-    let z : ((j : ℕ) → j < 4 * n → getD (replicate (4 * n) 0) j 0 ≡ 0) = λ j m. getD-replicate (4 * n) j 0 0 m in
-    rw (z (4 * k) (omega arith), z (4 * k + 1) (omega arith), z (4 * k + 2) (omega arith), z (4 * k + 3) (omega arith)))
-    ∙ all-words (replicate (4 * n) 0) n (length-replicate (4 * n) 0)
+    tabulate-same n 0 (wordAt (zeros (4 * n))) (λ k l.
+    rw (
+      zero-byte (4 * n) (4 * k) (omega arith),
+      zero-byte (4 * n) (4 * k + 1) (omega arith),
+      zero-byte (4 * n) (4 * k + 2) (omega arith),
+      zero-byte (4 * n) (4 * k + 3) (omega arith),
+    ))
+    ∙ all-words (zeros (4 * n)) n (length-replicate {A = ℕ} (4 * n) 0)
 
 pub empty-desk : wordsIn (replicate 65536 0) ≡ replicate 16384 0
 empty-desk = sym (zero-words 16384)
