@@ -1,0 +1,3 @@
+-- Worked courses of a group over several restarts.
+pub mod Steps
+pub mod Worked
