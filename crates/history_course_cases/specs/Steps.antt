@@ -1,6 +1,6 @@
 -- Courses of histories that desks tell (history_cases/Told.toldBy): what an orderly history, a plan, a restart and a run ask is a test,
 -- which the checker computes. A shard's log is compared as the list of its updates.
-use Prim.Native.Nat.{ℕ, suc, _+_, _*_, _^_, _<_, _≤_}
+use Prim.Native.Nat.{ℕ, suc, _+_, _-_, _*_, _^_, _<_, _≤_}
 use mathlib.Core.Bool.{Bool, true, false, not, _&&_, _||_}
 use mathlib.Core.List.{List, [], _∷_, _++_}
 use mathlib.Core.Logic.{_⊎_, inl, inr, ⊎-elim}
@@ -8,18 +8,21 @@ use mathlib.Core.Path.{_≡_, refl, sym, ap, ap₂, _∙_, subst}
 use native.Mathlib.Omega.{arith}
 use lib.Bits.{bitAnd}
 use lib.Dec.{eqb, leb, ltb}
-use lib.ListN.{length, getD}
+use lib.ListN.{length, getD, take, drop}
+use lib.Seq.{drop-drop}
 use borrow.Author.Tests.{eqb-true, leb-true, ltb-true}
-use Rattle.base_laws.specs.Bools.{clash, and-both, and-left, and-right, or-holds, of-not-true}
+use Rattle.base_laws.specs.Bools.{clash, and-both, and-left, and-right, or-holds, of-not-true, lt-or-le}
 use Rattle.base_laws.specs.Below.{allBelow, anyBelow, all-at, any-witness}
 use Rattle.base_laws.specs.Masks.{has, count, subset, subset-has, quorums-meet}
 use Rattle.settings_values.specs.Settings.{shards}
 use Rattle.base_ids.specs.declared.Position.{Position}
 use Rattle.base_ids.specs.Order.{notAfter}
+use Rattle.message_format.specs.Messages.{contentsOf}
 use Rattle.report_views.specs.declared.Layout.{Layout}
 use Rattle.report_views.specs.declared.Termination.{Termination}
 use Rattle.report_views.specs.declared.Quorum.the-variants.{Met}
-use Rattle.report_views.specs.Reports.{reportOf, viewOf, holdsAt, maskAt, positionAt}
+use Rattle.report_views.specs.Logs.{holds}
+use Rattle.report_views.specs.Reports.{slot, reportOf, viewOf, holdsAt, maskAt, positionAt}
 use Rattle.report_views.specs.Slots.{slotsOk}
 use Rattle.report_views.specs.Quorums.{target, holder, quorumOf}
 use Rattle.report_views.specs.Meets.{quorum-given, slot-given, report-records, candidate-given, holder-given, able-candidate}
@@ -243,30 +246,48 @@ pub remembered-of : (before after : List ℕ) (k : ℕ) → allBelow k (λ i. su
     → (n i : ℕ) → i < k → has (getD before i 0) n ≡ true → has (getD after i 0) n ≡ true
 remembered-of before after k h n i l = subset-has (getD before i 0) (getD after i 0) (all-at k (λ j. subset (getD before j 0) (getD after j 0)) h i l) n
 
+-- the slots of two desks whose words are the same from slot k on
+slots-alike : (d e : List ℕ) (k : ℕ) → drop (512 * k) e ≡ drop (512 * k) d → (n : ℕ) → k ≤ n → slot e n ≡ slot d n
+unfolding slot
+slots-alike d e k same n l =
+    let at : 512 * k + 512 * (n - k) ≡ 512 * n = omega arith in
+    let from : (x : List ℕ) → drop (512 * n) x ≡ drop (512 * (n - k)) (drop (512 * k) x) =
+    λ x. ap (λ (m : ℕ). drop m x) (sym at) ∙ sym (drop-drop (512 * (n - k)) (512 * k) x) in
+    ap (λ (x : List ℕ). take (512 * n + 512 - 512 * n) x) (from e ∙ (ap (λ (x : List ℕ). drop (512 * (n - k)) x) same ∙ sym (from d)))
+
+holds-alike : (d e : List ℕ) (k : ℕ) → drop (512 * k) e ≡ drop (512 * k) d → (s n : ℕ) → k ≤ n → (q : Position) → holdsAt e s q n ≡ holdsAt d s q n
+unfolding reportOf
+holds-alike d e k same s n l q = ap (λ (x : List ℕ). holds (contentsOf x .body) (contentsOf x .len) s q) (slots-alike d e k same n l)
+
 module _ {S : ℕ} (views : List Layout) (logs d : List ℕ) (r : Restart S (toldBy views logs d)) (planned : List (List Position))
     (log : allBelow (shards (r .σ)) (λ s. sameLog (plannedLog r s) (getD planned s [])) ≡ true) where
-  -- the desk e has each log as it was, or it is of a placed node and is what the plan asks for
-  abbrev pub givenUpTest : List ℕ → Bool
-  givenUpTest e =
+  -- below k the desk e has each node's log as it was, or the node is placed and its log is what the plan asks for
+  abbrev pub givenUpTest : ℕ → List ℕ → Bool
+  givenUpTest k e =
       allBelow (shards (r .σ))
-      (λ s. allBelow 32 (λ n. sameLog (updatesAt e s n) (updatesAt d s n) || has (maskAt (r .w) s) n && sameLog (updatesAt e s n) (getD planned s [])))
+      (λ s. allBelow k (λ n. sameLog (updatesAt e s n) (updatesAt d s n) || has (maskAt (r .w) s) n && sameLog (updatesAt e s n) (getD planned s [])))
 
-  pub given-up-of : (e : List ℕ) → givenUpTest e ≡ true
+  told-below : (k : ℕ) (e : List ℕ) → givenUpTest k e ≡ true → (s : ℕ) → s < shards (r .σ) → (n : ℕ) → n < 32 → n < k
+      → ((q : Position) → holdsAt e s q n ≡ holdsAt d s q n)
+      ⊎ ((has (maskAt (r .w) s) n ≡ true) × ((q : Position) → holdsAt e s q n ≡ asOrdered (r .v) (r .t) (r .held) (r .d) n s q))
+  told-below k e h s below n l low =
+      let same : ℕ → ℕ → Bool = λ i j. sameLog (updatesAt e i j) (updatesAt d i j) in
+      let placed : ℕ → ℕ → Bool = λ i j. has (maskAt (r .w) i) j in
+      let new : ℕ → ℕ → Bool = λ i j. sameLog (updatesAt e i j) (getD planned i []) in
+      let one : (same s n || placed s n && new s n) ≡ true =
+      all-at k (λ j. same s j || placed s j && new s j) (all-at (shards (r .σ)) (λ i. allBelow k (λ j. same i j || placed i j && new i j)) h s below) n low in
+      ⊎-elim (λ a. inl (λ q. same-holds d e s n a q))
+      (λ a. let m = and-left (placed s n) (new s n) a in inr (m, ordered-at r planned log e s below n l m (and-right (placed s n) (new s n) a)))
+      (or-holds (same s n) (placed s n && new s n) one)
+
+  -- and from k on the desks are the same
+  pub given-up-of : (k : ℕ) (e : List ℕ) → givenUpTest k e ≡ true → drop (512 * k) e ≡ drop (512 * k) d
       → GivenUp (r .σ) (r .v) (r .t) (r .held) (r .d) (r .w) (toldBy views logs d) (toldBy views logs e)
-  given-up-of e h =
+  given-up-of k e h rest =
       record {
         views = refl;
         logged = λ n i. refl;
-        updated =
-            λ s k n l.
-            let same : ℕ → ℕ → Bool = λ i j. sameLog (updatesAt e i j) (updatesAt d i j) in
-            let placed : ℕ → ℕ → Bool = λ i j. has (maskAt (r .w) i) j in
-            let new : ℕ → ℕ → Bool = λ i j. sameLog (updatesAt e i j) (getD planned i []) in
-            let one : (same s n || placed s n && new s n) ≡ true =
-            all-at 32 (λ j. same s j || placed s j && new s j) (all-at (shards (r .σ)) (λ i. allBelow 32 (λ j. same i j || placed i j && new i j)) h s k) n l in
-            ⊎-elim (λ a. inl (λ q. same-holds d e s n a q))
-            (λ a. let m = and-left (placed s n) (new s n) a in inr (m, ordered-at r planned log e s k n l m (and-right (placed s n) (new s n) a)))
-            (or-holds (same s n) (placed s n && new s n) one);
+        updated = λ s below n l. ⊎-elim (λ low. told-below k e h s below n l low) (λ high. inl (λ q. holds-alike d e k rest s n high q)) (lt-or-le n k);
       }
 
 -- ---- runs

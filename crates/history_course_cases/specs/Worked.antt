@@ -2,7 +2,7 @@
 -- restarted and given up when node 2 has fetched; then nodes 1 and 2 are restarted, log view 2 and store under it; then all three come back,
 -- node 0 with view 1, and a termination is kept. Every duty is met on the way, and the plan has what was settled at the beginning.
 use Prim.Native.Nat.{ℕ, _<_, _≤_}
-use mathlib.Core.Bool.{true, false, not, _&&_, _||_}
+use mathlib.Core.Bool.{Bool, true, not, _&&_, _||_}
 use mathlib.Core.List.{List, [], _∷_, _++_}
 use mathlib.Core.Path.{_≡_, refl}
 use native.Mathlib.Omega.{arith}
@@ -13,6 +13,7 @@ use Rattle.base_laws.specs.Below.{allBelow, anyBelow, lowest, countBelow}
 use Rattle.base_laws.specs.Masks.{has}
 use Rattle.base_laws.specs.Positions.{pairNotAfter}
 use Rattle.base_laws.specs.Tables.{tabulate}
+use Rattle.base_sums.specs.Sums.{sumBelow}
 use Rattle.settings_values.specs.Settings.{sizesOk, nodesOk, cap, shardOk, shardsOk, settingsOk}
 use Rattle.base_ids.specs.Order.{notAfter}
 use Rattle.base_ids.specs.Refusals.{unless, unlessAt, firstOf}
@@ -29,14 +30,15 @@ use Rattle.report_views.specs.Logs.{pos, start, endOf, reaches, holds, hasUpdat
 use Rattle.report_views.specs.Reports.{slot, reportOf, holdsAt, maskAt}
 use Rattle.report_views.specs.Slots.{sameView, row12, sameTermination, row13, termKept, slotOk, slotsOk}
 use Rattle.report_views.specs.Quorums.{candidate, greatest, best, target, able, holder, majority, firstUnheld, quorumOf}
+use Rattle.report_views.specs.Cuts.{runsTo, sharedAfter, cutFrom}
 use Rattle.report_views.specs.Updates.{updatesAfter, updatesIn, updatesAt, thoseOf, onePosition}
 use Rattle.report_views.specs.Stretches.{among}
-use Rattle.place_groups.specs.Placements.{meetsSet, setsIn, shardValid, groupValidAt, groupValid}
+use Rattle.place_groups.specs.Placements.{meetsSet, setsIn, shardValid, groupValidAt, groupValid, groupMovesAt, groupMoves}
 use Rattle.history_claims.specs.History.{History, Full}
 use Rattle.history_cases.specs.Runs.{slotOf}
 use Rattle.history_cases.specs.Told.{toldBy, reportsTest}
 use Rattle.history_cases.specs.Supposing.{viewOfAll, reportOfAll}
-use Rattle.history_course.specs.Course.{Orderly, Settled, Serves, Next, Covers, CarriedOut, GivenUp, asOrdered}
+use Rattle.history_course.specs.Course.{Orderly, Settled, Serves, Next, Covers, CarriedOut, GivenUp, cutFor, asOrdered}
 use Rattle.history_course.specs.Ever.{Restart, Course, here, running, carrying, giving-up, never-lost, logged-lasts}
 use Rattle.history_course.specs.Counting.{counted-carried, counted-full, first-orderly}
 use Rattle.history_course_cases.specs.Steps.{ofEvery, sameLog, orderly-of, settled-of, next-of, none-ended, covers-of, planFrom, plannedLog, ordered-of, remembered-of, given-up-of, keeps-of}
@@ -119,7 +121,7 @@ afterGivenUp = toldBy firstViews (7 ∷ []) deskGivenUp
 
 pub given-up : GivenUp courseSettings (viewOfAll 1 7) noTermination 5 deskAtFirst (viewOfAll 2 5) atFirst afterGivenUp
 unfolding deskAtFirst deskGivenUp allBelow anyBelow lowest tabulate place following bodyWord bodyOf contentsOf slot reportOf runsFrom runsOf updatesAfter updatesIn onePosition among ofEvery sameLog
-given-up = given-up-of firstViews (7 ∷ []) deskAtFirst givenUpPlan firstLog log-first deskGivenUp refl
+given-up = given-up-of firstViews (7 ∷ []) deskAtFirst givenUpPlan firstLog log-first 3 deskGivenUp refl refl
 
 -- ---- nodes 1 and 2 are restarted: node 1 is the holder, node 2 keeps two updates and fetches the third
 
@@ -237,3 +239,71 @@ lastPlan =
     planFrom courseSettings laterViews (7 ∷ 6 ∷ []) deskServed (viewOfAll 2 6) endOfRun 7 lastView (omega arith) (omega arith) (omega arith)
     slots-last met-last next-last (0 ∷ 1 ∷ 1 ∷ []) reports-last covers-last
 
+-- ---- the course
+
+abbrev pub workedCourse : Course 1 atFirst afterRun
+workedCourse =
+    running afterCarried afterRun (carrying afterGivenUp afterCarried (giving-up atFirst afterGivenUp here givenUpPlan given-up) carriedPlan carried) served
+
+-- all members of the shard have logged update 1 at the beginning
+all-first : (n : ℕ) → n < 32 → has 7 n ≡ true → atFirst .updated n 0 (pos 1 1) ≡ true
+all-first n l m = settled-first .all n l m m
+
+-- what both have stored in the run
+settled-run : Settled afterRun 0 (pos 2 1)
+unfolding deskServed allBelow anyBelow lowest tabulate place following bodyWord bodyOf contentsOf reaches holds slot reportOf
+settled-run = settled-of afterRun 0 (pos 2 1) refl
+
+-- the mask is a valid placement of the last plan, and without moves
+abbrev pub unmoved : ℕ → Bool
+unmoved m = groupValid courseSettings 7 (λ s. m) 0 && eqb (groupMoves courseSettings (λ s. 6) (λ s. m) 0) 0
+
+pub record CourseRows : Type 0 where
+  -- the settings are right; of a placement by the masks of nodes 0 to 2 each plan has the only valid one, or the only one without a move
+  pub settings : settingsOk courseSettings ≡ true
+  pub placed-first : (groupValid courseSettings 5 (λ s. 5) 0 && allBelow 8 (λ m. eqb m 5 || not (groupValid courseSettings 5 (λ s. m) 0))) ≡ true
+  pub placed-second : (groupValid courseSettings 6 (λ s. 6) 0 && allBelow 8 (λ m. eqb m 6 || not (groupValid courseSettings 6 (λ s. m) 0))) ≡ true
+  pub placed-last : (unmoved 6 && allBelow 8 (λ m. eqb m 6 || not (unmoved m))) ≡ true
+  -- the history at the beginning is orderly, and update 1 is settled
+  pub orderly : Orderly atFirst
+  pub settled : Settled atFirst 0 (pos 1 1)
+  -- from there the course leads to the last plan
+  pub course : Course 1 atFirst afterRun
+  pub plan : Restart 1 afterRun
+  -- which has update 1 of view 1, by the theorem
+  pub kept : (notAfter (pos 1 1) (target (viewOfAll 2 6) endOfRun 7 deskServed 0) ≡ true)
+      × (holdsAt deskServed 0 (pos 1 1) (holder (viewOfAll 2 6) endOfRun 7 deskServed 0) ≡ true)
+  -- and what was stored under view 2
+  pub stored : (notAfter (pos 2 1) (target (viewOfAll 2 6) endOfRun 7 deskServed 0) ≡ true)
+      × (holdsAt deskServed 0 (pos 2 1) (holder (viewOfAll 2 6) endOfRun 7 deskServed 0) ≡ true)
+  -- computed: the holder of each plan, the target and the log that it gives every placed node
+  pub holder-first : holder (viewOfAll 1 7) noTermination 5 deskAtFirst 0 ≡ 0
+  pub holder-second : holder (viewOfAll 1 7) noTermination 6 deskGivenUp 0 ≡ 1
+  pub cut-second : cutFor (viewOfAll 1 7) noTermination 6 deskGivenUp 2 0 ≡ pos 1 2
+  pub target-second : target (viewOfAll 1 7) noTermination 6 deskGivenUp 0 ≡ pos 1 3
+  pub holder-last : holder (viewOfAll 2 6) endOfRun 7 deskServed 0 ≡ 2
+  pub target-last : target (viewOfAll 2 6) endOfRun 7 deskServed 0 ≡ pos 2 1
+  pub log-last : plannedLog lastPlan 0 ≡ pos 1 1 ∷ pos 1 2 ∷ pos 1 3 ∷ pos 2 1 ∷ []
+
+pub course-rows : CourseRows
+unfolding deskAtFirst deskGivenUp deskServed sizesOk nodesOk cap shardOk shardsOk settingsOk meetsSet setsIn shardValid groupValidAt groupValid groupMovesAt groupMoves countBelow sumBelow ones onesIn allBelow anyBelow lowest tabulate pairNotAfter place following bodyWord bodyOf contentsOf endOf reaches holds hasUpdate slot reportOf candidate greatest best target able holder runsFrom runsOf updatesAfter updatesIn thoseOf onePosition runsTo sharedAfter cutFrom shardApart
+course-rows =
+    record {
+      settings = refl;
+      placed-first = refl;
+      placed-second = refl;
+      placed-last = refl;
+      orderly = orderly-first;
+      settled = settled-first;
+      course = workedCourse;
+      plan = lastPlan;
+      kept = logged-lasts orderly-first 0 (omega arith) (pos 1 1) all-first workedCourse lastPlan;
+      stored = never-lost (served .standing) 0 (omega arith) (pos 2 1) settled-run here lastPlan;
+      holder-first = refl;
+      holder-second = refl;
+      cut-second = refl;
+      target-second = refl;
+      holder-last = refl;
+      target-last = refl;
+      log-last = refl;
+    }
