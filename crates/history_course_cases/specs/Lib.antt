@@ -1,3 +1,4 @@
 -- Worked courses of a group over several restarts.
 pub mod Steps
 pub mod Worked
+pub mod Duties

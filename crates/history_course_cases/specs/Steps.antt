@@ -290,6 +290,15 @@ module _ {S : ℕ} (views : List Layout) (logs d : List ℕ) (r : Restart S (tol
         updated = λ s below n l. ⊎-elim (λ low. told-below k e h s below n l low) (λ high. inl (λ q. holds-alike d e k rest s n high q)) (lt-or-le n k);
       }
 
+-- more than half of the kept view's members have not logged the plan's view
+pub not-carried : {S : ℕ} {H : History} (r : Restart S H) (G : History) (out : ℕ) → count (r .v .members) < 2 * count (bitAnd out (r .v .members))
+    → implies (has out) (λ n. not (G .logged n (length (H .views)))) ≡ true
+    → CarriedOut (r .σ) (r .v) (r .t) (r .held) (r .d) (r .w) H G → ⊥
+not-carried {H = H} r G out most h c =
+    let w = quorums-meet 32 (c .by) out (r .v .members) (r .wide) (c .most) most in
+    clash (c .logs (w .0) (w .1) (w .2))
+    (of-not-true (G .logged (w .0) (length (H .views))) (implies-at (has out) (λ n. not (G .logged n (length (H .views)))) h (w .0) (w .1) (w .3)))
+
 -- ---- runs
 
 -- all updates that node a has of a shard, which is a member in the last view and has logged it, stand after the run in the logs of those
