@@ -38,7 +38,7 @@ use Rattle.history_cases.specs.Supposing.{viewOfAll, reportOfAll}
 use Rattle.history_course.specs.Course.{lastOf, Succeeded, Orderly, Settled, Next, CarriedOut, GivenUp, cutFor, asOrdered}
 use Rattle.history_course.specs.Ever.{Restart}
 use Rattle.history_course.specs.Counting.{first-orderly}
-use Rattle.history_course_cases.specs.Steps.{ofEvery, sameLog, orderly-of, succeeded-of, not-succeeded, next-of, none-ended, planFrom, plannedLog, ordered-of, remembered-of, not-carried, keeps-of}
+use Rattle.history_course_cases.specs.Steps.{ofEvery, sameLog, orderly-of, succeeded-of, not-succeeded, next-of, none-ended, planFrom, plannedLog, ordered-of, remembered-of, others-alike, kept-alike, not-carried, keeps-of}
 use Rattle.history_course_cases.specs.Worked.{reportWith, runOf, runsUpTo}
 
 -- six nodes of six failure sets, and the word of the one shard
@@ -256,6 +256,226 @@ most-needed =
       keeps = keeps-pair;
       logged = implies-at (has 1) (λ n. holdsAt deskOfOne 0 (pos 2 1) n) logged-one;
       again = othersPlan;
+      goal = refl;
+      lost = refl;
+    }
+
+-- ---- ordered: nodes 0, 2 and 3 of view 1 are restarted, its shard is on nodes 0 and 2, and node 2 logs view 2 without what it is to fetch.
+-- Then nodes 2 and 3 come back.
+
+unfoldable pub deskOfFour : List ℕ
+deskOfFour = reportWith 0 1 15 3 (runOf 1 1) ++ reportWith 1 1 15 3 (runOf 1 1) ++ reportWith 2 1 15 3 noRun ++ reportWith 3 1 15 3 noRun ++ replicate 14336 0
+
+unfoldable pub deskUnfetched : List ℕ
+deskUnfetched = reportWith 0 2 13 5 (runOf 1 1) ++ reportWith 1 1 15 3 (runOf 1 1) ++ reportWith 2 2 13 5 noRun ++ reportWith 3 2 13 5 noRun ++ replicate 14336 0
+
+abbrev pub fourViews : List Layout
+fourViews = viewWith 1 15 3 ∷ []
+
+abbrev pub unfetchedViews : List Layout
+unfetchedViews = viewWith 1 15 3 ∷ viewWith 2 13 5 ∷ []
+
+abbrev pub fourBefore : History
+fourBefore = toldBy fourViews (15 ∷ []) deskOfFour
+
+abbrev pub unfetched : History
+unfetched = toldBy unfetchedViews (15 ∷ 13 ∷ []) deskUnfetched
+
+pub slots-four : slotsOk (settingsFor 2) (viewWith 1 15 3) noTermination 13 deskOfFour ≡ true
+unfolding deskOfFour allBelow anyBelow lowest tabulate unless unlessAt firstOf place following row5 row8 precedes shardsWhere row6 viewOk row7 kindOk plain kindAt shardAt surplus sequenceAt complete shardApart row10At row10 position viewFits legal row11At bodyWord bodyOf contentsOf recordsRefusal headRefusal messageRefusal slot reportOf sameView row12 sameTermination row13 termKept slotOk slotsOk
+slots-four = refl
+
+pub met-four : quorumOf (settingsFor 2) (viewWith 1 15 3) noTermination 13 deskOfFour ≡ Met
+unfolding deskOfFour ones onesIn allBelow anyBelow lowest tabulate pairNotAfter place following bodyWord bodyOf contentsOf endOf reaches holds hasUpdate slot reportOf candidate greatest best target able holder majority firstUnheld quorumOf
+met-four = refl
+
+pub reports-four : reportsTest (settingsFor 2) fourViews (15 ∷ []) deskOfFour 13 [] ≡ true
+unfolding deskOfFour allBelow slot reportOf contentsOf bodyOf bodyWord tabulate place following lowest anyBelow
+reports-four = refl
+
+pub next-four : Next (settingsFor 2) (viewWith 1 15 3) 13 (viewWith 2 13 5)
+unfolding allBelow
+next-four = next-of (settingsFor 2) (viewWith 1 15 3) 13 (viewWith 2 13 5) refl refl refl
+
+abbrev pub fourPlan : Restart 1 fourBefore
+fourPlan =
+    planFrom (settingsFor 2) fourViews (15 ∷ []) deskOfFour (viewWith 1 15 3) noTermination 13 (viewWith 2 13 5) (omega arith) (omega arith) (omega arith)
+    slots-four met-four next-four [] reports-four
+    (none-ended (settingsFor 2) noTermination fourBefore refl)
+
+pub slots-unfetched : slotsOk (settingsFor 2) (viewWith 2 13 5) noTermination 12 deskUnfetched ≡ true
+unfolding deskUnfetched allBelow anyBelow lowest tabulate unless unlessAt firstOf place following row5 row8 precedes shardsWhere row6 viewOk row7 kindOk plain kindAt shardAt surplus sequenceAt complete shardApart row10At row10 position viewFits legal row11At bodyWord bodyOf contentsOf recordsRefusal headRefusal messageRefusal slot reportOf sameView row12 sameTermination row13 termKept slotOk slotsOk
+slots-unfetched = refl
+
+pub met-unfetched : quorumOf (settingsFor 2) (viewWith 2 13 5) noTermination 12 deskUnfetched ≡ Met
+unfolding deskUnfetched ones onesIn allBelow anyBelow lowest tabulate pairNotAfter place following bodyWord bodyOf contentsOf endOf reaches holds hasUpdate slot reportOf candidate greatest best target able holder majority firstUnheld quorumOf
+met-unfetched = refl
+
+pub reports-unfetched : reportsTest (settingsFor 2) unfetchedViews (15 ∷ 13 ∷ []) deskUnfetched 12 (0 ∷ 0 ∷ 1 ∷ 1 ∷ []) ≡ true
+unfolding deskUnfetched allBelow slot reportOf contentsOf bodyOf bodyWord tabulate place following lowest anyBelow
+reports-unfetched = refl
+
+pub next-unfetched : Next (settingsFor 2) (viewWith 2 13 5) 12 (viewWith 3 12 12)
+unfolding allBelow
+next-unfetched = next-of (settingsFor 2) (viewWith 2 13 5) 12 (viewWith 3 12 12) refl refl refl
+
+abbrev pub unfetchedPlan : Restart 1 unfetched
+unfetchedPlan =
+    planFrom (settingsFor 2) unfetchedViews (15 ∷ 13 ∷ []) deskUnfetched (viewWith 2 13 5) noTermination 12 (viewWith 3 12 12) (omega arith) (omega arith) (omega arith)
+    slots-unfetched met-unfetched next-unfetched (0 ∷ 0 ∷ 1 ∷ 1 ∷ []) reports-unfetched
+    (none-ended (settingsFor 2) noTermination unfetched refl)
+
+pub record OrderedNeeded : Type 0 where
+  -- an orderly history, in which all members of the shard have logged the update, and a plan
+  pub orderly : Orderly fourBefore
+  pub logged : LoggedByAll fourBefore (pos 1 1)
+  pub plan : Restart 1 fourBefore
+  -- all of a restart that is carried out but that node 2's log is what its order says
+  pub views : unfetched .views ≡ fourBefore .views ++ viewWith 2 13 5 ∷ []
+  pub remembered : (n i : ℕ) → i < length (fourBefore .views) → fourBefore .logged n i ≡ true → unfetched .logged n i ≡ true
+  pub logs : (n : ℕ) → n < 32 → has 13 n ≡ true → unfetched .logged n 1 ≡ true
+  pub most : count 15 < 2 * count (bitAnd 13 15)
+  pub unordered : CarriedOut (settingsFor 2) (viewWith 1 15 3) noTermination 13 deskOfFour (viewWith 2 13 5) fourBefore unfetched → ⊥
+  -- the history after it is orderly, and all members have logged the view
+  pub standing : Orderly unfetched
+  pub full : Full unfetched 1
+  -- the next plan empties the log
+  pub again : Restart 1 unfetched
+  pub goal : target (viewWith 2 13 5) noTermination 12 deskUnfetched 0 ≡ start
+  pub lost : holdsAt deskUnfetched 0 (pos 1 1) (holder (viewWith 2 13 5) noTermination 12 deskUnfetched 0) ≡ false
+
+logged-four : implies (has 3) (λ n. holdsAt deskOfFour 0 (pos 1 1) n) ≡ true
+unfolding deskOfFour allBelow anyBelow lowest tabulate place following bodyWord bodyOf contentsOf reaches holds slot reportOf
+logged-four = refl
+
+pub ordered-needed : OrderedNeeded
+unfolding deskOfFour deskUnfetched ones onesIn allBelow anyBelow lowest tabulate pairNotAfter place following bodyWord bodyOf contentsOf endOf reaches holds hasUpdate slot reportOf candidate greatest best target able holder runsFrom runsOf runsTo sharedAfter cutFrom
+ordered-needed =
+    record {
+      orderly = first-orderly (viewWith 1 15 3) (fourBefore .logged) (fourBefore .updated);
+      logged = implies-at (has 3) (λ n. holdsAt deskOfFour 0 (pos 1 1) n) logged-four;
+      plan = fourPlan;
+      views = refl;
+      remembered = remembered-of (15 ∷ []) (15 ∷ 13 ∷ []) 1 refl;
+      logs = λ n l h. h;
+      most = omega arith;
+      unordered = λ c. clash (c .ordered 0 (omega arith) 2 (omega arith) refl refl (pos 1 1)) refl;
+      standing = orderly-of unfetched (13 ∷ []) refl refl refl;
+      full = full-of unfetched 1 refl;
+      again = unfetchedPlan;
+      goal = refl;
+      lost = refl;
+    }
+
+-- ---- updated: the logs of nodes 0 and 1 part after update 2 of view 5, and both have the two updates of view 6. They are restarted, and
+-- given up when node 1's log is cut and nothing fetched. Then nodes 1 and 2 come back.
+
+unfoldable pub deskParted : List ℕ
+deskParted = reportWith 0 7 7 3 (runsUpTo 5 3 6 2) ++ reportWith 1 7 7 3 (runsUpTo 5 2 6 2) ++ reportWith 2 7 7 3 noRun ++ replicate 14848 0
+
+unfoldable pub deskCut : List ℕ
+deskCut = reportWith 0 7 7 3 (runsUpTo 5 3 6 2) ++ reportWith 1 7 7 3 (runOf 5 2) ++ reportWith 2 7 7 3 noRun ++ replicate 14848 0
+
+abbrev pub partedViews : List Layout
+partedViews = viewWith 7 7 3 ∷ []
+
+abbrev pub parted : History
+parted = toldBy partedViews (7 ∷ []) deskParted
+
+abbrev pub halfDone : History
+halfDone = toldBy partedViews (7 ∷ []) deskCut
+
+pub slots-parted : slotsOk (settingsFor 2) (viewWith 7 7 3) noTermination 3 deskParted ≡ true
+unfolding deskParted allBelow anyBelow lowest tabulate unless unlessAt firstOf place following row5 row8 precedes shardsWhere row6 viewOk row7 kindOk plain kindAt shardAt surplus sequenceAt complete shardApart row10At row10 position viewFits legal row11At bodyWord bodyOf contentsOf recordsRefusal headRefusal messageRefusal slot reportOf sameView row12 sameTermination row13 termKept slotOk slotsOk
+slots-parted = refl
+
+pub met-parted : quorumOf (settingsFor 2) (viewWith 7 7 3) noTermination 3 deskParted ≡ Met
+unfolding deskParted ones onesIn allBelow anyBelow lowest tabulate pairNotAfter place following bodyWord bodyOf contentsOf endOf reaches holds hasUpdate slot reportOf candidate greatest best target able holder majority firstUnheld quorumOf
+met-parted = refl
+
+pub reports-parted : reportsTest (settingsFor 2) partedViews (7 ∷ []) deskParted 3 [] ≡ true
+unfolding deskParted allBelow slot reportOf contentsOf bodyOf bodyWord tabulate place following lowest anyBelow
+reports-parted = refl
+
+pub next-parted : Next (settingsFor 2) (viewWith 7 7 3) 3 (viewWith 8 3 3)
+unfolding allBelow
+next-parted = next-of (settingsFor 2) (viewWith 7 7 3) 3 (viewWith 8 3 3) refl refl refl
+
+abbrev pub partedPlan : Restart 1 parted
+partedPlan =
+    planFrom (settingsFor 2) partedViews (7 ∷ []) deskParted (viewWith 7 7 3) noTermination 3 (viewWith 8 3 3) (omega arith) (omega arith) (omega arith)
+    slots-parted met-parted next-parted [] reports-parted
+    (none-ended (settingsFor 2) noTermination parted refl)
+
+pub slots-cut : slotsOk (settingsFor 2) (viewWith 7 7 3) noTermination 6 deskCut ≡ true
+unfolding deskCut allBelow anyBelow lowest tabulate unless unlessAt firstOf place following row5 row8 precedes shardsWhere row6 viewOk row7 kindOk plain kindAt shardAt surplus sequenceAt complete shardApart row10At row10 position viewFits legal row11At bodyWord bodyOf contentsOf recordsRefusal headRefusal messageRefusal slot reportOf sameView row12 sameTermination row13 termKept slotOk slotsOk
+slots-cut = refl
+
+pub met-cut : quorumOf (settingsFor 2) (viewWith 7 7 3) noTermination 6 deskCut ≡ Met
+unfolding deskCut ones onesIn allBelow anyBelow lowest tabulate pairNotAfter place following bodyWord bodyOf contentsOf endOf reaches holds hasUpdate slot reportOf candidate greatest best target able holder majority firstUnheld quorumOf
+met-cut = refl
+
+pub reports-cut : reportsTest (settingsFor 2) partedViews (7 ∷ []) deskCut 6 [] ≡ true
+unfolding deskCut allBelow slot reportOf contentsOf bodyOf bodyWord tabulate place following lowest anyBelow
+reports-cut = refl
+
+pub next-cut : Next (settingsFor 2) (viewWith 7 7 3) 6 (viewWith 8 6 6)
+unfolding allBelow
+next-cut = next-of (settingsFor 2) (viewWith 7 7 3) 6 (viewWith 8 6 6) refl refl refl
+
+abbrev pub cutPlan : Restart 1 halfDone
+cutPlan =
+    planFrom (settingsFor 2) partedViews (7 ∷ []) deskCut (viewWith 7 7 3) noTermination 6 (viewWith 8 6 6) (omega arith) (omega arith) (omega arith)
+    slots-cut met-cut next-cut [] reports-cut
+    (none-ended (settingsFor 2) noTermination halfDone refl)
+
+pub record UpdatedNeeded : Type 0 where
+  -- an orderly history, in which all members of the shard have logged the update, and a plan
+  pub orderly : Orderly parted
+  pub logged : LoggedByAll parted (pos 6 2)
+  pub plan : Restart 1 parted
+  -- all of a restart that is given up but node 1's log: of it is left what is not past the cut
+  pub views : halfDone .views ≡ parted .views
+  pub logs : (n i : ℕ) → halfDone .logged n i ≡ parted .logged n i
+  pub others : (n : ℕ) → (n ≡ 1 → ⊥) → (q : Position) → halfDone .updated n 0 q ≡ parted .updated n 0 q
+  pub cut : cutFor (viewWith 7 7 3) noTermination 3 deskParted 1 0 ≡ pos 5 2
+  pub kept : (q : Position) → halfDone .updated 1 0 q ≡ (notAfter q (pos 5 2) && parted .updated 1 0 q)
+  pub unlike : GivenUp (settingsFor 2) (viewWith 7 7 3) noTermination 3 deskParted (viewWith 8 3 3) parted halfDone → ⊥
+  -- the next plan ends the log at the cut
+  pub again : Restart 1 halfDone
+  pub goal : target (viewWith 7 7 3) noTermination 6 deskCut 0 ≡ pos 5 2
+  pub lost : holdsAt deskCut 0 (pos 6 2) (holder (viewWith 7 7 3) noTermination 6 deskCut 0) ≡ false
+
+logged-parted : implies (has 3) (λ n. holdsAt deskParted 0 (pos 6 2) n) ≡ true
+unfolding deskParted allBelow anyBelow lowest tabulate place following bodyWord bodyOf contentsOf reaches holds slot reportOf
+logged-parted = refl
+
+others-cut : (n : ℕ) → (n ≡ 1 → ⊥) → (q : Position) → holdsAt deskCut 0 q n ≡ holdsAt deskParted 0 q n
+unfolding deskParted deskCut allBelow anyBelow lowest tabulate place following bodyWord bodyOf contentsOf slot reportOf runsFrom runsOf updatesAfter updatesIn onePosition among ofEvery sameLog
+others-cut = others-alike deskParted deskCut 0 1 3 refl refl
+
+kept-cut : (q : Position) → holdsAt deskCut 0 q 1 ≡ (notAfter q (pos 5 2) && holdsAt deskParted 0 q 1)
+unfolding deskParted deskCut allBelow anyBelow lowest tabulate place following bodyWord bodyOf contentsOf slot reportOf runsFrom runsOf updatesAfter updatesIn onePosition among ofEvery sameLog pairNotAfter thoseOf
+kept-cut = kept-alike deskParted deskCut 0 1 (pos 5 2) refl
+
+pub updated-needed : UpdatedNeeded
+unfolding deskParted deskCut ones onesIn allBelow anyBelow lowest tabulate pairNotAfter place following bodyWord bodyOf contentsOf endOf reaches holds hasUpdate slot reportOf candidate greatest best target able holder runsFrom runsOf runsTo sharedAfter cutFrom
+updated-needed =
+    record {
+      orderly = first-orderly (viewWith 7 7 3) (parted .logged) (parted .updated);
+      logged = implies-at (has 3) (λ n. holdsAt deskParted 0 (pos 6 2) n) logged-parted;
+      plan = partedPlan;
+      views = refl;
+      logs = λ n i. refl;
+      others = others-cut;
+      cut = refl;
+      kept = kept-cut;
+      unlike =
+          λ g.
+          ⊎-elim (λ e. clash (e (pos 6 2)) refl)
+          (λ e. clash (e .1 (pos 6 2)) refl)
+          (g .updated 0 (omega arith) 1 (omega arith));
+      again = cutPlan;
       goal = refl;
       lost = refl;
     }

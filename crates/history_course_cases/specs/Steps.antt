@@ -259,6 +259,25 @@ holds-alike : (d e : List ℕ) (k : ℕ) → drop (512 * k) e ≡ drop (512 * k)
 unfolding reportOf
 holds-alike d e k same s n l q = ap (λ (x : List ℕ). holds (contentsOf x .body) (contentsOf x .len) s q) (slots-alike d e k same n l)
 
+-- below k the two desks have the same log of shard s but for node a, and from k on they are the same
+pub others-alike : (d e : List ℕ) (s a k : ℕ) → allBelow k (λ n. eqb n a || sameLog (updatesAt e s n) (updatesAt d s n)) ≡ true
+    → drop (512 * k) e ≡ drop (512 * k) d → (n : ℕ) → (n ≡ a → ⊥) → (q : Position) → holdsAt e s q n ≡ holdsAt d s q n
+others-alike d e s a k h rest n other q =
+    ⊎-elim
+    (λ low.
+    ⊎-elim (λ x. absurd (other (eqb-true n a x))) (λ x. same-holds d e s n x q)
+    (or-holds (eqb n a) (sameLog (updatesAt e s n) (updatesAt d s n)) (all-at k (λ j. eqb j a || sameLog (updatesAt e s j) (updatesAt d s j)) h n low)))
+    (λ high. holds-alike d e k rest s n high q) (lt-or-le n k)
+
+-- of node a's log is left what is not past c
+pub kept-alike : (d e : List ℕ) (s a : ℕ) (c : Position) → sameLog (updatesAt e s a) (upTo c (updatesAt d s a)) ≡ true
+    → (q : Position) → holdsAt e s q a ≡ (notAfter q c && holdsAt d s q a)
+kept-alike d e s a c h q =
+    holds-runs (reportOf e a .body) (reportOf e a .len) s q
+    ∙ (ap (among q) (same-log (updatesAt e s a) (upTo c (updatesAt d s a)) h)
+    ∙ (among-those (λ p. notAfter p c) q (updatesAt d s a)
+    ∙ ap (λ (x : Bool). notAfter q c && x) (sym (holds-runs (reportOf d a .body) (reportOf d a .len) s q))))
+
 module _ {S : ℕ} (views : List Layout) (logs d : List ℕ) (r : Restart S (toldBy views logs d)) (planned : List (List Position))
     (log : allBelow (shards (r .σ)) (λ s. sameLog (plannedLog r s) (getD planned s [])) ≡ true) where
   -- below k the desk e has each node's log as it was, or the node is placed and its log is what the plan asks for
