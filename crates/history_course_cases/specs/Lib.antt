@@ -2,3 +2,4 @@
 pub mod Steps
 pub mod Worked
 pub mod Duties
+pub mod Stories
