@@ -4,7 +4,7 @@ use Prim.Native.Nat.{ℕ, _*_, _<_}
 use mathlib.Core.Bool.{Bool, true, false, not, _&&_, _||_}
 use mathlib.Core.List.{List, [], _∷_, _++_}
 use mathlib.Core.Logic.{⊎-elim}
-use mathlib.Core.Path.{_≡_, refl}
+use mathlib.Core.Path.{_≡_, refl, _∙_}
 use native.Mathlib.Omega.{arith}
 use lib.Bits.{bitAnd}
 use lib.Count.{ones, onesIn}
@@ -23,12 +23,12 @@ use Rattle.message_format.specs.Records.{precedes, shardsWhere}
 use Rattle.message_format.specs.Rows.{row6, viewOk, row7, kindOk, plain, kindAt, shardAt, surplus, sequenceAt, complete, shardApart, row10At, row10, position, viewFits, legal, row11At}
 use Rattle.message_format.specs.Messages.{bodyWord, bodyOf, contentsOf, recordsRefusal, headRefusal, messageRefusal}
 use Rattle.report_views.specs.declared.Layout.{Layout}
-use Rattle.report_views.specs.declared.Quorum.the-variants.{Met}
 use Rattle.report_views.specs.Empty.{noTermination}
 use Rattle.report_views.specs.Logs.{pos, start, endOf, reaches, holds, hasUpdate, runsFrom, runsOf}
 use Rattle.report_views.specs.Reports.{slot, reportOf, holdsAt, maskAt}
 use Rattle.report_views.specs.Slots.{sameView, row12, sameTermination, row13, termKept, slotOk, slotsOk}
-use Rattle.report_views.specs.Quorums.{candidate, greatest, best, target, able, holder, majority, firstUnheld, quorumOf}
+use Rattle.report_views.specs.Quorums.{candidate, greatest, best, target, able, holder}
+use Rattle.report_views.specs.Meets.{QuorumMet}
 use Rattle.report_views.specs.Cuts.{runsTo, sharedAfter, cutFrom}
 use Rattle.report_views.specs.Updates.{updatesAfter, updatesIn, updatesAt, upTo, thoseOf, onePosition}
 use Rattle.report_views.specs.Stretches.{among}
@@ -38,7 +38,7 @@ use Rattle.history_cases.specs.Supposing.{viewOfAll, reportOfAll}
 use Rattle.history_course.specs.Course.{lastOf, Succeeded, Orderly, Settled, Next, CarriedOut, GivenUp, cutFor, asOrdered}
 use Rattle.history_course.specs.Ever.{Restart}
 use Rattle.history_course.specs.Counting.{first-orderly}
-use Rattle.history_course_cases.specs.Steps.{ofEvery, sameLog, orderly-of, succeeded-of, not-succeeded, next-of, none-ended, planFrom, plannedLog, ordered-of, remembered-of, others-alike, kept-alike, not-carried, keeps-of}
+use Rattle.history_course_cases.specs.Steps.{ofEvery, sameLog, orderly-of, succeeded-of, not-succeeded, next-of, met-of, none-ended, planFrom, told-of, cut-of, plannedLog, planned-of, asked-of, ordered-of, remembered-of, others-alike, kept-alike, not-carried, keeps-of}
 use Rattle.history_course_cases.specs.Worked.{reportWith, runOf, runsUpTo}
 
 -- six nodes of six failure sets, and the word of the one shard
@@ -79,9 +79,17 @@ pub slots-stranded : slotsOk (settingsFor 3) (viewOfAll 1 7) noTermination 7 str
 unfolding strandedDesk allBelow anyBelow lowest tabulate unless unlessAt firstOf place following row5 row8 precedes shardsWhere row6 viewOk row7 kindOk plain kindAt shardAt surplus sequenceAt complete shardApart row10At row10 position viewFits legal row11At bodyWord bodyOf contentsOf recordsRefusal headRefusal messageRefusal slot reportOf sameView row12 sameTermination row13 termKept slotOk slotsOk
 slots-stranded = refl
 
-pub met-stranded : quorumOf (settingsFor 3) (viewOfAll 1 7) noTermination 7 strandedDesk ≡ Met
-unfolding strandedDesk ones onesIn allBelow anyBelow lowest tabulate pairNotAfter place following bodyWord bodyOf contentsOf endOf reaches holds hasUpdate slot reportOf candidate greatest best target able holder majority firstUnheld quorumOf
-met-stranded = refl
+pub target-stranded : target (viewOfAll 1 7) noTermination 7 strandedDesk 0 ≡ pos 1 1
+unfolding strandedDesk allBelow anyBelow lowest tabulate pairNotAfter place following bodyWord bodyOf contentsOf endOf slot reportOf candidate greatest best target
+target-stranded = refl
+
+pub holder-stranded : holder (viewOfAll 1 7) noTermination 7 strandedDesk 0 ≡ 0
+unfolding strandedDesk allBelow anyBelow lowest tabulate pairNotAfter place following bodyWord bodyOf contentsOf endOf slot reportOf candidate greatest best target reaches holds hasUpdate able holder
+holder-stranded = refl
+
+pub met-stranded : QuorumMet (settingsFor 3) (viewOfAll 1 7) noTermination 7 strandedDesk
+unfolding ones onesIn
+met-stranded = met-of (settingsFor 3) (viewOfAll 1 7) noTermination 7 strandedDesk 0 refl (omega arith) (omega arith) (omega arith) (omega arith) holder-stranded
 
 pub reports-stranded : reportsTest (settingsFor 3) strandedViews (7 ∷ 56 ∷ 56 ∷ []) strandedDesk 7 [] ≡ true
 unfolding strandedDesk allBelow slot reportOf contentsOf bodyOf bodyWord tabulate place following lowest anyBelow
@@ -119,7 +127,7 @@ unfolding strandedDesk allBelow anyBelow lowest tabulate place following bodyWor
 logged-stranded = refl
 
 pub succeeded-needed : SucceededNeeded
-unfolding strandedDesk ones onesIn allBelow anyBelow lowest tabulate pairNotAfter place following bodyWord bodyOf contentsOf endOf reaches holds hasUpdate slot reportOf candidate greatest best target able holder
+unfolding strandedDesk ones onesIn allBelow anyBelow lowest tabulate place following bodyWord bodyOf contentsOf reaches holds slot reportOf
 succeeded-needed =
     record {
       rule = rule-of stranded refl refl;
@@ -131,8 +139,8 @@ succeeded-needed =
       second = succeeded-of stranded 1 56 refl;
       first = not-succeeded stranded 0 7 (omega arith) (omega arith) refl;
       plan = strandedPlan;
-      goal = refl;
-      lost = refl;
+      goal = target-stranded;
+      lost = told-of strandedDesk (pos 3 1) false holder-stranded refl;
     }
 
 -- ---- most: nodes 0 and 2 of view 1 are restarted, its shard is on node 0 alone, which logs view 2 and stores an update. Then nodes 1 and 2
@@ -165,9 +173,17 @@ pub slots-pair : slotsOk (settingsFor 131073) (viewWith 1 7 3) noTermination 5 d
 unfolding deskOfPair allBelow anyBelow lowest tabulate unless unlessAt firstOf place following row5 row8 precedes shardsWhere row6 viewOk row7 kindOk plain kindAt shardAt surplus sequenceAt complete shardApart row10At row10 position viewFits legal row11At bodyWord bodyOf contentsOf recordsRefusal headRefusal messageRefusal slot reportOf sameView row12 sameTermination row13 termKept slotOk slotsOk
 slots-pair = refl
 
-pub met-pair : quorumOf (settingsFor 131073) (viewWith 1 7 3) noTermination 5 deskOfPair ≡ Met
-unfolding deskOfPair ones onesIn allBelow anyBelow lowest tabulate pairNotAfter place following bodyWord bodyOf contentsOf endOf reaches holds hasUpdate slot reportOf candidate greatest best target able holder majority firstUnheld quorumOf
-met-pair = refl
+pub target-pair : target (viewWith 1 7 3) noTermination 5 deskOfPair 0 ≡ pos 1 1
+unfolding deskOfPair allBelow anyBelow lowest tabulate pairNotAfter place following bodyWord bodyOf contentsOf endOf slot reportOf candidate greatest best target
+target-pair = refl
+
+pub holder-pair : holder (viewWith 1 7 3) noTermination 5 deskOfPair 0 ≡ 0
+unfolding deskOfPair allBelow anyBelow lowest tabulate pairNotAfter place following bodyWord bodyOf contentsOf endOf slot reportOf candidate greatest best target reaches holds hasUpdate able holder
+holder-pair = refl
+
+pub met-pair : QuorumMet (settingsFor 131073) (viewWith 1 7 3) noTermination 5 deskOfPair
+unfolding ones onesIn
+met-pair = met-of (settingsFor 131073) (viewWith 1 7 3) noTermination 5 deskOfPair 0 refl (omega arith) (omega arith) (omega arith) (omega arith) holder-pair
 
 pub reports-pair : reportsTest (settingsFor 131073) pairViews (7 ∷ []) deskOfPair 5 [] ≡ true
 unfolding deskOfPair allBelow slot reportOf contentsOf bodyOf bodyWord tabulate place following lowest anyBelow
@@ -187,9 +203,17 @@ pub slots-others : slotsOk (settingsFor 131073) (viewWith 1 7 3) noTermination 6
 unfolding deskOfOne allBelow anyBelow lowest tabulate unless unlessAt firstOf place following row5 row8 precedes shardsWhere row6 viewOk row7 kindOk plain kindAt shardAt surplus sequenceAt complete shardApart row10At row10 position viewFits legal row11At bodyWord bodyOf contentsOf recordsRefusal headRefusal messageRefusal slot reportOf sameView row12 sameTermination row13 termKept slotOk slotsOk
 slots-others = refl
 
-pub met-others : quorumOf (settingsFor 131073) (viewWith 1 7 3) noTermination 6 deskOfOne ≡ Met
-unfolding deskOfOne ones onesIn allBelow anyBelow lowest tabulate pairNotAfter place following bodyWord bodyOf contentsOf endOf reaches holds hasUpdate slot reportOf candidate greatest best target able holder majority firstUnheld quorumOf
-met-others = refl
+pub target-others : target (viewWith 1 7 3) noTermination 6 deskOfOne 0 ≡ pos 1 1
+unfolding deskOfOne allBelow anyBelow lowest tabulate pairNotAfter place following bodyWord bodyOf contentsOf endOf slot reportOf candidate greatest best target
+target-others = refl
+
+pub holder-others : holder (viewWith 1 7 3) noTermination 6 deskOfOne 0 ≡ 1
+unfolding deskOfOne allBelow anyBelow lowest tabulate pairNotAfter place following bodyWord bodyOf contentsOf endOf slot reportOf candidate greatest best target reaches holds hasUpdate able holder
+holder-others = refl
+
+pub met-others : QuorumMet (settingsFor 131073) (viewWith 1 7 3) noTermination 6 deskOfOne
+unfolding ones onesIn
+met-others = met-of (settingsFor 131073) (viewWith 1 7 3) noTermination 6 deskOfOne 1 refl (omega arith) (omega arith) (omega arith) (omega arith) holder-others
 
 pub reports-others : reportsTest (settingsFor 131073) oneViews (7 ∷ 1 ∷ []) deskOfOne 6 [] ≡ true
 unfolding deskOfOne allBelow slot reportOf contentsOf bodyOf bodyWord tabulate place following lowest anyBelow
@@ -206,8 +230,8 @@ othersPlan =
     (none-ended (settingsFor 131073) noTermination oneStored refl)
 
 log-pair : allBelow 1 (λ s. sameLog (plannedLog pairPlan s) (getD ((pos 1 1 ∷ []) ∷ []) s [])) ≡ true
-unfolding deskOfPair allBelow anyBelow lowest tabulate pairNotAfter place following bodyWord bodyOf contentsOf endOf reaches holds hasUpdate slot reportOf candidate greatest best target able holder runsFrom runsOf updatesAfter updatesIn thoseOf onePosition sameLog
-log-pair = refl
+unfolding deskOfPair allBelow anyBelow lowest tabulate pairNotAfter place following bodyWord bodyOf contentsOf slot reportOf runsFrom runsOf updatesAfter updatesIn thoseOf onePosition sameLog
+log-pair = planned-of pairPlan refl (pos 1 1 ∷ []) (pos 1 1) 0 target-pair holder-pair refl
 
 pub record MostNeeded : Type 0 where
   -- an orderly history and a plan; all of a restart that is carried out but that more than half of the kept view's members log its view
@@ -242,7 +266,7 @@ unfolding deskOfOne allBelow anyBelow lowest tabulate place following bodyWord b
 logged-one = refl
 
 pub most-needed : MostNeeded
-unfolding deskOfPair deskOfOne ones onesIn allBelow anyBelow lowest tabulate pairNotAfter place following bodyWord bodyOf contentsOf endOf reaches holds hasUpdate slot reportOf candidate greatest best target able holder
+unfolding deskOfPair deskOfOne ones onesIn allBelow anyBelow lowest tabulate place following bodyWord bodyOf contentsOf reaches holds slot reportOf
 most-needed =
     record {
       orderly = first-orderly (viewWith 1 7 3) (pairBefore .logged) (pairBefore .updated);
@@ -256,8 +280,8 @@ most-needed =
       keeps = keeps-pair;
       logged = implies-at (has 1) (λ n. holdsAt deskOfOne 0 (pos 2 1) n) logged-one;
       again = othersPlan;
-      goal = refl;
-      lost = refl;
+      goal = target-others;
+      lost = told-of deskOfOne (pos 2 1) false holder-others refl;
     }
 
 -- ---- ordered: nodes 0, 2 and 3 of view 1 are restarted, its shard is on nodes 0 and 2, and node 2 logs view 2 without what it is to fetch.
@@ -285,9 +309,17 @@ pub slots-four : slotsOk (settingsFor 2) (viewWith 1 15 3) noTermination 13 desk
 unfolding deskOfFour allBelow anyBelow lowest tabulate unless unlessAt firstOf place following row5 row8 precedes shardsWhere row6 viewOk row7 kindOk plain kindAt shardAt surplus sequenceAt complete shardApart row10At row10 position viewFits legal row11At bodyWord bodyOf contentsOf recordsRefusal headRefusal messageRefusal slot reportOf sameView row12 sameTermination row13 termKept slotOk slotsOk
 slots-four = refl
 
-pub met-four : quorumOf (settingsFor 2) (viewWith 1 15 3) noTermination 13 deskOfFour ≡ Met
-unfolding deskOfFour ones onesIn allBelow anyBelow lowest tabulate pairNotAfter place following bodyWord bodyOf contentsOf endOf reaches holds hasUpdate slot reportOf candidate greatest best target able holder majority firstUnheld quorumOf
-met-four = refl
+pub target-four : target (viewWith 1 15 3) noTermination 13 deskOfFour 0 ≡ pos 1 1
+unfolding deskOfFour allBelow anyBelow lowest tabulate pairNotAfter place following bodyWord bodyOf contentsOf endOf slot reportOf candidate greatest best target
+target-four = refl
+
+pub holder-four : holder (viewWith 1 15 3) noTermination 13 deskOfFour 0 ≡ 0
+unfolding deskOfFour allBelow anyBelow lowest tabulate pairNotAfter place following bodyWord bodyOf contentsOf endOf slot reportOf candidate greatest best target reaches holds hasUpdate able holder
+holder-four = refl
+
+pub met-four : QuorumMet (settingsFor 2) (viewWith 1 15 3) noTermination 13 deskOfFour
+unfolding ones onesIn
+met-four = met-of (settingsFor 2) (viewWith 1 15 3) noTermination 13 deskOfFour 0 refl (omega arith) (omega arith) (omega arith) (omega arith) holder-four
 
 pub reports-four : reportsTest (settingsFor 2) fourViews (15 ∷ []) deskOfFour 13 [] ≡ true
 unfolding deskOfFour allBelow slot reportOf contentsOf bodyOf bodyWord tabulate place following lowest anyBelow
@@ -307,9 +339,17 @@ pub slots-unfetched : slotsOk (settingsFor 2) (viewWith 2 13 5) noTermination 12
 unfolding deskUnfetched allBelow anyBelow lowest tabulate unless unlessAt firstOf place following row5 row8 precedes shardsWhere row6 viewOk row7 kindOk plain kindAt shardAt surplus sequenceAt complete shardApart row10At row10 position viewFits legal row11At bodyWord bodyOf contentsOf recordsRefusal headRefusal messageRefusal slot reportOf sameView row12 sameTermination row13 termKept slotOk slotsOk
 slots-unfetched = refl
 
-pub met-unfetched : quorumOf (settingsFor 2) (viewWith 2 13 5) noTermination 12 deskUnfetched ≡ Met
-unfolding deskUnfetched ones onesIn allBelow anyBelow lowest tabulate pairNotAfter place following bodyWord bodyOf contentsOf endOf reaches holds hasUpdate slot reportOf candidate greatest best target able holder majority firstUnheld quorumOf
-met-unfetched = refl
+pub target-unfetched : target (viewWith 2 13 5) noTermination 12 deskUnfetched 0 ≡ start
+unfolding deskUnfetched allBelow anyBelow lowest tabulate pairNotAfter place following bodyWord bodyOf contentsOf endOf slot reportOf candidate greatest best target
+target-unfetched = refl
+
+pub holder-unfetched : holder (viewWith 2 13 5) noTermination 12 deskUnfetched 0 ≡ 2
+unfolding deskUnfetched allBelow anyBelow lowest tabulate pairNotAfter place following bodyWord bodyOf contentsOf endOf slot reportOf candidate greatest best target reaches holds hasUpdate able holder
+holder-unfetched = refl
+
+pub met-unfetched : QuorumMet (settingsFor 2) (viewWith 2 13 5) noTermination 12 deskUnfetched
+unfolding ones onesIn
+met-unfetched = met-of (settingsFor 2) (viewWith 2 13 5) noTermination 12 deskUnfetched 2 refl (omega arith) (omega arith) (omega arith) (omega arith) holder-unfetched
 
 pub reports-unfetched : reportsTest (settingsFor 2) unfetchedViews (15 ∷ 13 ∷ []) deskUnfetched 12 (0 ∷ 0 ∷ 1 ∷ 1 ∷ []) ≡ true
 unfolding deskUnfetched allBelow slot reportOf contentsOf bodyOf bodyWord tabulate place following lowest anyBelow
@@ -344,12 +384,16 @@ pub record OrderedNeeded : Type 0 where
   pub goal : target (viewWith 2 13 5) noTermination 12 deskUnfetched 0 ≡ start
   pub lost : holdsAt deskUnfetched 0 (pos 1 1) (holder (viewWith 2 13 5) noTermination 12 deskUnfetched 0) ≡ false
 
+log-four : allBelow 1 (λ s. sameLog (plannedLog fourPlan s) (getD ((pos 1 1 ∷ []) ∷ []) s [])) ≡ true
+unfolding deskOfFour allBelow anyBelow lowest tabulate pairNotAfter place following bodyWord bodyOf contentsOf slot reportOf runsFrom runsOf updatesAfter updatesIn thoseOf onePosition sameLog
+log-four = planned-of fourPlan refl (pos 1 1 ∷ []) (pos 1 1) 0 target-four holder-four refl
+
 logged-four : implies (has 3) (λ n. holdsAt deskOfFour 0 (pos 1 1) n) ≡ true
 unfolding deskOfFour allBelow anyBelow lowest tabulate place following bodyWord bodyOf contentsOf reaches holds slot reportOf
 logged-four = refl
 
 pub ordered-needed : OrderedNeeded
-unfolding deskOfFour deskUnfetched ones onesIn allBelow anyBelow lowest tabulate pairNotAfter place following bodyWord bodyOf contentsOf endOf reaches holds hasUpdate slot reportOf candidate greatest best target able holder runsFrom runsOf runsTo sharedAfter cutFrom
+unfolding deskOfFour deskUnfetched ones onesIn allBelow anyBelow lowest tabulate place following bodyWord bodyOf contentsOf reaches holds slot reportOf onePosition among
 ordered-needed =
     record {
       orderly = first-orderly (viewWith 1 15 3) (fourBefore .logged) (fourBefore .updated);
@@ -359,12 +403,14 @@ ordered-needed =
       remembered = remembered-of (15 ∷ []) (15 ∷ 13 ∷ []) 1 refl;
       logs = λ n l h. h;
       most = omega arith;
-      unordered = λ c. clash (c .ordered 0 (omega arith) 2 (omega arith) refl refl (pos 1 1)) refl;
+      unordered = λ c.
+          clash (c .ordered 0 (omega arith) 2 (omega arith) refl refl (pos 1 1) ∙ asked-of fourPlan ((pos 1 1 ∷ []) ∷ []) log-four 0 (omega arith) 2 (omega arith) refl (pos 1 1))
+          refl;
       standing = orderly-of unfetched (13 ∷ []) refl refl refl;
       full = full-of unfetched 1 refl;
       again = unfetchedPlan;
-      goal = refl;
-      lost = refl;
+      goal = target-unfetched;
+      lost = told-of deskUnfetched (pos 1 1) false holder-unfetched refl;
     }
 
 -- ---- updated: the logs of nodes 0 and 1 part after update 2 of view 5, and both have the two updates of view 6. They are restarted, and
@@ -389,9 +435,17 @@ pub slots-parted : slotsOk (settingsFor 2) (viewWith 7 7 3) noTermination 3 desk
 unfolding deskParted allBelow anyBelow lowest tabulate unless unlessAt firstOf place following row5 row8 precedes shardsWhere row6 viewOk row7 kindOk plain kindAt shardAt surplus sequenceAt complete shardApart row10At row10 position viewFits legal row11At bodyWord bodyOf contentsOf recordsRefusal headRefusal messageRefusal slot reportOf sameView row12 sameTermination row13 termKept slotOk slotsOk
 slots-parted = refl
 
-pub met-parted : quorumOf (settingsFor 2) (viewWith 7 7 3) noTermination 3 deskParted ≡ Met
-unfolding deskParted ones onesIn allBelow anyBelow lowest tabulate pairNotAfter place following bodyWord bodyOf contentsOf endOf reaches holds hasUpdate slot reportOf candidate greatest best target able holder majority firstUnheld quorumOf
-met-parted = refl
+pub target-parted : target (viewWith 7 7 3) noTermination 3 deskParted 0 ≡ pos 6 2
+unfolding deskParted allBelow anyBelow lowest tabulate pairNotAfter place following bodyWord bodyOf contentsOf endOf slot reportOf candidate greatest best target
+target-parted = refl
+
+pub holder-parted : holder (viewWith 7 7 3) noTermination 3 deskParted 0 ≡ 0
+unfolding deskParted allBelow anyBelow lowest tabulate pairNotAfter place following bodyWord bodyOf contentsOf endOf slot reportOf candidate greatest best target reaches holds hasUpdate able holder
+holder-parted = refl
+
+pub met-parted : QuorumMet (settingsFor 2) (viewWith 7 7 3) noTermination 3 deskParted
+unfolding ones onesIn
+met-parted = met-of (settingsFor 2) (viewWith 7 7 3) noTermination 3 deskParted 0 refl (omega arith) (omega arith) (omega arith) (omega arith) holder-parted
 
 pub reports-parted : reportsTest (settingsFor 2) partedViews (7 ∷ []) deskParted 3 [] ≡ true
 unfolding deskParted allBelow slot reportOf contentsOf bodyOf bodyWord tabulate place following lowest anyBelow
@@ -411,9 +465,17 @@ pub slots-cut : slotsOk (settingsFor 2) (viewWith 7 7 3) noTermination 6 deskCut
 unfolding deskCut allBelow anyBelow lowest tabulate unless unlessAt firstOf place following row5 row8 precedes shardsWhere row6 viewOk row7 kindOk plain kindAt shardAt surplus sequenceAt complete shardApart row10At row10 position viewFits legal row11At bodyWord bodyOf contentsOf recordsRefusal headRefusal messageRefusal slot reportOf sameView row12 sameTermination row13 termKept slotOk slotsOk
 slots-cut = refl
 
-pub met-cut : quorumOf (settingsFor 2) (viewWith 7 7 3) noTermination 6 deskCut ≡ Met
-unfolding deskCut ones onesIn allBelow anyBelow lowest tabulate pairNotAfter place following bodyWord bodyOf contentsOf endOf reaches holds hasUpdate slot reportOf candidate greatest best target able holder majority firstUnheld quorumOf
-met-cut = refl
+pub target-cut : target (viewWith 7 7 3) noTermination 6 deskCut 0 ≡ pos 5 2
+unfolding deskCut allBelow anyBelow lowest tabulate pairNotAfter place following bodyWord bodyOf contentsOf endOf slot reportOf candidate greatest best target
+target-cut = refl
+
+pub holder-cut : holder (viewWith 7 7 3) noTermination 6 deskCut 0 ≡ 1
+unfolding deskCut allBelow anyBelow lowest tabulate pairNotAfter place following bodyWord bodyOf contentsOf endOf slot reportOf candidate greatest best target reaches holds hasUpdate able holder
+holder-cut = refl
+
+pub met-cut : QuorumMet (settingsFor 2) (viewWith 7 7 3) noTermination 6 deskCut
+unfolding ones onesIn
+met-cut = met-of (settingsFor 2) (viewWith 7 7 3) noTermination 6 deskCut 1 refl (omega arith) (omega arith) (omega arith) (omega arith) holder-cut
 
 pub reports-cut : reportsTest (settingsFor 2) partedViews (7 ∷ []) deskCut 6 [] ≡ true
 unfolding deskCut allBelow slot reportOf contentsOf bodyOf bodyWord tabulate place following lowest anyBelow
@@ -446,6 +508,13 @@ pub record UpdatedNeeded : Type 0 where
   pub goal : target (viewWith 7 7 3) noTermination 6 deskCut 0 ≡ pos 5 2
   pub lost : holdsAt deskCut 0 (pos 6 2) (holder (viewWith 7 7 3) noTermination 6 deskCut 0) ≡ false
 
+abbrev partedLog : List (List Position)
+partedLog = (pos 5 1 ∷ pos 5 2 ∷ pos 5 3 ∷ pos 6 1 ∷ pos 6 2 ∷ []) ∷ []
+
+log-parted : allBelow 1 (λ s. sameLog (plannedLog partedPlan s) (getD partedLog s [])) ≡ true
+unfolding deskParted allBelow anyBelow lowest tabulate pairNotAfter place following bodyWord bodyOf contentsOf slot reportOf runsFrom runsOf updatesAfter updatesIn thoseOf onePosition sameLog
+log-parted = planned-of partedPlan refl (getD partedLog 0 []) (pos 6 2) 0 target-parted holder-parted refl
+
 logged-parted : implies (has 3) (λ n. holdsAt deskParted 0 (pos 6 2) n) ≡ true
 unfolding deskParted allBelow anyBelow lowest tabulate place following bodyWord bodyOf contentsOf reaches holds slot reportOf
 logged-parted = refl
@@ -459,7 +528,7 @@ unfolding deskParted deskCut allBelow anyBelow lowest tabulate place following b
 kept-cut = kept-alike deskParted deskCut 0 1 (pos 5 2) refl
 
 pub updated-needed : UpdatedNeeded
-unfolding deskParted deskCut ones onesIn allBelow anyBelow lowest tabulate pairNotAfter place following bodyWord bodyOf contentsOf endOf reaches holds hasUpdate slot reportOf candidate greatest best target able holder runsFrom runsOf runsTo sharedAfter cutFrom
+unfolding deskParted deskCut ones onesIn allBelow anyBelow lowest tabulate place following bodyWord bodyOf contentsOf reaches holds slot reportOf onePosition among runsFrom runsOf runsTo sharedAfter cutFrom
 updated-needed =
     record {
       orderly = first-orderly (viewWith 7 7 3) (parted .logged) (parted .updated);
@@ -468,14 +537,14 @@ updated-needed =
       views = refl;
       logs = λ n i. refl;
       others = others-cut;
-      cut = refl;
+      cut = cut-of (viewWith 7 7 3) noTermination 3 deskParted 1 target-parted holder-parted refl;
       kept = kept-cut;
       unlike =
           λ g.
           ⊎-elim (λ e. clash (e (pos 6 2)) refl)
-          (λ e. clash (e .1 (pos 6 2)) refl)
+          (λ e. clash (e .1 (pos 6 2) ∙ asked-of partedPlan partedLog log-parted 0 (omega arith) 1 (omega arith) refl (pos 6 2)) refl)
           (g .updated 0 (omega arith) 1 (omega arith));
       again = cutPlan;
-      goal = refl;
-      lost = refl;
+      goal = target-cut;
+      lost = told-of deskCut (pos 6 2) false holder-cut refl;
     }

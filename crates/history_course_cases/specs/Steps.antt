@@ -4,7 +4,7 @@ use Prim.Native.Nat.{ℕ, suc, _+_, _-_, _*_, _^_, _<_, _≤_}
 use mathlib.Core.Bool.{Bool, true, false, not, _&&_, _||_}
 use mathlib.Core.List.{List, [], _∷_, _++_}
 use mathlib.Core.Logic.{_⊎_, inl, inr, ⊎-elim}
-use mathlib.Core.Path.{_≡_, refl, sym, ap, ap₂, _∙_, subst}
+use mathlib.Core.Path.{_≡_, refl, sym, ap, ap₂, _∙_, subst, subst⁻¹}
 use native.Mathlib.Omega.{arith}
 use lib.Bits.{bitAnd}
 use lib.Dec.{eqb, leb, ltb}
@@ -12,20 +12,20 @@ use lib.ListN.{length, getD, take, drop}
 use lib.Seq.{drop-drop}
 use borrow.Author.Tests.{eqb-true, leb-true, ltb-true}
 use Rattle.base_laws.specs.Bools.{clash, and-both, and-left, and-right, or-holds, of-not-true, lt-or-le}
-use Rattle.base_laws.specs.Below.{allBelow, anyBelow, all-at, any-witness}
+use Rattle.base_laws.specs.Below.{allBelow, anyBelow, all-at, all-of, any-witness}
 use Rattle.base_laws.specs.Masks.{has, count, subset, subset-has, quorums-meet}
-use Rattle.settings_values.specs.Settings.{shards}
+use Rattle.settings_values.specs.Settings.{least, shards}
 use Rattle.base_ids.specs.declared.Position.{Position}
 use Rattle.base_ids.specs.Order.{notAfter}
 use Rattle.message_format.specs.Messages.{contentsOf}
 use Rattle.report_views.specs.declared.Layout.{Layout}
 use Rattle.report_views.specs.declared.Termination.{Termination}
-use Rattle.report_views.specs.declared.Quorum.the-variants.{Met}
 use Rattle.report_views.specs.Logs.{holds}
 use Rattle.report_views.specs.Reports.{slot, reportOf, viewOf, holdsAt, maskAt, positionAt}
 use Rattle.report_views.specs.Slots.{slotsOk}
-use Rattle.report_views.specs.Quorums.{target, holder, quorumOf}
-use Rattle.report_views.specs.Meets.{quorum-given, slot-given, report-records, candidate-given, holder-given, able-candidate}
+use Rattle.report_views.specs.Quorums.{target, holder}
+use Rattle.report_views.specs.Meets.{QuorumMet, slot-given, report-records, candidate-given, holder-given, able-candidate}
+use Rattle.report_views.specs.Cuts.{cut}
 use Rattle.report_views.specs.Updates.{updatesAt, upTo, onePosition}
 use Rattle.report_views.specs.Stretches.{among, among-those, one-same}
 use Rattle.report_views.specs.UpdateLaws.{holds-runs}
@@ -33,7 +33,7 @@ use Rattle.report_views.specs.RunLaws as runs
 use Rattle.report_views.specs.CutLaws.{kept-or-fetched}
 use Rattle.history_claims.specs.History.{History, Full, viewAt, membersAt}
 use Rattle.history_cases.specs.Told.{toldBy, implies, implies-at, risesTest, overlapsTest, rule-of, reportsTest, reports-of}
-use Rattle.history_course.specs.Course.{lastOf, Succeeded, Orderly, Settled, Serves, Next, Covers, CarriedOut, GivenUp, asOrdered}
+use Rattle.history_course.specs.Course.{lastOf, Succeeded, Orderly, Settled, Serves, Next, Covers, CarriedOut, GivenUp, cutFor, asOrdered}
 use Rattle.history_course.specs.Ever.{Restart}
 
 -- ---- lists of updates
@@ -152,6 +152,17 @@ pub next-of : (σ : List ℕ) (v : Layout) (held : ℕ) (w : Layout) → w .numb
 next-of σ v held w e m h =
     record { number = e; members = m; placed = λ s l n k. subset-has (maskAt w s) held (all-at (shards σ) (λ i. subset (maskAt w i) held) h s l) n }
 
+-- with one shard, whose holder is h
+pub met-of : (σ : List ℕ) (v : Layout) (t : Termination) (held : ℕ) (d : List ℕ) (h : ℕ) → shards σ ≡ 1 → 1 ≤ v .number .0
+    → count (v .members) < 2 * count (bitAnd held (v .members)) → least σ ≤ count held → h < 32 → holder v t held d 0 ≡ h → QuorumMet σ v t held d
+met-of σ v t held d h one some most enough low e =
+    record {
+      kept = λ z. absurd (omega arith);
+      most = most;
+      enough = enough;
+      holders = λ s k. let first : 0 ≡ s = omega (arith, one) in subst (λ (i : ℕ). holder v t held d i < 32) first (omega (arith, e));
+    }
+
 -- with no termination kept
 pub none-ended : (σ : List ℕ) (t : Termination) (H : History) → t .made ≡ false → Covers σ t H
 none-ended σ t H e = record { after = λ m. clash m e }
@@ -173,7 +184,7 @@ covers-of σ t views logs d a l h =
 
 module _ (σ : List ℕ) (views : List Layout) (logs d : List ℕ) (v : Layout) (t : Termination) (held : ℕ) (w : Layout) where
   -- a plan from the reports of the nodes held, of those that the desk has
-  abbrev pub planFrom : 0 < shards σ → shards σ ≤ 16 → v .members < 2 ^ 32 → slotsOk σ v t held d ≡ true → quorumOf σ v t held d ≡ Met
+  abbrev pub planFrom : 0 < shards σ → shards σ ≤ 16 → v .members < 2 ^ 32 → slotsOk σ v t held d ≡ true → QuorumMet σ v t held d
       → Next σ v held w → (places : List ℕ) → reportsTest σ views logs d held places ≡ true → Covers σ t (toldBy views logs d)
       → Restart (shards σ) (toldBy views logs d)
   planFrom some few wide slots met next places reports ended =
@@ -189,11 +200,22 @@ module _ (σ : List ℕ) (views : List Layout) (logs d : List ℕ) (v : Layout) 
         few = few;
         wide = wide;
         slots = slots;
-        met = quorum-given σ v t held d met;
+        met = met;
         next = next;
         reports = reports-of σ views logs d held places reports;
         ended = ended;
       }
+
+-- what the log of node h holds or does not hold, if h is the holder
+pub told-of : (d : List ℕ) (p : Position) (b : Bool) {h n : ℕ} → n ≡ h → holdsAt d 0 p h ≡ b → holdsAt d 0 p n ≡ b
+told-of d p b e k = subst⁻¹ (λ (n : ℕ). holdsAt d 0 p n ≡ b) e k
+
+-- the cut of node n for shard 0, if the holder is h and the target p
+pub cut-of : (v : Layout) (t : Termination) (held : ℕ) (d : List ℕ) (n : ℕ) {h : ℕ} {p c : Position} → target v t held d 0 ≡ p → holder v t held d 0 ≡ h
+    → cut (reportOf d n) (reportOf d h) 0 p ≡ c → cutFor v t held d n 0 ≡ c
+cut-of v t held d n {p = p} at by e =
+    ap (λ (x : Position). cut (reportOf d n) (reportOf d (holder v t held d 0)) 0 x) at
+    ∙ (ap (λ (h : ℕ). cut (reportOf d n) (reportOf d h) 0 p) by ∙ e)
 
 -- ---- restarts
 
@@ -220,14 +242,31 @@ module _ {S : ℕ} {H : History} (r : Restart S H) where
           runs.passed-runs (r .σ) (reportOf (r .d) n .node .0) (viewOf (r .d) n) (reportOf (r .d) n .members) (reportOf (r .d) n .body) (reportOf (r .d) n .len)
           (report-records (r .σ) (r .v) (r .t) (r .d) n (slot-given (r .σ) (r .v) (r .t) (r .held) (r .d) (r .slots) n l k)) s (omega (arith, r .few))
 
+  -- with one shard: the holder is h, the target p
+  pub planned-of : shards (r .σ) ≡ 1 → (log : List Position) (p : Position) (h : ℕ) → target (r .v) (r .t) (r .held) (r .d) 0 ≡ p
+      → holder (r .v) (r .t) (r .held) (r .d) 0 ≡ h → sameLog (upTo p (updatesAt (r .d) 0 h)) log ≡ true
+      → allBelow (shards (r .σ)) (λ s. sameLog (plannedLog s) (getD (log ∷ []) s [])) ≡ true
+  planned-of one log p h at by same =
+      let here : sameLog (plannedLog 0) log ≡ true =
+      subst⁻¹ (λ (x : Position). sameLog (upTo x (updatesAt (r .d) 0 (holder (r .v) (r .t) (r .held) (r .d) 0))) log ≡ true) at
+      (subst⁻¹ (λ (n : ℕ). sameLog (upTo p (updatesAt (r .d) 0 n)) log ≡ true) by same) in
+      all-of (shards (r .σ)) (λ s. sameLog (plannedLog s) (getD (log ∷ []) s []))
+      (λ s k. let first : 0 ≡ s = omega (arith, one) in subst (λ (i : ℕ). sameLog (plannedLog i) (getD (log ∷ []) i []) ≡ true) first here)
+
   module _ (planned : List (List Position)) (log : allBelow (shards (r .σ)) (λ s. sameLog (plannedLog s) (getD planned s [])) ≡ true) where
+    -- what its order gives a placed node
+    pub asked-of : (s : ℕ) → s < shards (r .σ) → (n : ℕ) → n < 32 → has (maskAt (r .w) s) n ≡ true → (q : Position)
+        → asOrdered (r .v) (r .t) (r .held) (r .d) n s q ≡ among q (getD planned s [])
+    asked-of s k n l m q =
+        as-planned s k n l (r .next .placed s k n l m) q
+        ∙ ap (among q) (same-log (plannedLog s) (getD planned s []) (all-at (shards (r .σ)) (λ i. sameLog (plannedLog i) (getD planned i [])) log s k))
+
     ordered-at : (e : List ℕ) (s : ℕ) → s < shards (r .σ) → (n : ℕ) → n < 32 → has (maskAt (r .w) s) n ≡ true
         → sameLog (updatesAt e s n) (getD planned s []) ≡ true
         → (q : Position) → holdsAt e s q n ≡ asOrdered (r .v) (r .t) (r .held) (r .d) n s q
     ordered-at e s k n l m h q =
-        let planned-is = same-log (plannedLog s) (getD planned s []) (all-at (shards (r .σ)) (λ i. sameLog (plannedLog i) (getD planned i [])) log s k) in
         holds-runs (reportOf e n .body) (reportOf e n .len) s q
-        ∙ (ap (among q) (same-log (updatesAt e s n) (getD planned s []) h ∙ sym planned-is) ∙ sym (as-planned s k n l (r .next .placed s k n l m) q))
+        ∙ (ap (among q) (same-log (updatesAt e s n) (getD planned s []) h) ∙ sym (asked-of s k n l m q))
 
     -- on the desk e the nodes that the plan's view places and that have logged it have the logs that the plan asks for
     abbrev pub orderedTest : ℕ → List ℕ → Bool

@@ -33,6 +33,7 @@ use Rattle.report_views.specs.Ends.{end-legal}
 use Rattle.report_views.specs.Reports.{slot, reportOf, holdsAt, maskAt}
 use Rattle.report_views.specs.Slots.{sameView, row12, sameTermination, row13, termKept, slotOk, slotsOk}
 use Rattle.report_views.specs.Quorums.{candidate, greatest, best, target, able, holder, majority, firstUnheld, quorumOf, numberOf}
+use Rattle.report_views.specs.Meets.{QuorumMet}
 use Rattle.report_views.specs.Updates.{updatesAfter, updatesIn, thoseOf, onePosition}
 use Rattle.report_views.specs.Stretches.{among}
 use Rattle.history_claims.specs.History.{History, KeepsRule, True, numberAt}
@@ -40,7 +41,7 @@ use Rattle.history_cases.specs.Told.{toldBy, implies, implies-at, rule-of, full
 use Rattle.history_course.specs.Course.{Succeeded, Orderly, Settled, Serves, Next, CarriedOut, GivenUp, asOrdered}
 use Rattle.history_course.specs.Ever.{Restart, Course, here, running, carrying}
 use Rattle.history_course.specs.Counting.{first-orderly}
-use Rattle.history_course_cases.specs.Steps.{ofEvery, sameLog, orderly-of, not-succeeded, next-of, none-ended, planFrom, plannedLog, ordered-of, remembered-of, given-up-of, keeps-of}
+use Rattle.history_course_cases.specs.Steps.{ofEvery, sameLog, orderly-of, not-succeeded, next-of, met-of, none-ended, planFrom, told-of, plannedLog, planned-of, ordered-of, remembered-of, given-up-of, keeps-of}
 use Rattle.history_course_cases.specs.Worked.{courseSettings, reportWith, runOf, runsUpTo}
 use Rattle.history_course_cases.specs.Duties.{settingsFor, viewWith, noRun, LoggedByAll}
 
@@ -92,9 +93,13 @@ pub slots-stray : slotsOk (settingsFor 2) (viewWith 2 31 6) noTermination 28 des
 unfolding deskOfFive allBelow anyBelow lowest tabulate unless unlessAt firstOf place following row5 row8 precedes shardsWhere row6 viewOk row7 kindOk plain kindAt shardAt surplus sequenceAt complete shardApart row10At row10 position viewFits legal row11At bodyWord bodyOf contentsOf recordsRefusal headRefusal messageRefusal slot reportOf sameView row12 sameTermination row13 termKept slotOk slotsOk
 slots-stray = refl
 
-pub met-stray : quorumOf (settingsFor 2) (viewWith 2 31 6) noTermination 28 deskOfFive ≡ Met
-unfolding deskOfFive ones onesIn allBelow anyBelow lowest tabulate pairNotAfter place following bodyWord bodyOf contentsOf endOf reaches holds hasUpdate slot reportOf candidate greatest best target able holder majority firstUnheld quorumOf
-met-stray = refl
+pub holder-stray : holder (viewWith 2 31 6) noTermination 28 deskOfFive 0 ≡ 2
+unfolding deskOfFive allBelow anyBelow lowest tabulate pairNotAfter place following bodyWord bodyOf contentsOf endOf slot reportOf candidate greatest best target reaches holds hasUpdate able holder
+holder-stray = refl
+
+pub met-stray : QuorumMet (settingsFor 2) (viewWith 2 31 6) noTermination 28 deskOfFive
+unfolding ones onesIn
+met-stray = met-of (settingsFor 2) (viewWith 2 31 6) noTermination 28 deskOfFive 2 refl (omega arith) (omega arith) (omega arith) (omega arith) holder-stray
 
 pub reports-stray : reportsTest (settingsFor 2) fiveViews (31 ∷ []) deskOfFive 28 [] ≡ true
 unfolding deskOfFive allBelow slot reportOf contentsOf bodyOf bodyWord tabulate place following lowest anyBelow
@@ -114,9 +119,17 @@ pub slots-other : slotsOk (settingsFor 2) (viewWith 2 31 6) noTermination 11 des
 unfolding deskOfFive allBelow anyBelow lowest tabulate unless unlessAt firstOf place following row5 row8 precedes shardsWhere row6 viewOk row7 kindOk plain kindAt shardAt surplus sequenceAt complete shardApart row10At row10 position viewFits legal row11At bodyWord bodyOf contentsOf recordsRefusal headRefusal messageRefusal slot reportOf sameView row12 sameTermination row13 termKept slotOk slotsOk
 slots-other = refl
 
-pub met-other : quorumOf (settingsFor 2) (viewWith 2 31 6) noTermination 11 deskOfFive ≡ Met
-unfolding deskOfFive ones onesIn allBelow anyBelow lowest tabulate pairNotAfter place following bodyWord bodyOf contentsOf endOf reaches holds hasUpdate slot reportOf candidate greatest best target able holder majority firstUnheld quorumOf
-met-other = refl
+pub target-other : target (viewWith 2 31 6) noTermination 11 deskOfFive 0 ≡ pos 2 1
+unfolding deskOfFive allBelow anyBelow lowest tabulate pairNotAfter place following bodyWord bodyOf contentsOf endOf slot reportOf candidate greatest best target
+target-other = refl
+
+pub holder-other : holder (viewWith 2 31 6) noTermination 11 deskOfFive 0 ≡ 1
+unfolding deskOfFive allBelow anyBelow lowest tabulate pairNotAfter place following bodyWord bodyOf contentsOf endOf slot reportOf candidate greatest best target reaches holds hasUpdate able holder
+holder-other = refl
+
+pub met-other : QuorumMet (settingsFor 2) (viewWith 2 31 6) noTermination 11 deskOfFive
+unfolding ones onesIn
+met-other = met-of (settingsFor 2) (viewWith 2 31 6) noTermination 11 deskOfFive 1 refl (omega arith) (omega arith) (omega arith) (omega arith) holder-other
 
 pub reports-other : reportsTest (settingsFor 2) fiveViews (31 ∷ []) deskOfFive 11 [] ≡ true
 unfolding deskOfFive allBelow slot reportOf contentsOf bodyOf bodyWord tabulate place following lowest anyBelow
@@ -133,8 +146,8 @@ otherPlan =
     (none-ended (settingsFor 2) noTermination fiveBefore refl)
 
 log-other : allBelow 1 (λ s. sameLog (plannedLog otherPlan s) (getD ((pos 2 1 ∷ []) ∷ []) s [])) ≡ true
-unfolding deskOfFive allBelow anyBelow lowest tabulate pairNotAfter place following bodyWord bodyOf contentsOf endOf reaches holds hasUpdate slot reportOf candidate greatest best target able holder runsFrom runsOf updatesAfter updatesIn thoseOf onePosition sameLog
-log-other = refl
+unfolding deskOfFive allBelow anyBelow lowest tabulate pairNotAfter place following bodyWord bodyOf contentsOf slot reportOf runsFrom runsOf updatesAfter updatesIn thoseOf onePosition sameLog
+log-other = planned-of otherPlan refl (pos 2 1 ∷ []) (pos 2 1) 1 target-other holder-other refl
 
 ordered-other : (s : ℕ) → s < 1 → (n : ℕ) → n < 32 → has (maskAt (viewWith 3 11 3) s) n ≡ true → has 11 n ≡ true
     → (q : Position) → holdsAt deskOfBoth s q n ≡ asOrdered (viewWith 2 31 6) noTermination 11 deskOfFive n s q
@@ -169,9 +182,17 @@ slots-back : slotsOk (settingsFor 2) (viewWith 3 28 12) noTermination 20 deskBot
 unfolding deskBothStored allBelow anyBelow lowest tabulate unless unlessAt firstOf place following row5 row8 precedes shardsWhere row6 viewOk row7 kindOk plain kindAt shardAt surplus sequenceAt complete shardApart row10At row10 position viewFits legal row11At bodyWord bodyOf contentsOf recordsRefusal headRefusal messageRefusal slot reportOf sameView row12 sameTermination row13 termKept slotOk slotsOk
 slots-back = refl
 
-met-back : quorumOf (settingsFor 2) (viewWith 3 28 12) noTermination 20 deskBothStored ≡ Met
-unfolding deskBothStored ones onesIn allBelow anyBelow lowest tabulate pairNotAfter place following bodyWord bodyOf contentsOf endOf reaches holds hasUpdate slot reportOf candidate greatest best target able holder majority firstUnheld quorumOf
-met-back = refl
+target-back : target (viewWith 3 28 12) noTermination 20 deskBothStored 0 ≡ pos 2 1
+unfolding deskBothStored allBelow anyBelow lowest tabulate pairNotAfter place following bodyWord bodyOf contentsOf endOf slot reportOf candidate greatest best target
+target-back = refl
+
+holder-back : holder (viewWith 3 28 12) noTermination 20 deskBothStored 0 ≡ 2
+unfolding deskBothStored allBelow anyBelow lowest tabulate pairNotAfter place following bodyWord bodyOf contentsOf endOf slot reportOf candidate greatest best target reaches holds hasUpdate able holder
+holder-back = refl
+
+met-back : QuorumMet (settingsFor 2) (viewWith 3 28 12) noTermination 20 deskBothStored
+unfolding ones onesIn
+met-back = met-of (settingsFor 2) (viewWith 3 28 12) noTermination 20 deskBothStored 2 refl (omega arith) (omega arith) (omega arith) (omega arith) holder-back
 
 reports-back : reportsTest (settingsFor 2) strayViews (31 ∷ 4 ∷ []) deskBothStored 20 (0 ∷ 0 ∷ 1 ∷ 0 ∷ 0 ∷ []) ≡ true
 unfolding deskBothStored allBelow slot reportOf contentsOf bodyOf bodyWord tabulate place following lowest anyBelow
@@ -195,7 +216,7 @@ pub record StrayKept : Type 0 where
   -- nodes 2 and 4 report truly what they know: the stray view 3 is kept, with 2 of its 3 members
   pub reports : (n : ℕ) → n < 32 → has 20 n ≡ true → True (settingsFor 2) strayKnown (reportOf deskBothStored n)
   pub slots : slotsOk (settingsFor 2) (viewWith 3 28 12) noTermination 20 deskBothStored ≡ true
-  pub met : quorumOf (settingsFor 2) (viewWith 3 28 12) noTermination 20 deskBothStored ≡ Met
+  pub met : QuorumMet (settingsFor 2) (viewWith 3 28 12) noTermination 20 deskBothStored
   -- and the plan has not the update that was stored under the other
   pub goal : target (viewWith 3 28 12) noTermination 20 deskBothStored 0 ≡ pos 2 1
   pub lost : holdsAt deskBothStored 0 (pos 3 1) (holder (viewWith 3 28 12) noTermination 20 deskBothStored 0) ≡ false
@@ -205,7 +226,7 @@ pub record StrayKept : Type 0 where
   pub twice : KeepsRule (toldBy (viewWith 2 31 6 ∷ viewWith 3 28 12 ∷ viewWith 3 11 3 ∷ []) (31 ∷ 4 ∷ 11 ∷ []) deskBothStored) → ⊥
 
 pub stray-kept : StrayKept
-unfolding deskBothStored ones onesIn allBelow anyBelow lowest tabulate pairNotAfter place following bodyWord bodyOf contentsOf endOf reaches holds hasUpdate slot reportOf candidate greatest best target able holder
+unfolding deskBothStored allBelow anyBelow lowest tabulate place following bodyWord bodyOf contentsOf reaches holds slot reportOf
 stray-kept =
     record {
       orderly = first-orderly (viewWith 2 31 6) (fiveBefore .logged) (fiveBefore .updated);
@@ -215,8 +236,8 @@ stray-kept =
       reports = reports-of (settingsFor 2) strayViews (31 ∷ 4 ∷ []) deskBothStored 20 (0 ∷ 0 ∷ 1 ∷ 0 ∷ 0 ∷ []) reports-back;
       slots = slots-back;
       met = met-back;
-      goal = refl;
-      lost = refl;
+      goal = target-back;
+      lost = told-of deskBothStored (pos 3 1) false holder-back refl;
       untrue = λ r. clash (true-somewhere (settingsFor 2) otherViews (31 ∷ 11 ∷ []) deskBothStored 2 own-2 r) none-of-list;
       twice = λ r. let z = r .rises 1 2 (omega arith) (omega arith) in absurd (omega arith);
     }
@@ -300,9 +321,17 @@ pub slots-stale : slotsOk (settingsFor 2) (viewWith 2 14 6) noTermination 11 des
 unfolding deskOfStale allBelow anyBelow lowest tabulate unless unlessAt firstOf place following row5 row8 precedes shardsWhere row6 viewOk row7 kindOk plain kindAt shardAt surplus sequenceAt complete shardApart row10At row10 position viewFits legal row11At bodyWord bodyOf contentsOf recordsRefusal headRefusal messageRefusal slot reportOf sameView row12 sameTermination row13 termKept slotOk slotsOk
 slots-stale = refl
 
-pub met-stale : quorumOf (settingsFor 2) (viewWith 2 14 6) noTermination 11 deskOfStale ≡ Met
-unfolding deskOfStale ones onesIn allBelow anyBelow lowest tabulate pairNotAfter place following bodyWord bodyOf contentsOf endOf reaches holds hasUpdate slot reportOf candidate greatest best target able holder majority firstUnheld quorumOf
-met-stale = refl
+pub target-stale : target (viewWith 2 14 6) noTermination 11 deskOfStale 0 ≡ pos 2 1
+unfolding deskOfStale allBelow anyBelow lowest tabulate pairNotAfter place following bodyWord bodyOf contentsOf endOf slot reportOf candidate greatest best target
+target-stale = refl
+
+pub holder-stale : holder (viewWith 2 14 6) noTermination 11 deskOfStale 0 ≡ 1
+unfolding deskOfStale allBelow anyBelow lowest tabulate pairNotAfter place following bodyWord bodyOf contentsOf endOf slot reportOf candidate greatest best target reaches holds hasUpdate able holder
+holder-stale = refl
+
+pub met-stale : QuorumMet (settingsFor 2) (viewWith 2 14 6) noTermination 11 deskOfStale
+unfolding ones onesIn
+met-stale = met-of (settingsFor 2) (viewWith 2 14 6) noTermination 11 deskOfStale 1 refl (omega arith) (omega arith) (omega arith) (omega arith) holder-stale
 
 pub reports-stale : reportsTest (settingsFor 2) staleViews (15 ∷ 14 ∷ []) deskOfStale 11 (0 ∷ 1 ∷ 1 ∷ 1 ∷ []) ≡ true
 unfolding deskOfStale allBelow slot reportOf contentsOf bodyOf bodyWord tabulate place following lowest anyBelow
@@ -319,8 +348,8 @@ stalePlan =
     (none-ended (settingsFor 2) noTermination staleBefore refl)
 
 log-stale : allBelow 1 (λ s. sameLog (plannedLog stalePlan s) (getD ((pos 1 1 ∷ pos 2 1 ∷ []) ∷ []) s [])) ≡ true
-unfolding deskOfStale allBelow anyBelow lowest tabulate pairNotAfter place following bodyWord bodyOf contentsOf endOf reaches holds hasUpdate slot reportOf candidate greatest best target able holder runsFrom runsOf updatesAfter updatesIn thoseOf onePosition sameLog
-log-stale = refl
+unfolding deskOfStale allBelow anyBelow lowest tabulate pairNotAfter place following bodyWord bodyOf contentsOf slot reportOf runsFrom runsOf updatesAfter updatesIn thoseOf onePosition sameLog
+log-stale = planned-of stalePlan refl (pos 1 1 ∷ pos 2 1 ∷ []) (pos 2 1) 1 target-stale holder-stale refl
 
 given-up-stale : GivenUp (settingsFor 2) (viewWith 2 14 6) noTermination 11 deskOfStale (viewWith 3 11 3) staleBefore ahead
 unfolding deskOfStale deskAhead allBelow anyBelow lowest tabulate place following bodyWord bodyOf contentsOf slot reportOf runsFrom runsOf updatesAfter updatesIn onePosition among ofEvery sameLog

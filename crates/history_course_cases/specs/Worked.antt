@@ -24,12 +24,12 @@ use Rattle.message_format.specs.Rows.{row6, viewOk, row7, kindOk, plain, kindAt
 use Rattle.message_format.specs.Messages.{bodyWord, bodyOf, contentsOf, recordsRefusal, headRefusal, messageRefusal}
 use Rattle.report_views.specs.declared.Layout.{Layout}
 use Rattle.report_views.specs.declared.Termination.{Termination}
-use Rattle.report_views.specs.declared.Quorum.the-variants.{Met}
 use Rattle.report_views.specs.Empty.{noTermination}
 use Rattle.report_views.specs.Logs.{pos, start, endOf, reaches, holds, hasUpdate, runsFrom, runsOf}
 use Rattle.report_views.specs.Reports.{slot, reportOf, holdsAt, maskAt}
 use Rattle.report_views.specs.Slots.{sameView, row12, sameTermination, row13, termKept, slotOk, slotsOk}
-use Rattle.report_views.specs.Quorums.{candidate, greatest, best, target, able, holder, majority, firstUnheld, quorumOf}
+use Rattle.report_views.specs.Quorums.{candidate, greatest, best, target, able, holder}
+use Rattle.report_views.specs.Meets.{QuorumMet}
 use Rattle.report_views.specs.Cuts.{runsTo, sharedAfter, cutFrom}
 use Rattle.report_views.specs.Updates.{updatesAfter, updatesIn, updatesAt, thoseOf, onePosition}
 use Rattle.report_views.specs.Stretches.{among}
@@ -41,7 +41,7 @@ use Rattle.history_cases.specs.Supposing.{viewOfAll, reportOfAll}
 use Rattle.history_course.specs.Course.{Orderly, Settled, Serves, Next, Covers, CarriedOut, GivenUp, cutFor, asOrdered}
 use Rattle.history_course.specs.Ever.{Restart, Course, here, running, carrying, giving-up, never-lost, logged-lasts}
 use Rattle.history_course.specs.Counting.{counted-carried, counted-full, first-orderly}
-use Rattle.history_course_cases.specs.Steps.{ofEvery, sameLog, orderly-of, settled-of, next-of, none-ended, covers-of, planFrom, plannedLog, ordered-of, remembered-of, given-up-of, keeps-of}
+use Rattle.history_course_cases.specs.Steps.{ofEvery, sameLog, orderly-of, settled-of, next-of, met-of, none-ended, covers-of, planFrom, cut-of, plannedLog, planned-of, ordered-of, remembered-of, given-up-of, keeps-of}
 
 -- three nodes of three failure sets; the shard needs two of them and may have all three
 abbrev pub courseSettings : List ℕ
@@ -87,9 +87,17 @@ pub slots-first : slotsOk courseSettings (viewOfAll 1 7) noTermination 5 deskAtF
 unfolding deskAtFirst allBelow anyBelow lowest tabulate unless unlessAt firstOf place following row5 row8 precedes shardsWhere row6 viewOk row7 kindOk plain kindAt shardAt surplus sequenceAt complete shardApart row10At row10 position viewFits legal row11At bodyWord bodyOf contentsOf recordsRefusal headRefusal messageRefusal slot reportOf sameView row12 sameTermination row13 termKept slotOk slotsOk
 slots-first = refl
 
-pub met-first : quorumOf courseSettings (viewOfAll 1 7) noTermination 5 deskAtFirst ≡ Met
-unfolding deskAtFirst ones onesIn allBelow anyBelow lowest tabulate pairNotAfter place following bodyWord bodyOf contentsOf endOf reaches holds hasUpdate slot reportOf candidate greatest best target able holder majority firstUnheld quorumOf
-met-first = refl
+pub target-first : target (viewOfAll 1 7) noTermination 5 deskAtFirst 0 ≡ pos 1 2
+unfolding deskAtFirst allBelow anyBelow lowest tabulate pairNotAfter place following bodyWord bodyOf contentsOf endOf slot reportOf candidate greatest best target
+target-first = refl
+
+pub holder-first : holder (viewOfAll 1 7) noTermination 5 deskAtFirst 0 ≡ 0
+unfolding deskAtFirst allBelow anyBelow lowest tabulate pairNotAfter place following bodyWord bodyOf contentsOf endOf slot reportOf candidate greatest best target reaches holds hasUpdate able holder
+holder-first = refl
+
+pub met-first : QuorumMet courseSettings (viewOfAll 1 7) noTermination 5 deskAtFirst
+unfolding ones onesIn
+met-first = met-of courseSettings (viewOfAll 1 7) noTermination 5 deskAtFirst 0 refl (omega arith) (omega arith) (omega arith) (omega arith) holder-first
 
 pub reports-first : reportsTest courseSettings firstViews (7 ∷ []) deskAtFirst 5 [] ≡ true
 unfolding deskAtFirst allBelow slot reportOf contentsOf bodyOf bodyWord tabulate place following lowest anyBelow
@@ -109,8 +117,8 @@ abbrev pub firstLog : List (List Position)
 firstLog = (pos 1 1 ∷ pos 1 2 ∷ []) ∷ []
 
 log-first : allBelow 1 (λ s. sameLog (plannedLog givenUpPlan s) (getD firstLog s [])) ≡ true
-unfolding deskAtFirst allBelow anyBelow lowest tabulate pairNotAfter place following bodyWord bodyOf contentsOf endOf reaches holds hasUpdate slot reportOf candidate greatest best target able holder runsFrom runsOf updatesAfter updatesIn thoseOf onePosition sameLog
-log-first = refl
+unfolding deskAtFirst allBelow anyBelow lowest tabulate pairNotAfter place following bodyWord bodyOf contentsOf slot reportOf runsFrom runsOf updatesAfter updatesIn thoseOf onePosition sameLog
+log-first = planned-of givenUpPlan refl (pos 1 1 ∷ pos 1 2 ∷ []) (pos 1 2) 0 target-first holder-first refl
 
 -- it is given up when node 2 has fetched update 2 and nobody has logged view 2
 unfoldable pub deskGivenUp : List ℕ
@@ -129,9 +137,17 @@ pub slots-second : slotsOk courseSettings (viewOfAll 1 7) noTermination 6 deskGi
 unfolding deskGivenUp allBelow anyBelow lowest tabulate unless unlessAt firstOf place following row5 row8 precedes shardsWhere row6 viewOk row7 kindOk plain kindAt shardAt surplus sequenceAt complete shardApart row10At row10 position viewFits legal row11At bodyWord bodyOf contentsOf recordsRefusal headRefusal messageRefusal slot reportOf sameView row12 sameTermination row13 termKept slotOk slotsOk
 slots-second = refl
 
-pub met-second : quorumOf courseSettings (viewOfAll 1 7) noTermination 6 deskGivenUp ≡ Met
-unfolding deskGivenUp ones onesIn allBelow anyBelow lowest tabulate pairNotAfter place following bodyWord bodyOf contentsOf endOf reaches holds hasUpdate slot reportOf candidate greatest best target able holder majority firstUnheld quorumOf
-met-second = refl
+pub target-second : target (viewOfAll 1 7) noTermination 6 deskGivenUp 0 ≡ pos 1 3
+unfolding deskGivenUp allBelow anyBelow lowest tabulate pairNotAfter place following bodyWord bodyOf contentsOf endOf slot reportOf candidate greatest best target
+target-second = refl
+
+pub holder-second : holder (viewOfAll 1 7) noTermination 6 deskGivenUp 0 ≡ 1
+unfolding deskGivenUp allBelow anyBelow lowest tabulate pairNotAfter place following bodyWord bodyOf contentsOf endOf slot reportOf candidate greatest best target reaches holds hasUpdate able holder
+holder-second = refl
+
+pub met-second : QuorumMet courseSettings (viewOfAll 1 7) noTermination 6 deskGivenUp
+unfolding ones onesIn
+met-second = met-of courseSettings (viewOfAll 1 7) noTermination 6 deskGivenUp 1 refl (omega arith) (omega arith) (omega arith) (omega arith) holder-second
 
 pub reports-second : reportsTest courseSettings firstViews (7 ∷ []) deskGivenUp 6 [] ≡ true
 unfolding deskGivenUp allBelow slot reportOf contentsOf bodyOf bodyWord tabulate place following lowest anyBelow
@@ -151,8 +167,8 @@ abbrev pub secondLog : List (List Position)
 secondLog = (pos 1 1 ∷ pos 1 2 ∷ pos 1 3 ∷ []) ∷ []
 
 log-second : allBelow 1 (λ s. sameLog (plannedLog carriedPlan s) (getD secondLog s [])) ≡ true
-unfolding deskGivenUp allBelow anyBelow lowest tabulate pairNotAfter place following bodyWord bodyOf contentsOf endOf reaches holds hasUpdate slot reportOf candidate greatest best target able holder runsFrom runsOf updatesAfter updatesIn thoseOf onePosition sameLog
-log-second = refl
+unfolding deskGivenUp allBelow anyBelow lowest tabulate pairNotAfter place following bodyWord bodyOf contentsOf slot reportOf runsFrom runsOf updatesAfter updatesIn thoseOf onePosition sameLog
+log-second = planned-of carriedPlan refl (pos 1 1 ∷ pos 1 2 ∷ pos 1 3 ∷ []) (pos 1 3) 1 target-second holder-second refl
 
 -- it is carried out: both have logged view 2
 unfoldable pub deskCarried : List ℕ
@@ -217,9 +233,17 @@ pub slots-last : slotsOk courseSettings (viewOfAll 2 6) endOfRun 7 deskServed �
 unfolding deskServed allBelow anyBelow lowest tabulate unless unlessAt firstOf place following row5 row8 precedes shardsWhere row6 viewOk row7 kindOk plain kindAt shardAt surplus sequenceAt complete shardApart row10At row10 position viewFits legal row11At bodyWord bodyOf contentsOf recordsRefusal headRefusal messageRefusal slot reportOf sameView row12 sameTermination row13 termKept slotOk slotsOk
 slots-last = refl
 
-pub met-last : quorumOf courseSettings (viewOfAll 2 6) endOfRun 7 deskServed ≡ Met
-unfolding deskServed ones onesIn allBelow anyBelow lowest tabulate pairNotAfter place following bodyWord bodyOf contentsOf endOf reaches holds hasUpdate slot reportOf candidate greatest best target able holder majority firstUnheld quorumOf
-met-last = refl
+pub target-last : target (viewOfAll 2 6) endOfRun 7 deskServed 0 ≡ pos 2 1
+unfolding deskServed allBelow anyBelow lowest tabulate pairNotAfter place following bodyWord bodyOf contentsOf endOf slot reportOf candidate greatest best target
+target-last = refl
+
+pub holder-last : holder (viewOfAll 2 6) endOfRun 7 deskServed 0 ≡ 2
+unfolding deskServed allBelow anyBelow lowest tabulate pairNotAfter place following bodyWord bodyOf contentsOf endOf slot reportOf candidate greatest best target reaches holds hasUpdate able holder
+holder-last = refl
+
+pub met-last : QuorumMet courseSettings (viewOfAll 2 6) endOfRun 7 deskServed
+unfolding ones onesIn
+met-last = met-of courseSettings (viewOfAll 2 6) endOfRun 7 deskServed 2 refl (omega arith) (omega arith) (omega arith) (omega arith) holder-last
 
 pub reports-last : reportsTest courseSettings laterViews (7 ∷ 6 ∷ []) deskServed 7 (0 ∷ 1 ∷ 1 ∷ []) ≡ true
 unfolding deskServed allBelow slot reportOf contentsOf bodyOf bodyWord tabulate place following lowest anyBelow
@@ -238,6 +262,9 @@ abbrev pub lastPlan : Restart 1 afterRun
 lastPlan =
     planFrom courseSettings laterViews (7 ∷ 6 ∷ []) deskServed (viewOfAll 2 6) endOfRun 7 lastView (omega arith) (omega arith) (omega arith)
     slots-last met-last next-last (0 ∷ 1 ∷ 1 ∷ []) reports-last covers-last
+
+abbrev pub lastLog : List (List Position)
+lastLog = (pos 1 1 ∷ pos 1 2 ∷ pos 1 3 ∷ pos 2 1 ∷ []) ∷ []
 
 -- ---- the course
 
@@ -283,10 +310,10 @@ pub record CourseRows : Type 0 where
   pub target-second : target (viewOfAll 1 7) noTermination 6 deskGivenUp 0 ≡ pos 1 3
   pub holder-last : holder (viewOfAll 2 6) endOfRun 7 deskServed 0 ≡ 2
   pub target-last : target (viewOfAll 2 6) endOfRun 7 deskServed 0 ≡ pos 2 1
-  pub log-last : plannedLog lastPlan 0 ≡ pos 1 1 ∷ pos 1 2 ∷ pos 1 3 ∷ pos 2 1 ∷ []
+  pub log-last : allBelow 1 (λ s. sameLog (plannedLog lastPlan s) (getD lastLog s [])) ≡ true
 
 pub course-rows : CourseRows
-unfolding deskAtFirst deskGivenUp deskServed sizesOk nodesOk cap shardOk shardsOk settingsOk meetsSet setsIn shardValid groupValidAt groupValid groupMovesAt groupMoves countBelow sumBelow ones onesIn allBelow anyBelow lowest tabulate pairNotAfter place following bodyWord bodyOf contentsOf endOf reaches holds hasUpdate slot reportOf candidate greatest best target able holder runsFrom runsOf updatesAfter updatesIn thoseOf onePosition runsTo sharedAfter cutFrom shardApart
+unfolding deskGivenUp deskServed sizesOk nodesOk cap shardOk shardsOk settingsOk meetsSet setsIn shardValid groupValidAt groupValid groupMovesAt groupMoves countBelow sumBelow ones onesIn allBelow anyBelow lowest tabulate pairNotAfter place following bodyWord bodyOf contentsOf slot reportOf runsFrom runsOf updatesAfter updatesIn thoseOf onePosition sameLog runsTo sharedAfter cutFrom shardApart
 course-rows =
     record {
       settings = refl;
@@ -299,11 +326,11 @@ course-rows =
       plan = lastPlan;
       kept = logged-lasts orderly-first 0 (omega arith) (pos 1 1) all-first workedCourse lastPlan;
       stored = never-lost (served .standing) 0 (omega arith) (pos 2 1) settled-run here lastPlan;
-      holder-first = refl;
-      holder-second = refl;
-      cut-second = refl;
-      target-second = refl;
-      holder-last = refl;
-      target-last = refl;
-      log-last = refl;
+      holder-first = holder-first;
+      holder-second = holder-second;
+      cut-second = cut-of (viewOfAll 1 7) noTermination 6 deskGivenUp 2 target-second holder-second refl;
+      target-second = target-second;
+      holder-last = holder-last;
+      target-last = target-last;
+      log-last = planned-of lastPlan refl (pos 1 1 ∷ pos 1 2 ∷ pos 1 3 ∷ pos 2 1 ∷ []) (pos 2 1) 2 target-last holder-last refl;
     }
