@@ -1,0 +1,5 @@
+-- Worked courses of a group over several restarts.
+pub mod Steps
+pub mod Worked
+pub mod Duties
+pub mod Stories
