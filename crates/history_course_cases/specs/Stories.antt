@@ -370,8 +370,11 @@ unfolding contentsOf
 no-run-above σ x accepted s small p h =
     let passed = message-given Report σ x accepted .records-pass in
     let end : Position = endOf (bodyOf x) s (following x) in
-    omega (arith, order-views p end (holds-end (getD x 0 0) (bodyOf x) (following x) (passed .sequence-passes) s p h),
-    end-legal σ (getD x 0 0) (getD x 1 0) (getD x 2 0) (bodyOf x) (following x) passed s small .no-later)
+    omega (
+      arith,
+      order-views p end (holds-end (getD x 0 0) (bodyOf x) (following x) (passed .sequence-passes) s p h),
+      end-legal σ (getD x 0 0) (getD x 1 0) (getD x 2 0) (bodyOf x) (following x) passed s small .no-later,
+    )
 
 -- node 0's latest view is the first
 first-of-stale : (i : ℕ) → i < 2 → has (getD (15 ∷ 14 ∷ []) i 0) 0 ≡ true → numberAt ahead i ≡ 1
@@ -395,8 +398,12 @@ never-ahead x own r accepted =
     let logged : has (getD (15 ∷ 14 ∷ []) (r .at) 0) 0 ≡ true = subst (λ (n : ℕ). has (getD (15 ∷ 14 ∷ []) (r .at) 0) n ≡ true) own (r .logged) in
     let told : holdsAt deskAhead 0 (pos 2 1) 0 ≡ holds (contentsOf x .body) (contentsOf x .len) 0 (pos 2 1) =
     subst (λ (n : ℕ). holdsAt deskAhead 0 (pos 2 1) n ≡ holds (contentsOf x .body) (contentsOf x .len) 0 (pos 2 1)) own (r .updates 0 (omega arith) (pos 2 1)) in
-    omega (arith, no-run-above (settingsFor 2) x accepted 0 (omega arith) (pos 2 1) (sym told ∙ has-ahead), r .same .number,
-    first-of-stale (r .at) (r .listed) logged)
+    omega (
+      arith,
+      no-run-above (settingsFor 2) x accepted 0 (omega arith) (pos 2 1) (sym told ∙ has-ahead),
+      r .same .number,
+      first-of-stale (r .at) (r .listed) logged,
+    )
 
 pub stale-refused : StaleRefused
 unfolding deskAhead ones onesIn allBelow anyBelow lowest tabulate unless unlessAt firstOf place following row5 row8 precedes shardsWhere row6 viewOk row7 kindOk plain kindAt shardAt surplus sequenceAt complete shardApart row10At row10 position viewFits legal row11At bodyWord bodyOf contentsOf recordsRefusal headRefusal messageRefusal slot reportOf sameView row12 sameTermination row13 termKept slotOk slotsOk

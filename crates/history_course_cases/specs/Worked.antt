@@ -180,12 +180,12 @@ laterViews = viewOfAll 1 7 ∷ viewOfAll 2 6 ∷ []
 abbrev pub afterCarried : History
 afterCarried = toldBy laterViews (7 ∷ 6 ∷ []) deskCarried
 
-ordered-second : (s : ℕ) → s < 1 → (n : ℕ) → n < 32 → has (maskAt (viewOfAll 2 6) s) n ≡ true → has 6 n ≡ true
+pub ordered-second : (s : ℕ) → s < 1 → (n : ℕ) → n < 32 → has (maskAt (viewOfAll 2 6) s) n ≡ true → has 6 n ≡ true
     → (q : Position) → holdsAt deskCarried s q n ≡ asOrdered (viewOfAll 1 7) noTermination 6 deskGivenUp n s q
 unfolding deskCarried allBelow anyBelow lowest tabulate place following bodyWord bodyOf contentsOf slot reportOf runsFrom runsOf updatesAfter updatesIn onePosition among ofEvery sameLog
 ordered-second = ordered-of carriedPlan secondLog log-second 6 deskCarried refl
 
-remembered-second : (n i : ℕ) → i < 1 → has (getD (7 ∷ []) i 0) n ≡ true → has (getD (7 ∷ 6 ∷ []) i 0) n ≡ true
+pub remembered-second : (n i : ℕ) → i < 1 → has (getD (7 ∷ []) i 0) n ≡ true → has (getD (7 ∷ 6 ∷ []) i 0) n ≡ true
 unfolding allBelow
 remembered-second = remembered-of (7 ∷ []) (7 ∷ 6 ∷ []) 1 refl
 
