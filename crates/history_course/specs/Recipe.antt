@@ -1,0 +1,320 @@
+-- Restarts from short reports lose nothing. A short report is true of the history `shortOf H`, so what is proved of a restart from whole
+-- reports holds there: the kept view is the last, and what is settled of it is in the holder's log and not past the target. What is settled
+-- of earlier views is in the holder's base. A machine that keeps its base, or its log up to the cut, agrees so far with the holder, since bases
+-- agree; so with what it fetches it has the holder's log up to the target.
+use Prim.Native.Nat.{ℕ, zero, suc, _+_, _-_, _*_, _^_, _<_, _≤_}
+use mathlib.Core.Bool.{Bool, true, false, cond, not, _&&_, _||_}
+use mathlib.Core.List.{List, [], _∷_, _++_}
+use mathlib.Core.Logic.{_⊎_, inl, inr, ⊎-elim}
+use mathlib.Core.Path.{_≡_, refl, sym, ap, ap₂, _∙_, subst, subst⁻¹}
+use native.Mathlib.Omega.{arith}
+use lib.Dec.{eqb, ltb}
+use lib.ListN.{length, getD, length-append}
+use lib.Seq.{getD-append-seam}
+use borrow.Author.Tests.{eqb-true, eq-eqb, ne-eqb, ltb-true, lt-ltb}
+use Rattle.base_laws.specs.Bools.{either, clash, no-true, and-both, and-left, and-right, and-fails-left, and-fails-right, cond-of, lt-or-le, eq-or-ne}
+use Rattle.base_laws.specs.Masks.{has}
+use Rattle.settings_values.specs.Settings.{shards}
+use Rattle.base_ids.specs.declared.Position.{Position}
+use Rattle.base_ids.specs.Order.{notAfter, order-of, order-views, order-places, order-trans}
+use Rattle.report_views.specs.declared.Layout.{Layout}
+use Rattle.report_views.specs.declared.Termination.{Termination}
+use Rattle.report_views.specs.Empty.{noView}
+use Rattle.report_views.specs.Logs.{start, isStart}
+use Rattle.report_views.specs.Reports.{reportOf, viewOf, holdsAt, hasAt, maskAt}
+use Rattle.report_views.specs.Slots.{slotsOk}
+use Rattle.report_views.specs.Quorums.{target, holder, candidate}
+use Rattle.report_views.specs.Meets.{QuorumMet, SlotSound, slot-given, report-records, candidate-given, holder-given, able-candidate, able-has}
+use Rattle.report_views.specs.RunLaws as runs
+use Rattle.report_views.specs.CutLaws.{cut-target, cut-kept, cut-held, kept-or-fetched}
+use Rattle.history_claims.specs.History.{History, KeepsRule, True, Supposed, viewAt, numberAt}
+use Rattle.history_course.specs.Course.{lastOf, Succeeded, Orderly, Settled, Serves, Next, Covers, CarriedOut, cutFor, asOrdered}
+use Rattle.history_course.specs.Listing.{listed-held}
+use Rattle.history_course.specs.Lasting.{kept-last, settled-held, new-rule, new-succeeded}
+use Rattle.history_course.specs.Ever.{Restart}
+use Rattle.history_course.specs.Based.{latestOf, latestNumber, carriesLatest, shortOf, Based, AddsOnly, keptBy, wantedOf, ByRecipe, ShortCarried, ShortCourse, here, running, carrying}
+use Rattle.history_course.specs.Bases.{place-is, last-latest, last-carries, latest-up-to, HandsOn, run-based, handed-based}
+
+-- ---- (0, 0)
+
+start-is : (p : Position) → isStart p ≡ true → p ≡ start
+start-is p h =
+    ap₂ (λ (v k : ℕ). record { view = record { 0 = v }; k = k }) (eqb-true (p .view .0) 0 (and-left (eqb (p .view .0) 0) (eqb (p .k) 0) h))
+    (eqb-true (p .k) 0 (and-right (eqb (p .view .0) 0) (eqb (p .k) 0) h))
+
+-- an update is not
+start-not : (p : Position) → 1 ≤ p .k → isStart p ≡ false
+start-not p l = and-fails-right (eqb (p .view .0) 0) (ne-eqb (p .k) 0 (λ e. omega arith))
+
+-- and it is past it
+past-start : {A : Type 0} (q : Position) → 1 ≤ q .k → notAfter q start ≡ true → A
+past-start q l h =
+    let z : q .view .0 ≡ 0 = omega (arith, order-views q start h) in
+    absurd (omega (arith, order-places q start z h))
+
+-- ---- tests
+
+and-yes : (b : Bool) → (b && true) ≡ b
+and-yes true = refl
+and-yes false = refl
+
+or-no : (b : Bool) → (b || false) ≡ b
+or-no true = refl
+or-no false = refl
+
+and-first : (x : Bool) {b y : Bool} (z : Bool) → b ≡ true → y ≡ true → (x && cond b y z) ≡ x
+and-first x z e f = rw (e, f) (and-yes x)
+
+and-second : (x : Bool) {b z : Bool} (y : Bool) → b ≡ false → z ≡ true → (x && cond b y z) ≡ x
+and-second x y e f = rw (e, f) (and-yes x)
+
+-- the same views, logged by the same nodes
+pub short-orderly : {H : History} → Orderly H → Orderly (shortOf H)
+short-orderly {H} o =
+    record {
+      rule = record { rises = o .rule .rises; overlaps = o .rule .overlaps };
+      succeeded = λ i l. let c = o .succeeded i l in record { by = c .by; most = c .most; later = c .later };
+    }
+
+-- ---- one restart
+
+module _ (σ : List ℕ) (v : Layout) (t : Termination) (held : ℕ) (d : List ℕ) (few : shards σ ≤ 16) (wide : v .members < 2 ^ 32)
+    (slots : slotsOk σ v t held d ≡ true) (met : QuorumMet σ v t held d) (H : History) (sup : Supposed σ v held d (shortOf H)) (orderly : Orderly H) where
+  kept-place : suc (sup .place) ≡ length (H .views)
+  kept-place = kept-last σ v t held d few wide slots met (shortOf H) sup (short-orderly orderly .succeeded)
+
+  kept-some : 0 < length (H .views)
+  kept-some = omega (arith, kept-place)
+
+  kept-spot : sup .place ≡ lastOf H
+  kept-spot = omega (arith, kept-place)
+
+  kept-number : v .number .0 ≡ numberAt H (lastOf H)
+  kept-number = sup .listed .number ∙ ap (λ (i : ℕ). numberAt H i) kept-spot
+
+  -- what a held node's report tells
+  module _ (n : ℕ) (small : n < 32) (is-held : has held n ≡ true) where
+    its-slot : SlotSound σ v t d n
+    its-slot = slot-given σ v t held d slots n small is-held
+
+    its-runs : (s : ℕ) → s < shards σ → runs.Runs (reportOf d n .body) (reportOf d n .len) s
+    its-runs s l =
+        runs.passed-runs σ (reportOf d n .node .0) (viewOf d n) (reportOf d n .members) (reportOf d n .body) (reportOf d n .len)
+        (report-records σ v t d n its-slot) s (omega arith)
+
+    its-latest : latestOf H n ≡ sup .true-reports n small is-held .at
+    its-latest =
+        let r = sup .true-reports n small is-held in
+        place-is (H .logged n) (length (H .views)) (r .at) (r .listed) (subst (λ (m : ℕ). H .logged m (r .at) ≡ true) (its-slot .own) (r .logged))
+        (λ j a b. subst (λ (m : ℕ). H .logged m j ≡ false) (its-slot .own) (r .latest j a b))
+
+    its-number : viewOf d n ≡ latestNumber H n
+    its-number = sup .true-reports n small is-held .same .number ∙ sym (ap (λ (i : ℕ). numberAt H i) its-latest)
+
+    its-updates : (s : ℕ) → s < shards σ → (p : Position) → holdsAt d s p n ≡ (carriesLatest H s n && (eqb (p .view .0) (latestNumber H n) && H .updated n s p))
+    its-updates s l p =
+        subst (λ (m : ℕ). holdsAt d s p n ≡ (carriesLatest H s m && (eqb (p .view .0) (latestNumber H m) && H .updated m s p))) (its-slot .own)
+        (sym (sup .true-reports n small is-held .updates s l p))
+
+    its-own : (s : ℕ) → s < shards σ → (p : Position) → holdsAt d s p n ≡ true → (carriesLatest H s n ≡ true) × (p .view .0 ≡ latestNumber H n)
+    its-own s l p h =
+        let all = sym (its-updates s l p) ∙ h in
+        let rest = and-right (carriesLatest H s n) (eqb (p .view .0) (latestNumber H n) && H .updated n s p) all in (
+          and-left (carriesLatest H s n) (eqb (p .view .0) (latestNumber H n) && H .updated n s p) all,
+          eqb-true (p .view .0) (latestNumber H n) (and-left (eqb (p .view .0) (latestNumber H n)) (H .updated n s p) rest),
+        )
+
+    its-told : (s : ℕ) → s < shards σ → (p : Position) → carriesLatest H s n ≡ true → p .view .0 ≡ latestNumber H n → holdsAt d s p n ≡ H .updated n s p
+    its-told s l p c e = its-updates s l p ∙ rw (c, eq-eqb (p .view .0) (latestNumber H n) e)
+
+  -- the holder of a shard carries it in the last view
+  record HolderLast (s : ℕ) : Type 0 where
+    pub small : holder v t held d s < 32
+    pub is-held : has held (holder v t held d s) ≡ true
+    pub latest : latestOf H (holder v t held d s) ≡ lastOf H
+    pub number : latestNumber H (holder v t held d s) ≡ v .number .0
+    pub member : has (maskAt (viewAt H (lastOf H)) s) (holder v t held d s) ≡ true
+    pub logged : H .logged (holder v t held d s) (lastOf H) ≡ true
+    pub carries : carriesLatest H s (holder v t held d s) ≡ true
+
+  holder-last : (s : ℕ) → s < shards σ → HolderLast s
+  holder-last s l =
+      let h : ℕ = holder v t held d s in
+      let top = holder-given v t held d s (met .holders s l) in
+      let c = candidate-given v held d s h (able-candidate v t held d s h (top .picked)) in
+      let r = sup .true-reports h (top .below) (c .is-held) in
+      let at : latestOf H h ≡ r .at = its-latest h (top .below) (c .is-held) in
+      let number : latestNumber H h ≡ v .number .0 = sym (its-number h (top .below) (c .is-held)) ∙ c .of-kept in
+      let latest : latestOf H h ≡ lastOf H =
+      ⊎-elim (λ e. e)
+      (λ e. absurd (omega (arith, kept-number, number, orderly .rule .rises (latestOf H h) (lastOf H) (omega (arith, e, at, r .listed)) (omega (arith, kept-some)))))
+      (eq-or-ne (latestOf H h) (lastOf H)) in
+      let logged : H .logged h (lastOf H) ≡ true =
+      subst (λ (m : ℕ). H .logged m (lastOf H) ≡ true) (its-slot h (top .below) (c .is-held) .own)
+      (subst (λ (i : ℕ). H .logged (reportOf d h .node .0) i ≡ true) (sym at ∙ latest) (r .logged)) in
+      let member : has (maskAt (viewAt H (lastOf H)) s) h ≡ true =
+      subst (λ (i : ℕ). has (maskAt (viewAt H i) s) h ≡ true) kept-spot (subst (λ (m : ℕ). has m h ≡ true) (sup .listed .masks s l) (c .member)) in
+      record {
+        small = top .below;
+        is-held = c .is-held;
+        latest = latest;
+        number = number;
+        member = member;
+        logged = logged;
+        carries = last-carries H s h kept-some member logged;
+      }
+
+  -- the target is (0, 0), or an update of the kept view
+  target-cases : (s : ℕ) → s < shards σ → (target v t held d s ≡ start) ⊎ ((target v t held d s .view .0 ≡ v .number .0) × (1 ≤ target v t held d s .k))
+  target-cases s l =
+      let h : ℕ = holder v t held d s in
+      let o = holder-last s l in
+      let has-it = able-has v t held d s h (holder-given v t held d s (met .holders s l) .picked) in
+      ⊎-elim (λ e. inl e)
+      (λ e. inr (its-own h (o .small) (o .is-held) s l (target v t held d s) e .1 ∙ o .number,
+      runs.held-given (reportOf d h .body) (reportOf d h .len) s (target v t held d s) e .from))
+      (runs.has-cases (reportOf d h .body) (reportOf d h .len) s (target v t held d s) has-it)
+
+  -- not past the target of shard s
+  abbrev uptoTarget : ℕ → Position → Bool
+  uptoTarget s q = cond (isStart (target v t held d s)) (ltb (q .view .0) (v .number .0)) (notAfter q (target v t held d s))
+
+  -- no update of an earlier view is past it
+  older-upto : (s : ℕ) → s < shards σ → (q : Position) → q .view .0 < v .number .0 → uptoTarget s q ≡ true
+  older-upto s l q o =
+      cond-of (λ (b : Bool). b ≡ true) (isStart (target v t held d s)) (λ e. lt-ltb (q .view .0) (v .number .0) o)
+      (λ e. ⊎-elim (λ z. clash (subst⁻¹ (λ (p : Position). isStart p ≡ true) z refl) e)
+      (λ z. order-of q (target v t held d s) (inl (omega (arith, z .0)))) (target-cases s l))
+
+  -- what is settled is in the holder's log up to the target
+  pub settled-wanted : Covers σ t (shortOf H) → (s : ℕ) → s < shards σ → (p : Position) → 1 ≤ p .k → p .view .0 ≤ numberAt H (lastOf H) → Settled H s p
+      → wantedOf v t held d H s p ≡ true
+  settled-wanted ended s l p from no-later settled =
+      and-both (settled .all (holder v t held d s) (o .small) (o .member) (o .logged))
+      (⊎-elim (λ e. older-upto s l p (omega (arith, kept-number))) (λ e. in-last (omega (arith, e, kept-number))) (lt-or-le (p .view .0) (numberAt H (lastOf H))))
+    where
+      o : HolderLast s
+      o = holder-last s l
+
+      in-last : p .view .0 ≡ numberAt H (lastOf H) → uptoTarget s p ≡ true
+      in-last e =
+          let told : Settled (shortOf H) s p =
+          record {
+            all = λ n k m h.
+                let number : p .view .0 ≡ latestNumber H n = e ∙ sym (ap (λ (i : ℕ). numberAt H i) (last-latest H n kept-some h)) in
+                and-both (last-carries H s n kept-some m h) (and-both (eq-eqb (p .view .0) (latestNumber H n) number) (settled .all n k m h));
+          } in
+          let reached = settled-held σ v t held d few wide slots met (shortOf H) sup (short-orderly orderly .succeeded) ended s l p told .0 in
+          cond-of (λ (b : Bool). b ≡ true) (isStart (target v t held d s))
+          (λ z. past-start p from (subst (λ (q : Position). notAfter p q ≡ true) (start-is (target v t held d s) z) reached)) (λ z. reached)
+
+  -- a held node that does as the recipe says has the holder's log up to the target
+  module _ (based : Based (shards σ) H) (s : ℕ) (below : s < shards σ) (n : ℕ) (small : n < 32) (is-held : has held n ≡ true) where
+    agrees-base : (q : Position) → 1 ≤ q .k → carriesLatest H s n ≡ true → q .view .0 < latestNumber H n → q .view .0 < v .number .0
+        → H .updated n s q ≡ wantedOf v t held d H s q
+    agrees-base q from c o k =
+        let h = holder-last s below in
+        based .same s below n (holder v t held d s) small (h .small) c (h .carries) q from o (omega (arith, h .number))
+        ∙ sym (rw (older-upto s below q k) (and-yes (H .updated (holder v t held d s) s q)))
+
+    latest-no-later : latestNumber H n ≤ v .number .0
+    latest-no-later = omega (arith, its-number n small is-held, its-slot n small is-held .no-later)
+
+    abbrev itsCut : Position
+    itsCut = cutFor v t held d n s
+
+    -- a cut that is not (0, 0) is an update of the kept view
+    record CutKept : Type 0 where
+      pub carries : carriesLatest H s n ≡ true
+      pub number : latestNumber H n ≡ v .number .0
+      pub view : itsCut .view .0 ≡ v .number .0
+      pub update : 1 ≤ itsCut .k
+
+    cut-of-kept : isStart itsCut ≡ false → CutKept
+    cut-of-kept z =
+        let h = holder-last s below in
+        let c = reportOf d n in
+        let g = reportOf d (holder v t held d s) in
+        let mine = its-runs n small is-held s below in
+        let its = its-runs (holder v t held d s) (h .small) (h .is-held) s below in
+        let a : holdsAt d s itsCut n ≡ true =
+        ⊎-elim (λ e. clash (subst⁻¹ (λ (p : Position). isStart p ≡ true) e refl) z) (λ e. e)
+        (cut-kept (c .body) (c .len) (g .body) (g .len) s (target v t held d s) mine its) in
+        let b : holdsAt d s itsCut (holder v t held d s) ≡ true =
+        ⊎-elim (λ e. clash (subst⁻¹ (λ (p : Position). isStart p ≡ true) e refl) z) (λ e. e)
+        (cut-held (c .body) (c .len) (g .body) (g .len) s (target v t held d s) mine its) in
+        let x = its-own n small is-held s below itsCut a in
+        let y = its-own (holder v t held d s) (h .small) (h .is-held) s below itsCut b in
+        record {
+          carries = x .0;
+          number = sym (x .1) ∙ (y .1 ∙ h .number);
+          view = y .1 ∙ h .number;
+          update = runs.held-given (c .body) (c .len) s itsCut a .from;
+        }
+
+    -- up to such a cut the node and the holder have the same
+    agrees-cut : (q : Position) → 1 ≤ q .k → isStart itsCut ≡ false → notAfter q itsCut ≡ true → H .updated n s q ≡ wantedOf v t held d H s q
+    agrees-cut q from z l = ⊎-elim (λ e. agrees-base q from (k .carries) (omega (arith, k .number)) e) (λ e. in-kept e) (lt-or-le (q .view .0) (v .number .0))
+      where
+        k : CutKept
+        k = cut-of-kept z
+
+        h : HolderLast s
+        h = holder-last s below
+
+        reached : notAfter itsCut (target v t held d s) ≡ true
+        reached =
+            cut-target (reportOf d n .body) (reportOf d n .len) (reportOf d (holder v t held d s) .body) (reportOf d (holder v t held d s) .len) s (target v t held d s)
+
+        further : isStart (target v t held d s) ≡ false
+        further = no-true (isStart (target v t held d s))
+            (λ e. past-start itsCut (k .update) (subst (λ (p : Position). notAfter itsCut p ≡ true) (start-is (target v t held d s) e) reached))
+
+        to-target : notAfter q (target v t held d s) ≡ true
+        to-target = order-trans q itsCut (target v t held d s) l reached
+
+        in-kept : v .number .0 ≤ q .view .0 → H .updated n s q ≡ wantedOf v t held d H s q
+        in-kept e =
+            let view : q .view .0 ≡ v .number .0 = omega (arith, order-views q itsCut l, k .view) in
+            let mine : holdsAt d s q n ≡ H .updated n s q = its-told n small is-held s below q (k .carries) (view ∙ sym (k .number)) in
+            let its : holdsAt d s q (holder v t held d s) ≡ H .updated (holder v t held d s) s q =
+            its-told (holder v t held d s) (h .small) (h .is-held) s below q (h .carries) (view ∙ sym (h .number)) in
+            let both =
+            kept-or-fetched (reportOf d n .body) (reportOf d n .len) (reportOf d (holder v t held d s) .body) (reportOf d (holder v t held d s) .len) s (target v t held d s)
+            (its-runs n small is-held s below) (its-runs (holder v t held d s) (h .small) (h .is-held) s below) q in
+            sym mine ∙ (sym (or-no (holdsAt d s q n)) ∙ (rw (l, to-target) at both)) ∙ its
+            ∙ sym (rw (further, to-target) (and-yes (H .updated (holder v t held d s) s q)))
+
+    -- so what it keeps is the holder's log as far as it goes
+    kept-agrees : {G : History} → (r : ByRecipe v t held d H G n s) → (q : Position) → 1 ≤ q .k → notAfter q (r .last) ≡ true
+        → keptBy v t held d H n s q ≡ wantedOf v t held d H s q
+    kept-agrees r q from l = ⊎-elim nothing some (r .kept)
+      where
+        nothing : r .last ≡ start → keptBy v t held d H n s q ≡ wantedOf v t held d H s q
+        nothing e = past-start q from (subst (λ (p : Position). notAfter q p ≡ true) e l)
+
+        some : keptBy v t held d H n s (r .last) ≡ true → keptBy v t held d H n s q ≡ wantedOf v t held d H s q
+        some e =
+            let test = and-right (H .updated n s (r .last))
+            (cond (isStart itsCut) (carriesLatest H s n && ltb (r .last .view .0) (latestNumber H n)) (notAfter (r .last) itsCut)) e in
+            ⊎-elim
+            (λ z.
+            let both : (carriesLatest H s n && ltb (r .last .view .0) (latestNumber H n)) ≡ true = rw z at test in
+            let c = and-left (carriesLatest H s n) (ltb (r .last .view .0) (latestNumber H n)) both in
+            let o : q .view .0 < latestNumber H n =
+            omega (arith, order-views q (r .last) l, ltb-true (r .last .view .0) (latestNumber H n) (and-right (carriesLatest H s n) (ltb (r .last .view .0) (latestNumber H n)) both)) in
+            and-first (H .updated n s q) (notAfter q itsCut) z (and-both c (lt-ltb (q .view .0) (latestNumber H n) o))
+            ∙ agrees-base q from c o (omega (arith, latest-no-later)))
+            (λ z.
+            let to-cut : notAfter (r .last) itsCut ≡ true = rw z at test in
+            let within = order-trans q (r .last) itsCut l to-cut in
+            and-second (H .updated n s q) (carriesLatest H s n && ltb (q .view .0) (latestNumber H n)) z within ∙ agrees-cut q from z within)
+            (either (isStart itsCut))
+
+    pub recipe-wanted : {G : History} → ByRecipe v t held d H G n s → (q : Position) → 1 ≤ q .k → G .updated n s q ≡ wantedOf v t held d H s q
+    recipe-wanted r q from = r .joined q from ∙ by (notAfter q (r .last)) refl
+      where
+        by : (b : Bool) → notAfter q (r .last) ≡ b
+            → (keptBy v t held d H n s q || (not (notAfter q (r .last)) && wantedOf v t held d H s q)) ≡ wantedOf v t held d H s q
+        by true e = rw (e, kept-agrees r q from e) (or-no (wantedOf v t held d H s q))
+        by false e = rw (e, no-true (keptBy v t held d H n s q) (λ k. clash (r .end q k) e))
