@@ -80,7 +80,7 @@ short-orderly {H} o =
 
 module _ (σ : List ℕ) (v : Layout) (t : Termination) (held : ℕ) (d : List ℕ) (few : shards σ ≤ 16) (wide : v .members < 2 ^ 32)
     (slots : slotsOk σ v t held d ≡ true) (met : QuorumMet σ v t held d) (H : History) (sup : Supposed σ v held d (shortOf H)) (orderly : Orderly H) where
-  kept-place : suc (sup .place) ≡ length (H .views)
+  pub kept-place : suc (sup .place) ≡ length (H .views)
   kept-place = kept-last σ v t held d few wide slots met (shortOf H) sup (short-orderly orderly .succeeded)
 
   kept-some : 0 < length (H .views)
@@ -89,7 +89,7 @@ module _ (σ : List ℕ) (v : Layout) (t : Termination) (held : ℕ) (d : List �
   kept-spot : sup .place ≡ lastOf H
   kept-spot = omega (arith, kept-place)
 
-  kept-number : v .number .0 ≡ numberAt H (lastOf H)
+  pub kept-number : v .number .0 ≡ numberAt H (lastOf H)
   kept-number = sup .listed .number ∙ ap (λ (i : ℕ). numberAt H i) kept-spot
 
   -- what a held node's report tells
@@ -128,7 +128,7 @@ module _ (σ : List ℕ) (v : Layout) (t : Termination) (held : ℕ) (d : List �
     its-told s l p c e = its-updates s l p ∙ rw (c, eq-eqb (p .view .0) (latestNumber H n) e)
 
   -- the holder of a shard carries it in the last view
-  record HolderLast (s : ℕ) : Type 0 where
+  pub record HolderLast (s : ℕ) : Type 0 where
     pub small : holder v t held d s < 32
     pub is-held : has held (holder v t held d s) ≡ true
     pub latest : latestOf H (holder v t held d s) ≡ lastOf H
@@ -137,7 +137,7 @@ module _ (σ : List ℕ) (v : Layout) (t : Termination) (held : ℕ) (d : List �
     pub logged : H .logged (holder v t held d s) (lastOf H) ≡ true
     pub carries : carriesLatest H s (holder v t held d s) ≡ true
 
-  holder-last : (s : ℕ) → s < shards σ → HolderLast s
+  pub holder-last : (s : ℕ) → s < shards σ → HolderLast s
   holder-last s l =
       let h : ℕ = holder v t held d s in
       let top = holder-given v t held d s (met .holders s l) in
@@ -176,7 +176,7 @@ module _ (σ : List ℕ) (v : Layout) (t : Termination) (held : ℕ) (d : List �
       (runs.has-cases (reportOf d h .body) (reportOf d h .len) s (target v t held d s) has-it)
 
   -- not past the target of shard s
-  abbrev uptoTarget : ℕ → Position → Bool
+  abbrev pub uptoTarget : ℕ → Position → Bool
   uptoTarget s q = cond (isStart (target v t held d s)) (ltb (q .view .0) (v .number .0)) (notAfter q (target v t held d s))
 
   -- no update of an earlier view is past it
