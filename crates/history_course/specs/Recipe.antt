@@ -32,8 +32,9 @@ use Rattle.history_course.specs.Course.{lastOf, Succeeded, Orderly, Sett
 use Rattle.history_course.specs.Listing.{listed-held}
 use Rattle.history_course.specs.Lasting.{kept-last, settled-held, new-rule, new-succeeded}
 use Rattle.history_course.specs.Ever.{Restart}
-use Rattle.history_course.specs.Based.{latestOf, latestNumber, carriesLatest, shortOf, Based, AddsOnly, keptBy, wantedOf, ByRecipe, ShortCarried, ShortCourse, here, running, carrying}
-use Rattle.history_course.specs.Bases.{place-is, last-latest, last-carries, latest-up-to, HandsOn, run-based, handed-based}
+use Rattle.history_course.specs.Based.{latestNumber, carriesLatest, shortOf, Based, keptBy, wantedOf, ByRecipe}
+use Rattle.history_course.specs.Bases.{last-latest, last-carries}
+use Rattle.history_course.specs.Telling.{told-orderly, its-slot, its-runs, its-number, its-updates, HolderLast, holder-last, kept-some, kept-number}
 
 -- ---- (0, 0)
 
@@ -68,110 +69,45 @@ and-first x z e f = rw (e, f) (and-yes x)
 and-second : (x : Bool) {b z : Bool} (y : Bool) → b ≡ false → z ≡ true → (x && cond b y z) ≡ x
 and-second x y e f = rw (e, f) (and-yes x)
 
--- the same views, logged by the same nodes
-pub short-orderly : {H : History} → Orderly H → Orderly (shortOf H)
-short-orderly {H} o =
-    record {
-      rule = record { rises = o .rule .rises; overlaps = o .rule .overlaps };
-      succeeded = λ i l. let c = o .succeeded i l in record { by = c .by; most = c .most; later = c .later };
-    }
-
 -- ---- one restart
 
 module _ (σ : List ℕ) (v : Layout) (t : Termination) (held : ℕ) (d : List ℕ) (few : shards σ ≤ 16) (wide : v .members < 2 ^ 32)
     (slots : slotsOk σ v t held d ≡ true) (met : QuorumMet σ v t held d) (H : History) (sup : Supposed σ v held d (shortOf H)) (orderly : Orderly H) where
-  pub kept-place : suc (sup .place) ≡ length (H .views)
-  kept-place = kept-last σ v t held d few wide slots met (shortOf H) sup (short-orderly orderly .succeeded)
+  -- the holder of a shard carries it in the last view
+  last-holder : (s : ℕ) → s < shards σ → HolderLast σ v t held d few wide slots met H (shortOf H .updated) sup orderly s
+  last-holder s l = holder-last σ v t held d few wide slots met H (shortOf H .updated) sup orderly s l
 
-  kept-some : 0 < length (H .views)
-  kept-some = omega (arith, kept-place)
+  kept-is-last : v .number .0 ≡ numberAt H (lastOf H)
+  kept-is-last = kept-number σ v t held d few wide slots met H (shortOf H .updated) sup orderly
 
-  kept-spot : sup .place ≡ lastOf H
-  kept-spot = omega (arith, kept-place)
+  some-view : 0 < length (H .views)
+  some-view = kept-some σ v t held d few wide slots met H (shortOf H .updated) sup orderly
 
-  pub kept-number : v .number .0 ≡ numberAt H (lastOf H)
-  kept-number = sup .listed .number ∙ ap (λ (i : ℕ). numberAt H i) kept-spot
-
-  -- what a held node's report tells
+  -- what a held node's short report tells
   module _ (n : ℕ) (small : n < 32) (is-held : has held n ≡ true) where
-    its-slot : SlotSound σ v t d n
-    its-slot = slot-given σ v t held d slots n small is-held
+    short-runs : (s : ℕ) → s < shards σ → runs.Runs (reportOf d n .body) (reportOf d n .len) s
+    short-runs s l = its-runs σ v t held d few slots H (shortOf H .updated) (sup .true-reports) n small is-held s l
 
-    its-runs : (s : ℕ) → s < shards σ → runs.Runs (reportOf d n .body) (reportOf d n .len) s
-    its-runs s l =
-        runs.passed-runs σ (reportOf d n .node .0) (viewOf d n) (reportOf d n .members) (reportOf d n .body) (reportOf d n .len)
-        (report-records σ v t d n its-slot) s (omega arith)
-
-    its-latest : latestOf H n ≡ sup .true-reports n small is-held .at
-    its-latest =
-        let r = sup .true-reports n small is-held in
-        place-is (H .logged n) (length (H .views)) (r .at) (r .listed) (subst (λ (m : ℕ). H .logged m (r .at) ≡ true) (its-slot .own) (r .logged))
-        (λ j a b. subst (λ (m : ℕ). H .logged m j ≡ false) (its-slot .own) (r .latest j a b))
-
-    its-number : viewOf d n ≡ latestNumber H n
-    its-number = sup .true-reports n small is-held .same .number ∙ sym (ap (λ (i : ℕ). numberAt H i) its-latest)
-
-    its-updates : (s : ℕ) → s < shards σ → (p : Position) → holdsAt d s p n ≡ (carriesLatest H s n && (eqb (p .view .0) (latestNumber H n) && H .updated n s p))
-    its-updates s l p =
-        subst (λ (m : ℕ). holdsAt d s p n ≡ (carriesLatest H s m && (eqb (p .view .0) (latestNumber H m) && H .updated m s p))) (its-slot .own)
-        (sym (sup .true-reports n small is-held .updates s l p))
-
-    its-own : (s : ℕ) → s < shards σ → (p : Position) → holdsAt d s p n ≡ true → (carriesLatest H s n ≡ true) × (p .view .0 ≡ latestNumber H n)
-    its-own s l p h =
-        let all = sym (its-updates s l p) ∙ h in
+    short-own : (s : ℕ) → s < shards σ → (p : Position) → holdsAt d s p n ≡ true → (carriesLatest H s n ≡ true) × (p .view .0 ≡ latestNumber H n)
+    short-own s l p h =
+        let all = sym (its-updates σ v t held d few slots H (shortOf H .updated) (sup .true-reports) n small is-held s l p) ∙ h in
         let rest = and-right (carriesLatest H s n) (eqb (p .view .0) (latestNumber H n) && H .updated n s p) all in (
           and-left (carriesLatest H s n) (eqb (p .view .0) (latestNumber H n) && H .updated n s p) all,
           eqb-true (p .view .0) (latestNumber H n) (and-left (eqb (p .view .0) (latestNumber H n)) (H .updated n s p) rest),
         )
 
-    its-told : (s : ℕ) → s < shards σ → (p : Position) → carriesLatest H s n ≡ true → p .view .0 ≡ latestNumber H n → holdsAt d s p n ≡ H .updated n s p
-    its-told s l p c e = its-updates s l p ∙ rw (c, eq-eqb (p .view .0) (latestNumber H n) e)
-
-  -- the holder of a shard carries it in the last view
-  pub record HolderLast (s : ℕ) : Type 0 where
-    pub small : holder v t held d s < 32
-    pub is-held : has held (holder v t held d s) ≡ true
-    pub latest : latestOf H (holder v t held d s) ≡ lastOf H
-    pub number : latestNumber H (holder v t held d s) ≡ v .number .0
-    pub member : has (maskAt (viewAt H (lastOf H)) s) (holder v t held d s) ≡ true
-    pub logged : H .logged (holder v t held d s) (lastOf H) ≡ true
-    pub carries : carriesLatest H s (holder v t held d s) ≡ true
-
-  pub holder-last : (s : ℕ) → s < shards σ → HolderLast s
-  holder-last s l =
-      let h : ℕ = holder v t held d s in
-      let top = holder-given v t held d s (met .holders s l) in
-      let c = candidate-given v held d s h (able-candidate v t held d s h (top .picked)) in
-      let r = sup .true-reports h (top .below) (c .is-held) in
-      let at : latestOf H h ≡ r .at = its-latest h (top .below) (c .is-held) in
-      let number : latestNumber H h ≡ v .number .0 = sym (its-number h (top .below) (c .is-held)) ∙ c .of-kept in
-      let latest : latestOf H h ≡ lastOf H =
-      ⊎-elim (λ e. e)
-      (λ e. absurd (omega (arith, kept-number, number, orderly .rule .rises (latestOf H h) (lastOf H) (omega (arith, e, at, r .listed)) (omega (arith, kept-some)))))
-      (eq-or-ne (latestOf H h) (lastOf H)) in
-      let logged : H .logged h (lastOf H) ≡ true =
-      subst (λ (m : ℕ). H .logged m (lastOf H) ≡ true) (its-slot h (top .below) (c .is-held) .own)
-      (subst (λ (i : ℕ). H .logged (reportOf d h .node .0) i ≡ true) (sym at ∙ latest) (r .logged)) in
-      let member : has (maskAt (viewAt H (lastOf H)) s) h ≡ true =
-      subst (λ (i : ℕ). has (maskAt (viewAt H i) s) h ≡ true) kept-spot (subst (λ (m : ℕ). has m h ≡ true) (sup .listed .masks s l) (c .member)) in
-      record {
-        small = top .below;
-        is-held = c .is-held;
-        latest = latest;
-        number = number;
-        member = member;
-        logged = logged;
-        carries = last-carries H s h kept-some member logged;
-      }
+    short-told : (s : ℕ) → s < shards σ → (p : Position) → carriesLatest H s n ≡ true → p .view .0 ≡ latestNumber H n → holdsAt d s p n ≡ H .updated n s p
+    short-told s l p c e =
+        its-updates σ v t held d few slots H (shortOf H .updated) (sup .true-reports) n small is-held s l p ∙ rw (c, eq-eqb (p .view .0) (latestNumber H n) e)
 
   -- the target is (0, 0), or an update of the kept view
   target-cases : (s : ℕ) → s < shards σ → (target v t held d s ≡ start) ⊎ ((target v t held d s .view .0 ≡ v .number .0) × (1 ≤ target v t held d s .k))
   target-cases s l =
       let h : ℕ = holder v t held d s in
-      let o = holder-last s l in
+      let o = last-holder s l in
       let has-it = able-has v t held d s h (holder-given v t held d s (met .holders s l) .picked) in
       ⊎-elim (λ e. inl e)
-      (λ e. inr (its-own h (o .small) (o .is-held) s l (target v t held d s) e .1 ∙ o .number,
+      (λ e. inr (short-own h (o .small) (o .is-held) s l (target v t held d s) e .1 ∙ o .number,
       runs.held-given (reportOf d h .body) (reportOf d h .len) s (target v t held d s) e .from))
       (runs.has-cases (reportOf d h .body) (reportOf d h .len) s (target v t held d s) has-it)
 
@@ -191,20 +127,20 @@ module _ (σ : List ℕ) (v : Layout) (t : Termination) (held : ℕ) (d : List �
       → wantedOf v t held d H s p ≡ true
   settled-wanted ended s l p from no-later settled =
       and-both (settled .all (holder v t held d s) (o .small) (o .member) (o .logged))
-      (⊎-elim (λ e. older-upto s l p (omega (arith, kept-number))) (λ e. in-last (omega (arith, e, kept-number))) (lt-or-le (p .view .0) (numberAt H (lastOf H))))
+      (⊎-elim (λ e. older-upto s l p (omega (arith, kept-is-last))) (λ e. in-last (omega (arith, e, kept-is-last))) (lt-or-le (p .view .0) (numberAt H (lastOf H))))
     where
-      o : HolderLast s
-      o = holder-last s l
+      o : HolderLast σ v t held d few wide slots met H (shortOf H .updated) sup orderly s
+      o = last-holder s l
 
       in-last : p .view .0 ≡ numberAt H (lastOf H) → uptoTarget s p ≡ true
       in-last e =
           let told : Settled (shortOf H) s p =
           record {
             all = λ n k m h.
-                let number : p .view .0 ≡ latestNumber H n = e ∙ sym (ap (λ (i : ℕ). numberAt H i) (last-latest H n kept-some h)) in
-                and-both (last-carries H s n kept-some m h) (and-both (eq-eqb (p .view .0) (latestNumber H n) number) (settled .all n k m h));
+                let number : p .view .0 ≡ latestNumber H n = e ∙ sym (ap (λ (i : ℕ). numberAt H i) (last-latest H n some-view h)) in
+                and-both (last-carries H s n some-view m h) (and-both (eq-eqb (p .view .0) (latestNumber H n) number) (settled .all n k m h));
           } in
-          let reached = settled-held σ v t held d few wide slots met (shortOf H) sup (short-orderly orderly .succeeded) ended s l p told .0 in
+          let reached = settled-held σ v t held d few wide slots met (shortOf H) sup (told-orderly (shortOf H .updated) orderly .succeeded) ended s l p told .0 in
           cond-of (λ (b : Bool). b ≡ true) (isStart (target v t held d s))
           (λ z. past-start p from (subst (λ (q : Position). notAfter p q ≡ true) (start-is (target v t held d s) z) reached)) (λ z. reached)
 
@@ -213,12 +149,14 @@ module _ (σ : List ℕ) (v : Layout) (t : Termination) (held : ℕ) (d : List �
     agrees-base : (q : Position) → 1 ≤ q .k → carriesLatest H s n ≡ true → q .view .0 < latestNumber H n → q .view .0 < v .number .0
         → H .updated n s q ≡ wantedOf v t held d H s q
     agrees-base q from c o k =
-        let h = holder-last s below in
+        let h = last-holder s below in
         based .same s below n (holder v t held d s) small (h .small) c (h .carries) q from o (omega (arith, h .number))
         ∙ sym (rw (older-upto s below q k) (and-yes (H .updated (holder v t held d s) s q)))
 
     latest-no-later : latestNumber H n ≤ v .number .0
-    latest-no-later = omega (arith, its-number n small is-held, its-slot n small is-held .no-later)
+    latest-no-later =
+        omega (arith, its-number σ v t held d few slots H (shortOf H .updated) (sup .true-reports) n small is-held,
+        its-slot σ v t held d few slots H (shortOf H .updated) (sup .true-reports) n small is-held .no-later)
 
     abbrev itsCut : Position
     itsCut = cutFor v t held d n s
@@ -232,19 +170,19 @@ module _ (σ : List ℕ) (v : Layout) (t : Termination) (held : ℕ) (d : List �
 
     cut-of-kept : isStart itsCut ≡ false → CutKept
     cut-of-kept z =
-        let h = holder-last s below in
+        let h = last-holder s below in
         let c = reportOf d n in
         let g = reportOf d (holder v t held d s) in
-        let mine = its-runs n small is-held s below in
-        let its = its-runs (holder v t held d s) (h .small) (h .is-held) s below in
+        let mine = short-runs n small is-held s below in
+        let its = short-runs (holder v t held d s) (h .small) (h .is-held) s below in
         let a : holdsAt d s itsCut n ≡ true =
         ⊎-elim (λ e. clash (subst⁻¹ (λ (p : Position). isStart p ≡ true) e refl) z) (λ e. e)
         (cut-kept (c .body) (c .len) (g .body) (g .len) s (target v t held d s) mine its) in
         let b : holdsAt d s itsCut (holder v t held d s) ≡ true =
         ⊎-elim (λ e. clash (subst⁻¹ (λ (p : Position). isStart p ≡ true) e refl) z) (λ e. e)
         (cut-held (c .body) (c .len) (g .body) (g .len) s (target v t held d s) mine its) in
-        let x = its-own n small is-held s below itsCut a in
-        let y = its-own (holder v t held d s) (h .small) (h .is-held) s below itsCut b in
+        let x = short-own n small is-held s below itsCut a in
+        let y = short-own (holder v t held d s) (h .small) (h .is-held) s below itsCut b in
         record {
           carries = x .0;
           number = sym (x .1) ∙ (y .1 ∙ h .number);
@@ -259,8 +197,8 @@ module _ (σ : List ℕ) (v : Layout) (t : Termination) (held : ℕ) (d : List �
         k : CutKept
         k = cut-of-kept z
 
-        h : HolderLast s
-        h = holder-last s below
+        h : HolderLast σ v t held d few wide slots met H (shortOf H .updated) sup orderly s
+        h = last-holder s below
 
         reached : notAfter itsCut (target v t held d s) ≡ true
         reached =
@@ -276,12 +214,12 @@ module _ (σ : List ℕ) (v : Layout) (t : Termination) (held : ℕ) (d : List �
         in-kept : v .number .0 ≤ q .view .0 → H .updated n s q ≡ wantedOf v t held d H s q
         in-kept e =
             let view : q .view .0 ≡ v .number .0 = omega (arith, order-views q itsCut l, k .view) in
-            let mine : holdsAt d s q n ≡ H .updated n s q = its-told n small is-held s below q (k .carries) (view ∙ sym (k .number)) in
+            let mine : holdsAt d s q n ≡ H .updated n s q = short-told n small is-held s below q (k .carries) (view ∙ sym (k .number)) in
             let its : holdsAt d s q (holder v t held d s) ≡ H .updated (holder v t held d s) s q =
-            its-told (holder v t held d s) (h .small) (h .is-held) s below q (h .carries) (view ∙ sym (h .number)) in
+            short-told (holder v t held d s) (h .small) (h .is-held) s below q (h .carries) (view ∙ sym (h .number)) in
             let both =
             kept-or-fetched (reportOf d n .body) (reportOf d n .len) (reportOf d (holder v t held d s) .body) (reportOf d (holder v t held d s) .len) s (target v t held d s)
-            (its-runs n small is-held s below) (its-runs (holder v t held d s) (h .small) (h .is-held) s below) q in
+            (short-runs n small is-held s below) (short-runs (holder v t held d s) (h .small) (h .is-held) s below) q in
             sym mine ∙ (sym (or-no (holdsAt d s q n)) ∙ (rw (l, to-target) at both)) ∙ its
             ∙ sym (rw (further, to-target) (and-yes (H .updated (holder v t held d s) s q)))
 

@@ -28,8 +28,9 @@ use Rattle.history_course.specs.Listing.{listed-held}
 use Rattle.history_course.specs.Lasting.{kept-last, settled-held, new-rule, new-succeeded}
 use Rattle.history_course.specs.Ever.{Restart}
 use Rattle.history_course.specs.Based.{latestOf, latestNumber, carriesLatest, shortOf, Based, AddsOnly, wantedOf, ShortCarried, ShortCourse, here, running, carrying}
-use Rattle.history_course.specs.Bases.{HandsOn, base-settled, run-based, handed-based}
-use Rattle.history_course.specs.Recipe.{short-orderly, kept-place, kept-number, holder-last, uptoTarget, settled-wanted, recipe-wanted}
+use Rattle.history_course.specs.Bases.{HandsOn, latest-up-to, base-settled, run-based, handed-based}
+use Rattle.history_course.specs.Telling.{told-orderly, its-runs, its-updates, holder-last, kept-some, kept-number}
+use Rattle.history_course.specs.Recipe.{uptoTarget, settled-wanted, recipe-wanted}
 
 -- ---- the history after a restart from short reports
 
@@ -50,12 +51,12 @@ module _ (σ : List ℕ) (v : Layout) (t : Termination) (held : ℕ) (d : List �
 
   pub short-number : numberAt H (lastOf H) ≤ numberAt G (lastOf G)
   short-number =
-      omega (arith, ap (λ (x : Layout). x .number .0) new-view, next .number, kept-number σ v t held d few wide slots met H sup orderly)
+      omega (arith, ap (λ (x : Layout). x .number .0) new-view, next .number, kept-number σ v t held d few wide slots met H (shortOf H .updated) sup orderly)
 
   -- every placed node has the holder's log up to the target
   hands-short : (s : ℕ) → s < shards σ → HandsOn H G w s
   hands-short s l =
-      let h = holder-last σ v t held d few wide slots met H sup orderly s l in
+      let h = holder-last σ v t held d few wide slots met H (shortOf H .updated) sup orderly s l in
       record {
         from = holder v t held d s;
         upto = uptoTarget σ v t held d few wide slots met H sup orderly s;
@@ -69,14 +70,14 @@ module _ (σ : List ℕ) (v : Layout) (t : Termination) (held : ℕ) (d : List �
 
   pub short-based : Based (shards σ) G
   short-based =
-      handed-based (orderly .rule) (omega (arith, kept-place σ v t held d few wide slots met H sup orderly)) (c .views) (c .adds) hands-short based
+      handed-based (orderly .rule) (kept-some σ v t held d few wide slots met H (shortOf H .updated) sup orderly) (c .views) (c .adds) hands-short based
 
   pub short-stands : Orderly G
   short-stands =
       record {
         rule = record { rises = rule .rises; overlaps = rule .overlaps };
         succeeded = λ i l.
-            let e = new-succeeded σ v t held d few wide slots met (shortOf H) sup (short-orderly orderly .succeeded) w next told carried i l in
+            let e = new-succeeded σ v t held d few wide slots met (shortOf H) sup (told-orderly (shortOf H .updated) orderly .succeeded) w next told carried i l in
             record { by = e .by; most = e .most; later = e .later };
       }
     where
@@ -96,7 +97,7 @@ module _ (σ : List ℕ) (v : Layout) (t : Termination) (held : ℕ) (d : List �
           }
 
       rule : KeepsRule told
-      rule = new-rule σ v t held d few wide slots met (shortOf H) sup (short-orderly orderly .succeeded) w next told carried
+      rule = new-rule σ v t held d few wide slots met (shortOf H) sup (told-orderly (shortOf H .updated) orderly .succeeded) w next told carried
 
   pub short-settled : (s : ℕ) → s < shards σ → (p : Position) → 1 ≤ p .k → p .view .0 ≤ numberAt H (lastOf H) → Settled H s p → Settled G s p
   short-settled s l p from no-later u =
@@ -113,7 +114,7 @@ module _ (σ : List ℕ) (v : Layout) (t : Termination) (held : ℕ) (d : List �
 supposing-short : {S : ℕ} {G : History} → Orderly G → (r : Restart S (shortOf G)) → Supposed (r .σ) (r .v) (r .held) (r .d) (shortOf G)
 supposing-short {G = G} o r =
     let at = listed-held (r .σ) (r .v) (r .t) (r .held) (r .d) (shortOf G) (r .some) (r .slots) (r .met) (r .reports) in
-    record { rule = short-orderly o .rule; true-reports = r .reports; place = at .0; listed = at .1 }
+    record { rule = told-orderly (shortOf G .updated) o .rule; true-reports = r .reports; place = at .0; listed = at .1 }
 
 module _ {S : ℕ} {H : History} where
   -- the rule of views holds on, no view but the last can be taken for the last, and bases agree
@@ -162,5 +163,62 @@ module _ {S : ℕ} {H : History} where
 module _ (σ : List ℕ) (v : Layout) (t : Termination) (held : ℕ) (d : List ℕ) (few : shards σ ≤ 16) (wide : v .members < 2 ^ 32)
     (slots : slotsOk σ v t held d ≡ true) (met : QuorumMet σ v t held d) (H : History) (sup : Supposed σ v held d H) (orderly : Orderly H)
     (ended : Covers σ t H) (based : Based (shards σ) H) (w : Layout) (next : Next σ v held w) where
-  whole-some : 0 < length (H .views)
-  whole-some = omega (arith, kept-last σ v t held d few wide slots met H sup (orderly .succeeded))
+  -- what its order says gives a held node the holder's log up to the target
+  as-handed : (s : ℕ) → s < shards σ → (n : ℕ) → n < 32 → has held n ≡ true → (q : Position)
+      → asOrdered v t held d n s q ≡ (H .updated (holder v t held d s) s q && notAfter q (target v t held d s))
+  as-handed s l n k m q =
+      let h : ℕ = holder v t held d s in
+      let o = holder-last σ v t held d few wide slots met H (H .updated) sup orderly s l in
+      kept-or-fetched (reportOf d n .body) (reportOf d n .len) (reportOf d h .body) (reportOf d h .len) s (target v t held d s)
+      (its-runs σ v t held d few slots H (H .updated) (sup .true-reports) n k m s l)
+      (its-runs σ v t held d few slots H (H .updated) (sup .true-reports) h (o .small) (o .is-held) s l)
+      q
+      ∙ turned (notAfter q (target v t held d s)) (holdsAt d s q h)
+      ∙ ap (λ (b : Bool). b && notAfter q (target v t held d s))
+      (its-updates σ v t held d few slots H (H .updated) (sup .true-reports) h (o .small) (o .is-held) s l q)
+    where
+      turned : (a b : Bool) → (a && b) ≡ (b && a)
+      turned a b = same (a && b) (b && a) (λ h. and-both (and-right a b h) (and-left a b h)) (λ h. and-both (and-right b a h) (and-left b a h))
+
+  settled-reached : (s : ℕ) → s < shards σ → (p : Position) → Settled H s p → notAfter p (target v t held d s) ≡ true
+  settled-reached s l p u = settled-held σ v t held d few wide slots met H sup (orderly .succeeded) ended s l p u .0
+
+  -- bases agree after one that was carried out
+  pub carried-based : (G : History) → CarriedOut σ v t held d w H G → AddsOnly (shards σ) H G → Based (shards σ) G
+  carried-based G c adds =
+      handed-based (orderly .rule) (kept-some σ v t held d few wide slots met H (H .updated) sup orderly) (c .views) adds
+      (λ s l.
+      let h = holder-last σ v t held d few wide slots met H (H .updated) sup orderly s l in
+      record {
+        from = holder v t held d s;
+        upto = λ q. notAfter q (target v t held d s);
+        small = h .small;
+        carries = h .carries;
+        latest = h .latest;
+        covers = λ p from o u. settled-reached s l p u;
+        logs = λ n k m g q from. c .ordered s l n k m g q ∙ as-handed s l n k (next .placed s l n k m) q;
+      })
+      based
+
+  -- and after one that was given up
+  pub given-up-based : (G : History) → GivenUp σ v t held d w H G → Based (shards σ) G
+  given-up-based G c = run-based (c .views) adds based
+    where
+      adds : AddsOnly (shards σ) H G
+      adds =
+          record {
+            logged = λ n i l. c .logged n i;
+            older = λ s l n k x e p from o. ⊎-elim (λ f. f p) (λ f. f .1 p ∙ as-handed s l n k (next .placed s l n k (f .0)) p ∙ back s l n k x p from o) (c .updated s l n k);
+          }
+        where
+          back : (s : ℕ) → s < shards σ → (n : ℕ) → n < 32 → carriesLatest H s n ≡ true → (p : Position) → 1 ≤ p .k → p .view .0 < latestNumber H n
+              → (H .updated (holder v t held d s) s p && notAfter p (target v t held d s)) ≡ H .updated n s p
+          back s l n k x p from o =
+              let h = holder-last σ v t held d few wide slots met H (H .updated) sup orderly s l in
+              let some = kept-some σ v t held d few wide slots met H (H .updated) sup orderly in
+              let last : latestNumber H (holder v t held d s) ≡ numberAt H (lastOf H) = ap (λ (i : ℕ). numberAt H i) (h .latest) in
+              let within : p .view .0 < latestNumber H (holder v t held d s) = omega (arith, latest-up-to H (orderly .rule) n some) in
+              let one = based .same s l (holder v t held d s) n (h .small) k (h .carries) x p from within o in
+              same (H .updated (holder v t held d s) s p && notAfter p (target v t held d s)) (H .updated n s p)
+              (λ e. sym one ∙ and-left (H .updated (holder v t held d s) s p) (notAfter p (target v t held d s)) e)
+              (λ e. and-both (one ∙ e) (settled-reached s l p (base-settled H based (orderly .rule) some s l n k x p from o e)))
