@@ -15,8 +15,9 @@ use Rattle.base_ids.specs.declared.Position.{Position}
 use Rattle.base_ids.specs.Order.{notAfter}
 use Rattle.report_views.specs.declared.Layout.{Layout}
 use Rattle.report_views.specs.declared.Termination.{Termination}
-use Rattle.report_views.specs.Logs.{start, isStart}
-use Rattle.report_views.specs.Reports.{maskAt}
+use Rattle.report_views.specs.Logs.{pos, start, isStart}
+use Rattle.report_views.specs.Reports.{maskAt, positionAt}
+use Rattle.report_views.specs.Updates.{updatesAt, lastAfter, upTo}
 use Rattle.report_views.specs.Quorums.{target, holder}
 use Rattle.history_claims.specs.History.{History, viewAt, numberAt}
 use Rattle.history_course.specs.Course.{Serves, cutFor}
@@ -59,6 +60,19 @@ pub record AddsOnly (S : ℕ) (H G : History) : Type 0 where
   pub logged : (n i : ℕ) → i < length (H .views) → G .logged n i ≡ H .logged n i
   pub older : (s : ℕ) → s < S → (n : ℕ) → n < 32 → carriesLatest H s n ≡ true → latestOf G n ≡ latestOf H n → (p : Position) →
       1 ≤ p .k → p .view .0 < latestNumber H n → G .updated n s p ≡ H .updated n s p
+
+-- what node n's whole report has of shard s of the views below number u
+abbrev pub baseOf : List ℕ → ℕ → ℕ → ℕ → List Position
+baseOf d s u n = upTo (pos u 0) (updatesAt d s n)
+
+-- the last of it
+abbrev pub baseEnd : List ℕ → ℕ → ℕ → ℕ → Position
+baseEnd d s u n = lastAfter start (baseOf d s u n)
+
+-- the termination u is t as short reports of the view v tell it: a position of an earlier view is (0, 0)
+pub record ShortTermination (S : ℕ) (v : Layout) (t u : Termination) : Type 0 where
+  pub made : u .made ≡ t .made
+  pub told : (s : ℕ) → s < S → positionAt u s ≡ cond (ltb (positionAt t s .view .0) (v .number .0)) start (positionAt t s)
 
 -- a plan from the short reports of the desk d over the history H
 module _ (v : Layout) (t : Termination) (held : ℕ) (d : List ℕ) (H : History) where
