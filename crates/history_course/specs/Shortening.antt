@@ -1,37 +1,40 @@
 -- Whole reports and short ones, of the same nodes over the same history: holders and waits 1 to 4 are the same, and targets and cuts are the
 -- same or (0, 0) for the base's end. For a candidate's log is its base, which all candidates have, followed by what its short report has.
 use Prim.Native.Nat.{ℕ, suc, _-_, _^_, _<_, _≤_}
-use mathlib.Core.Bool.{Bool, true, false, cond, not, _&&_}
+use mathlib.Core.Bool.{Bool, true, false, cond, not, _&&_, _||_}
 use mathlib.Core.List.{List, [], _∷_, _++_, append-nil}
 use mathlib.Core.Logic.{_⊎_, inl, inr, ⊎-elim}
 use mathlib.Core.Path.{_≡_, refl, sym, ap, ap₂, _∙_, subst, subst⁻¹}
 use native.Mathlib.Omega.{arith}
 use lib.Dec.{eqb, ltb}
 use lib.ListN.{length}
-use borrow.Author.Tests.{eqb-true, eq-eqb, ltb-false, lt-ltb}
-use Rattle.base_laws.specs.Bools.{either, clash, same, no-true, and-both, and-left, and-right, or-left, or-right, of-not-true, not-of-false, lt-or-le, eq-or-ne}
+use borrow.Author.Tests.{eqb-true, eq-eqb, ltb-true, lt-ltb}
+use Rattle.base_laws.specs.Bools.{either, clash, same, no-true, and-both, and-left, and-right, and-fails-left, or-left, or-right, of-not-true, not-of-false, lt-or-le, eq-or-ne}
+use Rattle.base_laws.specs.Below.{anyBelow, any-witness, any-fails, any-none-of, lowest-cong}
 use Rattle.base_laws.specs.Masks.{has}
 use Rattle.settings_values.specs.Settings.{shards}
 use Rattle.base_ids.specs.declared.Position.{Position}
 use Rattle.base_ids.specs.Order.{notAfter, same-position, order-of, order-views, order-places, order-trans}
 use Rattle.report_views.specs.declared.Layout.{Layout}
 use Rattle.report_views.specs.declared.Termination.{Termination}
-use Rattle.report_views.specs.Logs.{pos, start, runsOf, hasUpdate}
+use Rattle.report_views.specs.Logs.{pos, start, isStart, runsOf, hasUpdate}
 use Rattle.report_views.specs.LogLaws.{held-end}
 use Rattle.report_views.specs.Ends.{end-legal}
 use Rattle.report_views.specs.Updates.{updatesAt, onePosition, sharedStretch, lastAfter, thoseOf, upTo, beyond}
 use Rattle.report_views.specs.Stretches.{one-refl, risesAfter, parted, last-append, shared-up, shared-both, those-append, among, among-those, last-among}
 use Rattle.report_views.specs.UpdateLaws.{log-rises, runs-rises, holds-runs, end-runs}
 use Rattle.report_views.specs.RunLaws as runs
+use Rattle.report_views.specs.Cuts.{cut}
 use Rattle.report_views.specs.CutLaws.{cut-shared}
 use Rattle.report_views.specs.Reports.{reportOf, viewOf, endAt, holdsAt, hasAt, maskAt, positionAt}
 use Rattle.report_views.specs.Slots.{slotsOk}
-use Rattle.report_views.specs.Quorums.{candidate, target, holder}
+use Rattle.report_views.specs.Quorums.{candidate, able, target, holder, unheld, firstUnheld, quorumOf}
+use Rattle.report_views.specs.Best.{best-none}
 use Rattle.report_views.specs.Meets.{SlotSound, report-records, Candidate, candidate-given, holder-given, able-candidate}
 use Rattle.history_claims.specs.History.{History, True, Supposed, viewAt, numberAt}
 use Rattle.history_course.specs.Course.{cutFor}
 use Rattle.history_course.specs.Short.{Shorter, Shortened, short-target, short-holder}
-use Rattle.history_course.specs.Based.{latestOf, latestNumber, carriesLatest, shortOf, Based, baseOf, baseEnd}
+use Rattle.history_course.specs.Based.{latestOf, latestNumber, carriesLatest, shortOf, Based, baseOf, baseEnd, ShortTermination}
 use Rattle.history_course.specs.Telling.{its-slot, its-runs, its-latest, its-number, its-logged, its-updates}
 use Rattle.history_course.specs.UpdateLists.{rising-same, those-rise, last-greatest, all-those, none-those, last-updates}
 
@@ -185,3 +188,176 @@ module _ (σ : List ℕ) (v : Layout) (t u : Termination) (held : ℕ) (d e : Li
             ∙ sym (based .same s below n m l k (stand n l a .carries) (stand m k b .carries) p (whole-from n l a p mine)
             (omega (arith, stand n l a .number)) (omega (arith, stand m k b .number)))
             ∙ mine
+
+    base-among : (n m : ℕ) (l : n < 32) (k : m < 32) → candidate v held d s n ≡ true → candidate v held d s m ≡ true → (p : Position)
+        → among p (baseOf d s (v .number .0) m) ≡ true → H .updated n s p ≡ true
+    base-among n m l k a b p h =
+        sym (base-has n l a p (base-older m k b p h)) ∙ (ap (among p) (one-base n m l k a b) ∙ h)
+
+    -- the two desks
+    pub shortened : 0 < v .number .0 → (m : ℕ) → m < 32 → candidate v held d s m ≡ true → Shortened v held d e s (baseEnd d s (v .number .0) m)
+    unfolding hasUpdate
+    shortened some m k b =
+        record {
+          older = older;
+          views = short-views;
+          ends = λ n l a. subst (λ (x : List Position). Shorter v (lastAfter start x) (endAt d s n) (endAt e s n)) (one-base n m l k a b) (ends n l a);
+          common = λ n l a. common n l a (last-among start (baseOf d s (v .number .0) m));
+          updates = λ n l a q view. ap (λ (x : Bool). eqb (q .view .0) 0 && eqb (q .k) 0 || x) (updates n l a q view);
+        }
+      where
+        older : baseEnd d s (v .number .0) m .view .0 < v .number .0
+        older =
+            ⊎-elim (λ z. omega (arith, ap (λ (x : Position). x .view .0) z)) (λ z. base-older m k b (baseEnd d s (v .number .0) m) z)
+            (last-among start (baseOf d s (v .number .0) m))
+
+        end-last : (x : List ℕ) (n : ℕ) → runs.Runs (reportOf x n .body) (reportOf x n .len) s → endAt x s n ≡ lastAfter start (updatesAt x s n)
+        end-last x n r =
+            end-runs (reportOf x n .body) s (reportOf x n .len)
+            ∙ sym (last-updates start 0 (runsOf (reportOf x n .body) s (reportOf x n .len)) (runs-rises (reportOf x n .body) (reportOf x n .len) s r))
+
+        ends : (n : ℕ) (l : n < 32) (a : candidate v held d s n ≡ true) → Shorter v (baseEnd d s (v .number .0) n) (endAt d s n) (endAt e s n)
+        ends n l a =
+            let whole : endAt d s n ≡ lastAfter start (baseOf d s (v .number .0) n ++ updatesAt e s n) =
+            end-last d n (whole-runs n l a) ∙ ap (lastAfter start) (split n l a) in
+            subst⁻¹ (λ (x : Position). Shorter v (baseEnd d s (v .number .0) n) x (endAt e s n)) whole
+            (subst⁻¹ (λ (x : Position). Shorter v (baseEnd d s (v .number .0) n) (lastAfter start (baseOf d s (v .number .0) n ++ updatesAt e s n)) x)
+            (end-last e n (short-runs n l a))
+            (short-last v (baseOf d s (v .number .0) n) (updatesAt e s n) (short-of-kept n l a)))
+
+        common : (n : ℕ) → n < 32 → candidate v held d s n ≡ true → (baseEnd d s (v .number .0) m ≡ start) ⊎ (among (baseEnd d s (v .number .0) m) (baseOf d s (v .number .0) m) ≡ true)
+            → hasAt d s (baseEnd d s (v .number .0) m) n ≡ true
+        common n l a (inl z) = subst⁻¹ (λ (x : Position). hasAt d s x n ≡ true) z refl
+        common n l a (inr z) =
+            or-right (isStart (baseEnd d s (v .number .0) m))
+            (holds-runs (reportOf d n .body) (reportOf d n .len) s (baseEnd d s (v .number .0) m) ∙ whole-has n l a (baseEnd d s (v .number .0) m)
+            ∙ base-among n m l k a b (baseEnd d s (v .number .0) m) z)
+
+        updates : (n : ℕ) → n < 32 → candidate v held d s n ≡ true → (q : Position) → q .view .0 ≡ v .number .0 → holdsAt e s q n ≡ holdsAt d s q n
+        updates n l a q view =
+            holds-runs (reportOf e n .body) (reportOf e n .len) s q ∙ short-has n l a q ∙ rw (eq-eqb (q .view .0) (v .number .0) view)
+            (sym (holds-runs (reportOf d n .body) (reportOf d n .len) s q ∙ whole-has n l a q))
+
+    -- with the terminations t and u
+    module _ (some : 0 < v .number .0) (term : ShortTermination (shards σ) v t u)
+        (ends : t .made ≡ true → (m : ℕ) → m < 32 → candidate v held d s m ≡ true
+        → (positionAt t s ≡ baseEnd d s (v .number .0) m) ⊎ (positionAt t s .view .0 ≡ v .number .0)) where
+      ended-short : t .made ≡ true → (m : ℕ) → m < 32 → candidate v held d s m ≡ true → Shorter v (baseEnd d s (v .number .0) m) (positionAt t s) (positionAt u s)
+      ended-short made m k b =
+          ⊎-elim
+          (λ z.
+          let o : positionAt t s .view .0 < v .number .0 = omega (arith, ap (λ (x : Position). x .view .0) z, shortened some m k b .older) in
+          record { told = inl (z, term .told s below ∙ ap (λ (x : Bool). cond x start (positionAt t s)) (lt-ltb (positionAt t s .view .0) (v .number .0) o)) })
+          (λ z.
+          let no : ltb (positionAt t s .view .0) (v .number .0) ≡ false =
+          no-true (ltb (positionAt t s .view .0) (v .number .0)) (λ y. omega (arith, ltb-true (positionAt t s .view .0) (v .number .0) y)) in
+          record { told = inr (z, term .told s below ∙ ap (λ (x : Bool). cond x start (positionAt t s)) no) })
+          (ends made m k b)
+
+      -- the target is the same, or (0, 0) for the base's end
+      pub recipe-target : (n : ℕ) → n < 32 → candidate v held d s n ≡ true → Shorter v (baseEnd d s (v .number .0) n) (target v t held d s) (target v u held e s)
+      recipe-target n l a =
+          short-target v t u held d e s (baseEnd d s (v .number .0) n) (shortened some n l a) (term .made) (λ q. ended-short q n l a) n l a
+
+      -- the holder is the same, or there is none
+      pub recipe-holder : holder v t held d s ≡ holder v u held e s
+      unfolding holder able candidate
+      recipe-holder = ⊎-elim one none (either (anyBelow 32 (candidate v held d s)))
+        where
+          one : anyBelow 32 (candidate v held d s) ≡ true → holder v t held d s ≡ holder v u held e s
+          one x =
+              let w = any-witness 32 (candidate v held d s) x in
+              short-holder v t u held d e s (baseEnd d s (v .number .0) (w .0)) (shortened some (w .0) (w .1) (w .2)) (term .made) (λ q. ended-short q (w .0) (w .1) (w .2))
+
+          other : (n : ℕ) → n < 32 → candidate v held d s n ≡ false → candidate v held e s n ≡ false
+          other n l x =
+              ⊎-elim (λ p. ap (λ (y : ℕ). has held n && has (maskAt v s) n && eqb y (v .number .0)) (short-views n l p) ∙ x) (λ p. rw p) (either (has held n))
+
+          none : anyBelow 32 (candidate v held d s) ≡ false → holder v t held d s ≡ holder v u held e s
+          none x =
+              best-none (able v t held d s) (endAt d s) 32
+              (any-none-of 32 (able v t held d s) (λ n l. and-fails-left (hasAt d s (target v t held d s) n) (any-fails 32 (candidate v held d s) x n l)))
+              ∙ sym (best-none (able v u held e s) (endAt e s) 32
+              (any-none-of 32 (able v u held e s) (λ n l. and-fails-left (hasAt e s (target v u held e s) n) (other n l (any-fails 32 (candidate v held d s) x n l)))))
+
+      -- a candidate's cut is the same, or (0, 0) for the base's end
+      pub recipe-cut : holder v t held d s < 32 → (n : ℕ) → n < 32 → candidate v held d s n ≡ true
+          → Shorter v (baseEnd d s (v .number .0) n) (cutFor v t held d n s) (cutFor v u held e n s)
+      recipe-cut held-by n l a =
+          subst⁻¹ (λ (x : Position). Shorter v (lastAfter start base) x (cutFor v u held e n s)) whole
+          (subst⁻¹ (λ (x : Position). Shorter v (lastAfter start base) (lastAfter start (base ++ shared)) x) shorter (short-last v base shared of-kept))
+        where
+          h : ℕ
+          h = holder v t held d s
+
+          b : candidate v held d s h ≡ true
+          b = able-candidate v t held d s h (holder-given v t held d s held-by .picked)
+
+          base : List Position
+          base = baseOf d s (v .number .0) n
+
+          shared : List Position
+          shared = sharedStretch (updatesAt e s n) (upTo (target v u held e s) (updatesAt e s h))
+
+          targets : Shorter v (lastAfter start base) (target v t held d s) (target v u held e s)
+          targets = recipe-target n l a
+
+          base-up : upTo (target v t held d s) base ≡ base
+          base-up =
+              all-those (λ q. notAfter q (target v t held d s)) base
+              (λ p m. ⊎-elim
+              (λ z. subst⁻¹ (λ (x : Position). notAfter p x ≡ true) (z .0) (last-greatest start p base (base-rises n l a) m))
+              (λ z. order-of p (target v t held d s) (inl (omega (arith, z .0, base-older n l a p m))))
+              (targets .told))
+
+          none-up : (c : Position) → c .view .0 < v .number .0 → upTo c (updatesAt e s h) ≡ []
+          none-up c o =
+              none-those (λ q. notAfter q c) (updatesAt e s h)
+              (λ p m. no-true (notAfter p c) (λ z. omega (arith, order-views p c z, short-of-kept h held-by b p m)))
+
+          tails : upTo (target v t held d s) (updatesAt e s h) ≡ upTo (target v u held e s) (updatesAt e s h)
+          tails =
+              ⊎-elim
+              (λ z. none-up (target v t held d s) (omega (arith, ap (λ (x : Position). x .view .0) (z .0), shortened some n l a .older))
+              ∙ sym (none-up (target v u held e s) (omega (arith, ap (λ (x : Position). x .view .0) (z .1)))))
+              (λ z. ap (λ (x : Position). upTo x (updatesAt e s h)) (sym (z .1)))
+              (targets .told)
+
+          whole : cutFor v t held d n s ≡ lastAfter start (base ++ shared)
+          whole =
+              cut-shared (reportOf d n .body) (reportOf d n .len) (reportOf d h .body) (reportOf d h .len) s (target v t held d s) (whole-runs n l a) (whole-runs h held-by b)
+              ∙ ap₂ (λ (x y : List Position). lastAfter start (sharedStretch x (upTo (target v t held d s) y))) (split n l a)
+              (split h held-by b ∙ ap (λ (x : List Position). x ++ updatesAt e s h) (one-base h n held-by l b a))
+              ∙ ap (λ (x : List Position). lastAfter start (sharedStretch (base ++ updatesAt e s n) x))
+              (those-append (λ q. notAfter q (target v t held d s)) base (updatesAt e s h) ∙ ap₂ (λ (x y : List Position). x ++ y) base-up tails)
+              ∙ ap (lastAfter start) (shared-both base (updatesAt e s n) (upTo (target v u held e s) (updatesAt e s h)))
+
+          shorter : cutFor v u held e n s ≡ lastAfter start shared
+          shorter =
+              ap (λ (k : ℕ). cut (reportOf e n) (reportOf e k) s (target v u held e s)) (sym recipe-holder)
+              ∙ cut-shared (reportOf e n .body) (reportOf e n .len) (reportOf e h .body) (reportOf e h .len) s (target v u held e s) (short-runs n l a) (short-runs h held-by b)
+
+          of-kept : (p : Position) → among p shared ≡ true → p .view .0 ≡ v .number .0
+          of-kept p m =
+              let up = shared-up start (updatesAt e s n) (upTo (target v u held e s) (updatesAt e s h)) (short-rises n l a)
+              (those-rise (λ q. notAfter q (target v u held e s)) start (updatesAt e s h) (short-rises h held-by b)) .0 in
+              short-of-kept n l a p
+              (and-right (notAfter p (lastAfter start shared)) (among p (updatesAt e s n))
+              (sym (among-those (λ q. notAfter q (lastAfter start shared)) p (updatesAt e s n)) ∙ (ap (among p) up ∙ m)))
+
+  -- waits 1 to 4 are the same, or there is none
+  pub recipe-quorum : ShortTermination (shards σ) v t u
+      → ((s : ℕ) → s < shards σ → t .made ≡ true → (m : ℕ) → m < 32 → candidate v held d s m ≡ true
+      → (positionAt t s ≡ baseEnd d s (v .number .0) m) ⊎ (positionAt t s .view .0 ≡ v .number .0))
+      → quorumOf σ v t held d ≡ quorumOf σ v u held e
+  unfolding quorumOf firstUnheld
+  recipe-quorum term ends = ⊎-elim some none (lt-or-le 0 (v .number .0))
+    where
+      some : 0 < v .number .0 → quorumOf σ v t held d ≡ quorumOf σ v u held e
+      some l =
+          let one : firstUnheld σ v t held d ≡ firstUnheld σ v u held e =
+          lowest-cong (shards σ) (unheld v t held d) (unheld v u held e) (λ s k. ap (λ (x : ℕ). eqb x 32) (recipe-holder s k l term (ends s k))) in
+          rw one refl
+
+      none : v .number .0 ≤ 0 → quorumOf σ v t held d ≡ quorumOf σ v u held e
+      none l = let z : v .number .0 ≡ 0 = omega arith in rw z refl
