@@ -144,15 +144,8 @@ module _ (σ : List ℕ) (v : Layout) (t : Termination) (held : ℕ) (d : List �
           cond-of (λ (b : Bool). b ≡ true) (isStart (target v t held d s))
           (λ z. past-start p from (subst (λ (q : Position). notAfter p q ≡ true) (start-is (target v t held d s) z) reached)) (λ z. reached)
 
-  -- a held node that does as the recipe says has the holder's log up to the target
-  module _ (based : Based (shards σ) H) (s : ℕ) (below : s < shards σ) (n : ℕ) (small : n < 32) (is-held : has held n ≡ true) where
-    agrees-base : (q : Position) → 1 ≤ q .k → carriesLatest H s n ≡ true → q .view .0 < latestNumber H n → q .view .0 < v .number .0
-        → H .updated n s q ≡ wantedOf v t held d H s q
-    agrees-base q from c o k =
-        let h = last-holder s below in
-        based .same s below n (holder v t held d s) small (h .small) c (h .carries) q from o (omega (arith, h .number))
-        ∙ sym (rw (older-upto s below q k) (and-yes (H .updated (holder v t held d s) s q)))
-
+  -- a held node
+  module _ (s : ℕ) (below : s < shards σ) (n : ℕ) (small : n < 32) (is-held : has held n ≡ true) where
     latest-no-later : latestNumber H n ≤ v .number .0
     latest-no-later =
         omega (arith, its-number σ v t held d few slots H (shortOf H .updated) (sup .true-reports) n small is-held,
@@ -190,69 +183,88 @@ module _ (σ : List ℕ) (v : Layout) (t : Termination) (held : ℕ) (d : List �
           update = runs.held-given (c .body) (c .len) s itsCut a .from;
         }
 
-    -- up to such a cut the node and the holder have the same
-    agrees-cut : (q : Position) → 1 ≤ q .k → isStart itsCut ≡ false → notAfter q itsCut ≡ true → H .updated n s q ≡ wantedOf v t held d H s q
-    agrees-cut q from z l = ⊎-elim (λ e. agrees-base q from (k .carries) (omega (arith, k .number)) e) (λ e. in-kept e) (lt-or-le (q .view .0) (v .number .0))
-      where
-        k : CutKept
-        k = cut-of-kept z
+    -- so that of a node that reported an earlier view is (0, 0), and that of one that does not carry the shard
+    pub stale-cut : (viewOf d n ≡ v .number .0 → ⊥) → cutFor v t held d n s ≡ start
+    stale-cut other =
+        ⊎-elim (λ z. start-is itsCut z)
+        (λ z. absurd (other (its-number σ v t held d few slots H (shortOf H .updated) (sup .true-reports) n small is-held ∙ cut-of-kept z .number)))
+        (either (isStart itsCut))
 
-        h : HolderLast σ v t held d few wide slots met H (shortOf H .updated) sup orderly s
-        h = last-holder s below
+    pub idle-cut : carriesLatest H s n ≡ false → cutFor v t held d n s ≡ start
+    idle-cut none = ⊎-elim (λ z. start-is itsCut z) (λ z. clash (cut-of-kept z .carries) none) (either (isStart itsCut))
 
-        reached : notAfter itsCut (target v t held d s) ≡ true
-        reached =
-            cut-target (reportOf d n .body) (reportOf d n .len) (reportOf d (holder v t held d s) .body) (reportOf d (holder v t held d s) .len) s (target v t held d s)
+    -- if it does as the recipe says, it has the holder's log up to the target
+    module _ (based : Based (shards σ) H) where
+      agrees-base : (q : Position) → 1 ≤ q .k → carriesLatest H s n ≡ true → q .view .0 < latestNumber H n → q .view .0 < v .number .0
+          → H .updated n s q ≡ wantedOf v t held d H s q
+      agrees-base q from c o k =
+          let h = last-holder s below in
+          based .same s below n (holder v t held d s) small (h .small) c (h .carries) q from o (omega (arith, h .number))
+          ∙ sym (rw (older-upto s below q k) (and-yes (H .updated (holder v t held d s) s q)))
 
-        further : isStart (target v t held d s) ≡ false
-        further = no-true (isStart (target v t held d s))
-            (λ e. past-start itsCut (k .update) (subst (λ (p : Position). notAfter itsCut p ≡ true) (start-is (target v t held d s) e) reached))
+      -- up to such a cut the node and the holder have the same
+      agrees-cut : (q : Position) → 1 ≤ q .k → isStart itsCut ≡ false → notAfter q itsCut ≡ true → H .updated n s q ≡ wantedOf v t held d H s q
+      agrees-cut q from z l = ⊎-elim (λ e. agrees-base q from (k .carries) (omega (arith, k .number)) e) (λ e. in-kept e) (lt-or-le (q .view .0) (v .number .0))
+        where
+          k : CutKept
+          k = cut-of-kept z
 
-        to-target : notAfter q (target v t held d s) ≡ true
-        to-target = order-trans q itsCut (target v t held d s) l reached
+          h : HolderLast σ v t held d few wide slots met H (shortOf H .updated) sup orderly s
+          h = last-holder s below
 
-        in-kept : v .number .0 ≤ q .view .0 → H .updated n s q ≡ wantedOf v t held d H s q
-        in-kept e =
-            let view : q .view .0 ≡ v .number .0 = omega (arith, order-views q itsCut l, k .view) in
-            let mine : holdsAt d s q n ≡ H .updated n s q = short-told n small is-held s below q (k .carries) (view ∙ sym (k .number)) in
-            let its : holdsAt d s q (holder v t held d s) ≡ H .updated (holder v t held d s) s q =
-            short-told (holder v t held d s) (h .small) (h .is-held) s below q (h .carries) (view ∙ sym (h .number)) in
-            let both =
-            kept-or-fetched (reportOf d n .body) (reportOf d n .len) (reportOf d (holder v t held d s) .body) (reportOf d (holder v t held d s) .len) s (target v t held d s)
-            (short-runs n small is-held s below) (short-runs (holder v t held d s) (h .small) (h .is-held) s below) q in
-            sym mine ∙ (sym (or-no (holdsAt d s q n)) ∙ (rw (l, to-target) at both)) ∙ its
-            ∙ sym (rw (further, to-target) (and-yes (H .updated (holder v t held d s) s q)))
+          reached : notAfter itsCut (target v t held d s) ≡ true
+          reached =
+              cut-target (reportOf d n .body) (reportOf d n .len) (reportOf d (holder v t held d s) .body) (reportOf d (holder v t held d s) .len) s (target v t held d s)
 
-    -- so what it keeps is the holder's log as far as it goes
-    kept-agrees : {G : History} → (r : ByRecipe v t held d H G n s) → (q : Position) → 1 ≤ q .k → notAfter q (r .last) ≡ true
-        → keptBy v t held d H n s q ≡ wantedOf v t held d H s q
-    kept-agrees r q from l = ⊎-elim nothing some (r .kept)
-      where
-        nothing : r .last ≡ start → keptBy v t held d H n s q ≡ wantedOf v t held d H s q
-        nothing e = past-start q from (subst (λ (p : Position). notAfter q p ≡ true) e l)
+          further : isStart (target v t held d s) ≡ false
+          further = no-true (isStart (target v t held d s))
+              (λ e. past-start itsCut (k .update) (subst (λ (p : Position). notAfter itsCut p ≡ true) (start-is (target v t held d s) e) reached))
 
-        some : keptBy v t held d H n s (r .last) ≡ true → keptBy v t held d H n s q ≡ wantedOf v t held d H s q
-        some e =
-            let test = and-right (H .updated n s (r .last))
-            (cond (isStart itsCut) (carriesLatest H s n && ltb (r .last .view .0) (latestNumber H n)) (notAfter (r .last) itsCut)) e in
-            ⊎-elim
-            (λ z.
-            let both : (carriesLatest H s n && ltb (r .last .view .0) (latestNumber H n)) ≡ true = rw z at test in
-            let c = and-left (carriesLatest H s n) (ltb (r .last .view .0) (latestNumber H n)) both in
-            let o : q .view .0 < latestNumber H n =
-            omega (arith, order-views q (r .last) l, ltb-true (r .last .view .0) (latestNumber H n) (and-right (carriesLatest H s n) (ltb (r .last .view .0) (latestNumber H n)) both)) in
-            and-first (H .updated n s q) (notAfter q itsCut) z (and-both c (lt-ltb (q .view .0) (latestNumber H n) o))
-            ∙ agrees-base q from c o (omega (arith, latest-no-later)))
-            (λ z.
-            let to-cut : notAfter (r .last) itsCut ≡ true = rw z at test in
-            let within = order-trans q (r .last) itsCut l to-cut in
-            and-second (H .updated n s q) (carriesLatest H s n && ltb (q .view .0) (latestNumber H n)) z within ∙ agrees-cut q from z within)
-            (either (isStart itsCut))
+          to-target : notAfter q (target v t held d s) ≡ true
+          to-target = order-trans q itsCut (target v t held d s) l reached
 
-    pub recipe-wanted : {G : History} → ByRecipe v t held d H G n s → (q : Position) → 1 ≤ q .k → G .updated n s q ≡ wantedOf v t held d H s q
-    recipe-wanted r q from = r .joined q from ∙ by (notAfter q (r .last)) refl
-      where
-        by : (b : Bool) → notAfter q (r .last) ≡ b
-            → (keptBy v t held d H n s q || (not (notAfter q (r .last)) && wantedOf v t held d H s q)) ≡ wantedOf v t held d H s q
-        by true e = rw (e, kept-agrees r q from e) (or-no (wantedOf v t held d H s q))
-        by false e = rw (e, no-true (keptBy v t held d H n s q) (λ k. clash (r .end q k) e))
+          in-kept : v .number .0 ≤ q .view .0 → H .updated n s q ≡ wantedOf v t held d H s q
+          in-kept e =
+              let view : q .view .0 ≡ v .number .0 = omega (arith, order-views q itsCut l, k .view) in
+              let mine : holdsAt d s q n ≡ H .updated n s q = short-told n small is-held s below q (k .carries) (view ∙ sym (k .number)) in
+              let its : holdsAt d s q (holder v t held d s) ≡ H .updated (holder v t held d s) s q =
+              short-told (holder v t held d s) (h .small) (h .is-held) s below q (h .carries) (view ∙ sym (h .number)) in
+              let both =
+              kept-or-fetched (reportOf d n .body) (reportOf d n .len) (reportOf d (holder v t held d s) .body) (reportOf d (holder v t held d s) .len) s (target v t held d s)
+              (short-runs n small is-held s below) (short-runs (holder v t held d s) (h .small) (h .is-held) s below) q in
+              sym mine ∙ (sym (or-no (holdsAt d s q n)) ∙ (rw (l, to-target) at both)) ∙ its
+              ∙ sym (rw (further, to-target) (and-yes (H .updated (holder v t held d s) s q)))
+
+      -- so what it keeps is the holder's log as far as it goes
+      kept-agrees : {G : History} → (r : ByRecipe v t held d H G n s) → (q : Position) → 1 ≤ q .k → notAfter q (r .last) ≡ true
+          → keptBy v t held d H n s q ≡ wantedOf v t held d H s q
+      kept-agrees r q from l = ⊎-elim nothing some (r .kept)
+        where
+          nothing : r .last ≡ start → keptBy v t held d H n s q ≡ wantedOf v t held d H s q
+          nothing e = past-start q from (subst (λ (p : Position). notAfter q p ≡ true) e l)
+
+          some : keptBy v t held d H n s (r .last) ≡ true → keptBy v t held d H n s q ≡ wantedOf v t held d H s q
+          some e =
+              let test = and-right (H .updated n s (r .last))
+              (cond (isStart itsCut) (carriesLatest H s n && ltb (r .last .view .0) (latestNumber H n)) (notAfter (r .last) itsCut)) e in
+              ⊎-elim
+              (λ z.
+              let both : (carriesLatest H s n && ltb (r .last .view .0) (latestNumber H n)) ≡ true = rw z at test in
+              let c = and-left (carriesLatest H s n) (ltb (r .last .view .0) (latestNumber H n)) both in
+              let o : q .view .0 < latestNumber H n =
+              omega (arith, order-views q (r .last) l, ltb-true (r .last .view .0) (latestNumber H n) (and-right (carriesLatest H s n) (ltb (r .last .view .0) (latestNumber H n)) both)) in
+              and-first (H .updated n s q) (notAfter q itsCut) z (and-both c (lt-ltb (q .view .0) (latestNumber H n) o))
+              ∙ agrees-base q from c o (omega (arith, latest-no-later)))
+              (λ z.
+              let to-cut : notAfter (r .last) itsCut ≡ true = rw z at test in
+              let within = order-trans q (r .last) itsCut l to-cut in
+              and-second (H .updated n s q) (carriesLatest H s n && ltb (q .view .0) (latestNumber H n)) z within ∙ agrees-cut q from z within)
+              (either (isStart itsCut))
+
+      pub recipe-wanted : {G : History} → ByRecipe v t held d H G n s → (q : Position) → 1 ≤ q .k → G .updated n s q ≡ wantedOf v t held d H s q
+      recipe-wanted r q from = r .joined q from ∙ by (notAfter q (r .last)) refl
+        where
+          by : (b : Bool) → notAfter q (r .last) ≡ b
+              → (keptBy v t held d H n s q || (not (notAfter q (r .last)) && wantedOf v t held d H s q)) ≡ wantedOf v t held d H s q
+          by true e = rw (e, kept-agrees r q from e) (or-no (wantedOf v t held d H s q))
+          by false e = rw (e, no-true (keptBy v t held d H n s q) (λ k. clash (r .end q k) e))

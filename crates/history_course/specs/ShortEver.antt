@@ -29,7 +29,7 @@ use Rattle.history_course.specs.Lasting.{kept-last, settled-held, new-ru
 use Rattle.history_course.specs.Ever.{Restart}
 use Rattle.history_course.specs.Based.{latestOf, latestNumber, carriesLatest, shortOf, Based, AddsOnly, wantedOf, ShortCarried, ShortCourse, here, running, carrying}
 use Rattle.history_course.specs.Bases.{HandsOn, latest-up-to, base-settled, run-based, handed-based}
-use Rattle.history_course.specs.Telling.{told-orderly, its-runs, its-updates, holder-last, kept-some, kept-number}
+use Rattle.history_course.specs.Telling.{told-orderly, holder-last, kept-some, kept-number, as-handed}
 use Rattle.history_course.specs.Recipe.{uptoTarget, settled-wanted, recipe-wanted}
 
 -- ---- the history after a restart from short reports
@@ -65,7 +65,7 @@ module _ (σ : List ℕ) (v : Layout) (t : Termination) (held : ℕ) (d : List �
         latest = h .latest;
         covers = λ p from o u. and-right (H .updated (holder v t held d s) s p) (uptoTarget σ v t held d few wide slots met H sup orderly s p)
             (settled-wanted σ v t held d few wide slots met H sup orderly ended s l p from (omega arith) u);
-        logs = λ n k m g q from. recipe-wanted σ v t held d few wide slots met H sup orderly based s l n k (next .placed s l n k m) (c .ordered s l n k m g) q from;
+        logs = λ n k m g q from. recipe-wanted σ v t held d few wide slots met H sup orderly s l n k (next .placed s l n k m) based (c .ordered s l n k m g) q from;
       }
 
   pub short-based : Based (shards σ) G
@@ -105,7 +105,7 @@ module _ (σ : List ℕ) (v : Layout) (t : Termination) (held : ℕ) (d : List �
         all = λ n k m g.
             let member : has (maskAt w s) n ≡ true = subst (λ (x : Layout). has (maskAt x s) n ≡ true) new-view m in
             let logged : G .logged n (length (H .views)) ≡ true = subst (λ (i : ℕ). G .logged n i ≡ true) new-last g in
-            recipe-wanted σ v t held d few wide slots met H sup orderly based s l n k (next .placed s l n k member) (c .ordered s l n k member logged) p from
+            recipe-wanted σ v t held d few wide slots met H sup orderly s l n k (next .placed s l n k member) based (c .ordered s l n k member logged) p from
             ∙ settled-wanted σ v t held d few wide slots met H sup orderly ended s l p from no-later u;
       }
 
@@ -163,23 +163,6 @@ module _ {S : ℕ} {H : History} where
 module _ (σ : List ℕ) (v : Layout) (t : Termination) (held : ℕ) (d : List ℕ) (few : shards σ ≤ 16) (wide : v .members < 2 ^ 32)
     (slots : slotsOk σ v t held d ≡ true) (met : QuorumMet σ v t held d) (H : History) (sup : Supposed σ v held d H) (orderly : Orderly H)
     (ended : Covers σ t H) (based : Based (shards σ) H) (w : Layout) (next : Next σ v held w) where
-  -- what its order says gives a held node the holder's log up to the target
-  as-handed : (s : ℕ) → s < shards σ → (n : ℕ) → n < 32 → has held n ≡ true → (q : Position)
-      → asOrdered v t held d n s q ≡ (H .updated (holder v t held d s) s q && notAfter q (target v t held d s))
-  as-handed s l n k m q =
-      let h : ℕ = holder v t held d s in
-      let o = holder-last σ v t held d few wide slots met H (H .updated) sup orderly s l in
-      kept-or-fetched (reportOf d n .body) (reportOf d n .len) (reportOf d h .body) (reportOf d h .len) s (target v t held d s)
-      (its-runs σ v t held d few slots H (H .updated) (sup .true-reports) n k m s l)
-      (its-runs σ v t held d few slots H (H .updated) (sup .true-reports) h (o .small) (o .is-held) s l)
-      q
-      ∙ turned (notAfter q (target v t held d s)) (holdsAt d s q h)
-      ∙ ap (λ (b : Bool). b && notAfter q (target v t held d s))
-      (its-updates σ v t held d few slots H (H .updated) (sup .true-reports) h (o .small) (o .is-held) s l q)
-    where
-      turned : (a b : Bool) → (a && b) ≡ (b && a)
-      turned a b = same (a && b) (b && a) (λ h. and-both (and-right a b h) (and-left a b h)) (λ h. and-both (and-right b a h) (and-left b a h))
-
   settled-reached : (s : ℕ) → s < shards σ → (p : Position) → Settled H s p → notAfter p (target v t held d s) ≡ true
   settled-reached s l p u = settled-held σ v t held d few wide slots met H sup (orderly .succeeded) ended s l p u .0
 
@@ -196,7 +179,7 @@ module _ (σ : List ℕ) (v : Layout) (t : Termination) (held : ℕ) (d : List �
         carries = h .carries;
         latest = h .latest;
         covers = λ p from o u. settled-reached s l p u;
-        logs = λ n k m g q from. c .ordered s l n k m g q ∙ as-handed s l n k (next .placed s l n k m) q;
+        logs = λ n k m g q from. c .ordered s l n k m g q ∙ as-handed σ v t held d few wide slots met H sup orderly s l n k (next .placed s l n k m) q;
       })
       based
 
@@ -208,7 +191,7 @@ module _ (σ : List ℕ) (v : Layout) (t : Termination) (held : ℕ) (d : List �
       adds =
           record {
             logged = λ n i l. c .logged n i;
-            older = λ s l n k x e p from o. ⊎-elim (λ f. f p) (λ f. f .1 p ∙ as-handed s l n k (next .placed s l n k (f .0)) p ∙ back s l n k x p from o) (c .updated s l n k);
+            older = λ s l n k x e p from o. ⊎-elim (λ f. f p) (λ f. f .1 p ∙ as-handed σ v t held d few wide slots met H sup orderly s l n k (next .placed s l n k (f .0)) p ∙ back s l n k x p from o) (c .updated s l n k);
           }
         where
           back : (s : ℕ) → s < shards σ → (n : ℕ) → n < 32 → carriesLatest H s n ≡ true → (p : Position) → 1 ≤ p .k → p .view .0 < latestNumber H n

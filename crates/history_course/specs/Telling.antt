@@ -1,24 +1,27 @@
--- What the reports of held nodes tell of a history, where their logs are `told`: those of the history, or the short ones. And of the holders.
+-- What the reports of held nodes tell of a history, where their logs are `told`: those of the history, or the short ones. And of the holders,
+-- which carry their shards in the last view.
 use Prim.Native.Nat.{ℕ, suc, _-_, _^_, _<_, _≤_}
-use mathlib.Core.Bool.{Bool, true, false}
+use mathlib.Core.Bool.{Bool, true, false, _&&_}
 use mathlib.Core.List.{List}
 use mathlib.Core.Logic.{⊎-elim}
 use mathlib.Core.Path.{_≡_, sym, ap, _∙_, subst}
 use native.Mathlib.Omega.{arith}
 use lib.ListN.{length}
-use Rattle.base_laws.specs.Bools.{eq-or-ne}
+use Rattle.base_laws.specs.Bools.{same, and-both, and-left, and-right, eq-or-ne}
 use Rattle.base_laws.specs.Masks.{has}
 use Rattle.settings_values.specs.Settings.{shards}
 use Rattle.base_ids.specs.declared.Position.{Position}
+use Rattle.base_ids.specs.Order.{notAfter}
 use Rattle.report_views.specs.declared.Layout.{Layout}
 use Rattle.report_views.specs.declared.Termination.{Termination}
 use Rattle.report_views.specs.Reports.{reportOf, viewOf, holdsAt, maskAt}
 use Rattle.report_views.specs.Slots.{slotsOk}
-use Rattle.report_views.specs.Quorums.{holder}
+use Rattle.report_views.specs.Quorums.{target, holder}
 use Rattle.report_views.specs.Meets.{QuorumMet, SlotSound, slot-given, report-records, candidate-given, holder-given, able-candidate}
 use Rattle.report_views.specs.RunLaws as runs
+use Rattle.report_views.specs.CutLaws.{kept-or-fetched}
 use Rattle.history_claims.specs.History.{History, True, Supposed, viewAt, numberAt}
-use Rattle.history_course.specs.Course.{lastOf, Orderly}
+use Rattle.history_course.specs.Course.{lastOf, Orderly, asOrdered}
 use Rattle.history_course.specs.Lasting.{kept-last}
 use Rattle.history_course.specs.Based.{latestOf, latestNumber, carriesLatest}
 use Rattle.history_course.specs.Bases.{place-is, last-carries}
@@ -118,3 +121,22 @@ module _ (σ : List ℕ) (v : Layout) (t : Termination) (held : ℕ) (d : List �
         logged = logged;
         carries = last-carries H s h kept-some member logged;
       }
+
+module _ (σ : List ℕ) (v : Layout) (t : Termination) (held : ℕ) (d : List ℕ) (few : shards σ ≤ 16) (wide : v .members < 2 ^ 32)
+    (slots : slotsOk σ v t held d ≡ true) (met : QuorumMet σ v t held d) (H : History) (sup : Supposed σ v held d H) (orderly : Orderly H) where
+  -- what its order says gives a held node the holder's log up to the target
+  pub as-handed : (s : ℕ) → s < shards σ → (n : ℕ) → n < 32 → has held n ≡ true → (q : Position)
+      → asOrdered v t held d n s q ≡ (H .updated (holder v t held d s) s q && notAfter q (target v t held d s))
+  as-handed s l n k m q =
+      let h : ℕ = holder v t held d s in
+      let o = holder-last σ v t held d few wide slots met H (H .updated) sup orderly s l in
+      kept-or-fetched (reportOf d n .body) (reportOf d n .len) (reportOf d h .body) (reportOf d h .len) s (target v t held d s)
+      (its-runs σ v t held d few slots H (H .updated) (sup .true-reports) n k m s l)
+      (its-runs σ v t held d few slots H (H .updated) (sup .true-reports) h (o .small) (o .is-held) s l)
+      q
+      ∙ turned (notAfter q (target v t held d s)) (holdsAt d s q h)
+      ∙ ap (λ (b : Bool). b && notAfter q (target v t held d s))
+      (its-updates σ v t held d few slots H (H .updated) (sup .true-reports) h (o .small) (o .is-held) s l q)
+    where
+      turned : (a b : Bool) → (a && b) ≡ (b && a)
+      turned a b = same (a && b) (b && a) (λ h. and-both (and-right a b h) (and-left a b h)) (λ h. and-both (and-right b a h) (and-left b a h))
