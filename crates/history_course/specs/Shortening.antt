@@ -8,7 +8,7 @@ use mathlib.Core.Path.{_≡_, refl, sym, ap, ap₂, _∙_, subst, subst⁻¹}
 use native.Mathlib.Omega.{arith}
 use lib.Dec.{eqb, ltb}
 use lib.ListN.{length}
-use borrow.Author.Tests.{eqb-true, eq-eqb, ltb-true, lt-ltb}
+use borrow.Author.Tests.{eqb-true, eq-eqb, ne-eqb, ltb-true, lt-ltb}
 use Rattle.base_laws.specs.Bools.{either, clash, same, no-true, and-both, and-left, and-right, and-fails-left, or-left, or-right, of-not-true, not-of-false, lt-or-le, eq-or-ne}
 use Rattle.base_laws.specs.Below.{anyBelow, any-witness, any-fails, any-none-of, lowest-cong}
 use Rattle.base_laws.specs.Masks.{has}
@@ -28,14 +28,16 @@ use Rattle.report_views.specs.Cuts.{cut}
 use Rattle.report_views.specs.CutLaws.{cut-shared}
 use Rattle.report_views.specs.Reports.{reportOf, viewOf, endAt, holdsAt, hasAt, maskAt, positionAt}
 use Rattle.report_views.specs.Slots.{slotsOk}
-use Rattle.report_views.specs.Quorums.{candidate, able, target, holder, unheld, firstUnheld, quorumOf}
+use Rattle.report_views.specs.Quorums.{candidate, best, able, target, holder, unheld, firstUnheld, quorumOf}
 use Rattle.report_views.specs.Best.{best-none}
-use Rattle.report_views.specs.Meets.{SlotSound, report-records, Candidate, candidate-given, holder-given, able-candidate}
+use Rattle.report_views.specs.Meets.{QuorumMet, report-records, candidate-given, holder-given, able-candidate, able-has}
 use Rattle.history_claims.specs.History.{History, True, Supposed, viewAt, numberAt}
-use Rattle.history_course.specs.Course.{cutFor}
+use Rattle.history_course.specs.Course.{Orderly, Covers, cutFor, asOrdered}
 use Rattle.history_course.specs.Short.{Shorter, Shortened, short-target, short-holder}
-use Rattle.history_course.specs.Based.{latestOf, latestNumber, carriesLatest, shortOf, Based, baseOf, baseEnd, ShortTermination}
-use Rattle.history_course.specs.Telling.{its-slot, its-runs, its-latest, its-number, its-logged, its-updates}
+use Rattle.history_course.specs.Based.{latestOf, latestNumber, carriesLatest, shortOf, Based, baseOf, baseEnd, ShortTermination, ByRecipe}
+use Rattle.history_course.specs.Bases.{base-settled}
+use Rattle.history_course.specs.Telling.{its-slot, its-runs, its-latest, its-number, its-logged, its-updates, kept-some, as-handed}
+use Rattle.history_course.specs.Recipe.{recipe-wanted}
 use Rattle.history_course.specs.UpdateLists.{rising-same, those-rise, last-greatest, all-those, none-those, last-updates}
 
 -- a log, the base before it, and their ends
@@ -361,3 +363,124 @@ module _ (σ : List ℕ) (v : Layout) (t u : Termination) (held : ℕ) (d e : Li
 
       none : v .number .0 ≤ 0 → quorumOf σ v t held d ≡ quorumOf σ v u held e
       none l = let z : v .number .0 ≡ 0 = omega arith in rw z refl
+
+  -- where waits 1 to 4 do not apply to the whole reports: a termination that ends nothing before what is settled ends each shard with the base
+  -- or in the kept view
+  module _ (wide : v .members < 2 ^ 32) (met : QuorumMet σ v t held d) (orderly : Orderly H) where
+    pub covers-ends : Covers σ t H → (s : ℕ) → s < shards σ → t .made ≡ true → (m : ℕ) → m < 32 → candidate v held d s m ≡ true
+        → (positionAt t s ≡ baseEnd d s (v .number .0) m) ⊎ (positionAt t s .view .0 ≡ v .number .0)
+    unfolding target
+    covers-ends ended s below made m k b = ⊎-elim empty held-it (runs.has-cases (reportOf d h .body) (reportOf d h .len) s (positionAt t s) has-it)
+      where
+        h : ℕ
+        h = holder v t held d s
+
+        top : candidate v held d s h ≡ true
+        top = able-candidate v t held d s h (holder-given v t held d s (met .holders s below) .picked)
+
+        is-target : target v t held d s ≡ positionAt t s
+        is-target = ap (λ (x : Bool). cond x (positionAt t s) (endAt d s (best (candidate v held d s) (endAt d s) 32))) made
+
+        has-it : hasAt d s (positionAt t s) h ≡ true
+        has-it =
+            subst (λ (x : Position). hasAt d s x h ≡ true) is-target (able-has v t held d s h (holder-given v t held d s (met .holders s below) .picked))
+
+        base-first : notAfter (baseEnd d s (v .number .0) m) (positionAt t s) ≡ true
+        base-first =
+            ⊎-elim (λ z. subst⁻¹ (λ (x : Position). notAfter x (positionAt t s) ≡ true) z (runs.start-first (positionAt t s)))
+            (λ z.
+            let p : Position = baseEnd d s (v .number .0) m in
+            let mine : H .updated m s p ≡ true = base-among s below m m k k b b p z in
+            ended .after made s below p
+            (base-settled H based (sup .rule) (kept-some σ v t held d few wide slots met H (H .updated) sup orderly) s below m k (standing s below m k b .carries) p
+            (whole-from s below m k b p mine) (omega (arith, base-older s below m k b p z, standing s below m k b .number)) mine))
+            (last-among start (baseOf d s (v .number .0) m))
+
+        empty : positionAt t s ≡ start → (positionAt t s ≡ baseEnd d s (v .number .0) m) ⊎ (positionAt t s .view .0 ≡ v .number .0)
+        empty z =
+            inl (same-position (positionAt t s) (baseEnd d s (v .number .0) m)
+            (subst⁻¹ (λ (x : Position). notAfter x (baseEnd d s (v .number .0) m) ≡ true) z (runs.start-first (baseEnd d s (v .number .0) m))) base-first)
+
+        held-it : holdsAt d s (positionAt t s) h ≡ true → (positionAt t s ≡ baseEnd d s (v .number .0) m) ⊎ (positionAt t s .view .0 ≡ v .number .0)
+        held-it z =
+            let small = holder-given v t held d s (met .holders s below) .below in
+            let mine : H .updated h s (positionAt t s) ≡ true =
+            sym (whole-has s below h small top (positionAt t s)) ∙ (sym (holds-runs (reportOf d h .body) (reportOf d h .len) s (positionAt t s)) ∙ z) in
+            ⊎-elim
+            (λ o.
+            let in-base : among (positionAt t s) (baseOf d s (v .number .0) m) ≡ true =
+            ap (among (positionAt t s)) (one-base s below m h k small b top) ∙ (base-has s below h small top (positionAt t s) o ∙ mine) in
+            inl (same-position (positionAt t s) (baseEnd d s (v .number .0) m)
+            (last-greatest start (positionAt t s) (baseOf d s (v .number .0) m) (base-rises s below m k b) in-base) base-first))
+            (λ o. inr (omega (arith, whole-views s below h small top (positionAt t s) mine)))
+            (lt-or-le (positionAt t s .view .0) (v .number .0))
+
+    module _ (term : ShortTermination (shards σ) v t u)
+        (ends : (s : ℕ) → s < shards σ → t .made ≡ true → (m : ℕ) → m < 32 → candidate v held d s m ≡ true
+        → (positionAt t s ≡ baseEnd d s (v .number .0) m) ⊎ (positionAt t s .view .0 ≡ v .number .0)) where
+      some-number : 0 < v .number .0
+      some-number = ⊎-elim (λ z. z) (λ z. absurd (met .kept (omega arith))) (lt-or-le 0 (v .number .0))
+
+      -- then they do not apply to the short ones
+      pub recipe-met : QuorumMet σ v u held e
+      recipe-met =
+          record {
+            kept = met .kept;
+            most = met .most;
+            enough = met .enough;
+            holders = λ s l. subst (λ (n : ℕ). n < 32) (recipe-holder s l some-number term (ends s l)) (met .holders s l);
+          }
+
+      short-supposed : Supposed σ v held e (shortOf H)
+      short-supposed =
+          let at = sup .listed in
+          record {
+            rule = record { rises = sup .rule .rises; overlaps = sup .rule .overlaps };
+            true-reports = short;
+            place = sup .place;
+            listed = record { listed = at .listed; number = at .number; members = at .members; masks = at .masks };
+          }
+
+      -- and a machine that does as the recipe says has what an order from whole reports says
+      pub recipe-ordered : (s : ℕ) → s < shards σ → (n : ℕ) → n < 32 → has held n ≡ true → {G : History} → ByRecipe v u held e H G n s → (q : Position) → 1 ≤ q .k
+          → G .updated n s q ≡ asOrdered v t held d n s q
+      recipe-ordered s below n l k r q from =
+          recipe-wanted σ v u held e few wide short-slots recipe-met H short-supposed orderly s below n l k based r q from
+          ∙ subst (λ (x : ℕ). wanted x ≡ (H .updated h s q && notAfter q (target v t held d s))) (recipe-holder s below some-number term (ends s below)) one
+          ∙ sym (as-handed σ v t held d few wide slots met H sup orderly s below n l k q)
+        where
+          h : ℕ
+          h = holder v t held d s
+
+          small : h < 32
+          small = met .holders s below
+
+          top : candidate v held d s h ≡ true
+          top = able-candidate v t held d s h (holder-given v t held d s (met .holders s below) .picked)
+
+          wanted : ℕ → Bool
+          wanted x = H .updated x s q && cond (isStart (target v u held e s)) (ltb (q .view .0) (v .number .0)) (notAfter q (target v u held e s))
+
+          one : wanted h ≡ (H .updated h s q && notAfter q (target v t held d s))
+          one =
+              ⊎-elim
+              (λ z.
+              ap (λ (x : Position). H .updated h s q && cond (isStart x) (ltb (q .view .0) (v .number .0)) (notAfter q x)) (z .1)
+              ∙ same (H .updated h s q && ltb (q .view .0) (v .number .0)) (H .updated h s q && notAfter q (target v t held d s))
+              (λ a.
+              let mine = and-left (H .updated h s q) (ltb (q .view .0) (v .number .0)) a in
+              let o = ltb-true (q .view .0) (v .number .0) (and-right (H .updated h s q) (ltb (q .view .0) (v .number .0)) a) in
+              and-both mine (subst⁻¹ (λ (x : Position). notAfter q x ≡ true) (z .0)
+              (last-greatest start q (baseOf d s (v .number .0) h) (base-rises s below h small top) (base-has s below h small top q o ∙ mine))))
+              (λ a.
+              let up = and-right (H .updated h s q) (notAfter q (target v t held d s)) a in
+              and-both (and-left (H .updated h s q) (notAfter q (target v t held d s)) a)
+              (lt-ltb (q .view .0) (v .number .0)
+              (omega (arith, order-views q (target v t held d s) up, ap (λ (x : Position). x .view .0) (z .0), shortened s below some-number h small top .older)))))
+              (λ z.
+              let no : isStart (target v u held e s) ≡ false =
+              and-fails-left (eqb (target v u held e s .k) 0) (ne-eqb (target v u held e s .view .0) 0 (λ y. omega (arith, some-number, z .0, ap (λ (x : Position). x .view .0) (z .1)))) in
+              ap (λ (x : Bool). H .updated h s q && cond x (ltb (q .view .0) (v .number .0)) (notAfter q (target v u held e s))) no
+              ∙ ap (λ (x : Position). H .updated h s q && notAfter q x) (z .1))
+              (recipe-target s below some-number term (ends s below) h small top .told)
+
