@@ -1,15 +1,15 @@
 -- Bases agree from one history to the next: after a run, and after a restart in which every placed node gets the log of a node that carries
 -- the shard in the last view, up to a target that no settled update is past. For what two nodes have in common below their latest views is
 -- settled, so it is in that log, up to the target.
-use Prim.Native.Nat.{ℕ, zero, suc, _+_, _-_, _<_, _≤_}
+use Prim.Native.Nat.{ℕ, zero, suc, _-_, _<_, _≤_}
 use mathlib.Core.Bool.{Bool, true, false, cond, _&&_}
 use mathlib.Core.List.{List, [], _∷_, _++_}
 use mathlib.Core.Logic.{_⊎_, inl, inr, ⊎-elim}
-use mathlib.Core.Path.{_≡_, refl, sym, ap, ap₂, _∙_, subst, subst⁻¹}
+use mathlib.Core.Path.{_≡_, refl, sym, ap, _∙_, subst, subst⁻¹}
 use native.Mathlib.Omega.{arith}
 use lib.ListN.{length, getD, length-append, List·getD-append, List·getD-eq-default}
 use lib.Seq.{getD-append-seam}
-use Rattle.base_laws.specs.Bools.{either, clash, same, and-both, and-left, and-right, lt-or-le, eq-or-ne}
+use Rattle.base_laws.specs.Bools.{either, same, and-both, and-left, and-right, lt-or-le, eq-or-ne}
 use Rattle.base_laws.specs.Masks.{has}
 use Rattle.base_ids.specs.declared.Position.{Position}
 use Rattle.report_views.specs.declared.Layout.{Layout}

@@ -2,36 +2,32 @@
 -- reports holds there: the kept view is the last, and what is settled of it is in the holder's log and not past the target. What is settled
 -- of earlier views is in the holder's base. A machine that keeps its base, or its log up to the cut, agrees so far with the holder, since bases
 -- agree; so with what it fetches it has the holder's log up to the target.
-use Prim.Native.Nat.{ℕ, zero, suc, _+_, _-_, _*_, _^_, _<_, _≤_}
+use Prim.Native.Nat.{ℕ, _^_, _<_, _≤_}
 use mathlib.Core.Bool.{Bool, true, false, cond, not, _&&_, _||_}
-use mathlib.Core.List.{List, [], _∷_, _++_}
+use mathlib.Core.List.{List}
 use mathlib.Core.Logic.{_⊎_, inl, inr, ⊎-elim}
 use mathlib.Core.Path.{_≡_, refl, sym, ap, ap₂, _∙_, subst, subst⁻¹}
 use native.Mathlib.Omega.{arith}
 use lib.Dec.{eqb, ltb}
-use lib.ListN.{length, getD, length-append}
-use lib.Seq.{getD-append-seam}
+use lib.ListN.{length}
 use borrow.Author.Tests.{eqb-true, eq-eqb, ne-eqb, ltb-true, lt-ltb}
-use Rattle.base_laws.specs.Bools.{either, clash, no-true, and-both, and-left, and-right, and-fails-left, and-fails-right, cond-of, lt-or-le, eq-or-ne}
+use Rattle.base_laws.specs.Bools.{either, clash, no-true, and-both, and-left, and-right, and-fails-right, cond-of, lt-or-le}
 use Rattle.base_laws.specs.Masks.{has}
 use Rattle.settings_values.specs.Settings.{shards}
 use Rattle.base_ids.specs.declared.Position.{Position}
 use Rattle.base_ids.specs.Order.{notAfter, order-of, order-views, order-places, order-trans}
 use Rattle.report_views.specs.declared.Layout.{Layout}
 use Rattle.report_views.specs.declared.Termination.{Termination}
-use Rattle.report_views.specs.Empty.{noView}
 use Rattle.report_views.specs.Logs.{start, isStart}
-use Rattle.report_views.specs.Reports.{reportOf, viewOf, holdsAt, hasAt, maskAt}
+use Rattle.report_views.specs.Reports.{reportOf, viewOf, holdsAt}
 use Rattle.report_views.specs.Slots.{slotsOk}
-use Rattle.report_views.specs.Quorums.{target, holder, candidate}
-use Rattle.report_views.specs.Meets.{QuorumMet, SlotSound, slot-given, report-records, candidate-given, holder-given, able-candidate, able-has}
+use Rattle.report_views.specs.Quorums.{target, holder}
+use Rattle.report_views.specs.Meets.{QuorumMet, holder-given, able-has}
 use Rattle.report_views.specs.RunLaws as runs
 use Rattle.report_views.specs.CutLaws.{cut-target, cut-kept, cut-held, kept-or-fetched}
-use Rattle.history_claims.specs.History.{History, KeepsRule, True, Supposed, viewAt, numberAt}
-use Rattle.history_course.specs.Course.{lastOf, Succeeded, Orderly, Settled, Serves, Next, Covers, CarriedOut, cutFor, asOrdered}
-use Rattle.history_course.specs.Listing.{listed-held}
-use Rattle.history_course.specs.Lasting.{kept-last, settled-held, new-rule, new-succeeded}
-use Rattle.history_course.specs.Ever.{Restart}
+use Rattle.history_claims.specs.History.{History, Supposed, numberAt}
+use Rattle.history_course.specs.Course.{lastOf, Orderly, Settled, Covers, cutFor}
+use Rattle.history_course.specs.Lasting.{settled-held}
 use Rattle.history_course.specs.Based.{latestNumber, carriesLatest, shortOf, Based, keptBy, wantedOf, ByRecipe}
 use Rattle.history_course.specs.Bases.{last-latest, last-carries}
 use Rattle.history_course.specs.Telling.{told-orderly, its-slot, its-runs, its-number, its-updates, HolderLast, holder-last, kept-some, kept-number}
@@ -107,8 +103,10 @@ module _ (σ : List ℕ) (v : Layout) (t : Termination) (held : ℕ) (d : List �
       let o = last-holder s l in
       let has-it = able-has v t held d s h (holder-given v t held d s (met .holders s l) .picked) in
       ⊎-elim (λ e. inl e)
-      (λ e. inr (short-own h (o .small) (o .is-held) s l (target v t held d s) e .1 ∙ o .number,
-      runs.held-given (reportOf d h .body) (reportOf d h .len) s (target v t held d s) e .from))
+      (λ e. inr (
+        short-own h (o .small) (o .is-held) s l (target v t held d s) e .1 ∙ o .number,
+        runs.held-given (reportOf d h .body) (reportOf d h .len) s (target v t held d s) e .from,
+      ))
       (runs.has-cases (reportOf d h .body) (reportOf d h .len) s (target v t held d s) has-it)
 
   -- not past the target of shard s
@@ -148,8 +146,11 @@ module _ (σ : List ℕ) (v : Layout) (t : Termination) (held : ℕ) (d : List �
   module _ (s : ℕ) (below : s < shards σ) (n : ℕ) (small : n < 32) (is-held : has held n ≡ true) where
     latest-no-later : latestNumber H n ≤ v .number .0
     latest-no-later =
-        omega (arith, its-number σ v t held d few slots H (shortOf H .updated) (sup .true-reports) n small is-held,
-        its-slot σ v t held d few slots H (shortOf H .updated) (sup .true-reports) n small is-held .no-later)
+        omega (
+          arith,
+          its-number σ v t held d few slots H (shortOf H .updated) (sup .true-reports) n small is-held,
+          its-slot σ v t held d few slots H (shortOf H .updated) (sup .true-reports) n small is-held .no-later,
+        )
 
     abbrev itsCut : Position
     itsCut = cutFor v t held d n s

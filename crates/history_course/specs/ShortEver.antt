@@ -1,8 +1,8 @@
 -- Over any number of restarts from short reports and runs between them: what was settled once is in the holder's log of every later plan and
 -- not past its target. And bases agree after restarts from whole reports too, so that a group can go over to short ones.
-use Prim.Native.Nat.{ℕ, suc, _+_, _-_, _^_, _<_, _≤_}
-use mathlib.Core.Bool.{Bool, true, _&&_}
-use mathlib.Core.List.{List, [], _∷_, _++_}
+use Prim.Native.Nat.{ℕ, _+_, _-_, _^_, _<_, _≤_}
+use mathlib.Core.Bool.{true, _&&_}
+use mathlib.Core.List.{List, [], _∷_}
 use mathlib.Core.Logic.{⊎-elim}
 use mathlib.Core.Path.{_≡_, refl, sym, ap, _∙_, subst, subst⁻¹}
 use native.Mathlib.Omega.{arith}
@@ -16,18 +16,16 @@ use Rattle.base_ids.specs.Order.{notAfter}
 use Rattle.report_views.specs.declared.Layout.{Layout}
 use Rattle.report_views.specs.declared.Termination.{Termination}
 use Rattle.report_views.specs.Empty.{noView}
-use Rattle.report_views.specs.Reports.{reportOf, viewOf, holdsAt, maskAt}
+use Rattle.report_views.specs.Reports.{maskAt}
 use Rattle.report_views.specs.Slots.{slotsOk}
 use Rattle.report_views.specs.Quorums.{target, holder}
-use Rattle.report_views.specs.Meets.{QuorumMet, slot-given, report-records, candidate-given, holder-given, able-candidate}
-use Rattle.report_views.specs.RunLaws as runs
-use Rattle.report_views.specs.CutLaws.{kept-or-fetched}
+use Rattle.report_views.specs.Meets.{QuorumMet}
 use Rattle.history_claims.specs.History.{History, KeepsRule, Supposed, viewAt, numberAt}
 use Rattle.history_course.specs.Course.{lastOf, Orderly, Settled, Next, Covers, CarriedOut, GivenUp, asOrdered}
 use Rattle.history_course.specs.Listing.{listed-held}
-use Rattle.history_course.specs.Lasting.{kept-last, settled-held, new-rule, new-succeeded}
+use Rattle.history_course.specs.Lasting.{settled-held, new-rule, new-succeeded}
 use Rattle.history_course.specs.Ever.{Restart}
-use Rattle.history_course.specs.Based.{latestOf, latestNumber, carriesLatest, shortOf, Based, AddsOnly, wantedOf, ShortCarried, ShortCourse, here, running, carrying}
+use Rattle.history_course.specs.Based.{latestNumber, carriesLatest, shortOf, Based, AddsOnly, wantedOf, ShortCarried, ShortCourse, here, running, carrying}
 use Rattle.history_course.specs.Bases.{HandsOn, latest-up-to, base-settled, run-based, handed-based}
 use Rattle.history_course.specs.Telling.{told-orderly, holder-last, kept-some, kept-number, as-handed}
 use Rattle.history_course.specs.Recipe.{uptoTarget, settled-wanted, recipe-wanted}
@@ -127,7 +125,7 @@ module _ {S : ℕ} {H : History} where
       let base = subst⁻¹ (λ (k : ℕ). Based k G) (r .same) (g .1) in (
         short-stands (r .σ) (r .v) (r .t) (r .held) (r .d) (r .few) (r .wide) (r .slots) (r .met) G sup (g .0) (r .ended) base (r .w) (r .next) K x,
         subst (λ (k : ℕ). Based k K) (r .same)
-        (short-based (r .σ) (r .v) (r .t) (r .held) (r .d) (r .few) (r .wide) (r .slots) (r .met) G sup (g .0) (r .ended) base (r .w) (r .next) K x),
+            (short-based (r .σ) (r .v) (r .t) (r .held) (r .d) (r .few) (r .wide) (r .slots) (r .met) G sup (g .0) (r .ended) base (r .w) (r .next) K x),
       )
 
   -- what was settled is settled, and its view is no later than the last
@@ -143,10 +141,13 @@ module _ {S : ℕ} {H : History} where
       let e = short-settles-on o b s l p from no-later u c in
       let sup = supposing-short (g .0) r in
       let base = subst⁻¹ (λ (k : ℕ). Based k G) (r .same) (g .1) in (
-        omega (arith, e .0,
-        short-number (r .σ) (r .v) (r .t) (r .held) (r .d) (r .few) (r .wide) (r .slots) (r .met) G sup (g .0) (r .ended) base (r .w) (r .next) K x),
+        omega (
+          arith,
+          e .0,
+          short-number (r .σ) (r .v) (r .t) (r .held) (r .d) (r .few) (r .wide) (r .slots) (r .met) G sup (g .0) (r .ended) base (r .w) (r .next) K x,
+        ),
         short-settled (r .σ) (r .v) (r .t) (r .held) (r .d) (r .few) (r .wide) (r .slots) (r .met) G sup (g .0) (r .ended) base (r .w) (r .next) K x
-        s (omega (arith, r .same)) p from (e .0) (e .1),
+            s (omega (arith, r .same)) p from (e .0) (e .1),
       )
 
   -- and every later plan from short reports has it

@@ -1,6 +1,6 @@
 -- Whole reports and short ones, of the same nodes over the same history: holders and waits 1 to 4 are the same, and targets and cuts are the
 -- same or (0, 0) for the base's end. For a candidate's log is its base, which all candidates have, followed by what its short report has.
-use Prim.Native.Nat.{ℕ, suc, _-_, _^_, _<_, _≤_}
+use Prim.Native.Nat.{ℕ, _^_, _<_, _≤_}
 use mathlib.Core.Bool.{Bool, true, false, cond, not, _&&_, _||_}
 use mathlib.Core.List.{List, [], _∷_, _++_, append-nil}
 use mathlib.Core.Logic.{_⊎_, inl, inr, ⊎-elim}
@@ -14,13 +14,13 @@ use Rattle.base_laws.specs.Below.{anyBelow, any-witness, any-fails, any-none-of
 use Rattle.base_laws.specs.Masks.{has}
 use Rattle.settings_values.specs.Settings.{shards}
 use Rattle.base_ids.specs.declared.Position.{Position}
-use Rattle.base_ids.specs.Order.{notAfter, same-position, order-of, order-views, order-places, order-trans}
+use Rattle.base_ids.specs.Order.{notAfter, same-position, order-of, order-views, order-places}
 use Rattle.report_views.specs.declared.Layout.{Layout}
 use Rattle.report_views.specs.declared.Termination.{Termination}
 use Rattle.report_views.specs.Logs.{pos, start, isStart, runsOf, hasUpdate}
 use Rattle.report_views.specs.LogLaws.{held-end}
 use Rattle.report_views.specs.Ends.{end-legal}
-use Rattle.report_views.specs.Updates.{updatesAt, onePosition, sharedStretch, lastAfter, thoseOf, upTo, beyond}
+use Rattle.report_views.specs.Updates.{updatesAt, onePosition, sharedStretch, lastAfter, upTo, beyond}
 use Rattle.report_views.specs.Stretches.{one-refl, risesAfter, parted, last-append, shared-up, shared-both, those-append, among, among-those, last-among}
 use Rattle.report_views.specs.UpdateLaws.{log-rises, runs-rises, holds-runs, end-runs}
 use Rattle.report_views.specs.RunLaws as runs
@@ -31,7 +31,7 @@ use Rattle.report_views.specs.Slots.{slotsOk}
 use Rattle.report_views.specs.Quorums.{candidate, best, able, target, holder, unheld, firstUnheld, quorumOf}
 use Rattle.report_views.specs.Best.{best-none}
 use Rattle.report_views.specs.Meets.{QuorumMet, report-records, candidate-given, holder-given, able-candidate, able-has}
-use Rattle.history_claims.specs.History.{History, True, Supposed, viewAt, numberAt}
+use Rattle.history_claims.specs.History.{History, True, Supposed, viewAt}
 use Rattle.history_course.specs.Course.{Orderly, Covers, cutFor, asOrdered}
 use Rattle.history_course.specs.Short.{Shorter, Shortened, short-target, short-holder}
 use Rattle.history_course.specs.Based.{latestOf, latestNumber, carriesLatest, shortOf, Based, baseOf, baseEnd, ShortTermination, ByRecipe}
@@ -62,12 +62,12 @@ module _ (σ : List ℕ) (v : Layout) (t u : Termination) (held : ℕ) (d e : Li
       ∙ sym (its-number σ v t held d few slots H (H .updated) (sup .true-reports) n l k)
 
   -- a candidate carries the shard in the kept view
-  record Standing (s n : ℕ) : Type 0 where
+  record CandidateStands (s n : ℕ) : Type 0 where
     pub is-held : has held n ≡ true
     pub number : latestNumber H n ≡ v .number .0
     pub carries : carriesLatest H s n ≡ true
 
-  standing : (s : ℕ) → s < shards σ → (n : ℕ) → n < 32 → candidate v held d s n ≡ true → Standing s n
+  standing : (s : ℕ) → s < shards σ → (n : ℕ) → n < 32 → candidate v held d s n ≡ true → CandidateStands s n
   standing s below n l c =
       let k = candidate-given v held d s n c in
       let number : latestNumber H n ≡ v .number .0 =
@@ -90,7 +90,7 @@ module _ (σ : List ℕ) (v : Layout) (t u : Termination) (held : ℕ) (d e : Li
   module _ (s : ℕ) (below : s < shards σ) where
     -- what a candidate has, on each desk
     module _ (n : ℕ) (l : n < 32) (c : candidate v held d s n ≡ true) where
-      stand : Standing s n
+      stand : CandidateStands s n
       stand = standing s below n l c
 
       whole-runs : runs.Runs (reportOf d n .body) (reportOf d n .len) s
@@ -483,4 +483,3 @@ module _ (σ : List ℕ) (v : Layout) (t u : Termination) (held : ℕ) (d e : Li
               ap (λ (x : Bool). H .updated h s q && cond x (ltb (q .view .0) (v .number .0)) (notAfter q (target v u held e s))) no
               ∙ ap (λ (x : Position). H .updated h s q && notAfter q x) (z .1))
               (recipe-target s below some-number term (ends s below) h small top .told)
-

@@ -1,6 +1,6 @@
 -- What the reports of held nodes tell of a history, where their logs are `told`: those of the history, or the short ones. And of the holders,
 -- which carry their shards in the last view.
-use Prim.Native.Nat.{ℕ, suc, _-_, _^_, _<_, _≤_}
+use Prim.Native.Nat.{ℕ, suc, _^_, _<_, _≤_}
 use mathlib.Core.Bool.{Bool, true, false, _&&_}
 use mathlib.Core.List.{List}
 use mathlib.Core.Logic.{⊎-elim}
