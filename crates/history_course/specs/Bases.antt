@@ -111,7 +111,10 @@ both-unmoved {H = H} based s below n m l k a b p from x y =
 -- ---- after a run
 
 pub run-based : {S : ℕ} {H G : History} → G .views ≡ H .views → AddsOnly S H G → Based S H → Based S G
-run-based {S} {H} {G} views adds based = record { same = λ s below n m l k a b p from x y. go s below n m l k a b p from x y (lt-or-le 0 (length (H .views))) }
+run-based {S} {H} {G} views adds based = record {
+  same = λ s below n m l k a b p from x y. go s below n m l k a b p from x y
+      (lt-or-le 0 (length (H .views)));
+}
   where
     still : (n : ℕ) → latestOf G n ≡ latestOf H n
     still n =
@@ -125,7 +128,8 @@ run-based {S} {H} {G} views adds based = record { same = λ s below n m l k a b 
         → p .view .0 < latestNumber G n → p .view .0 < latestNumber G m → (0 < length (H .views)) ⊎ (length (H .views) ≤ 0)
         → G .updated n s p ≡ G .updated m s p
     go s below n m l k a b p from x y (inl some) =
-        both-unmoved based s below n m l k (unmoved adds some (λ i j. view i) s below n l (still n) a) (unmoved adds some (λ i j. view i) s below m k (still m) b) p from x y
+        both-unmoved based s below n m l k (unmoved adds some (λ i j. view i) s below n l (still n) a)
+        (unmoved adds some (λ i j. view i) s below m k (still m) b) p from x y
     go s below n m l k a b p from x y (inr none) =
         let empty : viewAt G (latestOf G n) ≡ noView =
         view (latestOf G n) ∙ List·getD-eq-default (H .views) noView {n = latestOf G n} (omega arith) in
@@ -179,7 +183,8 @@ module _ {S : ℕ} {H G : History} {w : Layout} (rule : KeepsRule H) (some : 0 <
       let older : p .view .0 < latestNumber H n = omega (arith, a .number) in
       let last : latestNumber H (g .from) ≡ numberAt H (lastOf H) = ap (λ (i : ℕ). numberAt H i) (g .latest) in
       let within : p .view .0 < latestNumber H (g .from) = omega (arith, latest-up-to H rule n some) in
-      let one : H .updated n s p ≡ H .updated (g .from) s p = based .same s below n (g .from) l (g .small) (a .carries) (g .carries) p from older within in
+      let one : H .updated n s p ≡ H .updated (g .from) s p = based .same s below n (g .from) l (g .small) (a .carries)
+      (g .carries) p from older within in
       a .older p from older ∙ one
       ∙ same (H .updated (g .from) s p) (H .updated (g .from) s p && g .upto p)
       (λ e. and-both e (g .covers p from (omega arith) (base-settled H based rule some s below (g .from) (g .small) (g .carries) p from within e)))
@@ -187,7 +192,10 @@ module _ {S : ℕ} {H G : History} {w : Layout} (rule : KeepsRule H) (some : 0 <
       ∙ sym (g .logs m k c h p from)
 
   pub handed-based : Based S G
-  handed-based = record { same = λ s below n m l k a b p from x y. go s below n m l k a b p from x y (either (G .logged n (length (H .views)))) (either (G .logged m (length (H .views)))) }
+  handed-based = record {
+    same = λ s below n m l k a b p from x y. go s below n m l k a b p from x y (either (G .logged n (length (H .views))))
+        (either (G .logged m (length (H .views))));
+  }
     where
       go : (s : ℕ) → s < S → (n m : ℕ) → n < 32 → m < 32 → carriesLatest G s n ≡ true → carriesLatest G s m ≡ true → (p : Position) → 1 ≤ p .k
           → p .view .0 < latestNumber G n → p .view .0 < latestNumber G m
@@ -200,11 +208,13 @@ module _ {S : ℕ} {H G : History} {w : Layout} (rule : KeepsRule H) (some : 0 <
       go s below n m l k a b p from x y (inr e) (inl f) =
           old-new s below n m l k (unmoved adds some before-new s below n l (stayed n e) a) (placed-new s m f b) f p from x
       go s below n m l k a b p from x y (inr e) (inr f) =
-          both-unmoved based s below n m l k (unmoved adds some before-new s below n l (stayed n e) a) (unmoved adds some before-new s below m k (stayed m f) b) p from x y
+          both-unmoved based s below n m l k (unmoved adds some before-new s below n l (stayed n e) a)
+          (unmoved adds some before-new s below m k (stayed m f) b) p from x y
 
 -- the first view ever, before which nobody has an update
 pub first-based : {S : ℕ} (w : Layout) (logged : ℕ → ℕ → Bool) (updated : ℕ → ℕ → Position → Bool)
-    → ((n s : ℕ) (p : Position) → p .view .0 < w .number .0 → updated n s p ≡ false) → Based S (record { views = w ∷ []; logged = logged; updated = updated })
+    → ((n s : ℕ) (p : Position) → p .view .0 < w .number .0 → updated n s p ≡ false)
+    → Based S (record { views = w ∷ []; logged = logged; updated = updated })
 first-based {S} w logged updated none = record { same = λ s below n m l k a b p from x y. none n s p (only n p x) ∙ sym (none m s p (only m p y)) }
   where
     H : History

@@ -34,8 +34,11 @@ module _ (σ : List ℕ) (node view members : ℕ) (b : List ℕ) (len : ℕ) (p
   kinds : (j : ℕ) → j < len → (1 ≤ kind b j) × (kind b j ≤ 3)
   unfolding kindAt kindOk
   kinds j l =
-      let both = and-left (leb 1 (kind b j) && leb (kind b j) 3) (plain (kind b j) (word2 b j)) (all-at len (kindAt Report b) (p .kinds-pass) j l) in
-      (leb-true 1 (kind b j) (and-left (leb 1 (kind b j)) (leb (kind b j) 3) both), leb-true (kind b j) 3 (and-right (leb 1 (kind b j)) (leb (kind b j) 3) both))
+      let both = and-left (leb 1 (kind b j) && leb (kind b j) 3) (plain (kind b j) (word2 b j)) (all-at len (kindAt Report b) (p .kinds-pass) j l) in (
+        leb-true 1 (kind b j) (and-left (leb 1 (kind b j)) (leb (kind b j) 3) both),
+        leb-true (kind b j) 3
+            (and-right (leb 1 (kind b j)) (leb (kind b j) 3) both),
+      )
 
   shard-below : (j : ℕ) → j < len → shard b j < shards σ
   unfolding shardAt
@@ -45,21 +48,26 @@ module _ (σ : List ℕ) (node view members : ℕ) (b : List ℕ) (len : ℕ) (p
   tags-rise : (j : ℕ) → suc j < len → tag b j < tag b (suc j)
   unfolding sequenceAt precedes
   tags-rise j l =
-      let follows = and-left (eqb (suc j) 0 || precedes b (suc j - 1) (suc j)) (not (surplus node b (suc j))) (all-at len (sequenceAt node b) (p .sequence-passes) (suc j) l) in
+      let follows = and-left (eqb (suc j) 0 || precedes b (suc j - 1) (suc j)) (not (surplus node b (suc j)))
+      (all-at len (sequenceAt node b) (p .sequence-passes) (suc j) l) in
       let e : suc j - 1 ≡ j = omega arith in
       ⊎-elim (λ z. absurd (omega (arith, eqb-true (suc j) 0 z)))
       (λ z.
-      let after : (ltb (tag b j) (tag b (suc j)) || (eqb (tag b j) (tag b (suc j)) && (eqb (kind b (suc j)) 3 && ltb (word1 b j) (word1 b (suc j))))) ≡ true =
-      subst (λ (i : ℕ). (ltb (tag b i) (tag b (suc j)) || (eqb (tag b i) (tag b (suc j)) && (eqb (kind b (suc j)) 3 && ltb (word1 b i) (word1 b (suc j))))) ≡ true) e z in
+      let after : (ltb (tag b j) (tag b (suc j)) || (eqb (tag b j) (tag b (suc j)) &&
+      (eqb (kind b (suc j)) 3 && ltb (word1 b j) (word1 b (suc j))))) ≡ true =
+      subst (λ (i : ℕ). (ltb (tag b i) (tag b (suc j)) || (eqb (tag b i) (tag b (suc j)) &&
+      (eqb (kind b (suc j)) 3 && ltb (word1 b i) (word1 b (suc j))))) ≡ true) e z in
       ⊎-elim (λ x. ltb-true (tag b j) (tag b (suc j)) x)
       (λ x.
-      let same-tag = eqb-true (tag b j) (tag b (suc j)) (and-left (eqb (tag b j) (tag b (suc j))) (eqb (kind b (suc j)) 3 && ltb (word1 b j) (word1 b (suc j))) x) in
+      let same-tag = eqb-true (tag b j) (tag b (suc j)) (and-left (eqb (tag b j) (tag b (suc j)))
+      (eqb (kind b (suc j)) 3 && ltb (word1 b j) (word1 b (suc j))) x) in
       let third = eqb-true (kind b (suc j)) 3 (and-left (eqb (kind b (suc j)) 3) (ltb (word1 b j) (word1 b (suc j)))
       (and-right (eqb (tag b j) (tag b (suc j))) (eqb (kind b (suc j)) 3 && ltb (word1 b j) (word1 b (suc j))) x)) in
       let tagged : tag b (suc j) ≡ 768 + shard b (suc j) = omega arith in
       absurd (once (shard b (suc j)) j (suc j) (shard-below (suc j) l) (omega arith) l (eq-eqb (tag b j) (768 + shard b (suc j)) (same-tag ∙ tagged))
       (eq-eqb (tag b (suc j)) (768 + shard b (suc j)) tagged)))
-      (or-holds (ltb (tag b j) (tag b (suc j))) (eqb (tag b j) (tag b (suc j)) && (eqb (kind b (suc j)) 3 && ltb (word1 b j) (word1 b (suc j)))) after))
+      (or-holds (ltb (tag b j) (tag b (suc j))) (eqb (tag b j) (tag b (suc j)) &&
+      (eqb (kind b (suc j)) 3 && ltb (word1 b j) (word1 b (suc j)))) after))
       (or-holds (eqb (suc j) 0) (precedes b (suc j - 1) (suc j)) follows)
 
   -- record j is no further than the places of its kind and the kinds before it
@@ -74,13 +82,16 @@ module _ (σ : List ℕ) (node view members : ℕ) (b : List ℕ) (len : ℕ) (p
       let one : RecordPlaced j = placed j (omega arith) in
       let k = kinds j (omega arith) in
       ⊎-elim
-      (λ a. step (one .members-first a) (λ e. omega (arith, tags-rise j l)) (λ e. omega (arith, shard-below j (omega arith))) (λ e. omega (arith, shard-below j (omega arith))))
+      (λ a. step (one .members-first a) (λ e. omega (arith, tags-rise j l)) (λ e. omega (arith, shard-below j (omega arith)))
+      (λ e. omega (arith, shard-below j (omega arith))))
       (λ a.
       ⊎-elim
-      (λ c. step (one .then-ends c) (λ e. absurd (omega (arith, tags-rise j l))) (λ e. omega (arith, tags-rise j l)) (λ e. omega (arith, shard-below j (omega arith))))
+      (λ c. step (one .then-ends c) (λ e. absurd (omega (arith, tags-rise j l))) (λ e. omega (arith, tags-rise j l))
+      (λ e. omega (arith, shard-below j (omega arith))))
       (λ c.
       let third : kind b j ≡ 3 = omega (arith, k .0, k .1, a, c) in
-      step (one .then-runs third) (λ e. absurd (omega (arith, tags-rise j l))) (λ e. absurd (omega (arith, tags-rise j l))) (λ e. omega (arith, tags-rise j l)))
+      step (one .then-runs third) (λ e. absurd (omega (arith, tags-rise j l))) (λ e. absurd (omega (arith, tags-rise j l)))
+      (λ e. omega (arith, tags-rise j l)))
       (eq-or-ne (kind b j) 2))
       (eq-or-ne (kind b j) 1)
     where
@@ -98,14 +109,16 @@ module _ (σ : List ℕ) (node view members : ℕ) (b : List ℕ) (len : ℕ) (p
           let k = kinds (len - 1) last in
           let s = shard-below (len - 1) last in
           ⊎-elim (λ a. omega (arith, one .members-first a))
-          (λ a. ⊎-elim (λ c. omega (arith, one .then-ends c)) (λ c. omega (arith, one .then-runs (omega (arith, k .0, k .1, a, c)))) (eq-or-ne (kind b (len - 1)) 2))
+          (λ a. ⊎-elim (λ c. omega (arith, one .then-ends c)) (λ c. omega (arith, one .then-runs (omega (arith, k .0, k .1, a, c))))
+          (eq-or-ne (kind b (len - 1)) 2))
           (eq-or-ne (kind b (len - 1)) 1)
 
 -- ---- a short report
 
 module _ (σ : List ℕ) (v : Layout) (t : Termination) (held : ℕ) (d : List ℕ) (few : shards σ ≤ 16) (slots : slotsOk σ v t held d ≡ true) (H : History)
     (short : (n : ℕ) → n < 32 → has held n ≡ true → True σ (shortOf H) (reportOf d n)) (n : ℕ) (small : n < 32) (is-held : has held n ≡ true) where
-  run-latest : (s : ℕ) → s < shards σ → (j : ℕ) → j < reportOf d n .len → run (reportOf d n .body) s j ≡ true → word1 (reportOf d n .body) j ≡ latestNumber H n
+  run-latest : (s : ℕ) → s < shards σ → (j : ℕ) → j < reportOf d n .len → run (reportOf d n .body) s j ≡ true
+      → word1 (reportOf d n .body) j ≡ latestNumber H n
   run-latest s l j k r =
       let b = reportOf d n .body in
       let one = its-runs σ v t held d few slots H (shortOf H .updated) short n small is-held s l in
@@ -113,7 +126,8 @@ module _ (σ : List ℕ) (v : Layout) (t : Termination) (held : ℕ) (d : List �
       let held-it = held-of b (reportOf d n .len) s p j k r refl (one .count-from j k r) (omega arith) in
       let all = sym (its-updates σ v t held d few slots H (shortOf H .updated) short n small is-held s l p) ∙ held-it in
       eqb-true (word1 b j) (latestNumber H n)
-      (and-left (eqb (word1 b j) (latestNumber H n)) (H .updated n s p) (and-right (carriesLatest H s n) (eqb (word1 b j) (latestNumber H n) && H .updated n s p) all))
+      (and-left (eqb (word1 b j) (latestNumber H n)) (H .updated n s p)
+      (and-right (carriesLatest H s n) (eqb (word1 b j) (latestNumber H n) && H .updated n s p) all))
 
   -- its records, and its head
   pub short-few : reportOf d n .len + 1 ≤ 49

@@ -68,7 +68,8 @@ and-second x y e f = rw (e, f) (and-yes x)
 -- ---- one restart
 
 module _ (σ : List ℕ) (v : Layout) (t : Termination) (held : ℕ) (d : List ℕ) (few : shards σ ≤ 16) (wide : v .members < 2 ^ 32)
-    (slots : slotsOk σ v t held d ≡ true) (met : QuorumMet σ v t held d) (H : History) (sup : Supposed σ v held d (shortOf H)) (orderly : Orderly H) where
+    (slots : slotsOk σ v t held d ≡ true) (met : QuorumMet σ v t held d) (H : History) (sup : Supposed σ v held d (shortOf H))
+    (orderly : Orderly H) where
   -- the holder of a shard carries it in the last view
   last-holder : (s : ℕ) → s < shards σ → HolderLast σ v t held d few wide slots met H (shortOf H .updated) sup orderly s
   last-holder s l = holder-last σ v t held d few wide slots met H (shortOf H .updated) sup orderly s l
@@ -92,12 +93,15 @@ module _ (σ : List ℕ) (v : Layout) (t : Termination) (held : ℕ) (d : List �
           eqb-true (p .view .0) (latestNumber H n) (and-left (eqb (p .view .0) (latestNumber H n)) (H .updated n s p) rest),
         )
 
-    short-told : (s : ℕ) → s < shards σ → (p : Position) → carriesLatest H s n ≡ true → p .view .0 ≡ latestNumber H n → holdsAt d s p n ≡ H .updated n s p
+    short-told : (s : ℕ) → s < shards σ → (p : Position) → carriesLatest H s n ≡ true → p .view .0 ≡ latestNumber H n
+        → holdsAt d s p n ≡ H .updated n s p
     short-told s l p c e =
-        its-updates σ v t held d few slots H (shortOf H .updated) (sup .true-reports) n small is-held s l p ∙ rw (c, eq-eqb (p .view .0) (latestNumber H n) e)
+        its-updates σ v t held d few slots H (shortOf H .updated) (sup .true-reports) n small is-held s l p
+        ∙ rw (c, eq-eqb (p .view .0) (latestNumber H n) e)
 
   -- the target is (0, 0), or an update of the kept view
-  target-cases : (s : ℕ) → s < shards σ → (target v t held d s ≡ start) ⊎ ((target v t held d s .view .0 ≡ v .number .0) × (1 ≤ target v t held d s .k))
+  target-cases : (s : ℕ) → s < shards σ → (target v t held d s ≡ start) ⊎
+      ((target v t held d s .view .0 ≡ v .number .0) × (1 ≤ target v t held d s .k))
   target-cases s l =
       let h : ℕ = holder v t held d s in
       let o = last-holder s l in
@@ -121,11 +125,13 @@ module _ (σ : List ℕ) (v : Layout) (t : Termination) (held : ℕ) (d : List �
       (λ z. order-of q (target v t held d s) (inl (omega (arith, z .0)))) (target-cases s l))
 
   -- what is settled is in the holder's log up to the target
-  pub settled-wanted : Covers σ t (shortOf H) → (s : ℕ) → s < shards σ → (p : Position) → 1 ≤ p .k → p .view .0 ≤ numberAt H (lastOf H) → Settled H s p
+  pub settled-wanted : Covers σ t (shortOf H) → (s : ℕ) → s < shards σ → (p : Position) → 1 ≤ p .k → p .view .0 ≤ numberAt H (lastOf H)
+      → Settled H s p
       → wantedOf v t held d H s p ≡ true
   settled-wanted ended s l p from no-later settled =
       and-both (settled .all (holder v t held d s) (o .small) (o .member) (o .logged))
-      (⊎-elim (λ e. older-upto s l p (omega (arith, kept-is-last))) (λ e. in-last (omega (arith, e, kept-is-last))) (lt-or-le (p .view .0) (numberAt H (lastOf H))))
+      (⊎-elim (λ e. older-upto s l p (omega (arith, kept-is-last))) (λ e. in-last (omega (arith, e, kept-is-last)))
+      (lt-or-le (p .view .0) (numberAt H (lastOf H))))
     where
       o : HolderLast σ v t held d few wide slots met H (shortOf H .updated) sup orderly s
       o = last-holder s l
@@ -138,7 +144,8 @@ module _ (σ : List ℕ) (v : Layout) (t : Termination) (held : ℕ) (d : List �
                 let number : p .view .0 ≡ latestNumber H n = e ∙ sym (ap (λ (i : ℕ). numberAt H i) (last-latest H n some-view h)) in
                 and-both (last-carries H s n some-view m h) (and-both (eq-eqb (p .view .0) (latestNumber H n) number) (settled .all n k m h));
           } in
-          let reached = settled-held σ v t held d few wide slots met (shortOf H) sup (told-orderly (shortOf H .updated) orderly .succeeded) ended s l p told .0 in
+          let reached = settled-held σ v t held d few wide slots met (shortOf H) sup
+          (told-orderly (shortOf H .updated) orderly .succeeded) ended s l p told .0 in
           cond-of (λ (b : Bool). b ≡ true) (isStart (target v t held d s))
           (λ z. past-start p from (subst (λ (q : Position). notAfter p q ≡ true) (start-is (target v t held d s) z) reached)) (λ z. reached)
 
@@ -205,7 +212,8 @@ module _ (σ : List ℕ) (v : Layout) (t : Termination) (held : ℕ) (d : List �
 
       -- up to such a cut the node and the holder have the same
       agrees-cut : (q : Position) → 1 ≤ q .k → isStart itsCut ≡ false → notAfter q itsCut ≡ true → H .updated n s q ≡ wantedOf v t held d H s q
-      agrees-cut q from z l = ⊎-elim (λ e. agrees-base q from (k .carries) (omega (arith, k .number)) e) (λ e. in-kept e) (lt-or-le (q .view .0) (v .number .0))
+      agrees-cut q from z l = ⊎-elim (λ e. agrees-base q from (k .carries) (omega (arith, k .number)) e) (λ e. in-kept e)
+          (lt-or-le (q .view .0) (v .number .0))
         where
           k : CutKept
           k = cut-of-kept z
@@ -215,7 +223,8 @@ module _ (σ : List ℕ) (v : Layout) (t : Termination) (held : ℕ) (d : List �
 
           reached : notAfter itsCut (target v t held d s) ≡ true
           reached =
-              cut-target (reportOf d n .body) (reportOf d n .len) (reportOf d (holder v t held d s) .body) (reportOf d (holder v t held d s) .len) s (target v t held d s)
+              cut-target (reportOf d n .body) (reportOf d n .len) (reportOf d (holder v t held d s) .body)
+              (reportOf d (holder v t held d s) .len) s (target v t held d s)
 
           further : isStart (target v t held d s) ≡ false
           further = no-true (isStart (target v t held d s))
@@ -231,7 +240,8 @@ module _ (σ : List ℕ) (v : Layout) (t : Termination) (held : ℕ) (d : List �
               let its : holdsAt d s q (holder v t held d s) ≡ H .updated (holder v t held d s) s q =
               short-told (holder v t held d s) (h .small) (h .is-held) s below q (h .carries) (view ∙ sym (h .number)) in
               let both =
-              kept-or-fetched (reportOf d n .body) (reportOf d n .len) (reportOf d (holder v t held d s) .body) (reportOf d (holder v t held d s) .len) s (target v t held d s)
+              kept-or-fetched (reportOf d n .body) (reportOf d n .len) (reportOf d (holder v t held d s) .body)
+              (reportOf d (holder v t held d s) .len) s (target v t held d s)
               (short-runs n small is-held s below) (short-runs (holder v t held d s) (h .small) (h .is-held) s below) q in
               sym mine ∙ (sym (or-no (holdsAt d s q n)) ∙ (rw (l, to-target) at both)) ∙ its
               ∙ sym (rw (further, to-target) (and-yes (H .updated (holder v t held d s) s q)))
@@ -253,7 +263,12 @@ module _ (σ : List ℕ) (v : Layout) (t : Termination) (held : ℕ) (d : List �
               let both : (carriesLatest H s n && ltb (r .last .view .0) (latestNumber H n)) ≡ true = rw z at test in
               let c = and-left (carriesLatest H s n) (ltb (r .last .view .0) (latestNumber H n)) both in
               let o : q .view .0 < latestNumber H n =
-              omega (arith, order-views q (r .last) l, ltb-true (r .last .view .0) (latestNumber H n) (and-right (carriesLatest H s n) (ltb (r .last .view .0) (latestNumber H n)) both)) in
+              omega (
+                arith,
+                order-views q (r .last) l,
+                ltb-true (r .last .view .0) (latestNumber H n)
+                    (and-right (carriesLatest H s n) (ltb (r .last .view .0) (latestNumber H n)) both),
+              ) in
               and-first (H .updated n s q) (notAfter q itsCut) z (and-both c (lt-ltb (q .view .0) (latestNumber H n) o))
               ∙ agrees-base q from c o (omega (arith, latest-no-later)))
               (λ z.

@@ -49,7 +49,13 @@ module _ (σ : List ℕ) (v : Layout) (t : Termination) (held : ℕ) (d : List �
 
   pub short-number : numberAt H (lastOf H) ≤ numberAt G (lastOf G)
   short-number =
-      omega (arith, ap (λ (x : Layout). x .number .0) new-view, next .number, kept-number σ v t held d few wide slots met H (shortOf H .updated) sup orderly)
+      omega (
+        arith,
+        ap (λ (x : Layout). x .number .0) new-view,
+        next .number,
+        kept-number σ v t held d few wide slots met H
+            (shortOf H .updated) sup orderly,
+      )
 
   -- every placed node has the holder's log up to the target
   hands-short : (s : ℕ) → s < shards σ → HandsOn H G w s
@@ -63,19 +69,22 @@ module _ (σ : List ℕ) (v : Layout) (t : Termination) (held : ℕ) (d : List �
         latest = h .latest;
         covers = λ p from o u. and-right (H .updated (holder v t held d s) s p) (uptoTarget σ v t held d few wide slots met H sup orderly s p)
             (settled-wanted σ v t held d few wide slots met H sup orderly ended s l p from (omega arith) u);
-        logs = λ n k m g q from. recipe-wanted σ v t held d few wide slots met H sup orderly s l n k (next .placed s l n k m) based (c .ordered s l n k m g) q from;
+        logs = λ n k m g q from. recipe-wanted σ v t held d few wide slots met H sup orderly s l n k (next .placed s l n k m) based
+            (c .ordered s l n k m g) q from;
       }
 
   pub short-based : Based (shards σ) G
   short-based =
-      handed-based (orderly .rule) (kept-some σ v t held d few wide slots met H (shortOf H .updated) sup orderly) (c .views) (c .adds) hands-short based
+      handed-based (orderly .rule) (kept-some σ v t held d few wide slots met H (shortOf H .updated) sup orderly) (c .views)
+      (c .adds) hands-short based
 
   pub short-stands : Orderly G
   short-stands =
       record {
         rule = record { rises = rule .rises; overlaps = rule .overlaps };
         succeeded = λ i l.
-            let e = new-succeeded σ v t held d few wide slots met (shortOf H) sup (told-orderly (shortOf H .updated) orderly .succeeded) w next told carried i l in
+            let e = new-succeeded σ v t held d few wide slots met (shortOf H) sup
+            (told-orderly (shortOf H .updated) orderly .succeeded) w next told carried i l in
             record { by = e .by; most = e .most; later = e .later };
       }
     where
@@ -103,7 +112,8 @@ module _ (σ : List ℕ) (v : Layout) (t : Termination) (held : ℕ) (d : List �
         all = λ n k m g.
             let member : has (maskAt w s) n ≡ true = subst (λ (x : Layout). has (maskAt x s) n ≡ true) new-view m in
             let logged : G .logged n (length (H .views)) ≡ true = subst (λ (i : ℕ). G .logged n i ≡ true) new-last g in
-            recipe-wanted σ v t held d few wide slots met H sup orderly s l n k (next .placed s l n k member) based (c .ordered s l n k member logged) p from
+            recipe-wanted σ v t held d few wide slots met H sup orderly s l n k (next .placed s l n k member) based
+            (c .ordered s l n k member logged) p from
             ∙ settled-wanted σ v t held d few wide slots met H sup orderly ended s l p from no-later u;
       }
 
@@ -125,11 +135,13 @@ module _ {S : ℕ} {H : History} where
       let base = subst⁻¹ (λ (k : ℕ). Based k G) (r .same) (g .1) in (
         short-stands (r .σ) (r .v) (r .t) (r .held) (r .d) (r .few) (r .wide) (r .slots) (r .met) G sup (g .0) (r .ended) base (r .w) (r .next) K x,
         subst (λ (k : ℕ). Based k K) (r .same)
-            (short-based (r .σ) (r .v) (r .t) (r .held) (r .d) (r .few) (r .wide) (r .slots) (r .met) G sup (g .0) (r .ended) base (r .w) (r .next) K x),
+            (short-based (r .σ) (r .v) (r .t) (r .held) (r .d) (r .few) (r .wide) (r .slots) (r .met) G sup (g .0) (r .ended) base (r .w)
+            (r .next) K x),
       )
 
   -- what was settled is settled, and its view is no later than the last
-  pub short-settles-on : {G : History} → Orderly H → Based S H → (s : ℕ) → s < S → (p : Position) → 1 ≤ p .k → p .view .0 ≤ numberAt H (lastOf H) → Settled H s p
+  pub short-settles-on : {G : History} → Orderly H → Based S H → (s : ℕ) → s < S → (p : Position) → 1 ≤ p .k → p .view .0 ≤ numberAt H (lastOf H)
+      → Settled H s p
       → ShortCourse S H G → (p .view .0 ≤ numberAt G (lastOf G)) × Settled G s p
   short-settles-on o b s l p from no-later u here = (no-later, u)
   short-settles-on o b s l p from no-later u (running G K c r views adds) =
@@ -151,13 +163,20 @@ module _ {S : ℕ} {H : History} where
       )
 
   -- and every later plan from short reports has it
-  pub short-never-lost : {G : History} → Orderly H → Based S H → (s : ℕ) → s < S → (p : Position) → 1 ≤ p .k → p .view .0 ≤ numberAt H (lastOf H) → Settled H s p
+  pub short-never-lost : {G : History} → Orderly H → Based S H → (s : ℕ) → s < S → (p : Position) → 1 ≤ p .k → p .view .0 ≤ numberAt H (lastOf H)
+      → Settled H s p
       → ShortCourse S H G → (r : Restart S (shortOf G)) → wantedOf (r .v) (r .t) (r .held) (r .d) G s p ≡ true
   short-never-lost {G} o b s l p from no-later u c r =
       let g = short-stands-on o b c in
       let e = short-settles-on o b s l p from no-later u c in
       settled-wanted (r .σ) (r .v) (r .t) (r .held) (r .d) (r .few) (r .wide) (r .slots) (r .met) G (supposing-short (g .0) r) (g .0) (r .ended) s
       (omega (arith, r .same)) p from (e .0) (e .1)
+
+  -- what all members of a shard in the last view have logged is never lost
+  pub short-logged-lasts : {G : History} → Orderly H → Based S H → (s : ℕ) → s < S → (p : Position) → 1 ≤ p .k → p .view .0 ≤ numberAt H (lastOf H)
+      → ((n : ℕ) → n < 32 → has (maskAt (viewAt H (lastOf H)) s) n ≡ true → H .updated n s p ≡ true) → ShortCourse S H G → (r : Restart S (shortOf G))
+      → wantedOf (r .v) (r .t) (r .held) (r .d) G s p ≡ true
+  short-logged-lasts o b s l p from no-later all c r = short-never-lost o b s l p from no-later (record { all = λ n k m q. all n k m }) c r
 
 -- ---- restarts from whole reports
 
@@ -180,7 +199,8 @@ module _ (σ : List ℕ) (v : Layout) (t : Termination) (held : ℕ) (d : List �
         carries = h .carries;
         latest = h .latest;
         covers = λ p from o u. settled-reached s l p u;
-        logs = λ n k m g q from. c .ordered s l n k m g q ∙ as-handed σ v t held d few wide slots met H sup orderly s l n k (next .placed s l n k m) q;
+        logs = λ n k m g q from. c .ordered s l n k m g q ∙ as-handed σ v t held d few wide slots met H sup orderly s l n k
+            (next .placed s l n k m) q;
       })
       based
 
@@ -192,7 +212,9 @@ module _ (σ : List ℕ) (v : Layout) (t : Termination) (held : ℕ) (d : List �
       adds =
           record {
             logged = λ n i l. c .logged n i;
-            older = λ s l n k x e p from o. ⊎-elim (λ f. f p) (λ f. f .1 p ∙ as-handed σ v t held d few wide slots met H sup orderly s l n k (next .placed s l n k (f .0)) p ∙ back s l n k x p from o) (c .updated s l n k);
+            older = λ s l n k x e p from o. ⊎-elim (λ f. f p) (λ f. f .1 p
+                ∙ as-handed σ v t held d few wide slots met H sup orderly s l n k (next .placed s l n k (f .0)) p ∙ back s l n k x p from o)
+                (c .updated s l n k);
           }
         where
           back : (s : ℕ) → s < shards σ → (n : ℕ) → n < 32 → carriesLatest H s n ≡ true → (p : Position) → 1 ≤ p .k → p .view .0 < latestNumber H n

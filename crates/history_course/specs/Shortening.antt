@@ -73,18 +73,30 @@ module _ (σ : List ℕ) (v : Layout) (t u : Termination) (held : ℕ) (d e : Li
       let number : latestNumber H n ≡ v .number .0 =
       sym (its-number σ v t held d few slots H (H .updated) (sup .true-reports) n l (k .is-held)) ∙ k .of-kept in
       let at : latestOf H n < length (H .views) =
-      omega (arith, its-latest σ v t held d few slots H (H .updated) (sup .true-reports) n l (k .is-held), sup .true-reports n l (k .is-held) .listed) in
+      omega (
+        arith,
+        its-latest σ v t held d few slots H (H .updated) (sup .true-reports) n l (k .is-held),
+        sup .true-reports n l
+            (k .is-held) .listed,
+      ) in
       let place : sup .place ≡ latestOf H n =
       ⊎-elim (λ z. z)
       (λ z. ⊎-elim (λ y. absurd (omega (arith, number, sup .listed .number, sup .rule .rises (sup .place) (latestOf H n) y at)))
-      (λ y. absurd (omega (arith, number, sup .listed .number, sup .rule .rises (latestOf H n) (sup .place) (omega (arith, z)) (sup .listed .listed))))
+      (λ y. absurd (omega (
+        arith,
+        number,
+        sup .listed .number,
+        sup .rule .rises (latestOf H n) (sup .place) (omega (arith, z))
+            (sup .listed .listed),
+      )))
       (lt-or-le (sup .place) (latestOf H n)))
       (eq-or-ne (sup .place) (latestOf H n)) in
       record {
         is-held = k .is-held;
         number = number;
         carries = and-both (its-logged σ v t held d few slots H (H .updated) (sup .true-reports) n l (k .is-held))
-            (subst (λ (i : ℕ). has (maskAt (viewAt H i) s) n ≡ true) place (subst (λ (m : ℕ). has m n ≡ true) (sup .listed .masks s below) (k .member)));
+            (subst (λ (i : ℕ). has (maskAt (viewAt H i) s) n ≡ true) place
+            (subst (λ (m : ℕ). has m n ≡ true) (sup .listed .masks s below) (k .member)));
       }
 
   module _ (s : ℕ) (below : s < shards σ) where
@@ -100,10 +112,12 @@ module _ (σ : List ℕ) (v : Layout) (t u : Termination) (held : ℕ) (d e : Li
       short-runs = its-runs σ v u held e few short-slots H (shortOf H .updated) short n l (stand .is-held) s below
 
       whole-rises : risesAfter start (updatesAt d s n) ≡ true
-      whole-rises = log-rises 0 0 (runsOf (reportOf d n .body) s (reportOf d n .len)) (runs-rises (reportOf d n .body) (reportOf d n .len) s whole-runs)
+      whole-rises = log-rises 0 0 (runsOf (reportOf d n .body) s (reportOf d n .len))
+          (runs-rises (reportOf d n .body) (reportOf d n .len) s whole-runs)
 
       short-rises : risesAfter start (updatesAt e s n) ≡ true
-      short-rises = log-rises 0 0 (runsOf (reportOf e n .body) s (reportOf e n .len)) (runs-rises (reportOf e n .body) (reportOf e n .len) s short-runs)
+      short-rises = log-rises 0 0 (runsOf (reportOf e n .body) s (reportOf e n .len))
+          (runs-rises (reportOf e n .body) (reportOf e n .len) s short-runs)
 
       whole-has : (p : Position) → among p (updatesAt d s n) ≡ H .updated n s p
       whole-has p =
@@ -118,13 +132,16 @@ module _ (σ : List ℕ) (v : Layout) (t u : Termination) (held : ℕ) (d e : Li
 
       whole-from : (p : Position) → H .updated n s p ≡ true → 1 ≤ p .k
       whole-from p h =
-          runs.held-given (reportOf d n .body) (reportOf d n .len) s p (holds-runs (reportOf d n .body) (reportOf d n .len) s p ∙ whole-has p ∙ h) .from
+          runs.held-given (reportOf d n .body) (reportOf d n .len) s p
+          (holds-runs (reportOf d n .body) (reportOf d n .len) s p ∙ whole-has p ∙ h) .from
 
       whole-views : (p : Position) → H .updated n s p ≡ true → p .view .0 ≤ v .number .0
       whole-views p h =
           let slot = its-slot σ v t held d few slots H (H .updated) (sup .true-reports) n l (stand .is-held) in
-          let end = end-legal σ (reportOf d n .node .0) (viewOf d n) (reportOf d n .members) (reportOf d n .body) (reportOf d n .len) (report-records σ v t d n slot) s (omega arith) in
-          let held-up = held-end (reportOf d n .body) (reportOf d n .len) s (whole-runs .rise) p (holds-runs (reportOf d n .body) (reportOf d n .len) s p ∙ whole-has p ∙ h) in
+          let end = end-legal σ (reportOf d n .node .0) (viewOf d n) (reportOf d n .members) (reportOf d n .body) (reportOf d n .len)
+          (report-records σ v t d n slot) s (omega arith) in
+          let held-up = held-end (reportOf d n .body) (reportOf d n .len) s (whole-runs .rise) p
+          (holds-runs (reportOf d n .body) (reportOf d n .len) s p ∙ whole-has p ∙ h) in
           omega (arith, order-views p (endAt d s n) held-up, end .no-later, slot .no-later)
 
       -- its base
@@ -152,10 +169,12 @@ module _ (σ : List ℕ) (v : Layout) (t u : Termination) (held : ℕ) (d e : Li
           ∙ ap (λ (xs : List Position). baseOf d s (v .number .0) n ++ xs)
           (rising-same start (beyond (pos (v .number .0) 0) (updatesAt d s n)) (updatesAt e s n)
           (those-rise (λ q. not (notAfter q (pos (v .number .0) 0))) start (updatesAt d s n) whole-rises) short-rises
-          (λ p. among-those (λ q. not (notAfter q (pos (v .number .0) 0))) p (updatesAt d s n) ∙ ap (λ (b : Bool). not (notAfter p (pos (v .number .0) 0)) && b) (whole-has p)
+          (λ p. among-those (λ q. not (notAfter q (pos (v .number .0) 0))) p (updatesAt d s n)
+          ∙ ap (λ (b : Bool). not (notAfter p (pos (v .number .0) 0)) && b) (whole-has p)
           ∙ cut-there p ∙ sym (short-has p)))
         where
-          cut-there : (p : Position) → (not (notAfter p (pos (v .number .0) 0)) && H .updated n s p) ≡ (eqb (p .view .0) (v .number .0) && H .updated n s p)
+          cut-there : (p : Position) → (not (notAfter p (pos (v .number .0) 0)) && H .updated n s p) ≡
+              (eqb (p .view .0) (v .number .0) && H .updated n s p)
           cut-there p =
               let x = not (notAfter p (pos (v .number .0) 0)) in
               let y = eqb (p .view .0) (v .number .0) in
@@ -164,7 +183,8 @@ module _ (σ : List ℕ) (v : Layout) (t u : Termination) (held : ℕ) (d e : Li
               let mine = and-right x (H .updated n s p) h in
               let past = of-not-true (notAfter p (pos (v .number .0) 0)) (and-left x (H .updated n s p) h) in
               and-both (eq-eqb (p .view .0) (v .number .0)
-              (⊎-elim (λ z. clash (order-of p (pos (v .number .0) 0) (inl z)) past) (λ z. omega (arith, whole-views p mine)) (lt-or-le (p .view .0) (v .number .0))))
+              (⊎-elim (λ z. clash (order-of p (pos (v .number .0) 0) (inl z)) past) (λ z. omega (arith, whole-views p mine))
+              (lt-or-le (p .view .0) (v .number .0))))
               mine)
               (λ h.
               let mine = and-right y (H .updated n s p) h in
@@ -176,10 +196,12 @@ module _ (σ : List ℕ) (v : Layout) (t u : Termination) (held : ℕ) (d e : Li
       short-of-kept p m = eqb-true (p .view .0) (v .number .0) (and-left (eqb (p .view .0) (v .number .0)) (H .updated n s p) (sym (short-has p) ∙ m))
 
     -- all candidates have the same base
-    one-base : (n m : ℕ) (l : n < 32) (k : m < 32) (a : candidate v held d s n ≡ true) (b : candidate v held d s m ≡ true) → baseOf d s (v .number .0) n ≡ baseOf d s (v .number .0) m
+    one-base : (n m : ℕ) (l : n < 32) (k : m < 32) (a : candidate v held d s n ≡ true) (b : candidate v held d s m ≡ true)
+        → baseOf d s (v .number .0) n ≡ baseOf d s (v .number .0) m
     one-base n m l k a b =
         rising-same start (baseOf d s (v .number .0) n) (baseOf d s (v .number .0) m) (base-rises n l a) (base-rises m k b)
-        (λ p. same (among p (baseOf d s (v .number .0) n)) (among p (baseOf d s (v .number .0) m)) (λ h. over n m l k a b p h) (λ h. over m n k l b a p h))
+        (λ p. same (among p (baseOf d s (v .number .0) n)) (among p (baseOf d s (v .number .0) m)) (λ h. over n m l k a b p h)
+        (λ h. over m n k l b a p h))
       where
         over : (n m : ℕ) (l : n < 32) (k : m < 32) (a : candidate v held d s n ≡ true) (b : candidate v held d s m ≡ true) (p : Position)
             → among p (baseOf d s (v .number .0) n) ≡ true → among p (baseOf d s (v .number .0) m) ≡ true
@@ -203,7 +225,8 @@ module _ (σ : List ℕ) (v : Layout) (t u : Termination) (held : ℕ) (d e : Li
         record {
           older = older;
           views = short-views;
-          ends = λ n l a. subst (λ (x : List Position). Shorter v (lastAfter start x) (endAt d s n) (endAt e s n)) (one-base n m l k a b) (ends n l a);
+          ends = λ n l a. subst (λ (x : List Position). Shorter v (lastAfter start x) (endAt d s n) (endAt e s n)) (one-base n m l k a b)
+              (ends n l a);
           common = λ n l a. common n l a (last-among start (baseOf d s (v .number .0) m));
           updates = λ n l a q view. ap (λ (x : Bool). eqb (q .view .0) 0 && eqb (q .k) 0 || x) (updates n l a q view);
         }
@@ -227,7 +250,8 @@ module _ (σ : List ℕ) (v : Layout) (t u : Termination) (held : ℕ) (d e : Li
             (end-last e n (short-runs n l a))
             (short-last v (baseOf d s (v .number .0) n) (updatesAt e s n) (short-of-kept n l a)))
 
-        common : (n : ℕ) → n < 32 → candidate v held d s n ≡ true → (baseEnd d s (v .number .0) m ≡ start) ⊎ (among (baseEnd d s (v .number .0) m) (baseOf d s (v .number .0) m) ≡ true)
+        common : (n : ℕ) → n < 32 → candidate v held d s n ≡ true → (baseEnd d s (v .number .0) m ≡ start) ⊎
+            (among (baseEnd d s (v .number .0) m) (baseOf d s (v .number .0) m) ≡ true)
             → hasAt d s (baseEnd d s (v .number .0) m) n ≡ true
         common n l a (inl z) = subst⁻¹ (λ (x : Position). hasAt d s x n ≡ true) z refl
         common n l a (inr z) =
@@ -244,12 +268,19 @@ module _ (σ : List ℕ) (v : Layout) (t u : Termination) (held : ℕ) (d e : Li
     module _ (some : 0 < v .number .0) (term : ShortTermination (shards σ) v t u)
         (ends : t .made ≡ true → (m : ℕ) → m < 32 → candidate v held d s m ≡ true
         → (positionAt t s ≡ baseEnd d s (v .number .0) m) ⊎ (positionAt t s .view .0 ≡ v .number .0)) where
-      ended-short : t .made ≡ true → (m : ℕ) → m < 32 → candidate v held d s m ≡ true → Shorter v (baseEnd d s (v .number .0) m) (positionAt t s) (positionAt u s)
+      ended-short : t .made ≡ true → (m : ℕ) → m < 32 → candidate v held d s m ≡ true
+          → Shorter v (baseEnd d s (v .number .0) m) (positionAt t s) (positionAt u s)
       ended-short made m k b =
           ⊎-elim
           (λ z.
           let o : positionAt t s .view .0 < v .number .0 = omega (arith, ap (λ (x : Position). x .view .0) z, shortened some m k b .older) in
-          record { told = inl (z, term .told s below ∙ ap (λ (x : Bool). cond x start (positionAt t s)) (lt-ltb (positionAt t s .view .0) (v .number .0) o)) })
+          record {
+            told = inl (
+              z,
+              term .told s below ∙ ap (λ (x : Bool). cond x start (positionAt t s))
+                  (lt-ltb (positionAt t s .view .0) (v .number .0) o),
+            );
+          })
           (λ z.
           let no : ltb (positionAt t s .view .0) (v .number .0) ≡ false =
           no-true (ltb (positionAt t s .view .0) (v .number .0)) (λ y. omega (arith, ltb-true (positionAt t s .view .0) (v .number .0) y)) in
@@ -257,7 +288,8 @@ module _ (σ : List ℕ) (v : Layout) (t u : Termination) (held : ℕ) (d e : Li
           (ends made m k b)
 
       -- the target is the same, or (0, 0) for the base's end
-      pub recipe-target : (n : ℕ) → n < 32 → candidate v held d s n ≡ true → Shorter v (baseEnd d s (v .number .0) n) (target v t held d s) (target v u held e s)
+      pub recipe-target : (n : ℕ) → n < 32 → candidate v held d s n ≡ true
+          → Shorter v (baseEnd d s (v .number .0) n) (target v t held d s) (target v u held e s)
       recipe-target n l a =
           short-target v t u held d e s (baseEnd d s (v .number .0) n) (shortened some n l a) (term .made) (λ q. ended-short q n l a) n l a
 
@@ -269,25 +301,30 @@ module _ (σ : List ℕ) (v : Layout) (t u : Termination) (held : ℕ) (d e : Li
           one : anyBelow 32 (candidate v held d s) ≡ true → holder v t held d s ≡ holder v u held e s
           one x =
               let w = any-witness 32 (candidate v held d s) x in
-              short-holder v t u held d e s (baseEnd d s (v .number .0) (w .0)) (shortened some (w .0) (w .1) (w .2)) (term .made) (λ q. ended-short q (w .0) (w .1) (w .2))
+              short-holder v t u held d e s (baseEnd d s (v .number .0) (w .0)) (shortened some (w .0) (w .1) (w .2)) (term .made)
+              (λ q. ended-short q (w .0) (w .1) (w .2))
 
           other : (n : ℕ) → n < 32 → candidate v held d s n ≡ false → candidate v held e s n ≡ false
           other n l x =
-              ⊎-elim (λ p. ap (λ (y : ℕ). has held n && has (maskAt v s) n && eqb y (v .number .0)) (short-views n l p) ∙ x) (λ p. rw p) (either (has held n))
+              ⊎-elim (λ p. ap (λ (y : ℕ). has held n && has (maskAt v s) n && eqb y (v .number .0)) (short-views n l p) ∙ x) (λ p. rw p)
+              (either (has held n))
 
           none : anyBelow 32 (candidate v held d s) ≡ false → holder v t held d s ≡ holder v u held e s
           none x =
               best-none (able v t held d s) (endAt d s) 32
-              (any-none-of 32 (able v t held d s) (λ n l. and-fails-left (hasAt d s (target v t held d s) n) (any-fails 32 (candidate v held d s) x n l)))
+              (any-none-of 32 (able v t held d s) (λ n l. and-fails-left (hasAt d s (target v t held d s) n)
+              (any-fails 32 (candidate v held d s) x n l)))
               ∙ sym (best-none (able v u held e s) (endAt e s) 32
-              (any-none-of 32 (able v u held e s) (λ n l. and-fails-left (hasAt e s (target v u held e s) n) (other n l (any-fails 32 (candidate v held d s) x n l)))))
+              (any-none-of 32 (able v u held e s) (λ n l. and-fails-left (hasAt e s (target v u held e s) n)
+              (other n l (any-fails 32 (candidate v held d s) x n l)))))
 
       -- a candidate's cut is the same, or (0, 0) for the base's end
       pub recipe-cut : holder v t held d s < 32 → (n : ℕ) → n < 32 → candidate v held d s n ≡ true
           → Shorter v (baseEnd d s (v .number .0) n) (cutFor v t held d n s) (cutFor v u held e n s)
       recipe-cut held-by n l a =
           subst⁻¹ (λ (x : Position). Shorter v (lastAfter start base) x (cutFor v u held e n s)) whole
-          (subst⁻¹ (λ (x : Position). Shorter v (lastAfter start base) (lastAfter start (base ++ shared)) x) shorter (short-last v base shared of-kept))
+          (subst⁻¹ (λ (x : Position). Shorter v (lastAfter start base) (lastAfter start (base ++ shared)) x) shorter
+          (short-last v base shared of-kept))
         where
           h : ℕ
           h = holder v t held d s
@@ -327,7 +364,8 @@ module _ (σ : List ℕ) (v : Layout) (t u : Termination) (held : ℕ) (d e : Li
 
           whole : cutFor v t held d n s ≡ lastAfter start (base ++ shared)
           whole =
-              cut-shared (reportOf d n .body) (reportOf d n .len) (reportOf d h .body) (reportOf d h .len) s (target v t held d s) (whole-runs n l a) (whole-runs h held-by b)
+              cut-shared (reportOf d n .body) (reportOf d n .len) (reportOf d h .body) (reportOf d h .len) s (target v t held d s)
+              (whole-runs n l a) (whole-runs h held-by b)
               ∙ ap₂ (λ (x y : List Position). lastAfter start (sharedStretch x (upTo (target v t held d s) y))) (split n l a)
               (split h held-by b ∙ ap (λ (x : List Position). x ++ updatesAt e s h) (one-base h n held-by l b a))
               ∙ ap (λ (x : List Position). lastAfter start (sharedStretch (base ++ updatesAt e s n) x))
@@ -337,7 +375,8 @@ module _ (σ : List ℕ) (v : Layout) (t u : Termination) (held : ℕ) (d e : Li
           shorter : cutFor v u held e n s ≡ lastAfter start shared
           shorter =
               ap (λ (k : ℕ). cut (reportOf e n) (reportOf e k) s (target v u held e s)) (sym recipe-holder)
-              ∙ cut-shared (reportOf e n .body) (reportOf e n .len) (reportOf e h .body) (reportOf e h .len) s (target v u held e s) (short-runs n l a) (short-runs h held-by b)
+              ∙ cut-shared (reportOf e n .body) (reportOf e n .len) (reportOf e h .body) (reportOf e h .len) s (target v u held e s)
+              (short-runs n l a) (short-runs h held-by b)
 
           of-kept : (p : Position) → among p shared ≡ true → p .view .0 ≡ v .number .0
           of-kept p m =
@@ -383,7 +422,8 @@ module _ (σ : List ℕ) (v : Layout) (t u : Termination) (held : ℕ) (d e : Li
 
         has-it : hasAt d s (positionAt t s) h ≡ true
         has-it =
-            subst (λ (x : Position). hasAt d s x h ≡ true) is-target (able-has v t held d s h (holder-given v t held d s (met .holders s below) .picked))
+            subst (λ (x : Position). hasAt d s x h ≡ true) is-target
+            (able-has v t held d s h (holder-given v t held d s (met .holders s below) .picked))
 
         base-first : notAfter (baseEnd d s (v .number .0) m) (positionAt t s) ≡ true
         base-first =
@@ -392,20 +432,23 @@ module _ (σ : List ℕ) (v : Layout) (t u : Termination) (held : ℕ) (d e : Li
             let p : Position = baseEnd d s (v .number .0) m in
             let mine : H .updated m s p ≡ true = base-among s below m m k k b b p z in
             ended .after made s below p
-            (base-settled H based (sup .rule) (kept-some σ v t held d few wide slots met H (H .updated) sup orderly) s below m k (standing s below m k b .carries) p
+            (base-settled H based (sup .rule) (kept-some σ v t held d few wide slots met H (H .updated) sup orderly) s below m k
+            (standing s below m k b .carries) p
             (whole-from s below m k b p mine) (omega (arith, base-older s below m k b p z, standing s below m k b .number)) mine))
             (last-among start (baseOf d s (v .number .0) m))
 
         empty : positionAt t s ≡ start → (positionAt t s ≡ baseEnd d s (v .number .0) m) ⊎ (positionAt t s .view .0 ≡ v .number .0)
         empty z =
             inl (same-position (positionAt t s) (baseEnd d s (v .number .0) m)
-            (subst⁻¹ (λ (x : Position). notAfter x (baseEnd d s (v .number .0) m) ≡ true) z (runs.start-first (baseEnd d s (v .number .0) m))) base-first)
+            (subst⁻¹ (λ (x : Position). notAfter x (baseEnd d s (v .number .0) m) ≡ true) z
+            (runs.start-first (baseEnd d s (v .number .0) m))) base-first)
 
         held-it : holdsAt d s (positionAt t s) h ≡ true → (positionAt t s ≡ baseEnd d s (v .number .0) m) ⊎ (positionAt t s .view .0 ≡ v .number .0)
         held-it z =
             let small = holder-given v t held d s (met .holders s below) .below in
             let mine : H .updated h s (positionAt t s) ≡ true =
-            sym (whole-has s below h small top (positionAt t s)) ∙ (sym (holds-runs (reportOf d h .body) (reportOf d h .len) s (positionAt t s)) ∙ z) in
+            sym (whole-has s below h small top (positionAt t s)) ∙ (sym (holds-runs (reportOf d h .body) (reportOf d h .len) s (positionAt t s))
+            ∙ z) in
             ⊎-elim
             (λ o.
             let in-base : among (positionAt t s) (baseOf d s (v .number .0) m) ≡ true =
@@ -442,11 +485,13 @@ module _ (σ : List ℕ) (v : Layout) (t u : Termination) (held : ℕ) (d e : Li
           }
 
       -- and a machine that does as the recipe says has what an order from whole reports says
-      pub recipe-ordered : (s : ℕ) → s < shards σ → (n : ℕ) → n < 32 → has held n ≡ true → {G : History} → ByRecipe v u held e H G n s → (q : Position) → 1 ≤ q .k
+      pub recipe-ordered : (s : ℕ) → s < shards σ → (n : ℕ) → n < 32 → has held n ≡ true → {G : History} → ByRecipe v u held e H G n s
+          → (q : Position) → 1 ≤ q .k
           → G .updated n s q ≡ asOrdered v t held d n s q
       recipe-ordered s below n l k r q from =
           recipe-wanted σ v u held e few wide short-slots recipe-met H short-supposed orderly s below n l k based r q from
-          ∙ subst (λ (x : ℕ). wanted x ≡ (H .updated h s q && notAfter q (target v t held d s))) (recipe-holder s below some-number term (ends s below)) one
+          ∙ subst (λ (x : ℕ). wanted x ≡ (H .updated h s q && notAfter q (target v t held d s)))
+          (recipe-holder s below some-number term (ends s below)) one
           ∙ sym (as-handed σ v t held d few wide slots met H sup orderly s below n l k q)
         where
           h : ℕ
@@ -476,10 +521,17 @@ module _ (σ : List ℕ) (v : Layout) (t u : Termination) (held : ℕ) (d e : Li
               let up = and-right (H .updated h s q) (notAfter q (target v t held d s)) a in
               and-both (and-left (H .updated h s q) (notAfter q (target v t held d s)) a)
               (lt-ltb (q .view .0) (v .number .0)
-              (omega (arith, order-views q (target v t held d s) up, ap (λ (x : Position). x .view .0) (z .0), shortened s below some-number h small top .older)))))
+              (omega (
+                arith,
+                order-views q (target v t held d s) up,
+                ap (λ (x : Position). x .view .0)
+                    (z .0),
+                shortened s below some-number h small top .older,
+              )))))
               (λ z.
               let no : isStart (target v u held e s) ≡ false =
-              and-fails-left (eqb (target v u held e s .k) 0) (ne-eqb (target v u held e s .view .0) 0 (λ y. omega (arith, some-number, z .0, ap (λ (x : Position). x .view .0) (z .1)))) in
+              and-fails-left (eqb (target v u held e s .k) 0) (ne-eqb (target v u held e s .view .0) 0
+              (λ y. omega (arith, some-number, z .0, ap (λ (x : Position). x .view .0) (z .1)))) in
               ap (λ (x : Bool). H .updated h s q && cond x (ltb (q .view .0) (v .number .0)) (notAfter q (target v u held e s))) no
               ∙ ap (λ (x : Position). H .updated h s q && notAfter q x) (z .1))
               (recipe-target s below some-number term (ends s below) h small top .told)

@@ -106,7 +106,13 @@ module _ (σ : List ℕ) (v : Layout) (t : Termination) (held : ℕ) (d : List �
       sym (its-number σ v t held d few slots H told (sup .true-reports) h (top .below) (c .is-held)) ∙ c .of-kept in
       let latest : latestOf H h ≡ lastOf H =
       ⊎-elim (λ e. e)
-      (λ e. absurd (omega (arith, kept-number, number, orderly .rule .rises (latestOf H h) (lastOf H) (omega (arith, e, at, r .listed)) (omega (arith, kept-some)))))
+      (λ e. absurd (omega (
+        arith,
+        kept-number,
+        number,
+        orderly .rule .rises (latestOf H h) (lastOf H) (omega (arith, e, at, r .listed))
+            (omega (arith, kept-some)),
+      )))
       (eq-or-ne (latestOf H h) (lastOf H)) in
       let logged : H .logged h (lastOf H) ≡ true =
       subst (λ (i : ℕ). H .logged h i ≡ true) latest (its-logged σ v t held d few slots H told (sup .true-reports) h (top .below) (c .is-held)) in

@@ -29,20 +29,24 @@ rises-above a p (x ∷ ps) h m =
         no-true (notAfter p a) (λ z. clash (order-trans p a x z up) (on e))
 
 -- two such lists with the same updates are one
-pub rising-same : (a : Position) (ps qs : List Position) → risesAfter a ps ≡ true → risesAfter a qs ≡ true → ((p : Position) → among p ps ≡ among p qs) → ps ≡ qs
+pub rising-same : (a : Position) (ps qs : List Position) → risesAfter a ps ≡ true → risesAfter a qs ≡ true
+    → ((p : Position) → among p ps ≡ among p qs) → ps ≡ qs
 unfolding among
 rising-same a [] [] h g e = refl
 rising-same a [] (q ∷ qs) h g e = clash (or-left (among q qs) (one-refl q)) (sym (e q))
 rising-same a (p ∷ ps) [] h g e = clash (or-left (among p ps) (one-refl p)) (e p)
 rising-same a (p ∷ ps) (q ∷ qs) h g e =
-    go (λ z f. rising-same p ps qs (rises-rest a p ps h) z f) (or-holds (onePosition q p) (among p qs) (sym (e p) ∙ or-left (among p ps) (one-refl p)))
+    go (λ z f. rising-same p ps qs (rises-rest a p ps h) z f) (or-holds (onePosition q p) (among p qs)
+    (sym (e p) ∙ or-left (among p ps) (one-refl p)))
     (or-holds (onePosition p q) (among q ps) (e q ∙ or-left (among q qs) (one-refl q)))
   where
     tails : p ≡ q → (x : Position) → among x ps ≡ among x qs
     tails d x =
         same (among x ps) (among x qs)
-        (λ m. ⊎-elim (λ o. clash (not-after-refl (p .view .0) (p .k)) (lower o m)) (λ o. o) (or-holds (onePosition q x) (among x qs) (sym (e x) ∙ or-right (onePosition p x) m)))
-        (λ m. ⊎-elim (λ o. clash (not-after-refl (q .view .0) (q .k)) (upper o m)) (λ o. o) (or-holds (onePosition p x) (among x ps) (e x ∙ or-right (onePosition q x) m)))
+        (λ m. ⊎-elim (λ o. clash (not-after-refl (p .view .0) (p .k)) (lower o m)) (λ o. o)
+        (or-holds (onePosition q x) (among x qs) (sym (e x) ∙ or-right (onePosition p x) m)))
+        (λ m. ⊎-elim (λ o. clash (not-after-refl (q .view .0) (q .k)) (upper o m)) (λ o. o)
+        (or-holds (onePosition p x) (among x ps) (e x ∙ or-right (onePosition q x) m)))
       where
         lower : onePosition q x ≡ true → among x ps ≡ true → notAfter p p ≡ false
         lower o m = subst (λ (z : Position). notAfter z p ≡ false) (sym (one-same q x o) ∙ sym d) (rises-above p x ps (rises-rest a p ps h) m)
@@ -54,9 +58,11 @@ rising-same a (p ∷ ps) (q ∷ qs) h g e =
         → (onePosition q p ≡ true) ⊎ (among p qs ≡ true) → (onePosition p q ≡ true) ⊎ (among q ps ≡ true) → p ∷ ps ≡ q ∷ qs
     go on (inl o) k =
         let d : p ≡ q = sym (one-same q p o) in
-        ap₂ (λ (x : Position) (xs : List Position). x ∷ xs) d (on (subst (λ (z : Position). risesAfter z qs ≡ true) (sym d) (rises-rest a q qs g)) (tails d))
+        ap₂ (λ (x : Position) (xs : List Position). x ∷ xs) d (on (subst (λ (z : Position). risesAfter z qs ≡ true) (sym d) (rises-rest a q qs g))
+        (tails d))
     go on (inr m) (inl o) =
-        clash (not-after-refl (q .view .0) (q .k)) (subst (λ (z : Position). notAfter z q ≡ false) (one-same p q o) (rises-above q p qs (rises-rest a q qs g) m))
+        clash (not-after-refl (q .view .0) (q .k)) (subst (λ (z : Position). notAfter z q ≡ false) (one-same p q o)
+        (rises-above q p qs (rises-rest a q qs g) m))
     go on (inr m) (inr k) =
         let up : notAfter p q ≡ false = rises-above q p qs (rises-rest a q qs g) m in
         let down : notAfter q p ≡ false = rises-above p q ps (rises-rest a p ps h) k in
@@ -71,7 +77,8 @@ those-rise f a (p ∷ ps) h = go (either (f p)) (those-rise f p ps (rises-rest a
     go : (f p ≡ true) ⊎ (f p ≡ false) → risesAfter p (thoseOf f ps) ≡ true → risesAfter a (cond (f p) (p ∷ thoseOf f ps) (thoseOf f ps)) ≡ true
     go (inl e) rest = rw e (rises-on a p (thoseOf f ps) (rises-first a p ps h) rest)
     go (inr e) rest =
-        let up : notAfter a p ≡ true = ⊎-elim (λ z. clash z (rises-first a p ps h)) (λ z. z) (not-after-total (p .view .0) (p .k) (a .view .0) (a .k)) in
+        let up : notAfter a p ≡ true = ⊎-elim (λ z. clash z (rises-first a p ps h)) (λ z. z)
+        (not-after-total (p .view .0) (p .k) (a .view .0) (a .k)) in
         rw e (rises-sooner a p (thoseOf f ps) up rest)
 
 -- none is past the last
