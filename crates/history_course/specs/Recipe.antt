@@ -246,41 +246,44 @@ module _ (σ : List ℕ) (v : Layout) (t : Termination) (held : ℕ) (d : List �
               sym mine ∙ (sym (or-no (holdsAt d s q n)) ∙ (rw (l, to-target) at both)) ∙ its
               ∙ sym (rw (further, to-target) (and-yes (H .updated (holder v t held d s) s q)))
 
-      -- so what it keeps is the holder's log as far as it goes
-      kept-agrees : {G : History} → (r : ByRecipe v t held d H G n s) → (q : Position) → 1 ≤ q .k → notAfter q (r .last) ≡ true
-          → keptBy v t held d H n s q ≡ wantedOf v t held d H s q
-      kept-agrees r q from l = ⊎-elim nothing some (r .kept)
-        where
-          nothing : r .last ≡ start → keptBy v t held d H n s q ≡ wantedOf v t held d H s q
-          nothing e = past-start q from (subst (λ (p : Position). notAfter q p ≡ true) e l)
+      -- so what it keeps, up to the last update `last`, is the holder's log as far as it goes, and with what it fetches all of it
+      module _ (last : Position) (kept : (last ≡ start) ⊎ (keptBy v t held d H n s last ≡ true))
+          (end : (q : Position) → keptBy v t held d H n s q ≡ true → notAfter q last ≡ true) (q : Position) (from : 1 ≤ q .k) where
+        kept-agrees : notAfter q last ≡ true → keptBy v t held d H n s q ≡ wantedOf v t held d H s q
+        kept-agrees l = ⊎-elim (λ e. past-start q from (subst (λ (p : Position). notAfter q p ≡ true) e l)) some kept
+          where
+            some : keptBy v t held d H n s last ≡ true → keptBy v t held d H n s q ≡ wantedOf v t held d H s q
+            some e =
+                let base : Bool = carriesLatest H s n && ltb (last .view .0) (latestNumber H n) in
+                let test = and-right (H .updated n s last) (cond (isStart itsCut) base (notAfter last itsCut)) e in
+                ⊎-elim
+                (λ z.
+                let both : base ≡ true = rw z at test in
+                let c = and-left (carriesLatest H s n) (ltb (last .view .0) (latestNumber H n)) both in
+                let below-it = ltb-true (last .view .0) (latestNumber H n) (and-right (carriesLatest H s n) (ltb (last .view .0) (latestNumber H n)) both) in
+                let o : q .view .0 < latestNumber H n = omega (arith, order-views q last l) in
+                and-first (H .updated n s q) (notAfter q itsCut) z (and-both c (lt-ltb (q .view .0) (latestNumber H n) o))
+                ∙ agrees-base q from c o (omega (arith, latest-no-later)))
+                (λ z.
+                let to-cut : notAfter last itsCut ≡ true = rw z at test in
+                let within = order-trans q last itsCut l to-cut in
+                and-second (H .updated n s q) (carriesLatest H s n && ltb (q .view .0) (latestNumber H n)) z within ∙ agrees-cut q from z within)
+                (either (isStart itsCut))
 
-          some : keptBy v t held d H n s (r .last) ≡ true → keptBy v t held d H n s q ≡ wantedOf v t held d H s q
-          some e =
-              let test = and-right (H .updated n s (r .last))
-              (cond (isStart itsCut) (carriesLatest H s n && ltb (r .last .view .0) (latestNumber H n)) (notAfter (r .last) itsCut)) e in
-              ⊎-elim
-              (λ z.
-              let both : (carriesLatest H s n && ltb (r .last .view .0) (latestNumber H n)) ≡ true = rw z at test in
-              let c = and-left (carriesLatest H s n) (ltb (r .last .view .0) (latestNumber H n)) both in
-              let o : q .view .0 < latestNumber H n =
-              omega (
-                arith,
-                order-views q (r .last) l,
-                ltb-true (r .last .view .0) (latestNumber H n)
-                    (and-right (carriesLatest H s n) (ltb (r .last .view .0) (latestNumber H n)) both),
-              ) in
-              and-first (H .updated n s q) (notAfter q itsCut) z (and-both c (lt-ltb (q .view .0) (latestNumber H n) o))
-              ∙ agrees-base q from c o (omega (arith, latest-no-later)))
-              (λ z.
-              let to-cut : notAfter (r .last) itsCut ≡ true = rw z at test in
-              let within = order-trans q (r .last) itsCut l to-cut in
-              and-second (H .updated n s q) (carriesLatest H s n && ltb (q .view .0) (latestNumber H n)) z within ∙ agrees-cut q from z within)
-              (either (isStart itsCut))
+        kept-joined : (keptBy v t held d H n s q || (not (notAfter q last) && wantedOf v t held d H s q)) ≡ wantedOf v t held d H s q
+        kept-joined = by (notAfter q last) refl
+          where
+            by : (b : Bool) → notAfter q last ≡ b
+                → (keptBy v t held d H n s q || (not (notAfter q last) && wantedOf v t held d H s q)) ≡ wantedOf v t held d H s q
+            by true e = rw (e, kept-agrees e) (or-no (wantedOf v t held d H s q))
+            by false e = rw (e, no-true (keptBy v t held d H n s q) (λ k. clash (end q k) e))
 
       pub recipe-wanted : {G : History} → ByRecipe v t held d H G n s → (q : Position) → 1 ≤ q .k → G .updated n s q ≡ wantedOf v t held d H s q
-      recipe-wanted r q from = r .joined q from ∙ by (notAfter q (r .last)) refl
-        where
-          by : (b : Bool) → notAfter q (r .last) ≡ b
-              → (keptBy v t held d H n s q || (not (notAfter q (r .last)) && wantedOf v t held d H s q)) ≡ wantedOf v t held d H s q
-          by true e = rw (e, kept-agrees r q from e) (or-no (wantedOf v t held d H s q))
-          by false e = rw (e, no-true (keptBy v t held d H n s q) (λ k. clash (r .end q k) e))
+      recipe-wanted r q from = r .joined q from ∙ kept-joined (r .last) (r .kept) (r .end) q from
+
+      -- and a node that has it has done as the recipe says
+      pub wanted-recipe : {G : History} → (last : Position) → (last ≡ start) ⊎ (keptBy v t held d H n s last ≡ true)
+          → ((q : Position) → keptBy v t held d H n s q ≡ true → notAfter q last ≡ true)
+          → ((q : Position) → 1 ≤ q .k → G .updated n s q ≡ wantedOf v t held d H s q) → ByRecipe v t held d H G n s
+      wanted-recipe last kept end h =
+          record { last = last; kept = kept; end = end; joined = λ q from. h q from ∙ sym (kept-joined last kept end q from) }
