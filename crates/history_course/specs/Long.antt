@@ -1,0 +1,174 @@
+-- A case that whole reports cannot tell: three nodes whose logs of one shard have a run of each of 200 views and more, where a report has at
+-- most 127 records after its head. Nodes 0 and 1 are members of view 201, node 2 has stayed with view 200. From their short reports there is a
+-- plan, and every settled update is in its holder's log, up to the target.
+use Prim.Native.Nat.{ℕ, zero, suc, _<_, _≤_}
+use mathlib.Core.Bool.{Bool, true, false, cond, _&&_}
+use mathlib.Core.List.{List, [], _∷_, _++_}
+use mathlib.Core.Logic.{_⊎_, inl, inr, ⊎-elim}
+use mathlib.Core.Path.{_≡_, refl, sym, ap, _∙_, subst, subst⁻¹}
+use native.Mathlib.Omega.{arith}
+use lib.Count.{ones, onesIn}
+use lib.Dec.{eqb, leb, ltb}
+use lib.ListN.{length, getD, replicate}
+use borrow.Author.Tests.{eqb-true, eq-eqb, ne-eqb, leb-true, le-leb, ltb-true, lt-ltb}
+use Rattle.base_laws.specs.Bools.{clash, same, no-true, and-both, and-left, and-right, and-fails-left, lt-or-le, eq-or-ne}
+use Rattle.base_laws.specs.Below.{allBelow, anyBelow, lowest}
+use Rattle.base_laws.specs.Masks.{has, count, has-past, subset-has}
+use Rattle.base_laws.specs.Positions.{pairNotAfter}
+use Rattle.base_laws.specs.Tables.{tabulate}
+use Rattle.base_ids.specs.declared.Position.{Position}
+use Rattle.base_ids.specs.Refusals.{unless, unlessAt, firstOf}
+use Rattle.message_format.specs.Chain.{place, following, row5, row8}
+use Rattle.message_format.specs.Records.{word1, membersOf, precedes, shardsWhere}
+use Rattle.message_format.specs.Rows.{row6, viewOk, row7, kindOk, plain, kindAt, shardAt, surplus, sequenceAt, complete, shardApart, row10At, row10, position, viewFits, legal, row11At}
+use Rattle.message_format.specs.Messages.{bodyWord, bodyOf, contentsOf, recordsRefusal, headRefusal, messageRefusal}
+use Rattle.report_views.specs.declared.Layout.{Layout}
+use Rattle.report_views.specs.declared.Quorum.the-variants.{Met}
+use Rattle.report_views.specs.Empty.{noTermination}
+use Rattle.report_views.specs.Logs.{pos, endOf, reaches, holds, hasUpdate}
+use Rattle.report_views.specs.LogLaws.{reaches-run, reaches-view, reaches-count}
+use Rattle.report_views.specs.RunLaws.{Runs, held-given, held-of}
+use Rattle.report_views.specs.Reports.{slot, reportOf, holdsAt, maskAt}
+use Rattle.report_views.specs.Slots.{sameView, row12, sameTermination, row13, termKept, slotOk, slotsOk}
+use Rattle.report_views.specs.Quorums.{candidate, greatest, best, target, able, holder, majority, firstUnheld, quorumOf}
+use Rattle.history_claims.specs.History.{History, True, viewAt, numberAt}
+use Rattle.history_course.specs.Based.{lastPlace, latestOf, latestNumber, carriesLatest, shortOf, Based}
+use Rattle.history_course.specs.Bases.{place-is}
+
+-- three nodes in three failure sets, and a shard of two
+abbrev longSettings : List ℕ
+longSettings = 3 ∷ 3 ∷ 2 ∷ 1 ∷ 0 ∷ 1 ∷ 2 ∷ 2 ∷ []
+
+-- a view whose shard all members carry
+abbrev longView : ℕ → ℕ → Layout
+longView number members = record { number = record { 0 = number }; members = members; masks = members ∷ replicate 15 0 }
+
+-- how many updates of view w node n has: two of each view below 200
+unfoldable longRun : ℕ → ℕ → ℕ
+longRun n w =
+    cond (ltb w 200) (cond (eqb w 0) 0 2)
+    (cond (eqb w 200) (getD (2 ∷ 2 ∷ 3 ∷ []) n 0) (cond (eqb w 201) (getD (3 ∷ 2 ∷ []) n 0) 0))
+
+abbrev longHistory : History
+longHistory =
+    record {
+      views = longView 200 7 ∷ longView 201 3 ∷ [];
+      logged = λ n i. has (getD (7 ∷ 3 ∷ []) i 0) n;
+      updated = λ n s p. leb 1 (p .k) && leb (p .k) (longRun n (p .view .0));
+    }
+
+-- a report of a view, with a run of it
+abbrev longReport : ℕ → ℕ → ℕ → ℕ → List ℕ
+longReport node number members count =
+    (node ∷ number ∷ members ∷ 1 ∷ 256 ∷ members ∷ 0 ∷ 2 ∷ 768 ∷ number ∷ count ∷ 0 ∷ []) ++ replicate 500 0
+
+-- the short reports
+unfoldable longDesk : List ℕ
+longDesk = longReport 0 201 3 3 ++ longReport 1 201 3 2 ++ longReport 2 200 7 3 ++ replicate 14848 0
+
+slots-long : slotsOk longSettings (longView 201 3) noTermination 7 longDesk ≡ true
+unfolding longDesk allBelow anyBelow lowest tabulate unless unlessAt firstOf place following row5 row8 precedes shardsWhere row6 viewOk row7 kindOk plain kindAt shardAt surplus sequenceAt complete shardApart row10At row10 position viewFits legal row11At bodyWord bodyOf contentsOf recordsRefusal headRefusal messageRefusal slot reportOf sameView row12 sameTermination row13 termKept slotOk slotsOk
+slots-long = refl
+
+met-long : quorumOf longSettings (longView 201 3) noTermination 7 longDesk ≡ Met
+unfolding longDesk ones onesIn allBelow anyBelow lowest tabulate pairNotAfter place following bodyWord bodyOf contentsOf endOf reaches holds hasUpdate slot reportOf candidate greatest best target able holder majority firstUnheld quorumOf
+met-long = refl
+
+record SaidOf (n number members count : ℕ) : Type 0 where
+  pub node : reportOf longDesk n .node .0 ≡ n
+  pub view : reportOf longDesk n .view .0 ≡ number
+  pub all : reportOf longDesk n .members ≡ members
+  pub mask : getD (reportOf longDesk n .body) 1 0 ≡ members
+  pub records : reportOf longDesk n .len ≡ 2
+  pub first-tag : getD (reportOf longDesk n .body) 0 0 ≡ 256
+  pub second-tag : getD (reportOf longDesk n .body) 3 0 ≡ 768
+  pub of-view : getD (reportOf longDesk n .body) 4 0 ≡ number
+  pub to : getD (reportOf longDesk n .body) 5 0 ≡ count
+
+said-0 : SaidOf 0 201 3 3
+unfolding longDesk slot reportOf contentsOf bodyOf bodyWord tabulate place following lowest anyBelow
+said-0 = record { node = refl; view = refl; all = refl; mask = refl; records = refl; first-tag = refl; second-tag = refl; of-view = refl; to = refl }
+
+said-1 : SaidOf 1 201 3 2
+unfolding longDesk slot reportOf contentsOf bodyOf bodyWord tabulate place following lowest anyBelow
+said-1 = record { node = refl; view = refl; all = refl; mask = refl; records = refl; first-tag = refl; second-tag = refl; of-view = refl; to = refl }
+
+said-2 : SaidOf 2 200 7 3
+unfolding longDesk slot reportOf contentsOf bodyOf bodyWord tabulate place following lowest anyBelow
+said-2 = record { node = refl; view = refl; all = refl; mask = refl; records = refl; first-tag = refl; second-tag = refl; of-view = refl; to = refl }
+
+-- ---- the reports are short ones
+
+module _ (n number members count : ℕ) (said : SaidOf n number members count) where
+  tells : (p : Position) → holdsAt longDesk 0 p n ≡ (eqb (p .view .0) number && (leb 1 (p .k) && leb (p .k) count))
+  tells p =
+      same (holdsAt longDesk 0 p n) (eqb (p .view .0) number && (leb 1 (p .k) && leb (p .k) count))
+      (λ h. let w = held-given b len 0 p h in told (w .from) (w .by .0) (w .by .1) (w .by .2))
+      (λ h.
+      let rest = and-right (eqb (p .view .0) number) (leb 1 (p .k) && leb (p .k) count) h in
+      held-of b len 0 p 1 (omega (arith, said .records)) (eq-eqb (getD b 3 0) 768 (said .second-tag))
+      (said .of-view ∙ sym (eqb-true (p .view .0) number (and-left (eqb (p .view .0) number) (leb 1 (p .k) && leb (p .k) count) h)))
+      (leb-true 1 (p .k) (and-left (leb 1 (p .k)) (leb (p .k) count) rest))
+      (omega (arith, said .to, leb-true (p .k) count (and-right (leb 1 (p .k)) (leb (p .k) count) rest))))
+    where
+      b : List ℕ
+      b = reportOf longDesk n .body
+
+      len : ℕ
+      len = reportOf longDesk n .len
+
+      told : 1 ≤ p .k → (j : ℕ) → j < len → reaches b 0 p j ≡ true → (eqb (p .view .0) number && (leb 1 (p .k) && leb (p .k) count)) ≡ true
+      told from zero l r = absurd (omega (arith, eqb-true (getD b 0 0) 768 (reaches-run b 0 p 0 r), said .first-tag))
+      told from (suc zero) l r =
+          and-both (eq-eqb (p .view .0) number (sym (reaches-view b 0 p 1 r) ∙ said .of-view))
+          (and-both (le-leb 1 (p .k) from) (le-leb (p .k) count (omega (arith, reaches-count b 0 p 1 r, said .to))))
+      told from (suc (suc j)) l r = absurd (omega (arith, said .records))
+
+  -- where that is the latest view of the node, which carries the shard in it
+  report-long : (at : ℕ) → at < 2 → longHistory .logged n at ≡ true → ((j : ℕ) → at < j → j < 2 → longHistory .logged n j ≡ false)
+      → viewAt longHistory at ≡ longView number members → has members n ≡ true → longRun n number ≡ count → True longSettings (shortOf longHistory) (reportOf longDesk n)
+  report-long at l logged latest view member run =
+      record {
+        at = at;
+        listed = l;
+        logged = subst⁻¹ (λ (m : ℕ). longHistory .logged m at ≡ true) (said .node) logged;
+        latest = λ j a k. subst⁻¹ (λ (m : ℕ). longHistory .logged m j ≡ false) (said .node) (latest j a k);
+        same = record {
+          number = said .view ∙ sym (ap (λ (x : Layout). x .number .0) view);
+          members = said .all ∙ sym (ap (λ (x : Layout). x .members) view);
+          masks = λ s k. let e : 0 ≡ s = omega arith in
+              subst (λ (i : ℕ). membersOf (reportOf longDesk n .body) i ≡ maskAt (viewAt longHistory at) i) e (said .mask ∙ sym (ap (λ (x : Layout). maskAt x 0) view));
+        };
+        updates = λ s k p. let e : 0 ≡ s = omega arith in
+            subst (λ (i : ℕ). shortOf longHistory .updated (reportOf longDesk n .node .0) i p ≡ holdsAt longDesk i p n) e
+            (subst⁻¹ (λ (m : ℕ). shortOf longHistory .updated m 0 p ≡ holdsAt longDesk 0 p n) (said .node) (told p));
+      }
+    where
+      place-it : latestOf longHistory n ≡ at
+      place-it = place-is (longHistory .logged n) 2 at l logged latest
+
+      carries : carriesLatest longHistory 0 n ≡ true
+      carries =
+          subst⁻¹ (λ (i : ℕ). (longHistory .logged n i && has (maskAt (viewAt longHistory i) 0) n) ≡ true) place-it
+          (and-both logged (subst⁻¹ (λ (x : Layout). has (maskAt x 0) n ≡ true) view member))
+
+      it : latestNumber longHistory n ≡ number
+      it = ap (λ (i : ℕ). numberAt longHistory i) place-it ∙ ap (λ (x : Layout). x .number .0) view
+
+      told : (p : Position) → shortOf longHistory .updated n 0 p ≡ holdsAt longDesk 0 p n
+      told p =
+          rw (carries, it)
+          (⊎-elim
+          (λ e. ap (λ (w : ℕ). eqb (p .view .0) number && (leb 1 (p .k) && leb (p .k) (longRun n w))) e ∙ ap (λ (c : ℕ). eqb (p .view .0) number && (leb 1 (p .k) && leb (p .k) c)) run)
+          (λ e. and-fails-left (leb 1 (p .k) && leb (p .k) (longRun n (p .view .0))) (ne-eqb (p .view .0) number e)
+          ∙ sym (and-fails-left (leb 1 (p .k) && leb (p .k) count) (ne-eqb (p .view .0) number e)))
+          (eq-or-ne (p .view .0) number)
+          ∙ sym (tells p))
+
+long-reports : (n : ℕ) → n < 32 → has 7 n ≡ true → True longSettings (shortOf longHistory) (reportOf longDesk n)
+unfolding longRun
+long-reports zero l h = report-long 0 201 3 3 said-0 1 (omega arith) refl (λ j a k. absurd (omega arith)) refl refl refl
+long-reports (suc zero) l h = report-long 1 201 3 2 said-1 1 (omega arith) refl (λ j a k. absurd (omega arith)) refl refl refl
+long-reports (suc (suc zero)) l h =
+    report-long 2 200 7 3 said-2 0 (omega arith) refl (λ j a k. let e : 1 ≡ j = omega arith in subst (λ (i : ℕ). longHistory .logged 2 i ≡ false) e refl) refl refl refl
+long-reports (suc (suc (suc n))) l h = clash h (has-past 7 3 (suc (suc (suc n))) (omega arith) (omega arith))
