@@ -1,55 +1,63 @@
 -- A case that whole reports cannot tell: three nodes whose logs of one shard have a run of each of 200 views and more, where a report has at
 -- most 127 records after its head. Nodes 0 and 1 are members of view 201, node 2 has stayed with view 200. From their short reports there is a
 -- plan, and every settled update is in its holder's log, up to the target.
-use Prim.Native.Nat.{ℕ, zero, suc, _<_, _≤_}
+use Prim.Native.Nat.{ℕ, zero, suc, _*_, _<_, _≤_}
 use mathlib.Core.Bool.{Bool, true, false, cond, _&&_}
 use mathlib.Core.List.{List, [], _∷_, _++_}
 use mathlib.Core.Logic.{_⊎_, inl, inr, ⊎-elim}
 use mathlib.Core.Path.{_≡_, refl, sym, ap, _∙_, subst, subst⁻¹}
 use native.Mathlib.Omega.{arith}
+use lib.Bits.{bitAnd}
 use lib.Count.{ones, onesIn}
 use lib.Dec.{eqb, leb, ltb}
 use lib.ListN.{length, getD, replicate}
 use borrow.Author.Tests.{eqb-true, eq-eqb, ne-eqb, leb-true, le-leb, ltb-true, lt-ltb}
-use Rattle.base_laws.specs.Bools.{clash, same, no-true, and-both, and-left, and-right, and-fails-left, lt-or-le, eq-or-ne}
+use Rattle.base_laws.specs.Bools.{clash, same, no-true, and-both, and-left, and-right, and-fails-left, cond-of, lt-or-le, eq-or-ne}
 use Rattle.base_laws.specs.Below.{allBelow, anyBelow, lowest}
 use Rattle.base_laws.specs.Masks.{has, count, has-past, subset-has}
 use Rattle.base_laws.specs.Positions.{pairNotAfter}
 use Rattle.base_laws.specs.Tables.{tabulate}
 use Rattle.base_ids.specs.declared.Position.{Position}
-use Rattle.base_ids.specs.Refusals.{unless, unlessAt, firstOf}
+use Rattle.base_ids.specs.Refusals.{none, unless, unlessAt, firstOf}
+use Rattle.message_format.specs.declared.Contents.{Contents}
+use Rattle.message_format.specs.declared.Form.the-variants.{Report}
 use Rattle.message_format.specs.Chain.{place, following, row5, row8}
 use Rattle.message_format.specs.Records.{word1, membersOf, precedes, shardsWhere}
 use Rattle.message_format.specs.Rows.{row6, viewOk, row7, kindOk, plain, kindAt, shardAt, surplus, sequenceAt, complete, shardApart, row10At, row10, position, viewFits, legal, row11At}
-use Rattle.message_format.specs.Messages.{bodyWord, bodyOf, contentsOf, recordsRefusal, headRefusal, messageRefusal}
+use Rattle.message_format.specs.Messages.{bodyWord, bodyOf, contentsOf, recordsRefusal, headRefusal, messageRefusal, contentsRefusal}
+use Rattle.message_format.specs.Passed.{contents-given, contents-few}
 use Rattle.report_views.specs.declared.Layout.{Layout}
 use Rattle.report_views.specs.declared.Quorum.the-variants.{Met}
 use Rattle.report_views.specs.Empty.{noTermination}
-use Rattle.report_views.specs.Logs.{pos, endOf, reaches, holds, hasUpdate}
+use Rattle.report_views.specs.Logs.{pos, run, endOf, reaches, holds, hasUpdate}
 use Rattle.report_views.specs.LogLaws.{reaches-run, reaches-view, reaches-count}
-use Rattle.report_views.specs.RunLaws.{Runs, held-given, held-of}
+use Rattle.report_views.specs.RunLaws.{Runs, passed-runs, held-given, held-of}
 use Rattle.report_views.specs.Reports.{slot, reportOf, holdsAt, maskAt}
 use Rattle.report_views.specs.Slots.{sameView, row12, sameTermination, row13, termKept, slotOk, slotsOk}
 use Rattle.report_views.specs.Quorums.{candidate, greatest, best, target, able, holder, majority, firstUnheld, quorumOf}
-use Rattle.history_claims.specs.History.{History, True, viewAt, numberAt}
-use Rattle.history_course.specs.Based.{lastPlace, latestOf, latestNumber, carriesLatest, shortOf, Based}
-use Rattle.history_course.specs.Bases.{place-is}
+use Rattle.report_views.specs.Meets.{quorum-given}
+use Rattle.history_claims.specs.History.{History, True, viewAt, numberAt, membersAt}
+use Rattle.history_course.specs.Course.{Succeeded, Orderly}
+use Rattle.history_course.specs.Ever.{Restart}
+use Rattle.history_course.specs.Based.{lastPlace, latestOf, latestNumber, carriesLatest, shortOf, Based, wantedOf, here}
+use Rattle.history_course.specs.Bases.{place-is, latest-up-to}
+use Rattle.history_course.specs.ShortEver.{short-logged-lasts}
 
 -- three nodes in three failure sets, and a shard of two
-abbrev longSettings : List ℕ
+abbrev pub longSettings : List ℕ
 longSettings = 3 ∷ 3 ∷ 2 ∷ 1 ∷ 0 ∷ 1 ∷ 2 ∷ 2 ∷ []
 
 -- a view whose shard all members carry
-abbrev longView : ℕ → ℕ → Layout
+abbrev pub longView : ℕ → ℕ → Layout
 longView number members = record { number = record { 0 = number }; members = members; masks = members ∷ replicate 15 0 }
 
 -- how many updates of view w node n has: two of each view below 200
-unfoldable longRun : ℕ → ℕ → ℕ
+unfoldable pub longRun : ℕ → ℕ → ℕ
 longRun n w =
     cond (ltb w 200) (cond (eqb w 0) 0 2)
     (cond (eqb w 200) (getD (2 ∷ 2 ∷ 3 ∷ []) n 0) (cond (eqb w 201) (getD (3 ∷ 2 ∷ []) n 0) 0))
 
-abbrev longHistory : History
+abbrev pub longHistory : History
 longHistory =
     record {
       views = longView 200 7 ∷ longView 201 3 ∷ [];
@@ -63,7 +71,7 @@ longReport node number members count =
     (node ∷ number ∷ members ∷ 1 ∷ 256 ∷ members ∷ 0 ∷ 2 ∷ 768 ∷ number ∷ count ∷ 0 ∷ []) ++ replicate 500 0
 
 -- the short reports
-unfoldable longDesk : List ℕ
+unfoldable pub longDesk : List ℕ
 longDesk = longReport 0 201 3 3 ++ longReport 1 201 3 2 ++ longReport 2 200 7 3 ++ replicate 14848 0
 
 slots-long : slotsOk longSettings (longView 201 3) noTermination 7 longDesk ≡ true
@@ -172,3 +180,128 @@ long-reports (suc zero) l h = report-long 1 201 3 2 said-1 1 (omega arith) refl 
 long-reports (suc (suc zero)) l h =
     report-long 2 200 7 3 said-2 0 (omega arith) refl (λ j a k. let e : 1 ≡ j = omega arith in subst (λ (i : ℕ). longHistory .logged 2 i ≡ false) e refl) refl refl refl
 long-reports (suc (suc (suc n))) l h = clash h (has-past 7 3 (suc (suc (suc n))) (omega arith) (omega arith))
+
+-- ---- a restart from them
+
+long-orderly : Orderly longHistory
+unfolding ones onesIn
+long-orderly = record { rule = record { rises = rises; overlaps = overlaps }; succeeded = succeeded }
+  where
+    rises : (i j : ℕ) → i < j → j < 2 → numberAt longHistory i < numberAt longHistory j
+    rises zero (suc zero) l k = omega arith
+    rises zero zero l k = absurd (omega arith)
+    rises i (suc (suc j)) l k = absurd (omega arith)
+    rises (suc i) (suc zero) l k = absurd (omega arith)
+    rises (suc i) zero l k = absurd (omega arith)
+
+    most : count 7 < 2 * count (bitAnd 3 7)
+    most = let a : count 7 ≡ 3 = refl in let b : count (bitAnd 3 7) ≡ 2 = refl in omega (arith, a, b)
+
+    overlaps : (i : ℕ) → suc i < 2 → count (membersAt longHistory i) < 2 * count (bitAnd (membersAt longHistory (suc i)) (membersAt longHistory i))
+    overlaps zero l = most
+    overlaps (suc i) l = absurd (omega arith)
+
+    succeeded : (i : ℕ) → suc i < 2 → Succeeded longHistory i
+    succeeded zero l = record { by = 3; most = most; later = λ n k h. (1, omega arith, omega arith, h) }
+    succeeded (suc i) l = absurd (omega arith)
+
+-- nodes 0 and 1 have logged view 201, the others at most view 200
+latest-two : (n : ℕ) → (n < 2) ⊎ (latestNumber longHistory n ≡ 200)
+unfolding lastPlace
+latest-two n =
+    ⊎-elim (λ l. inl l)
+    (λ l.
+    let none : longHistory .logged n 1 ≡ false = has-past 3 2 n (omega arith) l in
+    inr (ap (λ (i : ℕ). numberAt longHistory i)
+    (ap (λ (b : Bool). cond b 1 (cond (longHistory .logged n 0) 0 0)) none ∙ cond-of (λ (i : ℕ). i ≡ 0) (longHistory .logged n 0) (λ e. refl) (λ e. refl))))
+    (lt-or-le n 2)
+
+latest-up : (n : ℕ) → latestNumber longHistory n ≤ 201
+latest-up n = latest-up-to longHistory (long-orderly .rule) n (omega arith)
+
+-- below their latest views they have the same runs
+same-run : (n m w : ℕ) → w < latestNumber longHistory n → w < latestNumber longHistory m → longRun n w ≡ longRun m w
+unfolding longRun
+same-run n m w x y = ⊎-elim (λ l. rw (lt-ltb w 200 l)) (λ l. last (omega (arith, latest-up n, x, l))) (lt-or-le w 200)
+  where
+    only : (n : ℕ) → w < latestNumber longHistory n → 200 ≤ w → longRun n 200 ≡ 2
+    only zero z l = refl
+    only (suc zero) z l = refl
+    only (suc (suc n)) z l = ⊎-elim (λ q. absurd (omega arith)) (λ q. absurd (omega (arith, z, q))) (latest-two (suc (suc n)))
+
+    last : w ≡ 200 → longRun n w ≡ longRun m w
+    last e = ap (λ (i : ℕ). longRun n i) e ∙ only n x (omega arith) ∙ sym (only m y (omega arith)) ∙ sym (ap (λ (i : ℕ). longRun m i) e)
+
+long-based : Based 1 longHistory
+long-based =
+    record {
+      same = λ s below n m l k a b p from x y. ap (λ (c : ℕ). leb 1 (p .k) && leb (p .k) c) (same-run n m (p .view .0) x y);
+    }
+
+pub long-restart : Restart 1 (shortOf longHistory)
+long-restart =
+    record {
+      σ = longSettings;
+      same = refl;
+      v = longView 201 3;
+      t = noTermination;
+      held = 7;
+      d = longDesk;
+      w = record { number = record { 0 = 202 }; members = 7; masks = 5 ∷ replicate 15 0 };
+      some = omega arith;
+      few = omega arith;
+      wide = omega arith;
+      slots = slots-long;
+      met = quorum-given longSettings (longView 201 3) noTermination 7 longDesk met-long;
+      next = record {
+        number = refl;
+        members = refl;
+        placed = λ s l n k h. let e : 0 ≡ s = omega arith in
+            subset-has 5 7 refl n (subst⁻¹ (λ (i : ℕ). has (getD (5 ∷ replicate 15 0) i 0) n ≡ true) e h);
+      };
+      reports = long-reports;
+      ended = record { after = λ e s l p u. clash e refl };
+    }
+
+-- update (150, 2) is settled, and in the holder's log up to the target
+pub long-lasts : wantedOf (longView 201 3) noTermination 7 longDesk longHistory 0 (pos 150 2) ≡ true
+unfolding longRun long-restart
+long-lasts =
+    short-logged-lasts long-orderly long-based 0 (omega arith) (pos 150 2) (omega arith) (omega arith) (λ n l m. refl) here long-restart
+
+-- ---- no whole report is true of it
+
+module _ (b : List ℕ) (len : ℕ) (runs : Runs b len 0) (all : (p : Position) → longHistory .updated 0 0 p ≡ holds b len 0 p) where
+  -- there is a run of each view up to 200
+  run-of : (w : ℕ) → suc w ≤ 200 → (j : ℕ) × (j < len) × (run b 0 j ≡ true) × (word1 b j ≡ suc w)
+  unfolding longRun
+  run-of w l =
+      let p : Position = pos (suc w) 1 in
+      let two : (leb 1 1 && leb 1 (longRun 0 (suc w))) ≡ true =
+      ⊎-elim (λ z. rw (lt-ltb (suc w) 200 z, ne-eqb (suc w) 0 (λ e. omega arith))) (λ z. let e : suc w ≡ 200 = omega arith in rw e) (lt-or-le (suc w) 200) in
+      let h = held-given b len 0 p (sym (all p) ∙ two) .by in
+      (h .0, h .1, reaches-run b 0 p (h .0) (h .2), reaches-view b 0 p (h .0) (h .2))
+
+  -- they rise, so that of view w + 1 has w before it
+  run-late : (w : ℕ) → suc w ≤ 200 → (j : ℕ) → j < len → run b 0 j ≡ true → word1 b j ≡ suc w → w ≤ j
+  run-late zero l j k r e = omega arith
+  run-late (suc w) l j k r e =
+      let (i, m, q, f) = run-of w (omega arith) in
+      let one = run-late w (omega arith) i m q f in
+      ⊎-elim (λ z. omega (arith, one))
+      (λ z. ⊎-elim (λ x. absurd (omega (arith, ap (λ (a : ℕ). word1 b a) x))) (λ x. absurd (omega (arith, runs .rise j i (omega (arith, x)) m r q))) (eq-or-ne i j))
+      (lt-or-le i j)
+
+  many-records : 200 ≤ len
+  many-records = let (j, l, r, e) = run-of 199 (omega arith) in omega (arith, run-late 199 (omega arith) j l r e)
+
+-- a report of node 0 that passes and is true of the history has 200 records, more than a report can have
+pub long-untold : (c : Contents) → c .node .0 ≡ 0 → contentsRefusal Report longSettings c ≡ none → True longSettings longHistory c → ⊥
+long-untold c own passes r =
+    let records = contents-given Report longSettings c passes .records-pass in
+    omega (
+      arith,
+      contents-few Report longSettings c passes,
+      many-records (c .body) (c .len) (passed-runs longSettings (c .node .0) (c .view .0) (c .members) (c .body) (c .len) records 0 (omega arith))
+      (λ p. subst (λ (n : ℕ). longHistory .updated n 0 p ≡ holds (c .body) (c .len) 0 p) own (r .updates 0 (omega arith) p)),
+    )
