@@ -47,7 +47,7 @@ place-same f g (suc k) h = rw (h k (omega arith), place-same f g k (λ i l. h i 
 -- ---- nodes
 
 module _ (H : History) where
-  latest-listed : (n : ℕ) → 0 < length (H .views) → latestOf H n < length (H .views)
+  pub latest-listed : (n : ℕ) → 0 < length (H .views) → latestOf H n < length (H .views)
   latest-listed n l =
       let e : length (H .views) ≡ suc (length (H .views) - 1) = omega arith in
       subst⁻¹ (λ (k : ℕ). lastPlace (H .logged n) k < k) e (place-below (H .logged n) (length (H .views) - 1))

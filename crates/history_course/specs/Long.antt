@@ -10,14 +10,15 @@ use native.Mathlib.Omega.{arith}
 use lib.Bits.{bitAnd}
 use lib.Count.{ones, onesIn}
 use lib.Dec.{eqb, leb, ltb}
-use lib.ListN.{length, getD, replicate}
+use lib.ListN.{getD, replicate}
 use borrow.Author.Tests.{eqb-true, eq-eqb, ne-eqb, leb-true, le-leb, ltb-true, lt-ltb}
-use Rattle.base_laws.specs.Bools.{clash, same, no-true, and-both, and-left, and-right, and-fails-left, cond-of, lt-or-le, eq-or-ne}
+use Rattle.base_laws.specs.Bools.{clash, same, and-both, and-left, and-right, and-fails-left, cond-of, lt-or-le, eq-or-ne}
 use Rattle.base_laws.specs.Below.{allBelow, anyBelow, lowest}
 use Rattle.base_laws.specs.Masks.{has, count, has-past, subset-has}
 use Rattle.base_laws.specs.Positions.{pairNotAfter}
 use Rattle.base_laws.specs.Tables.{tabulate}
 use Rattle.base_ids.specs.declared.Position.{Position}
+use Rattle.base_ids.specs.Order.{notAfter, order-of}
 use Rattle.base_ids.specs.Refusals.{none, unless, unlessAt, firstOf}
 use Rattle.message_format.specs.declared.Contents.{Contents}
 use Rattle.message_format.specs.declared.Form.the-variants.{Report}
@@ -29,19 +30,21 @@ use Rattle.message_format.specs.Passed.{contents-given, contents-few}
 use Rattle.report_views.specs.declared.Layout.{Layout}
 use Rattle.report_views.specs.declared.Quorum.the-variants.{Met}
 use Rattle.report_views.specs.Empty.{noTermination}
-use Rattle.report_views.specs.Logs.{pos, run, endOf, reaches, holds, hasUpdate}
+use Rattle.report_views.specs.Logs.{pos, start, isStart, run, runsFrom, runsOf, endOf, reaches, holds, hasUpdate}
 use Rattle.report_views.specs.LogLaws.{reaches-run, reaches-view, reaches-count}
 use Rattle.report_views.specs.RunLaws.{Runs, passed-runs, held-given, held-of}
 use Rattle.report_views.specs.Reports.{slot, reportOf, holdsAt, maskAt}
+use Rattle.report_views.specs.Cuts.{runsTo, sharedAfter, cutFrom}
 use Rattle.report_views.specs.Slots.{sameView, row12, sameTermination, row13, termKept, slotOk, slotsOk}
 use Rattle.report_views.specs.Quorums.{candidate, greatest, best, target, able, holder, majority, firstUnheld, quorumOf}
 use Rattle.report_views.specs.Meets.{quorum-given}
-use Rattle.history_claims.specs.History.{History, True, viewAt, numberAt, membersAt}
-use Rattle.history_course.specs.Course.{Succeeded, Orderly}
+use Rattle.history_claims.specs.History.{History, True, Supposed, viewAt, numberAt, membersAt}
+use Rattle.history_course.specs.Course.{Succeeded, Orderly, Settled, cutFor}
 use Rattle.history_course.specs.Ever.{Restart}
-use Rattle.history_course.specs.Based.{lastPlace, latestOf, latestNumber, carriesLatest, shortOf, Based, wantedOf, here}
-use Rattle.history_course.specs.Bases.{place-is, latest-up-to}
-use Rattle.history_course.specs.ShortEver.{short-logged-lasts}
+use Rattle.history_course.specs.Based.{lastPlace, latestOf, latestNumber, carriesLatest, shortOf, Based, AddsOnly, keptBy, wantedOf, ByRecipe, ShortCourse, here, carrying}
+use Rattle.history_course.specs.Bases.{place-is, latest-listed, latest-up-to}
+use Rattle.history_course.specs.Recipe.{wanted-recipe}
+use Rattle.history_course.specs.ShortEver.{short-settles-on, short-logged-lasts}
 
 -- three nodes in three failure sets, and a shard of two
 abbrev pub longSettings : List ℕ
@@ -134,7 +137,8 @@ module _ (n number members count : ℕ) (said : SaidOf n number members count) w
 
   -- where that is the latest view of the node, which carries the shard in it
   report-long : (at : ℕ) → at < 2 → longHistory .logged n at ≡ true → ((j : ℕ) → at < j → j < 2 → longHistory .logged n j ≡ false)
-      → viewAt longHistory at ≡ longView number members → has members n ≡ true → longRun n number ≡ count → True longSettings (shortOf longHistory) (reportOf longDesk n)
+      → viewAt longHistory at ≡ longView number members → has members n ≡ true → longRun n number ≡ count
+      → True longSettings (shortOf longHistory) (reportOf longDesk n)
   report-long at l logged latest view member run =
       record {
         at = at;
@@ -145,7 +149,8 @@ module _ (n number members count : ℕ) (said : SaidOf n number members count) w
           number = said .view ∙ sym (ap (λ (x : Layout). x .number .0) view);
           members = said .all ∙ sym (ap (λ (x : Layout). x .members) view);
           masks = λ s k. let e : 0 ≡ s = omega arith in
-              subst (λ (i : ℕ). membersOf (reportOf longDesk n .body) i ≡ maskAt (viewAt longHistory at) i) e (said .mask ∙ sym (ap (λ (x : Layout). maskAt x 0) view));
+              subst (λ (i : ℕ). membersOf (reportOf longDesk n .body) i ≡ maskAt (viewAt longHistory at) i) e
+              (said .mask ∙ sym (ap (λ (x : Layout). maskAt x 0) view));
         };
         updates = λ s k p. let e : 0 ≡ s = omega arith in
             subst (λ (i : ℕ). shortOf longHistory .updated (reportOf longDesk n .node .0) i p ≡ holdsAt longDesk i p n) e
@@ -167,7 +172,8 @@ module _ (n number members count : ℕ) (said : SaidOf n number members count) w
       told p =
           rw (carries, it)
           (⊎-elim
-          (λ e. ap (λ (w : ℕ). eqb (p .view .0) number && (leb 1 (p .k) && leb (p .k) (longRun n w))) e ∙ ap (λ (c : ℕ). eqb (p .view .0) number && (leb 1 (p .k) && leb (p .k) c)) run)
+          (λ e. ap (λ (w : ℕ). eqb (p .view .0) number && (leb 1 (p .k) && leb (p .k) (longRun n w))) e
+          ∙ ap (λ (c : ℕ). eqb (p .view .0) number && (leb 1 (p .k) && leb (p .k) c)) run)
           (λ e. and-fails-left (leb 1 (p .k) && leb (p .k) (longRun n (p .view .0))) (ne-eqb (p .view .0) number e)
           ∙ sym (and-fails-left (leb 1 (p .k) && leb (p .k) count) (ne-eqb (p .view .0) number e)))
           (eq-or-ne (p .view .0) number)
@@ -178,7 +184,8 @@ unfolding longRun
 long-reports zero l h = report-long 0 201 3 3 said-0 1 (omega arith) refl (λ j a k. absurd (omega arith)) refl refl refl
 long-reports (suc zero) l h = report-long 1 201 3 2 said-1 1 (omega arith) refl (λ j a k. absurd (omega arith)) refl refl refl
 long-reports (suc (suc zero)) l h =
-    report-long 2 200 7 3 said-2 0 (omega arith) refl (λ j a k. let e : 1 ≡ j = omega arith in subst (λ (i : ℕ). longHistory .logged 2 i ≡ false) e refl) refl refl refl
+    report-long 2 200 7 3 said-2 0 (omega arith) refl (λ j a k. let e : 1 ≡ j = omega arith in subst
+    (λ (i : ℕ). longHistory .logged 2 i ≡ false) e refl) refl refl refl
 long-reports (suc (suc (suc n))) l h = clash h (has-past 7 3 (suc (suc (suc n))) (omega arith) (omega arith))
 
 -- ---- a restart from them
@@ -213,7 +220,8 @@ latest-two n =
     (λ l.
     let none : longHistory .logged n 1 ≡ false = has-past 3 2 n (omega arith) l in
     inr (ap (λ (i : ℕ). numberAt longHistory i)
-    (ap (λ (b : Bool). cond b 1 (cond (longHistory .logged n 0) 0 0)) none ∙ cond-of (λ (i : ℕ). i ≡ 0) (longHistory .logged n 0) (λ e. refl) (λ e. refl))))
+    (ap (λ (b : Bool). cond b 1 (cond (longHistory .logged n 0) 0 0)) none
+    ∙ cond-of (λ (i : ℕ). i ≡ 0) (longHistory .logged n 0) (λ e. refl) (λ e. refl))))
     (lt-or-le n 2)
 
 latest-up : (n : ℕ) → latestNumber longHistory n ≤ 201
@@ -269,6 +277,131 @@ unfolding longRun long-restart
 long-lasts =
     short-logged-lasts long-orderly long-based 0 (omega arith) (pos 150 2) (omega arith) (omega arith) (λ n l m. refl) here long-restart
 
+-- ---- it is carried out
+
+long-supposed : Supposed longSettings (longView 201 3) 7 longDesk (shortOf longHistory)
+long-supposed =
+    record {
+      rule = record { rises = long-orderly .rule .rises; overlaps = long-orderly .rule .overlaps };
+      true-reports = long-reports;
+      place = 1;
+      listed = record { listed = omega arith; number = refl; members = refl; masks = λ s l. refl };
+    }
+
+-- node 0 is the holder and keeps all; node 2 keeps its base, which ends at (199, 2)
+cut-holder : cutFor (longView 201 3) noTermination 7 longDesk 0 0 ≡ pos 201 3
+unfolding longDesk allBelow anyBelow lowest tabulate pairNotAfter place following bodyWord bodyOf contentsOf endOf reaches holds hasUpdate slot reportOf candidate greatest best target able holder runsFrom runsOf runsTo sharedAfter cutFrom
+cut-holder = refl
+
+cut-stale : cutFor (longView 201 3) noTermination 7 longDesk 2 0 ≡ start
+unfolding longDesk allBelow anyBelow lowest tabulate pairNotAfter place following bodyWord bodyOf contentsOf endOf reaches holds hasUpdate slot reportOf candidate greatest best target able holder runsFrom runsOf runsTo sharedAfter cutFrom
+cut-stale = refl
+
+-- nodes 0 and 2 have what is wanted, and node 1 what it had
+abbrev pub longAfter : History
+longAfter =
+    record {
+      views = longView 200 7 ∷ longView 201 3 ∷ record { number = record { 0 = 202 }; members = 7; masks = 5 ∷ replicate 15 0 } ∷ [];
+      logged = λ n i. has (getD (7 ∷ 3 ∷ 7 ∷ []) i 0) n;
+      updated = λ n s q. cond (eqb n 1) (longHistory .updated 1 s q) (wantedOf (longView 201 3) noTermination 7 longDesk longHistory s q);
+    }
+
+module _ (n : ℕ) (small : n < 32) (is-held : has 7 n ≡ true) (other : eqb n 1 ≡ false) (last : Position) where
+  by-recipe : keptBy (longView 201 3) noTermination 7 longDesk longHistory n 0 last ≡ true
+      → ((q : Position) → keptBy (longView 201 3) noTermination 7 longDesk longHistory n 0 q ≡ true → notAfter q last ≡ true)
+      → ByRecipe (longView 201 3) noTermination 7 longDesk longHistory longAfter n 0
+  by-recipe kept end =
+      wanted-recipe longSettings (longView 201 3) noTermination 7 longDesk (omega arith) (omega arith) slots-long
+      (quorum-given longSettings (longView 201 3) noTermination 7 longDesk met-long) longHistory long-supposed long-orderly 0
+      (omega arith) n small is-held long-based last
+      (inr kept) end
+      (λ q from. ap (λ (b : Bool). cond b (longHistory .updated 1 0 q) (wantedOf (longView 201 3) noTermination 7 longDesk longHistory 0 q)) other)
+
+holder-recipe : ByRecipe (longView 201 3) noTermination 7 longDesk longHistory longAfter 0 0
+unfolding longRun pairNotAfter
+holder-recipe =
+    by-recipe 0 (omega arith) refl refl (pos 201 3) (at (pos 201 3) ∙ refl)
+    (λ q h. and-right (longHistory .updated 0 0 q) (notAfter q (pos 201 3)) (sym (at q) ∙ h))
+  where
+    at : (q : Position) → keptBy (longView 201 3) noTermination 7 longDesk longHistory 0 0 q ≡ (longHistory .updated 0 0 q && notAfter q (pos 201 3))
+    at q =
+        ap (λ (c : Position). longHistory .updated 0 0 q && cond (isStart c)
+        (carriesLatest longHistory 0 0 && ltb (q .view .0) (latestNumber longHistory 0)) (notAfter q c)) cut-holder
+
+stale-recipe : ByRecipe (longView 201 3) noTermination 7 longDesk longHistory longAfter 2 0
+unfolding longRun lastPlace
+stale-recipe = by-recipe 2 (omega arith) refl refl (pos 199 2) (at (pos 199 2) ∙ refl) (λ q h. end q (sym (at q) ∙ h))
+  where
+    at : (q : Position) → keptBy (longView 201 3) noTermination 7 longDesk longHistory 2 0 q ≡ (longHistory .updated 2 0 q && ltb (q .view .0) 200)
+    at q =
+        ap (λ (c : Position). longHistory .updated 2 0 q && cond (isStart c)
+        (carriesLatest longHistory 0 2 && ltb (q .view .0) (latestNumber longHistory 2)) (notAfter q c)) cut-stale
+
+    two : (w : ℕ) → w < 200 → longRun 2 w ≤ 2
+    two w l = rw (lt-ltb w 200 l) (cond-of (λ (c : ℕ). c ≤ 2) (eqb w 0) (λ e. omega arith) (λ e. omega arith))
+
+    end : (q : Position) → (longHistory .updated 2 0 q && ltb (q .view .0) 200) ≡ true → notAfter q (pos 199 2) ≡ true
+    end q h =
+        let l = ltb-true (q .view .0) 200 (and-right (longHistory .updated 2 0 q) (ltb (q .view .0) 200) h) in
+        let k = leb-true (q .k) (longRun 2 (q .view .0)) (and-right (leb 1 (q .k)) (leb (q .k) (longRun 2 (q .view .0)))
+        (and-left (longHistory .updated 2 0 q) (ltb (q .view .0) 200) h)) in
+        ⊎-elim (λ e. order-of q (pos 199 2) (inl e)) (λ e. order-of q (pos 199 2) (inr (omega arith, omega (arith, two (q .view .0) l))))
+        (lt-or-le (q .view .0) 199)
+
+long-adds : AddsOnly 1 longHistory longAfter
+long-adds = record { logged = logged; older = λ s l n k c e p from o. absurd (moved s n k c e) }
+  where
+    logged : (n i : ℕ) → i < 2 → longAfter .logged n i ≡ longHistory .logged n i
+    logged n zero l = refl
+    logged n (suc zero) l = refl
+    logged n (suc (suc i)) l = absurd (omega arith)
+
+    none : (n : ℕ) → 3 ≤ n → (i : ℕ) → i < 2 → longHistory .logged n i ≡ false
+    none n l zero k = has-past 7 3 n (omega arith) l
+    none n l (suc zero) k = has-past 3 2 n (omega arith) (omega arith)
+    none n l (suc (suc i)) k = absurd (omega arith)
+
+    held-by : (n : ℕ) → n < 3 → has 7 n ≡ true
+    held-by zero l = refl
+    held-by (suc zero) l = refl
+    held-by (suc (suc zero)) l = refl
+    held-by (suc (suc (suc n))) l = absurd (omega arith)
+
+    moved : (s n : ℕ) → n < 32 → carriesLatest longHistory s n ≡ true → latestOf longAfter n ≡ latestOf longHistory n → ⊥
+    moved s n k c e =
+        let listed : latestOf longHistory n < 2 = latest-listed longHistory n (omega arith) in
+        ⊎-elim (λ l. omega (arith, e, place-is (longAfter .logged n) 3 2 (omega arith) (held-by n l) (λ j a b. absurd (omega arith))))
+        (λ l. clash (and-left (longHistory .logged n (latestOf longHistory n)) (has (maskAt (viewAt longHistory (latestOf longHistory n)) s) n) c)
+        (none n l (latestOf longHistory n) listed))
+        (lt-or-le n 3)
+
+pub long-course : ShortCourse 1 longHistory longAfter
+unfolding long-restart ones onesIn
+long-course =
+    carrying longHistory longAfter here long-restart
+    (record {
+      views = refl;
+      adds = long-adds;
+      by = 7;
+      logs = λ n l h. h;
+      most = let a : count 3 ≡ 2 = refl in let b : count (bitAnd 7 3) ≡ 2 = refl in omega (arith, a, b);
+      ordered = λ s l n k h g. let e : 0 ≡ s = omega arith in
+          subst (λ (i : ℕ). ByRecipe (longView 201 3) noTermination 7 longDesk longHistory longAfter n i) e
+          (placed n (subst⁻¹ (λ (i : ℕ). has (getD (5 ∷ replicate 15 0) i 0) n ≡ true) e h));
+    })
+  where
+    placed : (n : ℕ) → has 5 n ≡ true → ByRecipe (longView 201 3) noTermination 7 longDesk longHistory longAfter n 0
+    placed zero h = holder-recipe
+    placed (suc zero) h = clash h refl
+    placed (suc (suc zero)) h = stale-recipe
+    placed (suc (suc (suc n))) h = clash h (has-past 5 3 (suc (suc (suc n))) (omega arith) (omega arith))
+
+-- update (150, 2) is settled after it too: nodes 0 and 2 have it
+pub long-settled : Settled longAfter 0 (pos 150 2)
+unfolding longRun
+long-settled =
+    short-settles-on long-orderly long-based 0 (omega arith) (pos 150 2) (omega arith) (omega arith) (record { all = λ n l m h. refl }) long-course .1
+
 -- ---- no whole report is true of it
 
 module _ (b : List ℕ) (len : ℕ) (runs : Runs b len 0) (all : (p : Position) → longHistory .updated 0 0 p ≡ holds b len 0 p) where
@@ -278,7 +411,8 @@ module _ (b : List ℕ) (len : ℕ) (runs : Runs b len 0) (all : (p : Position) 
   run-of w l =
       let p : Position = pos (suc w) 1 in
       let two : (leb 1 1 && leb 1 (longRun 0 (suc w))) ≡ true =
-      ⊎-elim (λ z. rw (lt-ltb (suc w) 200 z, ne-eqb (suc w) 0 (λ e. omega arith))) (λ z. let e : suc w ≡ 200 = omega arith in rw e) (lt-or-le (suc w) 200) in
+      ⊎-elim (λ z. rw (lt-ltb (suc w) 200 z, ne-eqb (suc w) 0 (λ e. omega arith))) (λ z. let e : suc w ≡ 200 = omega arith in rw e)
+      (lt-or-le (suc w) 200) in
       let h = held-given b len 0 p (sym (all p) ∙ two) .by in
       (h .0, h .1, reaches-run b 0 p (h .0) (h .2), reaches-view b 0 p (h .0) (h .2))
 
@@ -289,7 +423,8 @@ module _ (b : List ℕ) (len : ℕ) (runs : Runs b len 0) (all : (p : Position) 
       let (i, m, q, f) = run-of w (omega arith) in
       let one = run-late w (omega arith) i m q f in
       ⊎-elim (λ z. omega (arith, one))
-      (λ z. ⊎-elim (λ x. absurd (omega (arith, ap (λ (a : ℕ). word1 b a) x))) (λ x. absurd (omega (arith, runs .rise j i (omega (arith, x)) m r q))) (eq-or-ne i j))
+      (λ z. ⊎-elim (λ x. absurd (omega (arith, ap (λ (a : ℕ). word1 b a) x)))
+      (λ x. absurd (omega (arith, runs .rise j i (omega (arith, x)) m r q))) (eq-or-ne i j))
       (lt-or-le i j)
 
   many-records : 200 ≤ len
@@ -303,5 +438,5 @@ long-untold c own passes r =
       arith,
       contents-few Report longSettings c passes,
       many-records (c .body) (c .len) (passed-runs longSettings (c .node .0) (c .view .0) (c .members) (c .body) (c .len) records 0 (omega arith))
-      (λ p. subst (λ (n : ℕ). longHistory .updated n 0 p ≡ holds (c .body) (c .len) 0 p) own (r .updates 0 (omega arith) p)),
+          (λ p. subst (λ (n : ℕ). longHistory .updated n 0 p ≡ holds (c .body) (c .len) 0 p) own (r .updates 0 (omega arith) p)),
     )
