@@ -43,7 +43,7 @@ use Rattle.history_course.specs.Course.{Succeeded, Orderly, Settled, cut
 use Rattle.history_course.specs.Ever.{Restart}
 use Rattle.history_course.specs.Based.{lastPlace, latestOf, latestNumber, carriesLatest, shortOf, Based, AddsOnly, keptBy, wantedOf, ByRecipe, ShortCourse, here, carrying}
 use Rattle.history_course.specs.Bases.{place-is, latest-listed, latest-up-to}
-use Rattle.history_course.specs.Recipe.{wanted-recipe}
+use Rattle.history_course.specs.Recipe.{stale-cut, wanted-recipe}
 use Rattle.history_course.specs.ShortEver.{short-settles-on, short-logged-lasts}
 
 -- three nodes in three failure sets, and a shard of two
@@ -294,8 +294,10 @@ unfolding longDesk allBelow anyBelow lowest tabulate pairNotAfter place followin
 cut-holder = refl
 
 cut-stale : cutFor (longView 201 3) noTermination 7 longDesk 2 0 ≡ start
-unfolding longDesk allBelow anyBelow lowest tabulate pairNotAfter place following bodyWord bodyOf contentsOf endOf reaches holds hasUpdate slot reportOf candidate greatest best target able holder runsFrom runsOf runsTo sharedAfter cutFrom
-cut-stale = refl
+cut-stale =
+    stale-cut longSettings (longView 201 3) noTermination 7 longDesk (omega arith) (omega arith) slots-long
+    (quorum-given longSettings (longView 201 3) noTermination 7 longDesk met-long)
+    longHistory long-supposed long-orderly 0 (omega arith) 2 (omega arith) refl (λ e. omega (arith, said-2 .view))
 
 -- nodes 0 and 2 have what is wanted, and node 1 what it had
 abbrev pub longAfter : History
