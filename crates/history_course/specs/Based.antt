@@ -40,7 +40,7 @@ latestNumber H n = numberAt H (latestOf H n)
 abbrev pub carriesLatest : History → ℕ → ℕ → Bool
 carriesLatest H s n = H .logged n (latestOf H n) && has (maskAt (viewAt H (latestOf H n)) s) n
 
--- the history as short reports tell it: they are the reports that are true of this one
+-- the history as short reports tell it: a short report is one that is true of this history
 abbrev pub shortOf : History → History
 shortOf H =
     record {
@@ -54,8 +54,8 @@ pub record Based (S : ℕ) (H : History) : Type 0 where
   pub same : (s : ℕ) → s < S → (n m : ℕ) → n < 32 → m < 32 → carriesLatest H s n ≡ true → carriesLatest H s m ≡ true → (p : Position) →
       1 ≤ p .k → p .view .0 < latestNumber H n → p .view .0 < latestNumber H m → H .updated n s p ≡ H .updated m s p
 
--- from H to G no node logs one of the earlier views or forgets it, and one that logs no new view leaves its bases as they are: it adds only
--- updates of its latest view
+-- from H to G no node logs a view of H's list or forgets one, and one that logs no new view leaves its bases as they are: what it adds or
+-- discards is of its latest view
 pub record AddsOnly (S : ℕ) (H G : History) : Type 0 where
   pub logged : (n i : ℕ) → i < length (H .views) → G .logged n i ≡ H .logged n i
   pub older : (s : ℕ) → s < S → (n : ℕ) → n < 32 → carriesLatest H s n ≡ true → latestOf G n ≡ latestOf H n → (p : Position) →
