@@ -260,7 +260,8 @@ module _ (σ : List ℕ) (v : Layout) (t : Termination) (held : ℕ) (d : List �
                 (λ z.
                 let both : base ≡ true = rw z at test in
                 let c = and-left (carriesLatest H s n) (ltb (last .view .0) (latestNumber H n)) both in
-                let below-it = ltb-true (last .view .0) (latestNumber H n) (and-right (carriesLatest H s n) (ltb (last .view .0) (latestNumber H n)) both) in
+                let below-it =
+                ltb-true (last .view .0) (latestNumber H n) (and-right (carriesLatest H s n) (ltb (last .view .0) (latestNumber H n)) both) in
                 let o : q .view .0 < latestNumber H n = omega (arith, order-views q last l) in
                 and-first (H .updated n s q) (notAfter q itsCut) z (and-both c (lt-ltb (q .view .0) (latestNumber H n) o))
                 ∙ agrees-base q from c o (omega (arith, latest-no-later)))
