@@ -20,8 +20,8 @@ use Rattle.report_views.specs.Reports.{maskAt, positionAt}
 use Rattle.report_views.specs.Updates.{updatesAt, lastAfter, upTo}
 use Rattle.report_views.specs.Quorums.{target, holder}
 use Rattle.history_claims.specs.History.{History, viewAt, numberAt}
-use Rattle.history_course.specs.Course.{Serves, cutFor}
-use Rattle.history_course.specs.Ever.{Restart}
+use Rattle.history_course.specs.Course.{Serves, CarriedOut, GivenUp, cutFor}
+use Rattle.history_course.specs.Ever as whole
 
 -- the last place below k at which f holds, or 0
 unfoldable pub lastPlace : (ℕ → Bool) → ℕ → ℕ
@@ -110,5 +110,16 @@ pub record ShortCarried (σ : List ℕ) (v : Layout) (t : Termination) (held : �
 pub data ShortCourse (S : ℕ) (H : History) : History → Type 0 where
   here : ShortCourse S H H
   running : (G K : History) → ShortCourse S H G → Serves S G K → K .views ≡ G .views → AddsOnly S G K → ShortCourse S H K
-  carrying : (G K : History) → ShortCourse S H G → (r : Restart S (shortOf G)) →
+  carrying : (G K : History) → ShortCourse S H G → (r : whole.Restart S (shortOf G)) →
       ShortCarried (r .σ) (r .v) (r .t) (r .held) (r .d) (r .w) G K → ShortCourse S H K
+
+-- in a course with whole reports no run changes a view, and no run or restart the base of a node that logs no new view: its group can go over to
+-- short reports
+pub data BasesStay (S : ℕ) (H : History) : (G : History) → whole.Course S H G → Type 0 where
+  at-first : BasesStay S H H whole.here
+  ran : (G K : History) (c : whole.Course S H G) (x : Serves S G K) → BasesStay S H G c → K .views ≡ G .views → AddsOnly S G K
+      → BasesStay S H K (whole.running G K c x)
+  carried : (G K : History) (c : whole.Course S H G) (r : whole.Restart S G) (x : CarriedOut (r .σ) (r .v) (r .t) (r .held) (r .d) (r .w) G K)
+      → BasesStay S H G c → AddsOnly S G K → BasesStay S H K (whole.carrying G K c r x)
+  gave-up : (G K : History) (c : whole.Course S H G) (r : whole.Restart S G) (x : GivenUp (r .σ) (r .v) (r .t) (r .held) (r .d) (r .w) G K)
+      → BasesStay S H G c → BasesStay S H K (whole.giving-up G K c r x)

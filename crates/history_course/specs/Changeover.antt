@@ -2,22 +2,12 @@
 use Prim.Native.Nat.{ℕ}
 use mathlib.Core.Path.{_≡_, subst, subst⁻¹}
 use Rattle.history_claims.specs.History.{History, Supposed}
-use Rattle.history_course.specs.Course.{Orderly, Serves, CarriedOut, GivenUp}
+use Rattle.history_course.specs.Course.{Orderly}
 use Rattle.history_course.specs.Listing.{listed-held}
-use Rattle.history_course.specs.Ever.{Restart, Course, here, running, carrying, giving-up, stands-on}
-use Rattle.history_course.specs.Based.{Based, AddsOnly}
+use Rattle.history_course.specs.Ever.{Restart, Course, stands-on}
+use Rattle.history_course.specs.Based.{Based, AddsOnly, BasesStay, at-first, ran, carried, gave-up}
 use Rattle.history_course.specs.Bases.{run-based}
 use Rattle.history_course.specs.ShortEver.{carried-based, given-up-based}
-
--- the runs of a course change no view, and its runs and restarts change no base of a node that logs no new view
-pub data BasesStay (S : ℕ) (H : History) : (G : History) → Course S H G → Type 0 where
-  at-first : BasesStay S H H here
-  ran : (G K : History) (c : Course S H G) (x : Serves S G K) → BasesStay S H G c → K .views ≡ G .views → AddsOnly S G K
-      → BasesStay S H K (running G K c x)
-  carried : (G K : History) (c : Course S H G) (r : Restart S G) (x : CarriedOut (r .σ) (r .v) (r .t) (r .held) (r .d) (r .w) G K)
-      → BasesStay S H G c → AddsOnly S G K → BasesStay S H K (carrying G K c r x)
-  gave-up : (G K : History) (c : Course S H G) (r : Restart S G) (x : GivenUp (r .σ) (r .v) (r .t) (r .held) (r .d) (r .w) G K)
-      → BasesStay S H G c → BasesStay S H K (giving-up G K c r x)
 
 supposing-whole : {S : ℕ} {G : History} → Orderly G → (r : Restart S G) → Supposed (r .σ) (r .v) (r .held) (r .d) G
 supposing-whole {G = G} o r =
