@@ -39,12 +39,12 @@ use Rattle.report_views.specs.Slots.{sameView, row12, sameTermination, row13, t
 use Rattle.report_views.specs.Quorums.{candidate, greatest, best, target, able, holder, majority, firstUnheld, quorumOf}
 use Rattle.report_views.specs.Meets.{quorum-given}
 use Rattle.history_claims.specs.History.{History, True, Supposed, viewAt, numberAt, membersAt}
 use Rattle.history_course.specs.Course.{Succeeded, Orderly, Settled, cutFor}
 use Rattle.history_course.specs.Ever.{Restart}
-use Rattle.history_course.specs.Based.{lastPlace, latestOf, latestNumber, carriesLatest, shortOf, Based, AddsOnly, keptBy, wantedOf, ByRecipe, ShortCourse, here, carrying}
-use Rattle.history_course.specs.Bases.{place-is, latest-listed, latest-up-to}
-use Rattle.history_course.specs.Recipe.{stale-cut, wanted-recipe}
-use Rattle.history_course.specs.ShortEver.{short-settles-on, short-logged-lasts}
+use Rattle.history_short.specs.Based.{lastPlace, latestOf, latestNumber, carriesLatest, shortOf, Based, AddsOnly, keptBy, wantedOf, ByRecipe, ShortCourse, here, carrying}
+use Rattle.history_short.specs.Bases.{place-is, latest-listed, latest-up-to}
+use Rattle.history_short.specs.Recipe.{stale-cut, wanted-recipe}
+use Rattle.history_short.specs.ShortEver.{short-settles-on, short-logged-lasts}
 
 -- three nodes in three failure sets, and a shard of two
 abbrev pub longSettings : List ℕ

@@ -32,13 +32,13 @@ use Rattle.report_views.specs.Quorums.{candidate, best, able, target, holder, u
 use Rattle.report_views.specs.Best.{best-none}
 use Rattle.report_views.specs.Meets.{QuorumMet, report-records, candidate-given, holder-given, able-candidate, able-has}
 use Rattle.history_claims.specs.History.{History, True, Supposed, viewAt}
 use Rattle.history_course.specs.Course.{Orderly, Covers, cutFor, asOrdered}
-use Rattle.history_course.specs.Short.{Shorter, Shortened, short-target, short-holder}
-use Rattle.history_course.specs.Based.{latestOf, latestNumber, carriesLatest, shortOf, Based, baseOf, baseEnd, ShortTermination, ByRecipe}
-use Rattle.history_course.specs.Bases.{base-settled}
-use Rattle.history_course.specs.Telling.{its-slot, its-runs, its-latest, its-number, its-logged, its-updates, kept-some, as-handed}
-use Rattle.history_course.specs.Recipe.{recipe-wanted}
-use Rattle.history_course.specs.UpdateLists.{rising-same, those-rise, last-greatest, all-those, none-those, last-updates}
+use Rattle.history_short.specs.Short.{Shorter, Shortened, short-target, short-holder}
+use Rattle.history_short.specs.Based.{latestOf, latestNumber, carriesLatest, shortOf, Based, baseOf, baseEnd, ShortTermination, ByRecipe}
+use Rattle.history_short.specs.Bases.{base-settled}
+use Rattle.history_short.specs.Telling.{its-slot, its-runs, its-latest, its-number, its-logged, its-updates, kept-some, as-handed}
+use Rattle.history_short.specs.Recipe.{recipe-wanted}
+use Rattle.history_short.specs.UpdateLists.{rising-same, those-rise, last-greatest, all-those, none-those, last-updates}
 
 -- a log, the base before it, and their ends
 short-last : (v : Layout) (base log : List Position) → ((p : Position) → among p log ≡ true → p .view .0 ≡ v .number .0)

@@ -26,11 +26,11 @@ use Rattle.report_views.specs.Meets.{QuorumMet, holder-given, able-has}
 use Rattle.report_views.specs.RunLaws as runs
 use Rattle.report_views.specs.CutLaws.{cut-target, cut-kept, cut-held, kept-or-fetched}
 use Rattle.history_claims.specs.History.{History, Supposed, numberAt}
 use Rattle.history_course.specs.Course.{lastOf, Orderly, Settled, Covers, cutFor}
 use Rattle.history_course.specs.Lasting.{settled-held}
-use Rattle.history_course.specs.Based.{latestNumber, carriesLatest, shortOf, Based, keptBy, wantedOf, ByRecipe}
-use Rattle.history_course.specs.Bases.{last-latest, last-carries}
-use Rattle.history_course.specs.Telling.{told-orderly, its-slot, its-runs, its-number, its-updates, HolderLast, holder-last, kept-some, kept-number}
+use Rattle.history_short.specs.Based.{latestNumber, carriesLatest, shortOf, Based, keptBy, wantedOf, ByRecipe}
+use Rattle.history_short.specs.Bases.{last-latest, last-carries}
+use Rattle.history_short.specs.Telling.{told-orderly, its-slot, its-runs, its-number, its-updates, HolderLast, holder-last, kept-some, kept-number}
 
 -- ---- (0, 0)
 

@@ -24,8 +24,8 @@ use Rattle.report_views.specs.Reports.{reportOf, viewOf}
 use Rattle.report_views.specs.Slots.{slotsOk}
 use Rattle.report_views.specs.Meets.{report-records}
 use Rattle.history_claims.specs.History.{History, True}
-use Rattle.history_course.specs.Based.{latestNumber, carriesLatest, shortOf}
-use Rattle.history_course.specs.Telling.{its-slot, its-runs, its-updates}
+use Rattle.history_short.specs.Based.{latestNumber, carriesLatest, shortOf}
+use Rattle.history_short.specs.Telling.{its-slot, its-runs, its-updates}
 
 -- ---- a report with at most one run for each shard
 

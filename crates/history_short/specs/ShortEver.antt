@@ -21,14 +21,14 @@ use Rattle.report_views.specs.Slots.{slotsOk}
 use Rattle.report_views.specs.Quorums.{target, holder}
 use Rattle.report_views.specs.Meets.{QuorumMet}
 use Rattle.history_claims.specs.History.{History, KeepsRule, Supposed, viewAt, numberAt}
 use Rattle.history_course.specs.Course.{lastOf, Orderly, Settled, Next, Covers, CarriedOut, GivenUp, asOrdered}
 use Rattle.history_course.specs.Listing.{listed-held}
 use Rattle.history_course.specs.Lasting.{settled-held, new-rule, new-succeeded}
 use Rattle.history_course.specs.Ever.{Restart}
-use Rattle.history_course.specs.Based.{latestNumber, carriesLatest, shortOf, Based, AddsOnly, wantedOf, ShortCarried, ShortCourse, here, running, carrying}
-use Rattle.history_course.specs.Bases.{HandsOn, latest-up-to, base-settled, run-based, handed-based}
-use Rattle.history_course.specs.Telling.{told-orderly, holder-last, kept-some, kept-number, as-handed}
-use Rattle.history_course.specs.Recipe.{uptoTarget, settled-wanted, recipe-wanted}
+use Rattle.history_short.specs.Based.{latestNumber, carriesLatest, shortOf, Based, AddsOnly, wantedOf, ShortCarried, ShortCourse, here, running, carrying}
+use Rattle.history_short.specs.Bases.{HandsOn, latest-up-to, base-settled, run-based, handed-based}
+use Rattle.history_short.specs.Telling.{told-orderly, holder-last, kept-some, kept-number, as-handed}
+use Rattle.history_short.specs.Recipe.{uptoTarget, settled-wanted, recipe-wanted}
 
 -- ---- the history after a restart from short reports
 

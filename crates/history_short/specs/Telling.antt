@@ -21,10 +21,10 @@ use Rattle.report_views.specs.Meets.{QuorumMet, SlotSound, slot-given, report-r
 use Rattle.report_views.specs.RunLaws as runs
 use Rattle.report_views.specs.CutLaws.{kept-or-fetched}
 use Rattle.history_claims.specs.History.{History, True, Supposed, viewAt, numberAt}
 use Rattle.history_course.specs.Course.{lastOf, Orderly, asOrdered}
 use Rattle.history_course.specs.Lasting.{kept-last}
-use Rattle.history_course.specs.Based.{latestOf, latestNumber, carriesLatest}
-use Rattle.history_course.specs.Bases.{place-is, last-carries}
+use Rattle.history_short.specs.Based.{latestOf, latestNumber, carriesLatest}
+use Rattle.history_short.specs.Bases.{place-is, last-carries}
 
 -- the history H with other logs
 abbrev pub withLogs : History → (ℕ → ℕ → Position → Bool) → History

@@ -16,8 +16,8 @@ use Rattle.report_views.specs.declared.Layout.{Layout}
 use Rattle.report_views.specs.Empty.{noView}
 use Rattle.report_views.specs.Reports.{maskAt}
 use Rattle.history_claims.specs.History.{History, KeepsRule, viewAt, numberAt}
 use Rattle.history_course.specs.Course.{lastOf, Settled}
-use Rattle.history_course.specs.Based.{lastPlace, latestOf, latestNumber, carriesLatest, Based, AddsOnly}
+use Rattle.history_short.specs.Based.{lastPlace, latestOf, latestNumber, carriesLatest, Based, AddsOnly}
 
 -- ---- the last place at which a test holds
 
