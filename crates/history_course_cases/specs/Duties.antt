@@ -39,7 +39,7 @@ use Rattle.history_course.specs.Course.{lastOf, Succeeded, Orderly, Settled, Ne
 use Rattle.history_course.specs.Ever.{Restart}
 use Rattle.history_course.specs.Counting.{first-orderly}
 use Rattle.history_course_cases.specs.Steps.{ofEvery, sameLog, orderly-of, succeeded-of, not-succeeded, next-of, met-of, none-ended, planFrom, told-of, cut-of, plannedLog, planned-of, asked-of, ordered-of, remembered-of, others-alike, kept-alike, not-carried, keeps-of}
-use Rattle.history_course_cases.specs.Worked.{reportWith, runOf, runsUpTo}
+use Rattle.history_course_cases.specs.Worked.{reportOfShard, runOf, runsUpTo}
 
 -- six nodes, of which 0, 1 and 4 are of one failure set and 2, 3 and 5 of the other, and the word of the one shard: 2, if it needs nodes
 -- of both, 131073, if it needs one node and may have two
@@ -64,9 +64,9 @@ LoggedByAll H p = (n : ℕ) → n < 32 → has (maskAt (viewAt H (lastOf H)) 0) 
 
 unfoldable pub strandedDesk : List ℕ
 strandedDesk =
-    reportWith 0 1 7 5 (runOf 1 1) ++ reportWith 1 1 7 5 noRun ++ reportWith 2 1 7 5 (runOf 1 1) ++ reportWith 3 3 56 24 (runsUpTo 1 1 3 1)
-    ++ reportWith 4 3 56 24 (runsUpTo 1 1 3 1)
-    ++ reportWith 5 3 56 24 noRun
+    reportOfShard 0 1 7 5 (runOf 1 1) ++ reportOfShard 1 1 7 5 noRun ++ reportOfShard 2 1 7 5 (runOf 1 1) ++ reportOfShard 3 3 56 24 (runsUpTo 1 1 3 1)
+    ++ reportOfShard 4 3 56 24 (runsUpTo 1 1 3 1)
+    ++ reportOfShard 5 3 56 24 noRun
     ++ replicate 13312 0
 
 abbrev pub strandedViews : List Layout
@@ -147,7 +147,7 @@ succeeded-needed =
 -- stores an update. Then nodes 1 to 3 come back.
 
 unfoldable pub deskOfFour : List ℕ
-deskOfFour = reportWith 0 1 15 3 (runOf 1 1) ++ reportWith 1 1 15 3 (runOf 1 1) ++ reportWith 2 1 15 3 noRun ++ reportWith 3 1 15 3 noRun ++ replicate 14336 0
+deskOfFour = reportOfShard 0 1 15 3 (runOf 1 1) ++ reportOfShard 1 1 15 3 (runOf 1 1) ++ reportOfShard 2 1 15 3 noRun ++ reportOfShard 3 1 15 3 noRun ++ replicate 14336 0
 
 abbrev pub fourViews : List Layout
 fourViews = viewWith 1 15 3 ∷ []
@@ -176,7 +176,7 @@ unfolding deskOfFour allBelow slot reportOf contentsOf bodyOf bodyWord tabulate 
 reports-four = refl
 
 unfoldable pub deskOfOne : List ℕ
-deskOfOne = reportWith 0 2 13 1 (runsUpTo 1 1 2 1) ++ reportWith 1 1 15 3 (runOf 1 1) ++ reportWith 2 1 15 3 noRun ++ reportWith 3 1 15 3 noRun ++ replicate 14336 0
+deskOfOne = reportOfShard 0 2 13 1 (runsUpTo 1 1 2 1) ++ reportOfShard 1 1 15 3 (runOf 1 1) ++ reportOfShard 2 1 15 3 noRun ++ reportOfShard 3 1 15 3 noRun ++ replicate 14336 0
 
 abbrev pub oneViews : List Layout
 oneViews = viewWith 1 15 3 ∷ viewWith 2 13 1 ∷ []
@@ -288,7 +288,7 @@ most-needed =
 -- and 3 come back.
 
 unfoldable pub deskUnfetched : List ℕ
-deskUnfetched = reportWith 0 2 13 5 (runOf 1 1) ++ reportWith 1 1 15 3 (runOf 1 1) ++ reportWith 2 2 13 5 noRun ++ reportWith 3 2 13 5 noRun ++ replicate 14336 0
+deskUnfetched = reportOfShard 0 2 13 5 (runOf 1 1) ++ reportOfShard 1 1 15 3 (runOf 1 1) ++ reportOfShard 2 2 13 5 noRun ++ reportOfShard 3 2 13 5 noRun ++ replicate 14336 0
 
 abbrev pub unfetchedViews : List Layout
 unfetchedViews = viewWith 1 15 3 ∷ viewWith 2 13 5 ∷ []
@@ -388,10 +388,10 @@ ordered-needed =
 -- given up when node 1's log is cut and nothing fetched. Then nodes 1 and 2 come back.
 
 unfoldable pub deskParted : List ℕ
-deskParted = reportWith 0 7 7 3 (runsUpTo 5 3 6 2) ++ reportWith 1 7 7 3 (runsUpTo 5 2 6 2) ++ reportWith 2 7 7 3 noRun ++ replicate 14848 0
+deskParted = reportOfShard 0 7 7 3 (runsUpTo 5 3 6 2) ++ reportOfShard 1 7 7 3 (runsUpTo 5 2 6 2) ++ reportOfShard 2 7 7 3 noRun ++ replicate 14848 0
 
 unfoldable pub deskCut : List ℕ
-deskCut = reportWith 0 7 7 3 (runsUpTo 5 3 6 2) ++ reportWith 1 7 7 3 (runOf 5 2) ++ reportWith 2 7 7 3 noRun ++ replicate 14848 0
+deskCut = reportOfShard 0 7 7 3 (runsUpTo 5 3 6 2) ++ reportOfShard 1 7 7 3 (runOf 5 2) ++ reportOfShard 2 7 7 3 noRun ++ replicate 14848 0
 
 abbrev pub partedViews : List Layout
 partedViews = viewWith 7 7 3 ∷ []

@@ -42,7 +42,7 @@ use Rattle.history_course.specs.Course.{Succeeded, Orderly, Settled, Serves, Ne
 use Rattle.history_course.specs.Ever.{Restart, Course, here, running, carrying}
 use Rattle.history_course.specs.Counting.{first-orderly}
 use Rattle.history_course_cases.specs.Steps.{ofEvery, sameLog, orderly-of, not-succeeded, next-of, met-of, none-ended, planFrom, told-of, plannedLog, planned-of, ordered-of, remembered-of, given-up-of, keeps-of}
-use Rattle.history_course_cases.specs.Worked.{courseSettings, reportWith, runOf, runsUpTo}
+use Rattle.history_course_cases.specs.Worked.{courseSettings, reportOfShard, runOf, runsUpTo}
 use Rattle.history_course_cases.specs.Duties.{settingsFor, viewWith, noRun, LoggedByAll}
 
 -- ---- a stray view: nodes 0 to 4 have view 2. Nodes 2 to 4 are restarted, node 2 alone has logged their view 3 when all stop. Nodes 0, 1 and 3
@@ -50,22 +50,22 @@ use Rattle.history_course_cases.specs.Duties.{settingsFor, viewWith, noR
 
 unfoldable pub deskOfFive : List ℕ
 deskOfFive =
-    reportWith 0 2 31 6 noRun ++ reportWith 1 2 31 6 (runOf 2 1) ++ reportWith 2 2 31 6 (runOf 2 1) ++ reportWith 3 2 31 6 noRun
-    ++ reportWith 4 2 31 6 noRun
+    reportOfShard 0 2 31 6 noRun ++ reportOfShard 1 2 31 6 (runOf 2 1) ++ reportOfShard 2 2 31 6 (runOf 2 1) ++ reportOfShard 3 2 31 6 noRun
+    ++ reportOfShard 4 2 31 6 noRun
     ++ replicate 13824 0
 
 -- nodes 0, 1 and 3 have the other view 3, node 2 the stray one
 unfoldable pub deskOfBoth : List ℕ
 deskOfBoth =
-    reportWith 0 3 11 10 noRun ++ reportWith 1 3 11 10 (runOf 2 1) ++ reportWith 2 3 28 20 (runOf 2 1) ++ reportWith 3 3 11 10 (runOf 2 1)
-    ++ reportWith 4 2 31 6 noRun
+    reportOfShard 0 3 11 10 noRun ++ reportOfShard 1 3 11 10 (runOf 2 1) ++ reportOfShard 2 3 28 20 (runOf 2 1) ++ reportOfShard 3 3 11 10 (runOf 2 1)
+    ++ reportOfShard 4 2 31 6 noRun
     ++ replicate 13824 0
 
 unfoldable pub deskBothStored : List ℕ
 deskBothStored =
-    reportWith 0 3 11 10 noRun ++ reportWith 1 3 11 10 (runsUpTo 2 1 3 1) ++ reportWith 2 3 28 20 (runOf 2 1)
-    ++ reportWith 3 3 11 10 (runsUpTo 2 1 3 1)
-    ++ reportWith 4 2 31 6 noRun
+    reportOfShard 0 3 11 10 noRun ++ reportOfShard 1 3 11 10 (runsUpTo 2 1 3 1) ++ reportOfShard 2 3 28 20 (runOf 2 1)
+    ++ reportOfShard 3 3 11 10 (runsUpTo 2 1 3 1)
+    ++ reportOfShard 4 2 31 6 noRun
     ++ replicate 13824 0
 
 abbrev pub fiveViews : List Layout
@@ -224,7 +224,7 @@ stray-kept =
 -- ---- a power cut: nodes 0 to 2 are restarted, the shard stays on nodes 0 and 1, and node 2 alone has logged view 2. All come back.
 
 unfoldable pub deskPrepared : List ℕ
-deskPrepared = reportWith 0 1 7 3 (runOf 1 1) ++ reportWith 1 1 7 3 (runOf 1 1) ++ reportWith 2 2 7 3 noRun ++ replicate 14848 0
+deskPrepared = reportOfShard 0 1 7 3 (runOf 1 1) ++ reportOfShard 1 1 7 3 (runOf 1 1) ++ reportOfShard 2 2 7 3 noRun ++ replicate 14848 0
 
 abbrev pub preparedViews : List Layout
 preparedViews = viewWith 1 7 3 ∷ viewWith 2 7 3 ∷ []
@@ -279,12 +279,12 @@ none-reports =
 
 unfoldable pub deskOfStale : List ℕ
 deskOfStale =
-    reportWith 0 1 15 3 (runOf 1 1) ++ reportWith 1 2 14 6 (runsUpTo 1 1 2 1) ++ reportWith 2 2 14 6 (runsUpTo 1 1 2 1) ++ reportWith 3 2 14 6 noRun
+    reportOfShard 0 1 15 3 (runOf 1 1) ++ reportOfShard 1 2 14 6 (runsUpTo 1 1 2 1) ++ reportOfShard 2 2 14 6 (runsUpTo 1 1 2 1) ++ reportOfShard 3 2 14 6 noRun
     ++ replicate 14336 0
 
 unfoldable pub deskAhead : List ℕ
 deskAhead =
-    reportWith 0 1 15 3 (runsUpTo 1 1 2 1) ++ reportWith 1 2 14 6 (runsUpTo 1 1 2 1) ++ reportWith 2 2 14 6 (runsUpTo 1 1 2 1) ++ reportWith 3 2 14 6 noRun
+    reportOfShard 0 1 15 3 (runsUpTo 1 1 2 1) ++ reportOfShard 1 2 14 6 (runsUpTo 1 1 2 1) ++ reportOfShard 2 2 14 6 (runsUpTo 1 1 2 1) ++ reportOfShard 3 2 14 6 noRun
     ++ replicate 14336 0
 
 abbrev pub staleViews : List Layout
@@ -293,8 +293,8 @@ staleViews = viewWith 1 15 3 ∷ viewWith 2 14 6 ∷ []
 abbrev pub staleBefore : History
 staleBefore = toldBy staleViews (15 ∷ 14 ∷ []) deskOfStale
 
-abbrev pub ahead : History
-ahead = toldBy staleViews (15 ∷ 14 ∷ []) deskAhead
+abbrev pub staleAhead : History
+staleAhead = toldBy staleViews (15 ∷ 14 ∷ []) deskAhead
 
 pub slots-stale : slotsOk (settingsFor 2) (viewWith 2 14 6) noTermination 13 deskOfStale ≡ true
 unfolding deskOfStale allBelow anyBelow lowest tabulate unless unlessAt firstOf place following row5 row8 precedes shardsWhere row6 viewOk row7 kindOk plain kindAt shardAt surplus sequenceAt complete shardApart row10At row10 position viewFits legal row11At bodyWord bodyOf contentsOf recordsRefusal headRefusal messageRefusal slot reportOf sameView row12 sameTermination row13 termKept slotOk slotsOk
@@ -330,7 +330,7 @@ log-stale : allBelow 1 (λ s. sameLog (plannedLog stalePlan s) (getD ((pos 1 1 �
 unfolding deskOfStale allBelow anyBelow lowest tabulate pairNotAfter place following bodyWord bodyOf contentsOf slot reportOf runsFrom runsOf updatesAfter updatesIn thoseOf onePosition sameLog
 log-stale = planned-of stalePlan refl (pos 1 1 ∷ pos 2 1 ∷ []) (pos 2 1) 2 target-stale holder-stale refl
 
-given-up-stale : GivenUp (settingsFor 2) (viewWith 2 14 6) noTermination 13 deskOfStale (viewWith 3 13 5) staleBefore ahead
+given-up-stale : GivenUp (settingsFor 2) (viewWith 2 14 6) noTermination 13 deskOfStale (viewWith 3 13 5) staleBefore staleAhead
 unfolding deskOfStale deskAhead allBelow anyBelow lowest tabulate place following bodyWord bodyOf contentsOf slot reportOf runsFrom runsOf updatesAfter updatesIn onePosition among ofEvery sameLog
 given-up-stale = given-up-of staleViews (15 ∷ 14 ∷ []) deskOfStale stalePlan ((pos 1 1 ∷ pos 2 1 ∷ []) ∷ []) log-stale 1 deskAhead refl refl
 
@@ -349,11 +349,14 @@ unfolding contentsOf
 no-run-above σ x accepted s small p h =
     let passed = message-given Report σ x accepted .records-pass in
     let end : Position = endOf (bodyOf x) s (following x) in
-    omega (arith, order-views p end (holds-end (getD x 0 0) (bodyOf x) (following x) (passed .sequence-passes) s p h),
-    end-legal σ (getD x 0 0) (getD x 1 0) (getD x 2 0) (bodyOf x) (following x) passed s small .no-later)
+    omega (
+      arith,
+      order-views p end (holds-end (getD x 0 0) (bodyOf x) (following x) (passed .sequence-passes) s p h),
+      end-legal σ (getD x 0 0) (getD x 1 0) (getD x 2 0) (bodyOf x) (following x) passed s small .no-later,
+    )
 
 -- node 0's latest view is the first
-first-of-stale : (i : ℕ) → i < 2 → has (getD (15 ∷ 14 ∷ []) i 0) 0 ≡ true → numberAt ahead i ≡ 1
+first-of-stale : (i : ℕ) → i < 2 → has (getD (15 ∷ 14 ∷ []) i 0) 0 ≡ true → numberAt staleAhead i ≡ 1
 first-of-stale zero l h = refl
 first-of-stale (suc zero) l h = clash h refl
 first-of-stale (suc (suc i)) l h = absurd (omega arith)
@@ -362,20 +365,24 @@ pub record StaleRefused : Type 0 where
   -- a plan from true reports, given up as the duties say
   pub orderly : Orderly staleBefore
   pub plan : Restart 1 staleBefore
-  pub given-up : GivenUp (settingsFor 2) (viewWith 2 14 6) noTermination 13 deskOfStale (viewWith 3 13 5) staleBefore ahead
+  pub given-up : GivenUp (settingsFor 2) (viewWith 2 14 6) noTermination 13 deskOfStale (viewWith 3 13 5) staleBefore staleAhead
   -- node 0's true report is refused by number 11
-  pub report : True (settingsFor 2) ahead (reportOf deskAhead 0)
+  pub report : True (settingsFor 2) staleAhead (reportOf deskAhead 0)
   pub refusal : messageRefusal Report (settingsFor 2) (slot deskAhead 0) ≡ refused 11
   -- and no true report of node 0 is accepted
-  pub never : (x : List ℕ) → contentsOf x .node .0 ≡ 0 → True (settingsFor 2) ahead (contentsOf x) → messageRefusal Report (settingsFor 2) x ≡ none → ⊥
+  pub never : (x : List ℕ) → contentsOf x .node .0 ≡ 0 → True (settingsFor 2) staleAhead (contentsOf x) → messageRefusal Report (settingsFor 2) x ≡ none → ⊥
 
-never-ahead : (x : List ℕ) → contentsOf x .node .0 ≡ 0 → True (settingsFor 2) ahead (contentsOf x) → messageRefusal Report (settingsFor 2) x ≡ none → ⊥
+never-ahead : (x : List ℕ) → contentsOf x .node .0 ≡ 0 → True (settingsFor 2) staleAhead (contentsOf x) → messageRefusal Report (settingsFor 2) x ≡ none → ⊥
 never-ahead x own r accepted =
     let logged : has (getD (15 ∷ 14 ∷ []) (r .at) 0) 0 ≡ true = subst (λ (n : ℕ). has (getD (15 ∷ 14 ∷ []) (r .at) 0) n ≡ true) own (r .logged) in
     let told : holdsAt deskAhead 0 (pos 2 1) 0 ≡ holds (contentsOf x .body) (contentsOf x .len) 0 (pos 2 1) =
     subst (λ (n : ℕ). holdsAt deskAhead 0 (pos 2 1) n ≡ holds (contentsOf x .body) (contentsOf x .len) 0 (pos 2 1)) own (r .updates 0 (omega arith) (pos 2 1)) in
-    omega (arith, no-run-above (settingsFor 2) x accepted 0 (omega arith) (pos 2 1) (sym told ∙ has-ahead), r .same .number,
-    first-of-stale (r .at) (r .listed) logged)
+    omega (
+      arith,
+      no-run-above (settingsFor 2) x accepted 0 (omega arith) (pos 2 1) (sym told ∙ has-ahead),
+      r .same .number,
+      first-of-stale (r .at) (r .listed) logged,
+    )
 
 pub stale-refused : StaleRefused
 unfolding deskAhead ones onesIn allBelow anyBelow lowest tabulate unless unlessAt firstOf place following row5 row8 precedes shardsWhere row6 viewOk row7 kindOk plain kindAt shardAt surplus sequenceAt complete shardApart row10At row10 position viewFits legal row11At bodyWord bodyOf contentsOf recordsRefusal headRefusal messageRefusal slot reportOf sameView row12 sameTermination row13 termKept slotOk slotsOk

@@ -48,8 +48,8 @@ abbrev pub courseSettings : List ℕ
 courseSettings = 3 ∷ 3 ∷ 2 ∷ 1 ∷ 0 ∷ 1 ∷ 2 ∷ 196610 ∷ []
 
 -- a report of a view with the shard's mask; what follows are its runs
-abbrev pub reportWith : ℕ → ℕ → ℕ → ℕ → List ℕ → List ℕ
-reportWith node number members mask rest = slotOf (node ∷ number ∷ members ∷ 1 ∷ 256 ∷ mask ∷ 0 ∷ rest)
+abbrev pub reportOfShard : ℕ → ℕ → ℕ → ℕ → List ℕ → List ℕ
+reportOfShard node number members mask rest = slotOf (node ∷ number ∷ members ∷ 1 ∷ 256 ∷ mask ∷ 0 ∷ rest)
 
 -- one run, and two
 abbrev pub runOf : ℕ → ℕ → List ℕ
@@ -172,7 +172,7 @@ log-second = planned-of carriedPlan refl (pos 1 1 ∷ pos 1 2 ∷ pos 1 3 ∷ []
 
 -- it is carried out: both have logged view 2
 unfoldable pub deskCarried : List ℕ
-deskCarried = reportWith 0 2 3 3 (runOf 1 3) ++ reportWith 1 2 3 3 (runOf 1 3) ++ reportOfAll 2 1 7 2 ++ replicate 14848 0
+deskCarried = reportOfShard 0 2 3 3 (runOf 1 3) ++ reportOfShard 1 2 3 3 (runOf 1 3) ++ reportOfAll 2 1 7 2 ++ replicate 14848 0
 
 abbrev pub laterViews : List Layout
 laterViews = viewOfAll 1 7 ∷ viewOfAll 2 3 ∷ []
@@ -197,7 +197,7 @@ carried =
 -- ---- the service runs: both store update 1 of view 2, node 1 also update 2, and a termination ends the shard at update 1
 
 unfoldable pub deskServed : List ℕ
-deskServed = reportWith 0 2 3 3 (endedRuns 1) ++ reportWith 1 2 3 3 (endedRuns 2) ++ reportOfAll 2 1 7 2 ++ replicate 14848 0
+deskServed = reportOfShard 0 2 3 3 (endedRuns 1) ++ reportOfShard 1 2 3 3 (endedRuns 2) ++ reportOfAll 2 1 7 2 ++ replicate 14848 0
 
 abbrev pub afterRun : History
 afterRun = toldBy laterViews (7 ∷ 3 ∷ []) deskServed
@@ -226,8 +226,8 @@ abbrev pub endOfRun : Termination
 endOfRun = record { made = true; positions = pos 2 1 ∷ replicate 15 start }
 
 -- node 2, which has view 1, is held and not placed
-abbrev pub lastView : Layout
-lastView = record { number = record { 0 = 3 }; members = 7; masks = 3 ∷ replicate 15 0 }
+abbrev pub thirdView : Layout
+thirdView = record { number = record { 0 = 3 }; members = 7; masks = 3 ∷ replicate 15 0 }
 
 pub slots-last : slotsOk courseSettings (viewOfAll 2 3) endOfRun 7 deskServed ≡ true
 unfolding deskServed allBelow anyBelow lowest tabulate unless unlessAt firstOf place following row5 row8 precedes shardsWhere row6 viewOk row7 kindOk plain kindAt shardAt surplus sequenceAt complete shardApart row10At row10 position viewFits legal row11At bodyWord bodyOf contentsOf recordsRefusal headRefusal messageRefusal slot reportOf sameView row12 sameTermination row13 termKept slotOk slotsOk
@@ -249,9 +249,9 @@ pub reports-last : reportsTest courseSettings laterViews (7 ∷ 3 ∷ []) deskSe
 unfolding deskServed allBelow slot reportOf contentsOf bodyOf bodyWord tabulate place following lowest anyBelow
 reports-last = refl
 
-pub next-last : Next courseSettings (viewOfAll 2 3) 7 lastView
+pub next-last : Next courseSettings (viewOfAll 2 3) 7 thirdView
 unfolding allBelow
-next-last = next-of courseSettings (viewOfAll 2 3) 7 lastView refl refl refl
+next-last = next-of courseSettings (viewOfAll 2 3) 7 thirdView refl refl refl
 
 -- the termination ends the shard where node 0's log ends
 pub covers-last : Covers courseSettings endOfRun afterRun
@@ -260,7 +260,7 @@ covers-last = covers-of courseSettings endOfRun laterViews (7 ∷ 3 ∷ []) desk
 
 abbrev pub lastPlan : Restart 1 afterRun
 lastPlan =
-    planFrom courseSettings laterViews (7 ∷ 3 ∷ []) deskServed (viewOfAll 2 3) endOfRun 7 lastView (omega arith) (omega arith) (omega arith)
+    planFrom courseSettings laterViews (7 ∷ 3 ∷ []) deskServed (viewOfAll 2 3) endOfRun 7 thirdView (omega arith) (omega arith) (omega arith)
     slots-last met-last next-last (1 ∷ 1 ∷ 0 ∷ []) reports-last covers-last
 
 abbrev pub lastLog : List (List Position)
