@@ -3,3 +3,4 @@ pub mod Steps
 pub mod Worked
 pub mod Duties
 pub mod Stories
+pub mod Clauses
