@@ -363,6 +363,16 @@ logged-four : implies (has 3) (λ n. holdsAt deskOfFour 0 (pos 1 1) n) ≡ true
 unfolding deskOfFour allBelow anyBelow lowest tabulate place following bodyWord bodyOf contentsOf reaches holds slot reportOf
 logged-four = refl
 
+lacks-four : holdsAt deskUnfetched 0 (pos 1 1) 2 ≡ false
+unfolding deskUnfetched allBelow anyBelow lowest tabulate place following bodyWord bodyOf contentsOf reaches holds slot reportOf
+lacks-four = refl
+
+unordered-four : CarriedOut (settingsFor 131073) (viewWith 1 15 3) noTermination 13 deskOfFour (viewWith 2 13 5) fourBefore unfetched → ⊥
+unfolding among onePosition
+unordered-four c =
+    clash (c .ordered 0 (omega arith) 2 (omega arith) refl refl (pos 1 1) ∙ asked-of fourPlan ((pos 1 1 ∷ []) ∷ []) log-four 0 (omega arith) 2 (omega arith) refl (pos 1 1))
+    lacks-four
+
 pub ordered-needed : OrderedNeeded
 unfolding deskOfFour deskUnfetched ones onesIn allBelow anyBelow lowest tabulate place following bodyWord bodyOf contentsOf reaches holds slot reportOf onePosition among
 ordered-needed =
@@ -374,9 +384,7 @@ ordered-needed =
       remembered = remembered-of (15 ∷ []) (15 ∷ 13 ∷ []) 1 refl;
       logs = λ n l h. h;
       most = omega arith;
-      unordered = λ c.
-          clash (c .ordered 0 (omega arith) 2 (omega arith) refl refl (pos 1 1) ∙ asked-of fourPlan ((pos 1 1 ∷ []) ∷ []) log-four 0 (omega arith) 2 (omega arith) refl (pos 1 1))
-          refl;
+      unordered = unordered-four;
       standing = orderly-of unfetched (13 ∷ []) refl refl refl;
       full = full-of unfetched 1 refl;
       again = unfetchedPlan;
@@ -498,6 +506,21 @@ kept-cut : (q : Position) → holdsAt deskCut 0 q 1 ≡ (notAfter q (pos 5 2) &&
 unfolding deskParted deskCut allBelow anyBelow lowest tabulate place following bodyWord bodyOf contentsOf slot reportOf runsFrom runsOf updatesAfter updatesIn onePosition among ofEvery sameLog pairNotAfter thoseOf
 kept-cut = kept-alike deskParted deskCut 0 1 (pos 5 2) refl
 
+had-cut : holdsAt deskParted 0 (pos 6 2) 1 ≡ true
+unfolding deskParted allBelow anyBelow lowest tabulate place following bodyWord bodyOf contentsOf reaches holds slot reportOf
+had-cut = refl
+
+lacks-cut : holdsAt deskCut 0 (pos 6 2) 1 ≡ false
+unfolding deskCut allBelow anyBelow lowest tabulate place following bodyWord bodyOf contentsOf reaches holds slot reportOf
+lacks-cut = refl
+
+unlike-cut : GivenUp (settingsFor 131073) (viewWith 7 7 3) noTermination 3 deskParted (viewWith 8 3 3) parted halfDone → ⊥
+unfolding among onePosition
+unlike-cut g =
+    ⊎-elim (λ e. clash (e (pos 6 2) ∙ had-cut) lacks-cut)
+    (λ e. clash (e .1 (pos 6 2) ∙ asked-of partedPlan partedLog log-parted 0 (omega arith) 1 (omega arith) refl (pos 6 2)) lacks-cut)
+    (g .updated 0 (omega arith) 1 (omega arith))
+
 pub updated-needed : UpdatedNeeded
 unfolding deskParted deskCut ones onesIn allBelow anyBelow lowest tabulate place following bodyWord bodyOf contentsOf reaches holds slot reportOf onePosition among runsFrom runsOf runsTo sharedAfter cutFrom
 updated-needed =
@@ -510,11 +533,7 @@ updated-needed =
       others = others-cut;
       cut = cut-of (viewWith 7 7 3) noTermination 3 deskParted 1 target-parted holder-parted refl;
       kept = kept-cut;
-      unlike =
-          λ g.
-          ⊎-elim (λ e. clash (e (pos 6 2)) refl)
-          (λ e. clash (e .1 (pos 6 2) ∙ asked-of partedPlan partedLog log-parted 0 (omega arith) 1 (omega arith) refl (pos 6 2)) refl)
-          (g .updated 0 (omega arith) 1 (omega arith));
+      unlike = unlike-cut;
       again = cutPlan;
       goal = target-cut;
       lost = told-of deskCut (pos 6 2) false holder-cut refl;
