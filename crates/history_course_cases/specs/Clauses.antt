@@ -125,8 +125,8 @@ course-clauses =
       two-have = refl;
       member = record { one = 2; member = refl; lacks = refl };
       stranger = λ l. no-stranger (l .one) (l .member) (l .lacks);
-      forgotten = forgot 2 5 1 2 refl refl (forgot 3 4 0 2 refl refl (went 3 0 2 refl (got 1 0 1 refl (got 0 0 0 refl now))));
-      kept = went 7 0 3 refl (got 3 0 2 refl (got 1 0 1 refl (got 0 0 0 refl now)));
+      forgotten = forgot 2 5 1 2 refl refl (forgot 3 4 0 2 refl refl (went 3 0 2 refl (got 1 0 1 refl refl (got 0 0 0 refl refl now))));
+      kept = went 7 0 3 refl (got 3 0 2 refl refl (got 1 0 1 refl refl (got 0 0 0 refl refl now)));
     }
   where
     settled-changed : (s : ℕ) (p : Position) → s < 1 → Settled changedView s p
