@@ -206,7 +206,7 @@ def errors_of(crate, path):
         if proof:
             names = proof.group(1).split("/")[-1].split("+")
             errors.append((line, set().union(*(crate.bodies(name) for name in names))))
-        elif specs:
+        elif specs and specs.group(1) in crate.lines:
             errors.append((line, {crate.lines[specs.group(1)][int(specs.group(2)) - 1]}))
         elif ": error" in line:
             errors.append((line, set()))
@@ -257,7 +257,7 @@ def main():
         _, crate, _, label = path[: -len(".edit")].split("/")
         for name, changed, reason in judged(crate, path, "target/must-fail/%s/%s/.log" % (crate, label)):
             for file, owner in changed:
-                if owner:
+                if owner and file.startswith("src/"):
                     wrong.setdefault((crate, file, owner[0]), set()).add(name)
             passed, failed = passed + (reason is None), failed + (reason is not None)
             if reason:
