@@ -206,8 +206,9 @@ def errors_of(crate, path):
         if proof:
             names = proof.group(1).split("/")[-1].split("+")
             errors.append((line, set().union(*(crate.bodies(name) for name in names))))
-        elif specs and specs.group(1) in crate.lines:
-            errors.append((line, {crate.lines[specs.group(1)][int(specs.group(2)) - 1]}))
+        elif specs:
+            at = int(specs.group(2))
+            errors.append((line, set(crate.lines.get(specs.group(1), [])[at - 1 : at])))
         elif ": error" in line:
             errors.append((line, set()))
         elif search:
