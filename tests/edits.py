@@ -102,6 +102,11 @@ class Crate:
             for name in file.split("/")[-2].split("+"):
                 for part in self.bodies(name):
                     self.words[part].update((file, word) for word in WORD.findall(text))
+        # what has no proof file is proved by search, perhaps from anything that its file names
+        written = {name for file in proofs for name in file.split("/")[-2].split("+")}
+        for name in self.functions.keys() - written:
+            for part in self.bodies(name):
+                self.words[part].update((part[0], word) for word in self.names[part[0]])
 
     def add_specs(self, file, text):
         names = self.names.setdefault(file, {})
@@ -125,14 +130,16 @@ class Crate:
                 self.functions.setdefault(owner[0], set()).add(head)
 
     def add_names(self, file, text):
-        """What the file names of the crate's specs by its lines `use`: those of a list, or all of a module."""
+        """What the file names of the crate's specs by its lines `use`: those of a list, or all of a module. A name that its module does not
+        declare is any of that name."""
         names = self.names.setdefault(file, {})
         for module, listed in self.used.findall(text):
             own = self.names.get(module.replace(".", "/") + ".antt", {})
             pairs = [item.split(" as ") for item in listed.split(",")] if listed else [[name] for name in own]
             for pair in pairs:
+                named = own.get(pair[0].strip()) or set().union(*(other.get(pair[0].strip(), ()) for other in self.names.values()))
                 for name in [pair[-1].strip(), *pair[-1].strip().split("_")]:
-                    names.setdefault(name, set()).update(own.get(pair[0].strip(), ()))
+                    names.setdefault(name, set()).update(named)
 
     def bodies(self, name):
         """The bodies of the functions of that name."""
