@@ -1,8 +1,8 @@
 """After `rt ci`: every wrong program was refused because a fact fails, and every public function has enough of them: two, or one if it
 asks something of its caller (`requires`).
 
-A file crates/NAME/must-fail/LABEL.edit holds a wrong program; code_1.edit, code_2.edit .. (function bodies) and laws_1.edit, laws_2.edit ..
-(definitions, theorems, contracts) hold several, each under a line `# NAME: what is right`, or `# NAME` alone. Alone in its file, a wrong
+A file crates/NAME/must-fail/LABEL.edit holds a wrong program; code_1.edit .. (function bodies, and statements beside them)
+and laws_1.edit .. (definitions, theorems, contracts) hold several, each under a line `# NAME: what is right`, or `# NAME` alone. Alone in its file, a wrong
 body has an error at its function, and of anything else the first error of the log is its own. Beside others, each must have an error at
 a part of the crate that is checked from what it changes and from nothing that another one of its file changes. A function is proved
 from its own body, its proof file and the contracts of what it calls; a declaration of specs/ is checked from its own text; and both
