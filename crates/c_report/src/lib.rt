@@ -1,5 +1,4 @@
 // The report event, over lent bytes.
-use state_planner::State;
 ghost use mathlib.Core.Path.{_≡_};
 ghost use Rattle.c_report.specs.ReportCalls.{reportAnswer, reportLeaves, reportDesk};
 

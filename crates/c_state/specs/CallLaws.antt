@@ -12,14 +12,14 @@ use mathlib.Core.Path.{_≡_, sym, ap, _∙_}
 use mathlib.Core.Logic.{⊎-elim}
 use mathlib.Core.Bool.{Bool, true, false}
 use mathlib.Core.List.{List}
-use Prim.Native.Nat.{ℕ, suc, _*_, _-_, _/_, _%_, _≤_}
+use Prim.Native.Nat.{ℕ, _-_, _≤_}
 use native.Mathlib.Omega.{arith}
 use lib.Dec.{eqb}
 use lib.ListN.{length, take, drop}
 use borrow.Author.Tests.{eqb-true, eq-eqb, ne-eqb}
-use Rattle.base_laws.specs.Bools.{either, same, no-true}
+use Rattle.base_laws.specs.Bools.{either, no-true}
 use Rattle.base_laws.specs.Tables.{length-padded, front-padded}
-use Rattle.base_bytes.specs.Words.{wordsOf, bytesOf, length-words}
+use Rattle.base_bytes.specs.Words.{bytesOf, length-words}
 use Rattle.base_lent.specs.Lent.{countWithin, wordsIn, wordsWithin, within-le, bytes-of-words, length-test, HoldsSettings}
 use Rattle.base_lent.specs.Answers.{Told, told-refused}
 use Rattle.base_ids.specs.declared.Refusal.{Refusal}
