@@ -9,6 +9,7 @@
 //! - `damage`: faults put into them
 //! - `records`: what a refusal with a record's index was about
 //! - `messages`: the inputs of the `messages` program and their comparison
+//! - `open_views`: questions on open views and their comparison
 //! - `stored`: stored calls of the readers and writers
 //! - `world`: groups whose nodes report
 //! - `sequences`: events that a state's phase takes
@@ -38,6 +39,7 @@ pub mod messages;
 pub mod mock;
 pub mod mondays;
 pub mod moves;
+pub mod open_views;
 pub mod plans;
 pub mod random;
 pub mod recorder;

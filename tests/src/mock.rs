@@ -5,6 +5,7 @@
 use crate::calls::{self, Asked, Kind, Outcome, Table};
 use crate::expected::{self, Expected};
 use crate::library::{Library, Planner};
+use crate::open_views::{self, Question};
 use reference::message::Form;
 use std::slice::from_raw_parts;
 
@@ -18,6 +19,9 @@ pub trait Behaviour {
     }
     fn write(form: Form, settings: &[u8], contents: &[u8], buffer: usize) -> Expected {
         expected::write(form, settings, contents, buffer)
+    }
+    fn open_view(question: &Question) -> u32 {
+        open_views::expected(question)
     }
     fn event(asked: &Asked) -> Outcome {
         calls::expected(asked)
@@ -37,7 +41,24 @@ pub fn library<B: Behaviour>() -> Library {
         read_order: read_order::<B>,
         write_report: write_report::<B>,
         write_order: write_order::<B>,
+        open_view: open_view::<B>,
     }
+}
+
+unsafe extern "C" fn open_view<B: Behaviour>(
+    members: u32,
+    known: u32,
+    have: u32,
+    lack: u32,
+    passed: u32,
+) -> u32 {
+    B::open_view(&Question {
+        members,
+        known,
+        have,
+        lack,
+        passed,
+    })
 }
 
 unsafe extern "C" fn check_settings<B: Behaviour>(settings: *const u8, length: usize) -> u32 {
