@@ -290,9 +290,9 @@ RESTART_INLINE int restart_has_index(uint32_t answer)
 /* A refusal's index; 0 where there is none. It is the index of the record looked at: word 4 * index
  * is the record's first word. Where a record is missing it is that of the last one on the chain. Of
  * contents to be written it is the record's index in the message as it would stand: word 3 * index
- * of the contents is the record's first word. Of a flat report it is the index in the report that it
- * would become: the masks are records 1 to S, the positions, if there are any, S + 1 to 2 * S, and
- * the runs follow. */
+ * of the contents is the record's first word. Of a flat report it is the index in the report that
+ * it would become: masks are records 1 to S, positions, if there are any, S + 1 to 2 * S, and runs
+ * follow. */
 RESTART_INLINE uint32_t restart_index_of(uint32_t answer)
 {
     return restart_is_refusal(answer) ? answer / 256 : 0;
@@ -390,19 +390,19 @@ uint32_t restart_write_order(const uint8_t *settings, size_t settings_len, const
                              size_t buffer_len) RESTART_NONNULL RESTART_CHECKED;
 
 /*
- * Turn a flat report of the former seller into a report, and a report into a flat one. A flat report
- * is words: node, view, members, S, S masks, a word 0 or 1 and, if 1, S positions of two words (view,
- * k), then a count of runs and as many triples of shard, view and count. S and the count of runs are
- * its own words. The report has the records one after another; either way zeros follow to 512 words.
- * A flat report that is taken comes back word for word; a report comes back with the same contents.
- * Lend as many words as the answer says, not the zeros: these would be words that no count explains.
+ * Turn a flat report of the former seller into a report, and a report into a flat one. A flat
+ * report is words: node, view, members, S, S masks, a word 0 or 1 and, if 1, S positions of two
+ * words (view, k), then a count of runs and as many triples of shard, view and count. S and the
+ * count of runs are its own words. What is written has zeros after it, to 512 words; the report has
+ * its records one after another. A flat report that is taken comes back word for word, a report with
+ * the same contents. Lend a flat report without the zeros after it: no count explains them.
  *
  * restart_from_flat answers class 1 with the report's length in words; or one of the numbers 1
- * (buffer not 2048 bytes), 2, 19, 20, 21, 6, 7, 16, 17, 10, 11. A shard too large for a record is one
- * that the settings do not have (16). The runs are not sorted: those out of sequence are refused
- * (17). A flat report may be of any length.
- * restart_to_flat answers class 1 with the flat report's length in words, at most 385; or one of the
- * numbers 1 (buffer not 2048 bytes), 2, 5 to 9, 16, 17, 10, 11, as restart_read_report does.
+ * (buffer not 2048 bytes), 2, 19, 20, 21, 6, 7, 16, 17, 10, 11. A shard too large for a record is
+ * one that the settings do not have (16). Runs are not sorted: one out of sequence is refused (17).
+ * A flat report may have any length.
+ * restart_to_flat answers class 1 with the flat report's length in words, at most 385; or one of
+ * the numbers 1 (buffer not 2048 bytes), 2, 5 to 9, 16, 17, 10, 11, as restart_read_report does.
  * Both change the buffer.
  */
 uint32_t restart_from_flat(const uint8_t *settings, size_t settings_len, const uint8_t *flat,
