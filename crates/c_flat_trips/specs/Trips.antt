@@ -41,21 +41,25 @@ flat-small f w =
   where
     record-word : (j p : ℕ) → j < 127 → flatRecord f j p < 2 ^ 32
     record-word j p l =
-        cond-lt (ltb j (flatShards f)) _ _ (2 ^ 32) (cond-lt (eqb p 0) _ _ (2 ^ 32) (omega arith) (cond-lt (eqb p 1) _ _ (2 ^ 32) (w (4 + j)) (omega arith)))
-        (cond-lt (ltb j (flatShards f + flatPlaces f)) _ _ (2 ^ 32) (cond-lt (eqb p 0) _ _ (2 ^ 32) (omega arith) (w _)) (cond-lt (eqb p 0) _ _ (2 ^ 32) (omega arith) (w _)))
+        cond-lt (ltb j (flatShards f)) _ _ (2 ^ 32)
+        (cond-lt (eqb p 0) _ _ (2 ^ 32) (omega arith) (cond-lt (eqb p 1) _ _ (2 ^ 32) (w (4 + j)) (omega arith)))
+        (cond-lt (ltb j (flatShards f + flatPlaces f)) _ _ (2 ^ 32) (cond-lt (eqb p 0) _ _ (2 ^ 32) (omega arith) (w _))
+        (cond-lt (eqb p 0) _ _ (2 ^ 32) (omega arith) (w _)))
 
 made-small : (σ : List ℕ) (c : Contents) → shards σ ≤ 16 → c .len ≤ 127 → WordContents c → Words (flatWords σ c)
 unfolding flatWords flatWord headWord tripleWord
 made-small σ c s l small =
     table-words 512 (flatWord σ c)
     (λ k _.
-    cond-lt (ltb k 3) _ _ (2 ^ 32) (cond-lt (eqb k 0) _ _ (2 ^ 32) (small .node-word) (cond-lt (eqb k 1) _ _ (2 ^ 32) (small .view-word) (small .members-word)))
+    cond-lt (ltb k 3) _ _ (2 ^ 32)
+    (cond-lt (eqb k 0) _ _ (2 ^ 32) (small .node-word) (cond-lt (eqb k 1) _ _ (2 ^ 32) (small .view-word) (small .members-word)))
     (cond-lt (ltb k 4) _ _ (2 ^ 32) (omega arith)
     (cond-lt (ltb k (4 + shards σ)) _ _ (2 ^ 32) (small .body-words _)
     (cond-lt (ltb k (5 + shards σ)) _ _ (2 ^ 32) (cond-lt (hasPlaces σ c) 1 0 (2 ^ 32) (omega arith) (omega arith))
     (cond-lt (ltb k (countPlace σ c)) _ _ (2 ^ 32) (small .body-words _)
     (cond-lt (ltb k (countPlace σ c + 1)) _ _ (2 ^ 32) (omega arith)
-    (cond-lt (ltb k (flatLength σ c)) _ _ (2 ^ 32) (cond-lt (eqb ((k - (countPlace σ c + 1)) % 3) 0) _ _ (2 ^ 32) (omega arith) (small .body-words _)) (omega arith))))))))
+    (cond-lt (ltb k (flatLength σ c)) _ _ (2 ^ 32)
+    (cond-lt (eqb ((k - (countPlace σ c + 1)) % 3) 0) _ _ (2 ^ 32) (omega arith) (small .body-words _)) (omega arith))))))))
 
 -- a buffer of 512 words
 abbrev room-words : List ℕ
@@ -79,7 +83,10 @@ module _ (settings flat buffer : List ℕ) (bytes : Bytes flat) (h : fromFlatRef
 
   turned-words : wordsIn turned ≡ messageOf (flatContents (wordsIn flat)) 512
   unfolding fromFlatLeaves bytesLeft
-  turned-words = rw h (words-lent (messageOf (flatContents (wordsIn flat)) 512) (message-words (flatContents (wordsIn flat)) (flat-small (wordsIn flat) (lent-words flat bytes))))
+  turned-words =
+      rw h
+      (words-lent (messageOf (flatContents (wordsIn flat)) 512)
+      (message-words (flatContents (wordsIn flat)) (flat-small (wordsIn flat) (lent-words flat bytes))))
 
   -- there are words, so the bytes are whole ones
   some : 6 ≤ length (wordsIn flat)
@@ -87,7 +94,8 @@ module _ (settings flat buffer : List ℕ) (bytes : Bytes flat) (h : fromFlatRef
   some =
       let rest = unless-rest (settingsOk (wordsIn settings)) 1 _ (unless-rest (eqb (length buffer) 2048) 0 _ h) in
       let counts = unless-ok (explained (wordsIn flat)) 18 _ (first-left (flatRefusal (wordsIn flat)) _ rest) in
-      let long = eqb-true (length (wordsIn flat)) (flatCountAt (wordsIn flat) + 1 + 3 * flatRuns (wordsIn flat)) (and-right (leb (flatFlag (wordsIn flat)) 1) (eqb (length (wordsIn flat)) (flatCountAt (wordsIn flat) + 1 + 3 * flatRuns (wordsIn flat))) counts) in
+      let explains : ℕ = flatCountAt (wordsIn flat) + 1 + 3 * flatRuns (wordsIn flat) in
+      let long = eqb-true (length (wordsIn flat)) explains (and-right (leb (flatFlag (wordsIn flat)) 1) (eqb (length (wordsIn flat)) explains) counts) in
       omega (arith, long)
 
   whole : (bytesOf (wordsIn flat) ≡ flat) × (length flat ≡ 4 * length (wordsIn flat))

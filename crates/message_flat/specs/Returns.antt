@@ -68,6 +68,9 @@ module _ (σ : List ℕ) (c : Contents) (one : 1 ≤ shards σ) (most : shards �
       pick true s = refl
       pick false s = refl
 
+  its-first : flatShards madeFlat + flatPlaces madeFlat ≡ runsFirst σ c
+  its-first = omega (arith, its-shards, its-places)
+
   its-count-at : flatCountAt madeFlat ≡ countPlace σ c
   its-count-at = omega (arith, its-shards, its-places)
 
@@ -89,7 +92,9 @@ module _ (σ : List ℕ) (c : Contents) (one : 1 ≤ shards σ) (most : shards �
       let k : kind oldBody j ≡ 3 = run-kind σ c pass j l m in
       let h = all-at (c .len) (row11At Report (c .view .0) (c .members) oldBody) (pass .records-pass .positions-pass) j m in
       let g : (leb 1 (word1 oldBody j) && leb 1 (word2 oldBody j) && viewFits Report (c .view .0) (word1 oldBody j)) ≡ true = rw k at h in
-      leb-true 1 (word2 oldBody j) (and-right (leb 1 (word1 oldBody j)) (leb 1 (word2 oldBody j)) (and-left (leb 1 (word1 oldBody j) && leb 1 (word2 oldBody j)) (viewFits Report (c .view .0) (word1 oldBody j)) g))
+      leb-true 1 (word2 oldBody j)
+      (and-right (leb 1 (word1 oldBody j)) (leb 1 (word2 oldBody j))
+      (and-left (leb 1 (word1 oldBody j) && leb 1 (word2 oldBody j)) (viewFits Report (c .view .0) (word1 oldBody j)) g))
 
   not-zero : (i : ℕ) → i < runsCount σ c → getD madeFlat (flatCountAt madeFlat + 3 * i + 3) 0 ≡ word2 oldBody (runsFirst σ c + i)
   unfolding tripleWord
@@ -109,7 +114,9 @@ module _ (σ : List ℕ) (c : Contents) (one : 1 ≤ shards σ) (most : shards �
       let counts : (i : ℕ) → i < flatRuns madeFlat → eqb (getD madeFlat (flatCountAt madeFlat + 3 * i + 3) 0) 0 ≡ false =
       λ i l. ne-eqb (getD madeFlat (flatCountAt madeFlat + 3 * i + 3) 0) 0 (λ z.
       omega (arith, not-zero i (omega (arith, its-runs)), run-count (runsFirst σ c + i) (omega arith) (omega (arith, its-runs)))) in
-      unless-none _ _ _ (and-both (le-leb (flatFlag madeFlat) 1 low) (eq-eqb (length madeFlat) (flatCountAt madeFlat + 1 + 3 * flatRuns madeFlat) (omega (arith, made-long, its-count-at, its-runs))))
+      unless-none _ _ _
+      (and-both (le-leb (flatFlag madeFlat) 1 low)
+      (eq-eqb (length madeFlat) (flatCountAt madeFlat + 1 + 3 * flatRuns madeFlat) (omega (arith, made-long, its-count-at, its-runs))))
       (unless-none _ _ _ (not-of-false (any-none-of (flatRuns madeFlat) (λ i. eqb (getD madeFlat (flatCountAt madeFlat + 3 * i + 3) 0) 0) counts))
       (unless-none _ _ _ (le-leb (flatLen madeFlat) 127 (omega (arith, its-len, few σ c pass))) refl))
 
@@ -125,7 +132,8 @@ module _ (σ : List ℕ) (c : Contents) (one : 1 ≤ shards σ) (most : shards �
       let g : 3 * i / 3 ≡ i = omega arith in
       its-triple (3 * i) (omega arith) ∙ rw (e, g)
 
-  triple-rest : (i p : ℕ) → i < runsCount σ c → p < 3 → (p ≡ 0 → ⊥) → getD madeFlat (flatCountAt madeFlat + 1 + (3 * i + p)) 0 ≡ getD oldBody (3 * (runsFirst σ c + i) + p) 0
+  triple-rest : (i p : ℕ) → i < runsCount σ c → p < 3 → (p ≡ 0 → ⊥)
+      → getD madeFlat (flatCountAt madeFlat + 1 + (3 * i + p)) 0 ≡ getD oldBody (3 * (runsFirst σ c + i) + p) 0
   unfolding tripleWord
   triple-rest i p l m z =
       its-triple (3 * i + p) (omega arith) ∙ rw (ne-eqb ((3 * i + p) % 3) 0 (λ e. z (omega arith))) (ap (λ (x : ℕ). getD oldBody x 0) (omega arith))
@@ -153,7 +161,8 @@ module _ (σ : List ℕ) (c : Contents) (one : 1 ≤ shards σ) (most : shards �
           → cond (eqb p 0) (512 + (j - flatShards madeFlat)) (getD madeFlat (4 + flatShards madeFlat + 2 * (j - flatShards madeFlat) + p) 0) ≡ getD oldBody (3 * j + p) 0
       place-word s t (inl z) =
           let e : shards σ + (j - shards σ) ≡ j = omega arith in
-          let g : tag oldBody j ≡ 512 + (j - shards σ) = subst (λ (x : ℕ). tag oldBody x ≡ 512 + (j - shards σ)) e (place-tag σ c pass (made s t) (j - shards σ) (omega (arith, places-le))) in
+          let g : tag oldBody j ≡ 512 + (j - shards σ) =
+          subst (λ (x : ℕ). tag oldBody x ≡ 512 + (j - shards σ)) e (place-tag σ c pass (made s t) (j - shards σ) (omega (arith, places-le))) in
           let a : 512 + (j - flatShards madeFlat) ≡ tag oldBody j = omega (arith, g, its-shards) in
           let y : 3 * j ≡ 3 * j + p = omega arith in
           rw (eq-eqb p 0 z) (a ∙ ap (λ (x : ℕ). getD oldBody x 0) y)
@@ -171,18 +180,20 @@ module _ (σ : List ℕ) (c : Contents) (one : 1 ≤ shards σ) (most : shards �
           ≡ getD oldBody (3 * j + p) 0
       run-word t (inl z) =
           let w : getD madeFlat (flatCountAt madeFlat + 1 + 3 * (j - (flatShards madeFlat + flatPlaces madeFlat))) 0 ≡ shard oldBody j =
-          ap (λ (x : ℕ). getD madeFlat (flatCountAt madeFlat + 1 + 3 * (j - x)) 0) (let x : flatShards madeFlat + flatPlaces madeFlat ≡ runsFirst σ c = omega (arith, its-shards, its-places) in x)
+          ap (λ (x : ℕ). getD madeFlat (flatCountAt madeFlat + 1 + 3 * (j - x)) 0) its-first
           ∙ triple-shard (j - runsFirst σ c) (omega arith)
           ∙ ap (λ (x : ℕ). shard oldBody x) (omega arith) in
           let k : kind oldBody j ≡ 3 = run-kind σ c pass j t l in
           let s : shard oldBody j < shards σ = shard-lt σ c pass j l in
-          let a : 768 + min (getD madeFlat (flatCountAt madeFlat + 1 + 3 * (j - (flatShards madeFlat + flatPlaces madeFlat))) 0) 255 ≡ tag oldBody j = omega (arith, w, k, s) in
+          let a : 768 + min (getD madeFlat (flatCountAt madeFlat + 1 + 3 * (j - (flatShards madeFlat + flatPlaces madeFlat))) 0) 255 ≡ tag oldBody j =
+          omega (arith, w, k, s) in
           let y : 3 * j ≡ 3 * j + p = omega arith in
           rw (eq-eqb p 0 z) (a ∙ ap (λ (x : ℕ). getD oldBody x 0) y)
       run-word t (inr z) =
+          let joined : flatCountAt madeFlat + 1 + 3 * (j - runsFirst σ c) + p ≡ flatCountAt madeFlat + 1 + (3 * (j - runsFirst σ c) + p) = omega arith in
           rw (ne-eqb p 0 z)
-          (ap (λ (x : ℕ). getD madeFlat (flatCountAt madeFlat + 1 + 3 * (j - x) + p) 0) (let x : flatShards madeFlat + flatPlaces madeFlat ≡ runsFirst σ c = omega (arith, its-shards, its-places) in x)
-          ∙ ap (λ (x : ℕ). getD madeFlat x 0) (let x : flatCountAt madeFlat + 1 + 3 * (j - runsFirst σ c) + p ≡ flatCountAt madeFlat + 1 + (3 * (j - runsFirst σ c) + p) = omega arith in x)
+          (ap (λ (x : ℕ). getD madeFlat (flatCountAt madeFlat + 1 + 3 * (j - x) + p) 0) its-first
+          ∙ ap (λ (x : ℕ). getD madeFlat x 0) joined
           ∙ triple-rest (j - runsFirst σ c) p (omega arith) m z
           ∙ ap (λ (x : ℕ). getD oldBody x 0) (omega arith))
 
@@ -201,5 +212,7 @@ module _ (σ : List ℕ) (c : Contents) (one : 1 ≤ shards σ) (most : shards �
     where
       one-word : (k : ℕ) → (k < 3 * c .len) ⊎ (3 * c .len ≤ k)
           → cond (ltb k (3 * c .len)) (flatRecord madeFlat (k / 3) (k % 3)) 0 ≡ cond (ltb k (3 * c .len)) (getD (c .body) k 0) 0
-      one-word k (inl l) = ap (λ (x : ℕ). cond (ltb k (3 * c .len)) x 0) (its-record (k / 3) (k % 3) (omega arith) (omega arith) ∙ ap (λ (x : ℕ). getD (c .body) x 0) (omega arith))
+      one-word k (inl l) =
+          ap (λ (x : ℕ). cond (ltb k (3 * c .len)) x 0)
+          (its-record (k / 3) (k % 3) (omega arith) (omega arith) ∙ ap (λ (x : ℕ). getD (c .body) x 0) (omega arith))
       one-word k (inr l) = rw (le-ltb k (3 * c .len) l)

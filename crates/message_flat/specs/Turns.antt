@@ -42,24 +42,52 @@ module _ (σ : List ℕ) (c : Contents) where
   pub made-flag : flatWord σ c (4 + shards σ) ≡ cond (hasPlaces σ c) 1 0
   unfolding flatWord
   made-flag =
-      rw (le-ltb (4 + shards σ) 3 (omega arith), le-ltb (4 + shards σ) 4 (omega arith), le-ltb (4 + shards σ) (4 + shards σ) (omega arith), lt-ltb (4 + shards σ) (5 + shards σ) (omega arith))
+      rw (
+        le-ltb (4 + shards σ) 3 (omega arith),
+        le-ltb (4 + shards σ) 4 (omega arith),
+        le-ltb (4 + shards σ) (4 + shards σ) (omega arith),
+        lt-ltb (4 + shards σ) (5 + shards σ) (omega arith),
+      )
 
   pub made-place : (i : ℕ) → i < 2 * placesIn σ c → flatWord σ c (5 + shards σ + i) ≡ getD (c .body) (3 * (shards σ + i / 2) + 1 + i % 2) 0
   unfolding flatWord
   made-place i l =
       let e : 5 + shards σ + i - (5 + shards σ) ≡ i = omega arith in
-      rw (le-ltb (5 + shards σ + i) 3 (omega arith), le-ltb (5 + shards σ + i) 4 (omega arith), le-ltb (5 + shards σ + i) (4 + shards σ) (omega arith), le-ltb (5 + shards σ + i) (5 + shards σ) (omega arith), lt-ltb (5 + shards σ + i) (countPlace σ c) (omega arith), e)
+      rw (
+        le-ltb (5 + shards σ + i) 3 (omega arith),
+        le-ltb (5 + shards σ + i) 4 (omega arith),
+        le-ltb (5 + shards σ + i) (4 + shards σ) (omega arith),
+        le-ltb (5 + shards σ + i) (5 + shards σ) (omega arith),
+        lt-ltb (5 + shards σ + i) (countPlace σ c) (omega arith),
+        e,
+      )
 
   pub made-count : flatWord σ c (countPlace σ c) ≡ runsCount σ c
   unfolding flatWord
   made-count =
-      rw (le-ltb (countPlace σ c) 3 (omega arith), le-ltb (countPlace σ c) 4 (omega arith), le-ltb (countPlace σ c) (4 + shards σ) (omega arith), le-ltb (countPlace σ c) (5 + shards σ) (omega arith), le-ltb (countPlace σ c) (countPlace σ c) (omega arith), lt-ltb (countPlace σ c) (countPlace σ c + 1) (omega arith))
+      rw (
+        le-ltb (countPlace σ c) 3 (omega arith),
+        le-ltb (countPlace σ c) 4 (omega arith),
+        le-ltb (countPlace σ c) (4 + shards σ) (omega arith),
+        le-ltb (countPlace σ c) (5 + shards σ) (omega arith),
+        le-ltb (countPlace σ c) (countPlace σ c) (omega arith),
+        lt-ltb (countPlace σ c) (countPlace σ c + 1) (omega arith),
+      )
 
   pub made-triple : (i : ℕ) → i < 3 * runsCount σ c → flatWord σ c (countPlace σ c + 1 + i) ≡ tripleWord (c .body) (runsFirst σ c) i
   unfolding flatWord
   made-triple i l =
       let e : countPlace σ c + 1 + i - (countPlace σ c + 1) ≡ i = omega arith in
-      rw (le-ltb (countPlace σ c + 1 + i) 3 (omega arith), le-ltb (countPlace σ c + 1 + i) 4 (omega arith), le-ltb (countPlace σ c + 1 + i) (4 + shards σ) (omega arith), le-ltb (countPlace σ c + 1 + i) (5 + shards σ) (omega arith), le-ltb (countPlace σ c + 1 + i) (countPlace σ c) (omega arith), le-ltb (countPlace σ c + 1 + i) (countPlace σ c + 1) (omega arith), lt-ltb (countPlace σ c + 1 + i) (flatLength σ c) (omega arith), e)
+      rw (
+        le-ltb (countPlace σ c + 1 + i) 3 (omega arith),
+        le-ltb (countPlace σ c + 1 + i) 4 (omega arith),
+        le-ltb (countPlace σ c + 1 + i) (4 + shards σ) (omega arith),
+        le-ltb (countPlace σ c + 1 + i) (5 + shards σ) (omega arith),
+        le-ltb (countPlace σ c + 1 + i) (countPlace σ c) (omega arith),
+        le-ltb (countPlace σ c + 1 + i) (countPlace σ c + 1) (omega arith),
+        lt-ltb (countPlace σ c + 1 + i) (flatLength σ c) (omega arith),
+        e,
+      )
 
 -- ---- a flat report and its contents
 
@@ -228,7 +256,8 @@ module _ (σ f : List ℕ) (one : 1 ≤ shards σ) (most : shards σ ≤ 16) (sh
       inside : runsFirst σ ours + i / 3 < flatLen f
       inside = omega (arith, same-shards, same-places, same-count)
 
-      first : i % 3 ≡ 0 → cond (eqb (i % 3) 0) (shard oursBody (runsFirst σ ours + i / 3)) (getD oursBody (3 * runsFirst σ ours + i) 0) ≡ getD f (countPlace σ ours + 1 + i) 0
+      first : i % 3 ≡ 0
+          → cond (eqb (i % 3) 0) (shard oursBody (runsFirst σ ours + i / 3)) (getD oursBody (3 * runsFirst σ ours + i) 0) ≡ getD f (countPlace σ ours + 1 + i) 0
       first e =
           let x : ℕ = getD f (flatCountAt f + 1 + 3 * (runsFirst σ ours + i / 3 - (flatShards f + flatPlaces f))) 0 in
           let t : tag oursBody (runsFirst σ ours + i / 3) ≡ 768 + min (getD f (flatCountAt f + 1 + 3 * (runsFirst σ ours + i / 3 - (flatShards f + flatPlaces f))) 0) 255 =
@@ -237,7 +266,8 @@ module _ (σ f : List ℕ) (one : 1 ≤ shards σ) (most : shards σ ≤ 16) (sh
           let is : shard oursBody (runsFirst σ ours + i / 3) ≡ getD f (flatCountAt f + 1 + 3 * (runsFirst σ ours + i / 3 - (flatShards f + flatPlaces f))) 0 = omega (arith, t, low) in
           rw (eq-eqb (i % 3) 0 e) (is ∙ ap (λ (y : ℕ). getD f y 0) (omega (arith, same-shards, same-places)))
 
-      other : (i % 3 ≡ 0 → ⊥) → cond (eqb (i % 3) 0) (shard oursBody (runsFirst σ ours + i / 3)) (getD oursBody (3 * runsFirst σ ours + i) 0) ≡ getD f (countPlace σ ours + 1 + i) 0
+      other : (i % 3 ≡ 0 → ⊥)
+          → cond (eqb (i % 3) 0) (shard oursBody (runsFirst σ ours + i / 3)) (getD oursBody (3 * runsFirst σ ours + i) 0) ≡ getD f (countPlace σ ours + 1 + i) 0
       other e =
           rw (ne-eqb (i % 3) 0 e)
           (ap (λ (y : ℕ). getD oursBody y 0) (omega arith)
