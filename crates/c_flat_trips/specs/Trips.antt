@@ -20,8 +20,8 @@ use Rattle.settings_values.specs.Laws.{settings-give}
 use Rattle.message_format.specs.declared.Contents.{Contents}
 use Rattle.message_format.specs.Chain.{following-le}
 use Rattle.message_format.specs.Messages.{headWord, contentsOf, readRefusal, messageOf}
-use Rattle.message_flat.specs.Flat.{flatShards, flatFlag, flatPlaces, flatCountAt, flatRuns, flatLen, explained, flatRefusal, flatRecord, flatBody, flatContents, fromFlatRefusal, hasPlaces, placesIn, countPlace, flatLength, tripleWord, flatWord, flatWords}
-use Rattle.message_flat.specs.Whole.{toFlatRefusal, flatOf, ComesBack, buffer-comes-back, ours-comes-back, ours-taken}
+use Rattle.message_flat.specs.Flat.{flatShards, flatFlag, flatPlaces, flatCountAt, flatRuns, flatLen, explained, flatRefusal, flatRecord, flatBody, flatContents, fromFlatRefusal, hasPlaces, placesIn, countPlace, flatLength, tripleWord, flatWord, flatWords, flatOf, toFlatRefusal}
+use Rattle.message_flat.specs.Whole.{ComesBack, buffer-comes-back, ours-comes-back, ours-taken}
 use Rattle.c_round_trips.specs.Lents.{Bytes, Words, words-lent, lent-words, bytes-taken, bytes-whole, WordContents, cond-lt, table-words, words-taken, message-words, read-small}
 use Rattle.c_flat.specs.FlatCalls.{fromFlatRefused, fromFlatLeaves, toFlatRefused, toFlatAnswer, toFlatLeaves}
 

@@ -4,7 +4,7 @@ use Prim.Native.Nat.{ℕ, _+_, _*_, _-_, _/_, _%_, min}
 use mathlib.Core.Bool.{Bool, cond, not, _&&_}
 use mathlib.Core.List.{List}
 use lib.Dec.{eqb, leb, ltb}
-use lib.ListN.{length, getD}
+use lib.ListN.{length, getD, take}
 use Rattle.base_laws.specs.Below.{anyBelow}
 use Rattle.base_laws.specs.Tables.{tabulate}
 use Rattle.base_ids.specs.declared.Refusal.{Refusal}
@@ -13,7 +13,7 @@ use Rattle.settings_values.specs.Settings.{shards, settingsOk}
 use Rattle.message_format.specs.declared.Contents.{Contents}
 use Rattle.message_format.specs.declared.Form.the-variants.{Report}
 use Rattle.message_format.specs.Records.{kind, shard, word1}
-use Rattle.message_format.specs.Messages.{headWord, contentsRefusal}
+use Rattle.message_format.specs.Messages.{headWord, contentsOf, readRefusal, contentsRefusal}
 
 -- how many masks it has
 abbrev pub flatShards : List ℕ → ℕ
@@ -121,3 +121,11 @@ flatWord σ c k =
 -- the flat report, then zeros
 unfoldable pub flatWords : List ℕ → Contents → List ℕ
 flatWords σ c = tabulate 512 (flatWord σ c)
+
+-- the flat report of our message: its words without the zeros after them
+abbrev pub flatOf : List ℕ → List ℕ → List ℕ
+flatOf σ w = take (flatLength σ (contentsOf w)) (flatWords σ (contentsOf w))
+
+-- the refusal of our report that is turned into a flat one: rows 1, 2 and 5 to 11
+unfoldable pub toFlatRefusal : List ℕ → List ℕ → List ℕ → Refusal
+toFlatRefusal σ w buffer = unless (eqb (length buffer) 512) 1 (readRefusal Report σ w)

@@ -6,7 +6,6 @@ use mathlib.Core.Path.{_≡_, refl, ap, _∙_}
 use lib.Dec.{eqb, ltb}
 use lib.ListN.{length, getD, take}
 use Rattle.base_laws.specs.Tables.{tabulate, getD-tabulate, tabulate-cong}
-use Rattle.base_ids.specs.declared.Refusal.{Refusal}
 use Rattle.base_ids.specs.Refusals.{none, unless, firstOf, unless-ok, unless-rest, unless-none, first-left, first-right, first-none}
 use Rattle.settings_values.specs.Settings.{settingsOk, Settings}
 use Rattle.settings_values.specs.Laws.{settings-give}
@@ -15,13 +14,9 @@ use Rattle.message_format.specs.declared.Form.the-variants.{Report}
 use Rattle.message_format.specs.Messages.{contentsOf, messageRefusal, readRefusal, contentsRefusal, messageLength, messageOf, tidy}
 use Rattle.message_format.specs.Passed.{contents-given}
 use Rattle.message_inverse.specs.RoundTrip.{ReadsAs, message-reads, buffer-reads, read-writes, read-tidy}
-use Rattle.message_flat.specs.Flat.{flatLen, flatRefusal, flatRecord, flatBody, flatContents, fromFlatRefusal, flatLength, flatWords}
+use Rattle.message_flat.specs.Flat.{flatLen, flatRefusal, flatRecord, flatBody, flatContents, fromFlatRefusal, flatLength, flatWords, flatOf, toFlatRefusal}
 use Rattle.message_flat.specs.Turns.{flat-back, same-length}
 use Rattle.message_flat.specs.Returns.{made-taken, contents-back}
-
--- the refusal of our report that is turned into a flat one: rows 1, 2 and 5 to 11
-unfoldable pub toFlatRefusal : List ℕ → List ℕ → List ℕ → Refusal
-toFlatRefusal σ w buffer = unless (eqb (length buffer) 512) 1 (readRefusal Report σ w)
 
 -- the contents of a flat report have zeros past their records
 flat-tidy : (f : List ℕ) → tidy (flatContents f) ≡ flatContents f
@@ -37,10 +32,6 @@ flat-tidy f =
     twice : (t : Bool) (x : ℕ) → cond t (cond t x 0) 0 ≡ cond t x 0
     twice true x = refl
     twice false x = refl
-
--- the flat report that w is turned into: its words without the zeros after them
-abbrev pub flatOf : List ℕ → List ℕ → List ℕ
-flatOf σ w = take (flatLength σ (contentsOf w)) (flatWords σ (contentsOf w))
 
 -- what the two turns promise of a message w made of an accepted flat report f
 pub record ComesBack (σ f w : List ℕ) : Type 0 where

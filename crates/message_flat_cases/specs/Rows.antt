@@ -1,6 +1,6 @@
 -- A row for each clause of what flat reports mean and of the two ways: with the clause left out or turned round the row would be false. What a
 -- row guards is its name; the settings are those of Examples.
-use Prim.Native.Nat.{ℕ, _+_, _*_, _-_}
+use Prim.Native.Nat.{ℕ, _*_, _-_}
 use mathlib.Core.List.{List, [], _∷_, _++_}
 use mathlib.Core.Path.{_≡_, refl}
 use lib.ListN.{take, replicate}
@@ -15,8 +15,7 @@ use Rattle.message_format.specs.Records.{precedes, shardsWhere}
 use Rattle.message_format.specs.Rows.{row6, viewOk, row7, kindOk, plain, kindAt, shardAt, surplus, sequenceAt, complete, shardApart, row10At, row10, position, viewFits, legal, row11At}
 use Rattle.message_format.specs.Messages.{bodyWord, bodyOf, contentsOf, headWord, recordsRefusal, brokenAt, headRefusal, messageRefusal, contentsRefusal, readRefusal}
 use Rattle.message_examples.specs.Examples.{exampleSettings, message, maskRecords, exampleReport}
-use Rattle.message_flat.specs.Flat.{flatPlaces, explained, zeroCount, flatRefusal, flatRecord, flatBody, flatContents, fromFlatRefusal, placesIn, flatLength, tripleWord, flatWord, flatWords}
-use Rattle.message_flat.specs.Whole.{toFlatRefusal, flatOf}
+use Rattle.message_flat.specs.Flat.{flatPlaces, explained, zeroCount, flatRefusal, flatRecord, flatBody, flatContents, fromFlatRefusal, placesIn, flatLength, tripleWord, flatWord, flatWords, flatOf, toFlatRefusal}
 
 -- the head and masks of case A with node 1, and what follows them
 abbrev pub flatMasks : List ℕ → List ℕ
@@ -230,6 +229,7 @@ gapReport =
 pub record BackRows : Type 0 where
   -- head, S, masks, 0 or 1, positions, count and triples without their kind, then zeros to 512
   pub words : flatWords exampleSettings (contentsOf exampleReport) ≡ exampleFlat ++ replicate 500 0
+  pub nothing-past : flatWords exampleSettings (contentsBy 3 endedTriples) ≡ flatMasks (0 ∷ 0 ∷ []) ++ replicate 503 0
   pub of-report : flatOf exampleSettings exampleReport ≡ exampleFlat
   pub with-positions : flatBack (contentsBy 8 (endedTriples ++ replicate 357 0)) ≡ endedFlat
   pub no-runs : flatBack (contentsBy 3 (maskTriples [] ++ replicate 372 0)) ≡ flatMasks (0 ∷ 0 ∷ [])
@@ -252,6 +252,7 @@ unfolding allBelow anyBelow lowest tabulate sizesOk nodesOk cap shardOk shardsOk
 back-rows =
     record {
       words = refl;
+      nothing-past = refl;
       of-report = refl;
       with-positions = refl;
       no-runs = refl;
