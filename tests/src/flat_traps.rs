@@ -54,7 +54,9 @@ pub fn of(input: &Input, answer: u32) -> Vec<&'static str> {
     let words = words::whole_words(&input.given);
     match (input.call, answer) {
         (Call::ToFlat, _) => of_message(input, &words, answer),
-        (Call::FromFlat, Answer::Number(19)) => of_length(&words, input.given.len() % 4 != 0),
+        (Call::FromFlat, Answer::Number(19)) => {
+            of_length(&words, !input.given.len().is_multiple_of(4))
+        }
         (Call::FromFlat, _) => match Flat::parse(&words) {
             Some(flat) => of_flat(input, &flat, words.len(), answer),
             None => vec![],
@@ -206,7 +208,7 @@ fn of_length(words: &[u32], part: bool) -> Vec<&'static str> {
 
 /// Whether sums modulo 2^32, of words or of their bytes, explain the length,
 /// which the sums themselves do not.
-fn explained_in_turns(words: &[u32], unit: u32) -> bool {
+pub fn explained_in_turns(words: &[u32], unit: u32) -> bool {
     let word = |at: u32| words.get((at / unit) as usize).copied();
     let times = |count: u32| count.wrapping_mul(unit);
     let end = || {

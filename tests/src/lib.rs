@@ -12,6 +12,7 @@
 //! - `flat`: the inputs of the `flat` program, and their round trips
 //! - `flat_faults`, `flat_traps`: faults put into flat reports, and what the
 //!   inputs came to
+//! - `flat_huge`: lengths of more than 4 GiB
 //! - `stored`: stored calls of the readers, writers and converters
 //! - `world`: groups whose nodes report
 //! - `sequences`: events that a state's phase takes
@@ -36,6 +37,7 @@ pub mod failing;
 pub mod feeding;
 pub mod flat;
 pub mod flat_faults;
+pub mod flat_huge;
 pub mod flat_traps;
 pub mod generate;
 pub mod lent;

@@ -8,7 +8,7 @@ use differential::flat::{self, CALLS, MOST_BYTES};
 use differential::lent::{self, hex};
 use differential::library::{self, Answer};
 use differential::messages::{self, Call, Desk, Input};
-use differential::{flat_traps, random, stored};
+use differential::{flat_huge, flat_traps, random, stored};
 use std::collections::BTreeMap;
 use std::process::ExitCode;
 
@@ -44,6 +44,15 @@ fn main() -> ExitCode {
         Err(what) => {
             println!("flat: {what}");
             return ExitCode::FAILURE;
+        }
+    }
+    if cfg!(not(feature = "mock")) {
+        match flat_huge::play_all(&library) {
+            Ok(calls) => println!("flat: {calls} calls with more than 4 GiB, 0 differ"),
+            Err(what) => {
+                println!("flat: {what}");
+                return ExitCode::FAILURE;
+            }
         }
     }
     let mut desk = Desk::new(MOST_BYTES);
