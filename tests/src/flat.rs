@@ -1,6 +1,8 @@
 //! The inputs of the `flat` program, and the round trips of its two calls.
 
+use crate::expected::BUFFER_BYTES;
 use crate::flat_faults as faults;
+use crate::lent::Place;
 use crate::messages::{self, slot, Again, Call, Input};
 use crate::random::Random;
 use crate::{damage, generate};
@@ -25,6 +27,35 @@ pub fn input(seed: u64, index: u64) -> Input {
     }
     let given = given(random, &settings);
     messages::lent(random, Call::FromFlat, settings, BAD_SETTINGS, given)
+}
+
+/// Settings of one node and one shard.
+const ONE: [u32; 6] = [1, 1, 1, 1, 0, 1];
+/// Heads, the right one first, and how many words come after them at most.
+const HEADS: [([u32; 3], u32); 5] = [
+    ([0, 2, 1], 10),
+    ([0, 1, 1], 8),
+    ([0, 0, 1], 8),
+    ([1, 2, 1], 8),
+    ([0, 2, 2], 8),
+];
+
+/// Under these settings, each of these heads followed by so many words or fewer,
+/// each of them 0, 1 or 2, in every combination.
+pub fn small_inputs() -> impl Iterator<Item = Input> {
+    let input = |flat: Vec<u32>| Input {
+        call: Call::FromFlat,
+        settings: words::to_bytes(&ONE),
+        given: words::to_bytes(&flat),
+        buffer: vec![0xEE; BUFFER_BYTES],
+        places: [Place::Last; 3],
+    };
+    let of_length = |head: [u32; 3], length: u32| {
+        let code_words = move |code: u32| (0..length).map(move |place| code / 3u32.pow(place) % 3);
+        (0..3u32.pow(length)).map(move |code| head.into_iter().chain(code_words(code)).collect())
+    };
+    let of_head = move |(head, most)| (0..=most).flat_map(move |length| of_length(head, length));
+    HEADS.into_iter().flat_map(of_head).map(input)
 }
 
 /// A flat report as bytes: valid, with one or two faults, or any words.
@@ -120,4 +151,26 @@ fn written_anew(again: &mut Again, message: &[u8]) -> Result<Vec<u8>, String> {
     let (contents, _) = again(Call::ReadReport, message)?;
     let (_, written) = again(Call::WriteReport, &contents)?;
     Ok(written)
+}
+
+#[cfg(test)]
+mod tests {
+    use super::*;
+    use crate::expected;
+    use crate::library::Answer;
+    use std::collections::BTreeSet;
+
+    /// The short flat reports come to every number that so few words can.
+    #[test]
+    fn answers_to_short_flat_reports() {
+        let mut answers = BTreeSet::new();
+        let mut inputs = 0;
+        for input in small_inputs() {
+            let said = expected::from_flat(&input.settings, &input.given, BUFFER_BYTES);
+            answers.insert(Answer::of(said.answer).number().unwrap_or(0));
+            inputs += 1;
+        }
+        assert_eq!(inputs, 127_937);
+        assert_eq!(answers, BTreeSet::from([0, 6, 7, 10, 11, 16, 17, 19, 20]));
+    }
 }

@@ -6,7 +6,7 @@
 
 use differential::flat::{self, CALLS, MOST_BYTES};
 use differential::lent::{self, hex};
-use differential::library::{self, Answer};
+use differential::library::{self, Answer, Library};
 use differential::messages::{self, Call, Desk, Input};
 use differential::{flat_huge, flat_traps, random, stored};
 use std::collections::BTreeMap;
@@ -39,21 +39,9 @@ fn main() -> ExitCode {
     lent::watch_ends();
 
     let library = library::tested();
-    match stored::play_all(&library, "flat") {
-        Ok(calls) => println!("flat: {calls} stored calls, 0 differ"),
-        Err(what) => {
-            println!("flat: {what}");
-            return ExitCode::FAILURE;
-        }
-    }
-    if cfg!(not(feature = "mock")) {
-        match flat_huge::play_all(&library) {
-            Ok(calls) => println!("flat: {calls} calls with more than 4 GiB, 0 differ"),
-            Err(what) => {
-                println!("flat: {what}");
-                return ExitCode::FAILURE;
-            }
-        }
+    if let Err(what) = fixed_calls(&library) {
+        println!("flat: {what}");
+        return ExitCode::FAILURE;
     }
     let mut desk = Desk::new(MOST_BYTES);
     let mut tally = Tally::default();
@@ -78,6 +66,25 @@ fn main() -> ExitCode {
         return ExitCode::FAILURE;
     }
     ExitCode::SUCCESS
+}
+
+/// Compares the calls that do not depend on the seed.
+fn fixed_calls(library: &Library) -> Result<(), String> {
+    let stored = stored::play_all(library, "flat")?;
+    println!("flat: {stored} stored calls, 0 differ");
+    if cfg!(not(feature = "mock")) {
+        let huge = flat_huge::play_all(library)?;
+        println!("flat: {huge} calls with more than 4 GiB, 0 differ");
+    }
+    let mut desk = Desk::default();
+    let mut small = 0;
+    for input in flat::small_inputs() {
+        let differs = |what| format!("{what}: given {}", hex(&input.given));
+        messages::compare(library, &mut desk, &input).map_err(differs)?;
+        small += 1;
+    }
+    println!("flat: {small} short flat reports, all there are, 0 differ");
+    Ok(())
 }
 
 impl Tally {
