@@ -49,6 +49,7 @@ THEN = [
     ("the program restart against the reference", cargo("tests", "run", "--release", "--bin", "runs", "--", "target/bin/restart", "1", "20000"), LIBRARY),
     ("the program mondays against the reference", cargo("tests", "run", "--release", "--bin", "mondays", "--", "target/bin/mondays", "1"), LIBRARY),
     ("settings and messages against the reference", cargo("tests", "run", "--release", "--bin", "messages"), LIBRARY),
+    ("flat reports against the reference", cargo("tests", "run", "--release", "--bin", "flat"), LIBRARY),
     ("events against the reference", cargo("tests", "run", "--release", "--bin", "events"), LIBRARY),
     ("plans against the reference", cargo("tests", "run", "--release", "--bin", "plans"), LIBRARY),
     ("events against the peer in C and the reference", cargo("bench/events", "run", "--release", "--", "compare", "20000", "1"), LIBRARY),
