@@ -56,7 +56,8 @@ def small_functions():
     assert [helper("phase_text", phase) for phase in range(4)] == [b"gathering", b"ordered", b"preparing", b"committed"]
     assert helper("number_text", 16) == b"a record names an unknown shard"
     assert helper("number_text", 18) == b"the machine has reported a later view before"
-    for name, first in (("number", 19), ("reason", 6), ("phase", 4)):
+    assert helper("number_text", 20) == b"a run of the flat report has count 0"
+    for name, first in (("number", 22), ("reason", 6), ("phase", 4)):
         assert {helper(name + "_text", word) for word in (first, 255, 4294967295)} == {b"unknown " + name.encode()}
     wait = 3 * 16777216 + 256 * 4 + 15
     found = [helper(name, wait) for name in ("class_of", "is_wait", "is_plan", "is_refusal", "reason_of", "value_of", "number_of")]
