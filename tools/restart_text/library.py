@@ -27,9 +27,9 @@ class Library:
     """The library, with what it answers for these settings."""
 
     def __init__(self, path, settings):
-        named = path or default_library()
+        named = os.path.abspath(path) if path and os.path.exists(path) else path or default_library()
         try:
-            self.calls = ctypes.CDLL(os.path.abspath(named) if os.path.exists(named) else named)
+            self.calls = ctypes.CDLL(named)
         except OSError as error:
             raise BadAnswer("cannot load the library: %s%s" % (error, "" if path else "; give --library PATH")) from None
         for name in CALLS:
