@@ -15,6 +15,9 @@ from .sentences import counted, machine
 from .statuses import OTHER, REFUSAL
 from .watching import SETTINGS, place_of, settings_paths
 
+# Settings as files, in either form: the name, and the bytes with no report after them.
+SETTINGS_TEXT = SETTINGS[0], lambda settings: ("\n".join(settings_text(settings)) + "\n").encode()
+SETTINGS_WORDS = SETTINGS[1], lambda settings: words.to_bytes(encode.settings_words(settings))
 # What can happen to a file: the exit status.
 HAPPENED = {"converted": 0, "kept": 0, "text": 0, "refused": REFUSAL, "both": REFUSAL, "failed": OTHER}
 
@@ -39,8 +42,8 @@ class Outcome:
 class Folder:
     """The folder to convert, and how."""
 
-    path: str
-    output: str
+    place: str  # where its files stand
+    output: str  # where they are written
     settings: Settings
     library: object
     back: bool = False
@@ -57,14 +60,14 @@ class Folder:
 
     def convert(self, name):
         """Converts the file with this name."""
-        path = os.path.join(place_of(self.path), name)
+        path = os.path.join(self.place, name)
         try:
             data = read(path)
             outcome = self.judged(name, data)
             if outcome.happened in ("converted", "kept"):
-                made = outcome.readings[0].words
-                outcome.output = os.path.join(place_in(self.path, self.output), self.new_name(name))
-                write_new(outcome.output, data if outcome.happened == "kept" else words.to_bytes(made), like=path)
+                made = data if outcome.happened == "kept" else words.to_bytes(outcome.readings[0].words)
+                outcome.output = os.path.join(self.output, self.new_name(name))
+                write_new(outcome.output, made, like=path)
             return outcome
         except Trouble as trouble:
             return Outcome(name, "failed", str(trouble))
@@ -105,18 +108,21 @@ class Folder:
         return line + ("; %s off the chain, which carry nothing, left out" % counted(surplus, "word") if surplus else "")
 
 
-def place_in(folder, output):
-    """Where the reports of the output stand: in its folder reports if those of the folder do."""
-    return output if place_of(folder) == folder else os.path.join(output, "reports")
+def places(folder, output):
+    """Where the folder's files stand and where they are written: in folders reports, or in the folders themselves."""
+    place = place_of(folder)
+    if os.path.exists(output) and any(os.path.samefile(one, output) for one in (folder, place)):
+        raise Trouble("%s would be read and written, and nothing is overwritten; give -o another folder" % output)
+    return place, output if place == folder else os.path.join(output, "reports")
 
 
-def names_in(folder, settings):
+def names_in(place, settings):
     """The names of the files to convert: all but hidden ones and the settings."""
     try:
-        found = sorted(os.listdir(place_of(folder)))
+        found = sorted(os.listdir(place))
     except OSError as error:
-        raise Trouble("cannot read %s: %s" % (folder, error.strerror)) from None
-    paths = {name: os.path.join(place_of(folder), name) for name in found if not name.startswith(".") and name not in SETTINGS}
+        raise Trouble("cannot read %s: %s" % (place, error.strerror)) from None
+    paths = {name: os.path.join(place, name) for name in found if not name.startswith(".") and name not in SETTINGS}
     return [name for name, path in paths.items() if os.path.isfile(path) and not os.path.samefile(path, settings)]
 
 
@@ -130,20 +136,17 @@ def settings_path(folder, named):
     return found[0]
 
 
-def prepare(folder, output, path, settings):
-    """Makes the output folder, with the settings, so that watch takes it. Settings that are there already must be the same."""
-    if os.path.exists(output) and os.path.samefile(folder, output):
-        raise Trouble("%s would be read and written, and nothing is overwritten; give -o another folder" % folder)
-    make_folder(place_in(folder, output))
+def write_settings(folder, output, path, settings):
+    """Writes the settings to the output, so that watch takes it: those of the folder as they are, of another file without the reports that
+    it may have. Settings that are there already must be the same."""
     there = [one for one in settings_paths(output) if os.path.exists(one)]
     for one in there:
         if read_settings(one) != settings:
             raise Trouble("%s has other settings than %s, and is not overwritten; give -o another folder" % (one, path))
     if not there:
-        data, whole = read(path), path in settings_paths(folder)
-        text, block = ("\n".join(settings_text(settings)) + "\n").encode(), words.to_bytes(encode.settings_words(settings))
-        name = SETTINGS[not is_text(data)]
-        write_new(os.path.join(output, name), data if whole else text if is_text(data) else block, like=path)
+        data = read(path)
+        name, alone = SETTINGS_TEXT if is_text(data) else SETTINGS_WORDS
+        write_new(os.path.join(output, name), data if path in settings_paths(folder) else alone(settings), like=path)
 
 
 def last_lines(folder, outcomes):

@@ -299,6 +299,13 @@ class Convert(Converting):
         self.assertEqual(self.convert()[0], 0)
         self.assertEqual(set(self.everything("out")), {"settings.bin", "reports/a.bin"})
 
+    def test_into_a_folder_reports(self):
+        """The folder may be converted into its own folder reports, which watch then takes."""
+        self.block("a.bin", GOOD)
+        self.assertEqual(self.convert(into="in/reports")[0], 0)
+        self.assertEqual([os.path.relpath(path, self.path("in")) for path, *_ in files_in(self.path("in"))], ["settings.bin", "reports/a.bin"])
+        self.assertEqual(command("convert", self.path("in"), "-o", self.path("in", "reports"), "--library", support.library())[0], 3)
+
 
 class Overwriting(Converting):
     def test_an_output_that_is_there(self):
@@ -335,6 +342,7 @@ class Overwriting(Converting):
                 os.symlink(self.path("in"), self.path("link"))
             status, _, told = command("convert", self.path("in"), "-o", self.path(into), "--library", support.library())
             self.assertEqual(status, 3)
+            self.assertIn("%s would be read and written" % self.path(into), told)
             self.assertIn("would be read and written, and nothing is overwritten; give -o another folder", told)
         self.assertEqual(self.everything("in"), before)
 
@@ -497,16 +505,21 @@ class Around(Converting):
             def isatty(self):
                 return True
 
-        for stream, expected in ((Terminal(), "\r2 of 9 files\x1b[K\r\x1b[K\r4 of 9 files\x1b[K\r\x1b[K"), (io.StringIO(), "")):
+        shown, wiped = "\r%d of 9 files\x1b[K", "\r\x1b[K"
+        for stream, among, expected in (
+            (Terminal(), False, shown % 2 + shown % 4 + wiped),
+            (Terminal(), True, shown % 2 + wiped + shown % 3 + wiped + shown % 4 + wiped),
+            (io.StringIO(), True, ""),
+        ):
             with mock.patch("restart_text.commands.convert.time.monotonic") as clock:
                 clock.return_value = 10.0
-                progress = Progress(stream, 9)
+                progress = Progress(stream, 9, among)
                 for done, now in ((1, 10.4), (2, 10.6), (3, 10.65), (4, 10.8)):
                     clock.return_value = now
-                    progress.clear()
+                    progress.make_room()
                     progress.show(done)
-                progress.clear()
-                progress.clear()
+                progress.wipe()
+                progress.wipe()
             self.assertEqual(stream.getvalue(), expected)
 
     def test_interrupted(self):

@@ -4,8 +4,8 @@ import os
 import sys
 import time
 
-from ..converting import Folder, last_lines, names_in, prepare, settings_path
-from ..files import Trouble, read_settings, write, write_lines
+from ..converting import Folder, last_lines, names_in, places, settings_path, write_settings
+from ..files import Trouble, make_folder, read_settings, write, write_lines
 from ..jsoned import conversion_value
 from ..library import Library
 from ..readings import FORMS
@@ -31,23 +31,25 @@ def work(chosen):
     path = settings_path(chosen.file, chosen.settings)
     settings = read_settings(path)
     library = Library(chosen.library, settings)
-    names = names_in(chosen.file, path)
+    place, output = places(chosen.file, chosen.output)
+    names = names_in(place, path)
     if not names:
-        raise Trouble("there is nothing to convert in %s" % chosen.file)
-    prepare(chosen.file, chosen.output, path, settings)
-    folder = Folder(chosen.file, chosen.output, settings, library, chosen.back, chosen.drop_empty, chosen.form)
-    progress, outcomes = Progress(sys.stderr, len(names)), []
+        raise Trouble("there is nothing to convert in %s" % place)
+    make_folder(output)
+    write_settings(chosen.file, chosen.output, path, settings)
+    folder = Folder(place, output, settings, library, chosen.back, chosen.drop_empty, chosen.form)
+    progress, outcomes = Progress(sys.stderr, len(names), sys.stdout.isatty()), []
     try:
         for name in names:
             outcomes.append(folder.convert(name))
             if not chosen.json:
-                progress.clear()
+                progress.make_room()
                 write_lines(None, [file_line(outcomes[-1])])
             progress.show(len(outcomes))
     except KeyboardInterrupt:
         raise Trouble("interrupted after %d of %d files" % (len(outcomes), len(names))) from None
     finally:
-        progress.clear()
+        progress.wipe()
     if chosen.json:
         write(None, (json.dumps(conversion_value(folder, outcomes), indent=1) + "\n").encode())
     else:
@@ -61,19 +63,27 @@ def file_line(outcome):
 
 
 class Progress:
-    """How far the work is, on a terminal only, in one line that is written over and wiped in the end."""
+    """How far the work is, on a terminal only, in one line that is written over and wiped in the end. `among` says that other lines are
+    printed on the same terminal; it then stays below them."""
 
-    def __init__(self, stream, total):
-        self.stream, self.total = stream, total
+    def __init__(self, stream, total, among):
+        self.stream, self.total, self.among = stream, total, among
         self.next = time.monotonic() + 0.5 if stream.isatty() else float("inf")
-        self.shown = False
+        self.begun = self.shown = False
 
     def show(self, done):
-        if time.monotonic() >= self.next:
-            self.next, self.shown = time.monotonic() + 0.1, True
+        due = time.monotonic() >= self.next
+        if due or self.begun and not self.shown:
+            self.begun = self.shown = True
+            self.next = time.monotonic() + 0.1
             self.put("\r%d of %d files\x1b[K" % (done, self.total))
 
-    def clear(self):
+    def make_room(self):
+        """Before another line is printed."""
+        if self.among:
+            self.wipe()
+
+    def wipe(self):
         if self.shown:
             self.shown = False
             self.put("\r\x1b[K")
