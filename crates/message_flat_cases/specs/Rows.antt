@@ -30,11 +30,11 @@ abbrev pub endedFlat : List ℕ
 endedFlat = flatMasks (1 ∷ 0 ∷ 0 ∷ 7 ∷ 5 ∷ 0 ∷ 0 ∷ 2 ∷ 1 ∷ 6 ∷ 4 ∷ 1 ∷ 7 ∷ 5 ∷ [])
 
 -- one shard and so many runs, and such a one with a last count; 16 shards with positions and so many runs
-abbrev pub oneShard : ℕ → List ℕ
-oneShard runs = 9 ∷ 200 ∷ 1 ∷ 1 ∷ 1 ∷ 0 ∷ runs ∷ replicate (3 * runs) 1
+abbrev pub runsOfOne : ℕ → List ℕ
+runsOfOne runs = 9 ∷ 200 ∷ 1 ∷ 1 ∷ 1 ∷ 0 ∷ runs ∷ replicate (3 * runs) 1
 
-abbrev pub oneShardLast : ℕ → ℕ → List ℕ
-oneShardLast runs last = 9 ∷ 200 ∷ 1 ∷ 1 ∷ 1 ∷ 0 ∷ runs ∷ (replicate (3 * runs - 1) 1 ++ (last ∷ []))
+abbrev pub runsOfOneEnding : ℕ → ℕ → List ℕ
+runsOfOneEnding runs last = 9 ∷ 200 ∷ 1 ∷ 1 ∷ 1 ∷ 0 ∷ runs ∷ (replicate (3 * runs - 1) 1 ++ (last ∷ []))
 
 abbrev pub sixteenShards : ℕ → List ℕ
 sixteenShards runs = 0 ∷ 9 ∷ 15 ∷ 16 ∷ (replicate 16 1 ++ (1 ∷ (replicate 32 0 ++ (runs ∷ replicate (3 * runs) 1))))
@@ -68,10 +68,10 @@ pub record LengthRows : Type 0 where
   pub count-zero-ended : flatRefusal (flatMasks (1 ∷ 0 ∷ 0 ∷ 0 ∷ 0 ∷ 0 ∷ 0 ∷ 1 ∷ 1 ∷ 7 ∷ 0 ∷ [])) ≡ refused 20
   pub others-zero : flatRefusal (flatMasks (0 ∷ 2 ∷ 0 ∷ 0 ∷ 5 ∷ 0 ∷ 0 ∷ 5 ∷ [])) ≡ none
   pub row-19-first : flatRefusal (flatMasks (0 ∷ 2 ∷ 1 ∷ 7 ∷ 0 ∷ [])) ≡ refused 19
-  pub row-20-first : flatRefusal (oneShardLast 127 0) ≡ refused 20
+  pub row-20-first : flatRefusal (runsOfOneEnding 127 0) ≡ refused 20
   -- row 21: over 127 records after the head, masks, positions and runs together
-  pub records-last : flatRefusal (oneShard 126) ≡ none
-  pub records-past : flatRefusal (oneShard 127) ≡ refused 21
+  pub records-last : flatRefusal (runsOfOne 126) ≡ none
+  pub records-past : flatRefusal (runsOfOne 127) ≡ refused 21
   pub positions-last : flatRefusal (sixteenShards 95) ≡ none
   pub positions-past : flatRefusal (sixteenShards 96) ≡ refused 21
 
@@ -114,11 +114,11 @@ length-rows =
 abbrev pub contentsBy : ℕ → List ℕ → Contents
 contentsBy len body = record { node = record { 0 = 1 }; view = record { 0 = 7 }; members = 127; len = len; body = body }
 
-abbrev pub maskWords : List ℕ → List ℕ
-maskWords rest = 256 ∷ 5 ∷ 0 ∷ 257 ∷ 82 ∷ 0 ∷ 258 ∷ 32 ∷ 0 ∷ rest
+abbrev pub maskTriples : List ℕ → List ℕ
+maskTriples rest = 256 ∷ 5 ∷ 0 ∷ 257 ∷ 82 ∷ 0 ∷ 258 ∷ 32 ∷ 0 ∷ rest
 
-abbrev pub endedWords : List ℕ
-endedWords = maskWords (512 ∷ 0 ∷ 0 ∷ 513 ∷ 7 ∷ 5 ∷ 514 ∷ 0 ∷ 0 ∷ 769 ∷ 6 ∷ 4 ∷ 769 ∷ 7 ∷ 5 ∷ [])
+abbrev pub endedTriples : List ℕ
+endedTriples = maskTriples (512 ∷ 0 ∷ 0 ∷ 513 ∷ 7 ∷ 5 ∷ 514 ∷ 0 ∷ 0 ∷ 769 ∷ 6 ∷ 4 ∷ 769 ∷ 7 ∷ 5 ∷ [])
 
 -- the tag of a run of this shard
 abbrev pub runTag : ℕ → ℕ
@@ -126,9 +126,9 @@ runTag shard = flatRecord (flatMasks (0 ∷ 1 ∷ shard ∷ 7 ∷ 5 ∷ [])) 3 0
 
 pub record ContentsRows : Type 0 where
   -- head, masks, positions and runs, each with its kind, one after another, then zeros
-  pub plain-run : flatContents exampleFlat ≡ contentsBy 4 (maskWords (769 ∷ 7 ∷ 5 ∷ []) ++ replicate 369 0)
-  pub with-positions : flatContents endedFlat ≡ contentsBy 8 (endedWords ++ replicate 357 0)
-  pub no-runs : flatContents (flatMasks (0 ∷ 0 ∷ [])) ≡ contentsBy 3 (maskWords [] ++ replicate 372 0)
+  pub plain-run : flatContents exampleFlat ≡ contentsBy 4 (maskTriples (769 ∷ 7 ∷ 5 ∷ []) ++ replicate 369 0)
+  pub with-positions : flatContents endedFlat ≡ contentsBy 8 (endedTriples ++ replicate 357 0)
+  pub no-runs : flatContents (flatMasks (0 ∷ 0 ∷ [])) ≡ contentsBy 3 (maskTriples [] ++ replicate 372 0)
   -- a shard too large for a record is 255
   pub shard-within : runTag 254 ≡ 1022
   pub shard-last : runTag 255 ≡ 1023
@@ -164,7 +164,7 @@ pub record TurnRows : Type 0 where
   pub row-2-first : fromFlatRefusal [] [] (replicate 512 0) ≡ refused 2
   pub row-19-before-6 : takesFlat (9 ∷ 7 ∷ 127 ∷ 3 ∷ 5 ∷ 82 ∷ 32 ∷ 2 ∷ 0 ∷ []) ≡ refused 19
   pub row-20-before-6 : takesFlat (9 ∷ 7 ∷ 127 ∷ 3 ∷ 5 ∷ 82 ∷ 32 ∷ 0 ∷ 1 ∷ 1 ∷ 7 ∷ 0 ∷ []) ≡ refused 20
-  pub row-21-before-6 : takesFlat (oneShard 127) ≡ refused 21
+  pub row-21-before-6 : takesFlat (runsOfOne 127) ≡ refused 21
   -- the rows of the contents, with the record as it would stand
   pub node-past : takesFlat (9 ∷ 7 ∷ 127 ∷ 3 ∷ 5 ∷ 82 ∷ 32 ∷ 0 ∷ 0 ∷ []) ≡ refused 6
   pub view-zero : takesFlat (1 ∷ 0 ∷ 127 ∷ 3 ∷ 5 ∷ 82 ∷ 32 ∷ 0 ∷ 0 ∷ []) ≡ refused 7
@@ -231,13 +231,13 @@ pub record BackRows : Type 0 where
   -- head, S, masks, 0 or 1, positions, count and triples without their kind, then zeros to 512
   pub words : flatWords exampleSettings (contentsOf exampleReport) ≡ exampleFlat ++ replicate 500 0
   pub of-report : flatOf exampleSettings exampleReport ≡ exampleFlat
-  pub with-positions : flatBack (contentsBy 8 (endedWords ++ replicate 357 0)) ≡ endedFlat
-  pub no-runs : flatBack (contentsBy 3 (maskWords [] ++ replicate 372 0)) ≡ flatMasks (0 ∷ 0 ∷ [])
-  pub positions-alone : flatBack (contentsBy 6 (endedWords ++ replicate 357 0)) ≡ flatMasks (1 ∷ 0 ∷ 0 ∷ 7 ∷ 5 ∷ 0 ∷ 0 ∷ 0 ∷ [])
+  pub with-positions : flatBack (contentsBy 8 (endedTriples ++ replicate 357 0)) ≡ endedFlat
+  pub no-runs : flatBack (contentsBy 3 (maskTriples [] ++ replicate 372 0)) ≡ flatMasks (0 ∷ 0 ∷ [])
+  pub positions-alone : flatBack (contentsBy 6 (endedTriples ++ replicate 357 0)) ≡ flatMasks (1 ∷ 0 ∷ 0 ∷ 7 ∷ 5 ∷ 0 ∷ 0 ∷ 0 ∷ [])
   pub of-gaps : flatOf exampleSettings gapReport ≡ exampleFlat
   -- a termination is there where the record after the masks is of kind 2; one past the last is none
-  pub run-after-masks : placesIn exampleSettings (contentsBy 4 (maskWords (769 ∷ 7 ∷ 5 ∷ []))) ≡ 0
-  pub past-the-last : placesIn exampleSettings (contentsBy 3 endedWords) ≡ 0
+  pub run-after-masks : placesIn exampleSettings (contentsBy 4 (maskTriples (769 ∷ 7 ∷ 5 ∷ []))) ≡ 0
+  pub past-the-last : placesIn exampleSettings (contentsBy 3 endedTriples) ≡ 0
   -- rows 1 and 2, and then those of the reader
   pub right : toFlatRefusal exampleSettings exampleReport (replicate 512 0) ≡ none
   pub right-gaps : toFlatRefusal exampleSettings gapReport (replicate 512 0) ≡ none
