@@ -5,7 +5,7 @@ from collections import Counter
 from dataclasses import dataclass, field
 
 from . import decode, encode, words
-from .files import Trouble, make_folder, read, read_settings, write_new
+from .files import Trouble, read, read_settings, write_new
 from .flat import told
 from .inputs import is_text
 from .model import Settings
@@ -157,5 +157,5 @@ def last_lines(folder, outcomes):
     names = {"converted": "converted", "kept": "%s already" % folder.target, "text": "left alone", "refused": "refused",
              "both": "not told apart", "failed": "failed"}
     found = Counter(outcome.happened for outcome in outcomes)
-    told_counts = ", ".join("%d %s" % (found[kind], name) for kind, name in names.items() if found[kind])
-    return lines + ["%s: %s." % (counted(len(outcomes), "file"), told_counts)]
+    counts = ", ".join("%d %s" % (found[kind], name) for kind, name in names.items() if found[kind])
+    return lines + ["%s: %s." % (counted(len(outcomes), "file"), counts)]

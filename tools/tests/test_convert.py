@@ -461,29 +461,39 @@ class Around(Converting):
         self.assertEqual((status, [line.split(":")[0] for line in lines[:2]]), (0, ["a?b.bin", "?.bin"]))
         self.assertEqual(len(os.listdir(self.path("out"))), 3)
 
+    def value(self, *more, into="out"):
+        """The exit status and what is written as JSON, which fits the schema."""
+        status, lines = self.convert("--json", *more, into=into)
+        value = json.loads("\n".join(lines))
+        self.assertEqual(faults(value, SCHEMA, root=SCHEMA), [])
+        return status, value
+
     def test_json(self):
         for name, found in (("a.bin", GOOD), ("b.bin", OURS), ("c.bin", EMPTY), ("d.bin", HEAD + [0, 2, 1, 7, 1, 0, 7, 1]), ("e.bin", [1])):
             self.block(name, found)
         self.put("in/f.bin", b"text")
-        os.mkdir(self.path("out"))
-        self.put("out/b.bin", b"")
-        for more in ([], ["--drop-empty"], ["--back"]):
-            shutil.rmtree(self.path("out"))
-            status, text, _ = command("convert", self.path("in"), "-o", self.path("out"), "--library", support.library(), "--json", *more)
-            value = json.loads(text)
-            self.assertEqual((status, faults(value, SCHEMA, root=SCHEMA)), (2, []))
-            self.assertEqual(value["target"], "flat" if more == ["--back"] else "ours")
-            happened = [one["happened"] for one in value["files"]]
-            self.assertEqual(happened, {0: ["converted", "kept", "refused"], "--drop-empty": ["converted", "kept", "converted"],
-                                        "--back": ["kept", "converted", "refused"]}[more[0] if more else 0] + ["refused", "refused", "text"])
+        for more, target, happened in (
+            ([], "ours", ["converted", "kept", "refused"]),
+            (["--drop-empty"], "ours", ["converted", "kept", "converted"]),
+            (["--back"], "flat", ["kept", "converted", "refused"]),
+        ):
+            status, value = self.value(*more, into="out" + "".join(more))
+            self.assertEqual((status, value["target"]), (2, target))
+            self.assertEqual([one["happened"] for one in value["files"]], happened + ["refused", "refused", "text"])
             refusal = value["files"][3]["readings"][0]["refusal"]
-            self.assertEqual((refusal["number"], refusal["record"], [(one["number"], one["word"]) for one in refusal["places"]]), (17, 5, [(1, 9), (2, 12)]))
-        self.assertEqual(value["files"][0]["output"], self.path("out", "a.bin"))
+            self.assertEqual((refusal["number"], refusal["record"]), (17, 5))
+            self.assertEqual([(place["number"], place["word"]) for place in refusal["places"]], [(1, 9), (2, 12)])
+        status, value = self.value()
+        self.assertEqual((status, [one["happened"] for one in value["files"][:2]], value["files"][0]["output"]), (3, ["failed"] * 2, None))
+
+    def test_json_of_both(self):
+        self.block("a.bin", BOTH)
+        _, value = self.value("--settings", self.put("lone", words.to_bytes(LONE)))
+        self.assertEqual((value["files"][0]["happened"], [one["words"] for one in value["files"][0]["readings"]]), ("both", [16, 7]))
 
     def test_the_schema_finds_wrong_values(self):
         self.block("a.bin", HEAD + [0, 1, 300, 7, 5])
-        good = json.loads(command("convert", self.path("in"), "-o", self.path("out"), "--library", support.library(), "--json")[1])
-        self.assertEqual(faults(good, SCHEMA, root=SCHEMA), [])
+        _, good = self.value()
         for change in (
             lambda value: value.update(target="theirs"),
             lambda value: value["files"][0].update(happened="lost"),
@@ -540,8 +550,9 @@ class Libraries(test_command.Programs):
     """Which library is asked where none is named."""
 
     def convert(self, tool, *more, into="out"):
-        done = subprocess.run([sys.executable, tool, "convert", os.path.join(support.ROOT, "examples", "flat"), "-o", os.path.join(self.folder, into), *more],
-                              capture_output=True, check=False, cwd="/", env={"PATH": "/no-such-folder"}, text=True)
+        examples, output = os.path.join(support.ROOT, "examples", "flat"), os.path.join(self.folder, into)
+        done = subprocess.run([sys.executable, tool, "convert", examples, "-o", output, *more], capture_output=True, check=False, cwd="/",
+                              env={"PATH": "/no-such-folder"}, text=True)
         return done.returncode, (done.stdout or done.stderr).splitlines()
 
     def place(self, *names):
