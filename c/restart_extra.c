@@ -50,6 +50,15 @@ static const char phases[][WIDTH] = {
     "gathering", "ordered", "preparing", "committed", "unknown phase",
 };
 
+static const char views[][WIDTH] = {
+    "no finding",
+    "the open view counts",
+    "the open view was never served",
+    "it is not known whether the open view counts",
+    "the open view is said to count and not to",
+    "unknown finding",
+};
+
 /* Row `index`, or the last one if there are no more. */
 #define ROW(rows, index) (rows)[(index) < sizeof(rows) / WIDTH ? (index) : sizeof(rows) / WIDTH - 1]
 
@@ -66,6 +75,11 @@ const char *restart_reason_text(uint32_t reason)
 const char *restart_phase_text(uint32_t phase)
 {
     return ROW(phases, phase);
+}
+
+const char *restart_view_text(uint32_t view)
+{
+    return ROW(views, view);
 }
 
 uint32_t restart_version(void)

@@ -17,10 +17,11 @@
  * enum restart_number. That order is 1, 2, 3, 4, 19, 20, 21, 5, 6, 7, 8, 9, 16, 17, 10, 11, 18, 12,
  * 13, 14, not the order of their size.
  *
- * What is proved: the calls under "Settings and messages" and "Events" are proved functions. For
- * any bytes whatever they end, touch nothing but what was lent, and answer and leave what their
- * definitions say. The functions under "Answers", "Words in lent bytes" and "Versions and texts"
- * are plain C beside them (c/restart_extra.c): tested, not proved, and never called by a proved one.
+ * What is proved: the calls under "Settings and messages", "Open views" and "Events" are proved
+ * functions. For any bytes whatever they end, touch nothing but what was lent, and answer and leave
+ * what their definitions say. The functions under "Answers", "Words in lent bytes" and "Versions and
+ * texts" are plain C beside them (c/restart_extra.c): tested, not proved, and never called by a
+ * proved one.
  *
  * Stack: a call needs up to RESTART_STACK_BYTES of it. No call allocates memory.
  *
@@ -46,9 +47,9 @@ extern "C" {
 
 #define RESTART_VERSION_MAJOR 0
 #define RESTART_VERSION_MINOR 4
-#define RESTART_VERSION_PATCH 1
-#define RESTART_VERSION "0.4.1"
-#define RESTART_VERSION_NUMBER 401 /* major * 10000 + minor * 100 + patch */
+#define RESTART_VERSION_PATCH 2
+#define RESTART_VERSION "0.4.2"
+#define RESTART_VERSION_NUMBER 402 /* major * 10000 + minor * 100 + patch */
 
 /* Of the settings, the messages and the state. It is raised when any of their words changes its
  * meaning; save it beside a state, and start fresh where it differs. */
@@ -171,6 +172,19 @@ enum restart_reason {
     RESTART_NO_PLACEMENT = 5
 };
 
+/* ---- What is found of an open view ---- */
+
+enum restart_view {
+    /* it counts */
+    RESTART_VIEW_SURE = 1,
+    /* it was never served */
+    RESTART_VIEW_NEVER = 2,
+    /* neither is known */
+    RESTART_VIEW_UNDECIDED = 3,
+    /* both are said */
+    RESTART_VIEW_CONTRADICTED = 4
+};
+
 /* ---- The state's words ----
  * What is not there is zero, and so are the places of shards and nodes that the settings do not
  * have.
@@ -242,9 +256,16 @@ enum restart_kind {
  *   class 1   accepted; the rest is a length in words
  *   class 2   a plan stands in the state
  *   class 3   a wait: 256 * reason + value
+ *   class 4   what is found of an open view, enum restart_view
  */
 
-enum restart_class { RESTART_PLAIN = 0, RESTART_LENGTH = 1, RESTART_PLAN = 2, RESTART_WAIT = 3 };
+enum restart_class {
+    RESTART_PLAIN = 0,
+    RESTART_LENGTH = 1,
+    RESTART_PLAN = 2,
+    RESTART_WAIT = 3,
+    RESTART_VIEW = 4
+};
 
 #define RESTART_ACCEPTED UINT32_C(0)
 #define RESTART_CLASS_UNIT UINT32_C(16777216)
@@ -316,6 +337,12 @@ RESTART_INLINE uint32_t restart_length_of(uint32_t answer)
     return restart_class_of(answer) == RESTART_LENGTH ? answer % RESTART_CLASS_UNIT : 0;
 }
 
+/* What is found of an open view, enum restart_view; 0 of another answer. */
+RESTART_INLINE uint32_t restart_view_of(uint32_t answer)
+{
+    return restart_class_of(answer) == RESTART_VIEW ? answer % RESTART_CLASS_UNIT : 0;
+}
+
 /* ---- Words in lent bytes ---- */
 
 /* Word `index` of the bytes. */
@@ -343,10 +370,12 @@ extern const char *restart_version_text(void);
 extern uint32_t restart_format(void);
 
 /* A short text, in English and without a full stop, for a refusal's number, a wait's reason, a
- * phase; of any other word one that says so. The texts are constant and never null. */
+ * phase, what is found of an open view; of any other word one that says so. The texts are constant
+ * and never null. */
 extern const char *restart_number_text(uint32_t number);
 extern const char *restart_reason_text(uint32_t reason);
 extern const char *restart_phase_text(uint32_t phase);
+extern const char *restart_view_text(uint32_t view);
 
 /* ---- Settings and messages ---- */
 
@@ -412,27 +441,61 @@ uint32_t restart_to_flat(const uint8_t *settings, size_t settings_len, const uin
                          size_t message_len, uint8_t *buffer,
                          size_t buffer_len) RESTART_NONNULL RESTART_CHECKED;
 
+/* ---- Open views ----
+ * A view on a machine's disk is sure, where the machine knows that it was committed, or open, where
+ * the machine has prepared it and knows no more. With each view it has the list of all views before
+ * it. A view is told by its number and its members.
+ */
+
+/*
+ * Whether an open view counts. Asked after every machine that is back has sent its views with their
+ * lists, once for each open view that one of them has, and before any report is handed to
+ * restart_report. Each argument is a mask:
+ *   members   the view's members
+ *   known     the machines that have it as sure, or sent a view in whose list it stands
+ *   have      those that have it as an open view; also those whose disk an operator says is gone
+ *             for ever, under the condition in restart(3), PERSISTENCE
+ *   lack      those that sent their views, and it is neither among these nor in their lists
+ *   passed    those that sent a sure view of its number or a greater one, which is another view and
+ *             has it not in its list
+ * Answers class 4, and is never refused. What the leader does then:
+ *   RESTART_VIEW_SURE          tells the machines that have it that it is sure
+ *   RESTART_VIEW_NEVER         lets them forget it with its logs, on disk, before they report
+ *   RESTART_VIEW_UNDECIDED     waits for the members that are in none of known, have and lack, and
+ *                              plans nothing meanwhile
+ *   RESTART_VIEW_CONTRADICTED  plans nothing and calls an operator: a machine went back in time, or
+ *                              a duty was broken
+ * Changes nothing.
+ */
+uint32_t restart_open_view(uint32_t members, uint32_t known, uint32_t have, uint32_t lack,
+                           uint32_t passed) RESTART_CHECKED;
+
 /* ---- Events ----
  * A restart is a state of 640 bytes and a desk of 65536. The caller keeps both between the calls,
  * uses the same settings throughout and changes neither state nor desk itself. The desk has a slot
  * of 2048 bytes for each node; before the first report its bytes may be any.
  *
  * What the caller must do, in short; restart(3) has the reasons and what happens otherwise:
- *    1  one restart at a time; a committed view is on the disk of all its members before one serves
- *    2  take acknowledgements of the present attempt only: tag each attempt
+ *    1  a view is served once all its members have it on disk; one leader at a time
+ *    2  messages of the present attempt only: tag each attempt
  *    3  take a machine's reports in the order in which it made them; the library refuses an earlier
  *       view (number 18), not an earlier report of the same view
- *    4  a machine says "prepared" once the new view and all that it fetched are on its disk
+ *    4  "fetched": the ordered logs and the order are on disk; "prepared": the new view too
  *    5  targets of a plan that was given up are no termination, and are not reported as one
- *    6  reports are true: the latest view that the machine logged, and exactly the updates it has
- *    7  a machine with more runs than 128 records can name cannot report
+ *    6  reports are true: the latest view that counts, and exactly the updates it has, or what 7 asks
+ *    7  reports are short: of each carried shard the run of the reported view (Long logs)
  *    8  a holder serves its log until every member of the shard has fetched
  *    9  the library has no clock: drop a machine that is too slow
  *   10  a corrupt high view is kept until a fresh state: start anew without its report
- *   11  an update's view and k name the same update on every disk
+ *   11  an update's view and k name the same update on every disk; after a stop nothing is stored
+ *       under a view from before it
  *   12  state and desk come back as they were left
  *   13  moves are counted, not bytes
- * And before an order leaves: settings, state, desk and the attempt's tag are on disk together.
+ *   14  a termination ends no shard before what is stored
+ *   15  what an order cuts and fetches is written beside the logs until the new view is sure
+ *   16  open views are settled (restart_open_view) before anything is reported
+ *   17  the running service keeps what is stored; the number of shards stays
+ * What is on disk when: restart(3), PERSISTENCE. A leader needs no file.
  */
 
 /*

@@ -19,6 +19,7 @@
 //! - `state`, `desk`: what the planner keeps between events
 //! - `quorum`: candidates, targets, holders and waits
 //! - `soundness`: when a state is sound
+//! - `open_view`: what is known of a view that a machine has on disk as open
 //! - `events`: report, drop, decide, order, fetched and prepared
 //! - `program`: what the program `restart` prints
 //! - `mondays`: what the program `mondays` prints
@@ -36,6 +37,7 @@ pub mod mask;
 pub mod message;
 pub mod mondays;
 pub mod number;
+pub mod open_view;
 pub mod order;
 pub mod placement;
 pub mod program;

@@ -29,30 +29,32 @@ struct taken {
     int refusal, plan, wait;
     uint32_t number;
     int located; /* whether it has an index */
-    uint32_t index, reason, value, length;
+    uint32_t index, reason, value, length, view;
 };
 
 static void answers(void)
 {
     static const struct taken rows[] = {
-        {0, 0, 0, 0, 0, 0, 0, 0, 0, 0, 0},
-        {7, 0, 1, 0, 0, 7, 0, 0, 0, 0, 0},
-        {8, 0, 1, 0, 0, 8, 1, 0, 0, 0, 0},
-        {9 + 256 * 127, 0, 1, 0, 0, 9, 1, 127, 0, 0, 0},
-        {10, 0, 1, 0, 0, 10, 0, 0, 0, 0, 0},
-        {14, 0, 1, 0, 0, 14, 0, 0, 0, 0, 0},
-        {15, 0, 1, 0, 0, 15, 0, 0, 0, 0, 0},
-        {16 + 256 * 5, 0, 1, 0, 0, 16, 1, 5, 0, 0, 0},
-        {17, 0, 1, 0, 0, 17, 1, 0, 0, 0, 0},
-        {18, 0, 1, 0, 0, 18, 0, 0, 0, 0, 0},
-        {19, 0, 1, 0, 0, 19, 0, 0, 0, 0, 0},
-        {20, 0, 1, 0, 0, 20, 0, 0, 0, 0, 0},
-        {21, 0, 1, 0, 0, 21, 0, 0, 0, 0, 0},
-        {16777216 + 512, 1, 0, 0, 0, 0, 0, 0, 0, 0, 512},
-        {16777216 + 8, 1, 0, 0, 0, 0, 0, 0, 0, 0, 8},
-        {33554432, 2, 0, 1, 0, 0, 0, 0, 0, 0, 0},
-        {50331648 + 256, 3, 0, 0, 1, 0, 0, 0, 1, 0, 0},
-        {50331648 + 256 * 4 + 15, 3, 0, 0, 1, 0, 0, 0, 4, 15, 0},
+        {0, 0, 0, 0, 0, 0, 0, 0, 0, 0, 0, 0},
+        {7, 0, 1, 0, 0, 7, 0, 0, 0, 0, 0, 0},
+        {8, 0, 1, 0, 0, 8, 1, 0, 0, 0, 0, 0},
+        {9 + 256 * 127, 0, 1, 0, 0, 9, 1, 127, 0, 0, 0, 0},
+        {10, 0, 1, 0, 0, 10, 0, 0, 0, 0, 0, 0},
+        {14, 0, 1, 0, 0, 14, 0, 0, 0, 0, 0, 0},
+        {15, 0, 1, 0, 0, 15, 0, 0, 0, 0, 0, 0},
+        {16 + 256 * 5, 0, 1, 0, 0, 16, 1, 5, 0, 0, 0, 0},
+        {17, 0, 1, 0, 0, 17, 1, 0, 0, 0, 0, 0},
+        {18, 0, 1, 0, 0, 18, 0, 0, 0, 0, 0, 0},
+        {19, 0, 1, 0, 0, 19, 0, 0, 0, 0, 0, 0},
+        {20, 0, 1, 0, 0, 20, 0, 0, 0, 0, 0, 0},
+        {21, 0, 1, 0, 0, 21, 0, 0, 0, 0, 0, 0},
+        {16777216 + 512, 1, 0, 0, 0, 0, 0, 0, 0, 0, 512, 0},
+        {16777216 + 8, 1, 0, 0, 0, 0, 0, 0, 0, 0, 8, 0},
+        {33554432, 2, 0, 1, 0, 0, 0, 0, 0, 0, 0, 0},
+        {50331648 + 256, 3, 0, 0, 1, 0, 0, 0, 1, 0, 0, 0},
+        {50331648 + 256 * 4 + 15, 3, 0, 0, 1, 0, 0, 0, 4, 15, 0, 0},
+        {67108864 + 1, 4, 0, 0, 0, 0, 0, 0, 0, 0, 0, 1},
+        {67108864 + 4, 4, 0, 0, 0, 0, 0, 0, 0, 0, 0, 4},
     };
     for (size_t i = 0; i < sizeof rows / sizeof rows[0]; i++) {
         uint32_t answer = rows[i].answer;
@@ -66,6 +68,7 @@ static void answers(void)
         check_word("reason", restart_reason_of(answer), rows[i].reason);
         check_word("value", restart_value_of(answer), rows[i].value);
         check_word("length", restart_length_of(answer), rows[i].length);
+        check_word("open view", restart_view_of(answer), rows[i].view);
     }
 }
 
@@ -86,7 +89,8 @@ static void check_text(const char *what, const char *found, const char *expected
     check_word(what, strcmp(found, expected) == 0 && found[0] != '\0', 1);
 }
 
-/* Every number, reason and phase has a text of its own, and the words after them have one. */
+/* Every number, reason, phase and finding has a text of its own, and the words after them have
+ * one. */
 static void texts(void)
 {
     check_text("version", restart_version_text(), RESTART_VERSION);
@@ -113,11 +117,19 @@ static void texts(void)
     check_text("number 22", restart_number_text(22), "unknown number");
     check_text("reason 6", restart_reason_text(RESTART_NO_PLACEMENT + 1), "unknown reason");
     check_text("phase 4", restart_phase_text(RESTART_COMMITTED + 1), "unknown phase");
+    check_text("finding 1", restart_view_text(RESTART_VIEW_SURE), "the open view counts");
+    check_text("finding 4", restart_view_text(RESTART_VIEW_CONTRADICTED),
+               "the open view is said to count and not to");
+    check_text("finding 5", restart_view_text(RESTART_VIEW_CONTRADICTED + 1), "unknown finding");
     check_text("the last number", restart_number_text(UINT32_MAX), "unknown number");
     for (uint32_t one = 0; one <= RESTART_FLAT_RECORDS; one++)
         for (uint32_t other = one + 1; one != 15 && other <= RESTART_FLAT_RECORDS + 1; other++)
             check_word("two numbers have two texts",
                        strcmp(restart_number_text(one), restart_number_text(other)) != 0, 1);
+    for (uint32_t one = 0; one <= RESTART_VIEW_CONTRADICTED; one++)
+        for (uint32_t other = one + 1; other <= RESTART_VIEW_CONTRADICTED + 1; other++)
+            check_word("two findings have two texts",
+                       strcmp(restart_view_text(one), restart_view_text(other)) != 0, 1);
 }
 
 /* ---- Settings and messages ---- */
@@ -335,6 +347,17 @@ static void caps(struct world *world)
     check_word("but not under a lower one", restart_check_state(LENT), RESTART_UNSOUND_STATE);
 }
 
+/* ---- Open views ---- */
+
+/* A view of nodes 0, 1 and 2: one answer of each kind; views.c has the others. */
+static void open_views(void)
+{
+    check_word("sure", restart_open_view(7, 0, 7, 0, 0), 67108865);
+    check_word("never served", restart_open_view(7, 0, 5, 2, 0), 67108866);
+    check_word("undecided", restart_open_view(7, 0, 5, 0, 0), 67108867);
+    check_word("contradicted", restart_open_view(7, 8, 5, 2, 0), 67108868);
+}
+
 int main(void)
 {
     static struct world world;
@@ -343,6 +366,7 @@ int main(void)
     words();
     texts();
     messages(&world);
+    open_views();
     reporting(&world);
     carrying_out(&world);
     caps(&world);

@@ -210,7 +210,37 @@ static inline uint32_t faulty(EVENT)
 }
 #define restart_decide faulty
 
-#elif FAULT == 20 /* the counts of a flat report are added up in 32 bits */
+#elif FAULT == 20 /* most of the members are enough */
+static inline uint32_t faulty(uint32_t members, uint32_t known, uint32_t have, uint32_t lack,
+                              uint32_t passed)
+{
+    unsigned all = 0, some = 0;
+    for (uint32_t left = members; left != 0; left &= left - 1)
+        all++;
+    for (uint32_t left = members & have; left != 0; left &= left - 1)
+        some++;
+    return restart_open_view(members, known, 2 * some > all ? have | members : have, lack, passed);
+}
+#define restart_open_view faulty
+
+#elif FAULT == 21 /* a machine that is no member says by its lack that it was never served */
+static inline uint32_t faulty(uint32_t members, uint32_t known, uint32_t have, uint32_t lack,
+                              uint32_t passed)
+{
+    return restart_open_view(members, known, have, lack, passed | lack);
+}
+#define restart_open_view faulty
+
+#elif FAULT == 22 /* machine 31 is not looked at */
+static inline uint32_t faulty(uint32_t members, uint32_t known, uint32_t have, uint32_t lack,
+                              uint32_t passed)
+{
+    const uint32_t seen = UINT32_MAX >> 1;
+    return restart_open_view(members & seen, known & seen, have & seen, lack & seen, passed & seen);
+}
+#define restart_open_view faulty
+
+#elif FAULT == 23 /* the counts of a flat report are added up in 32 bits */
 static inline uint32_t faulty(CONVERSION)
 {
     uint32_t answer =
@@ -227,7 +257,7 @@ static inline uint32_t faulty(CONVERSION)
 }
 #define restart_from_flat faulty
 
-#elif FAULT == 21 /* a shard is taken modulo 256 */
+#elif FAULT == 24 /* a shard is taken modulo 256 */
 static inline uint32_t faulty(CONVERSION)
 {
     uint32_t answer =
@@ -241,7 +271,7 @@ static inline uint32_t faulty(CONVERSION)
 }
 #define restart_from_flat faulty
 
-#elif FAULT == 22 /* what follows the flat report is left */
+#elif FAULT == 25 /* what follows the flat report is left */
 static inline uint32_t faulty(CONVERSION)
 {
     uint8_t copy[RESTART_BUFFER_BYTES];
@@ -253,7 +283,7 @@ static inline uint32_t faulty(CONVERSION)
 }
 #define restart_to_flat faulty
 
-#elif FAULT == 23 /* row 21 before row 20 */
+#elif FAULT == 26 /* row 21 before row 20 */
 static inline uint32_t faulty(CONVERSION)
 {
     uint32_t answer =

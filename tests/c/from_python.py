@@ -10,7 +10,7 @@ import sys
 HERE = os.path.dirname(os.path.abspath(__file__))
 STATE, DESK, WORD = 640, 65536, ctypes.c_uint32
 library = ctypes.CDLL(os.path.abspath(sys.argv[1]))
-for name in ("version_text", "number_text", "reason_text", "phase_text"):
+for name in ("version_text", "number_text", "reason_text", "phase_text", "view_text"):
     getattr(library, "restart_" + name).restype = ctypes.c_char_p
 
 
@@ -57,14 +57,16 @@ def small_functions():
     assert helper("number_text", 16) == b"a record names an unknown shard"
     assert helper("number_text", 18) == b"the machine has reported a later view before"
     assert helper("number_text", 20) == b"a run of the flat report has count 0"
-    for name, first in (("number", 22), ("reason", 6), ("phase", 4)):
-        assert {helper(name + "_text", word) for word in (first, 255, 4294967295)} == {b"unknown " + name.encode()}
+    assert helper("view_text", 2) == b"the open view was never served"
+    for name, first, called in (("number", 22, "number"), ("reason", 6, "reason"), ("phase", 4, "phase"), ("view", 5, "finding")):
+        assert {helper(name + "_text", word) for word in (first, 255, 4294967295)} == {b"unknown " + called.encode()}
     wait = 3 * 16777216 + 256 * 4 + 15
     found = [helper(name, wait) for name in ("class_of", "is_wait", "is_plan", "is_refusal", "reason_of", "value_of", "number_of")]
     assert found == [3, 1, 0, 0, 4, 15, 0]
     assert [helper(name, 256 * 7 + 9) for name in ("is_refusal", "number_of", "has_index", "index_of", "length_of")] == [1, 9, 1, 7, 0]
     assert [helper("has_index", number) for number in (7, 8, 10, 16, 17, 18)] == [0, 1, 0, 1, 1, 0]
     assert helper("length_of", 16777216 + 512) == 512
+    assert [helper("view_of", helper("open_view", *masks)) for masks in ((7, 8, 0, 0, 0), (7, 0, 5, 0, 8), (7, 0, 5, 8, 0))] == [1, 2, 3]
     lent = words(1, 2, 3)
     library.restart_put_word(lent, ctypes.c_size_t(1), WORD(4026531841))
     assert WORD(library.restart_get_word(lent, ctypes.c_size_t(1))).value == 4026531841 and lent.raw[4:8] == b"\1\0\0\xf0"

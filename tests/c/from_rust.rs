@@ -8,6 +8,8 @@ extern "C" {
     fn restart_is_wait(answer: u32) -> i32;
     fn restart_reason_of(answer: u32) -> u32;
     fn restart_get_word(bytes: *const u8, index: usize) -> u32;
+    fn restart_open_view(members: u32, known: u32, have: u32, lack: u32, passed: u32) -> u32;
+    fn restart_view_of(answer: u32) -> u32;
     fn restart_fresh(state: *mut u8, state_len: usize) -> u32;
     fn restart_report(
         settings: *const u8,
@@ -47,6 +49,7 @@ fn main() {
     unsafe {
         assert_eq!(text(restart_version_text()), env!("RESTART_VERSION"));
         assert_eq!(text(restart_reason_text(1)), "no machine has reported");
+        assert_eq!(restart_view_of(restart_open_view(7, 0, 5, 2, 0)), 2);
         assert_eq!(restart_fresh(state.as_mut_ptr(), state.len()), 0);
         for node in 0..2 {
             let message = bytes(&[node, 3, 3, 1, 256, 3, 0, 0]);

@@ -263,6 +263,7 @@ int main(int count, char **arguments)
     made(&check_settings, &on_settings, 0, RESTART_PLAIN);
     there_and_back(&read_report, &write_report, on_message);
     flat_and_back();
+    made(&open_view, NULL, 31, RESTART_VIEW);
     restart_once();
     for (size_t i = 0; i < ENTRIES; i++) {
         check_word("the call was made", rows[i].entry != NULL, 1);

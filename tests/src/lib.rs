@@ -13,6 +13,7 @@
 //! - `flat_faults`, `flat_traps`: faults put into flat reports, and what the
 //!   inputs came to
 //! - `flat_huge`: lengths of more than 4 GiB
+//! - `open_views`: questions on open views and their comparison
 //! - `stored`: stored calls of the readers, writers and converters
 //! - `world`: groups whose nodes report
 //! - `sequences`: events that a state's phase takes
@@ -46,6 +47,7 @@ pub mod messages;
 pub mod mock;
 pub mod mondays;
 pub mod moves;
+pub mod open_views;
 pub mod plans;
 pub mod random;
 pub mod recorder;

@@ -1,5 +1,5 @@
 //! The C interface of the proved library, as tables of functions: one for
-//! settings and messages, one for the planner's events.
+//! settings, messages and open views, one for the planner's events.
 //!
 //! Every slice is a pointer and then a length in bytes. Every answer is a word
 //! whose highest byte is its class, see `Answer`.
@@ -12,6 +12,8 @@ pub const ACCEPTED: u32 = 16_777_216;
 pub const PLAN: u32 = 2 * ACCEPTED;
 /// Added to 256 times the reason of a wait and to its shard or subgroup.
 pub const WAIT: u32 = 3 * ACCEPTED;
+/// Added to what is found of an open view.
+pub const VIEW: u32 = 4 * ACCEPTED;
 
 /// The numbers that have the index of a record, which lies below 128.
 pub const LOCATED: [u32; 4] = [8, 9, 16, 17];
@@ -25,6 +27,8 @@ pub enum Answer {
     Plan,
     /// The reason, and its shard or subgroup or 0.
     Wait(u32, u32),
+    /// What is found of an open view, 1 to 4.
+    View(u32),
     Number(u32),
     /// A number that has the index of a record.
     Located(u32, u32),
@@ -44,6 +48,7 @@ impl Answer {
             1 => Answer::Length(rest),
             2 if rest == 0 => Answer::Plan,
             3 if rest < 65536 => Answer::Wait(rest / 256, rest % 256),
+            4 if (1..=4).contains(&rest) => Answer::View(rest),
             _ => Answer::Other(word),
         }
     }
@@ -73,6 +78,7 @@ impl fmt::Display for Answer {
             Answer::Wait(reason @ (4 | 5), value) => write!(f, "wait {reason} {value}"),
             Answer::Wait(reason, 0) => write!(f, "wait {reason}"),
             Answer::Wait(reason, value) => write!(f, "wait {reason} with value {value}"),
+            Answer::View(finding) => write!(f, "open view {finding}"),
             Answer::Number(number) => write!(f, "number {number}"),
             Answer::Located(number, index) => write!(f, "number {number} {index}"),
             Answer::Other(word) => write!(f, "word {word}"),
@@ -84,6 +90,8 @@ impl fmt::Display for Answer {
 pub type CheckSettings = unsafe extern "C" fn(*const u8, usize) -> u32;
 /// A function of settings, an input and a buffer to be written.
 pub type Convert = unsafe extern "C" fn(*const u8, usize, *const u8, usize, *mut u8, usize) -> u32;
+/// A function of the five masks of a question on an open view.
+pub type OpenView = unsafe extern "C" fn(u32, u32, u32, u32, u32) -> u32;
 
 /// A function of a state to be made.
 pub type Fresh = unsafe extern "C" fn(*mut u8, usize) -> u32;
@@ -124,7 +132,7 @@ pub struct Planner {
     pub prepared: OfNode,
 }
 
-/// The functions on settings and messages.
+/// The functions on settings, messages and open views.
 #[derive(Clone, Copy)]
 pub struct Library {
     pub check_settings: CheckSettings,
@@ -134,6 +142,7 @@ pub struct Library {
     pub write_order: Convert,
     pub from_flat: Convert,
     pub to_flat: Convert,
+    pub open_view: OpenView,
 }
 
 #[cfg(linked)]
@@ -187,6 +196,13 @@ mod linked {
             message_len: usize,
             buffer: *mut u8,
             buffer_len: usize,
+        ) -> u32;
+        pub fn restart_open_view(
+            members: u32,
+            known: u32,
+            have: u32,
+            lack: u32,
+            passed: u32,
         ) -> u32;
         pub fn restart_fresh(state: *mut u8, state_len: usize) -> u32;
         pub fn restart_check_state(
@@ -267,6 +283,7 @@ pub fn tested() -> Library {
         write_order: linked::restart_write_order,
         from_flat: linked::restart_from_flat,
         to_flat: linked::restart_to_flat,
+        open_view: linked::restart_open_view,
     }
 }
 
@@ -328,7 +345,11 @@ mod tests {
             (50_331_648 + 256 * 4, "wait 4 0"),
             (50_331_648 + 256 * 5 + 3, "wait 5 3"),
             (50_331_648 + 256 * 2 + 1, "wait 2 with value 1"),
+            (67_108_864 + 1, "open view 1"),
+            (67_108_864 + 4, "open view 4"),
+            (67_108_864 + 5, "word 67108869"),
             (4 * 16_777_216, "word 67108864"),
+            (5 * 16_777_216, "word 83886080"),
         ];
         for (word, text) in words {
             assert_eq!(Answer::of(word).to_string(), text);

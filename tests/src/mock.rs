@@ -5,6 +5,7 @@
 use crate::calls::{self, Asked, Kind, Outcome, Table};
 use crate::expected::{self, Expected};
 use crate::library::{Library, Planner};
+use crate::open_views::{self, Question};
 use reference::message::Form;
 use std::slice::from_raw_parts;
 
@@ -24,6 +25,9 @@ pub trait Behaviour {
     }
     fn to_flat(settings: &[u8], message: &[u8], buffer: usize) -> Expected {
         expected::to_flat(settings, message, buffer)
+    }
+    fn open_view(question: &Question) -> u32 {
+        open_views::expected(question)
     }
     fn event(asked: &Asked) -> Outcome {
         calls::expected(asked)
@@ -45,7 +49,24 @@ pub fn library<B: Behaviour>() -> Library {
         write_order: write_order::<B>,
         from_flat: from_flat::<B>,
         to_flat: to_flat::<B>,
+        open_view: open_view::<B>,
     }
+}
+
+unsafe extern "C" fn open_view<B: Behaviour>(
+    members: u32,
+    known: u32,
+    have: u32,
+    lack: u32,
+    passed: u32,
+) -> u32 {
+    B::open_view(&Question {
+        members,
+        known,
+        have,
+        lack,
+        passed,
+    })
 }
 
 unsafe extern "C" fn check_settings<B: Behaviour>(settings: *const u8, length: usize) -> u32 {

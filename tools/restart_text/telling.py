@@ -133,13 +133,15 @@ def helpless(gathered, advice):
 
 def duties(gathered):
     lines = ["  duty 6: a machine reports exactly what it has. Look for the log on its disk, on disks taken out, and in copies",
-             "  duty 7: a machine whose logs have more runs than a message has room for cannot report, and counts as absent"]
+             "  duty 7: a machine that has no room for its runs cannot report and counts as absent. Of each shard that it carries"
+             " the run of its view is enough"]
     if gathered.termination:
         lines.append("  duty 5: targets of an abandoned plan are no termination. See where %s has its own from"
                      % machine(gathered.settings, gathered.termination_from))
     return lines + ["  duty 10: a damaged high view is left only by starting anew, with a fresh state and the other reports",
-                    "  duty 1: whether view %d was on the disks of all its members before any of them served, only the service"
-                    " knows; if it was, an older view loses what was stored" % gathered.kept.number]
+                    "  duty 16: if no disk has view %d as known to be committed and one of its members lacks it, it was never served,"
+                    " and the machines forget it before they report; if it was served, an older view loses what was stored"
+                    % gathered.kept.number]
 
 
 def refusal_advice(given, gathered, advice, name):

@@ -82,7 +82,7 @@ class Night(unittest.TestCase):
         self.assertEqual(lines[0],
                          "No machine to switch on helps: with every absent machine back but machine rack1-c there is still no"
                          " plan (no log of shard 7).")
-        self.assertEqual([line.split(":")[0].strip() for line in lines[2:6]], ["duty 6", "duty 7", "duty 10", "duty 1"])
+        self.assertEqual([line.split(":")[0].strip() for line in lines[2:6]], ["duty 6", "duty 7", "duty 10", "duty 16"])
 
     def test_walking_it(self):
         """With the three machines that are named, the program gives a plan in fact."""

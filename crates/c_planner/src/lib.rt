@@ -1,5 +1,5 @@
-// The C entry points: settings, messages and the planner's events. Lent bytes are little-endian words: 160 of a state, 16384 of a
-// desk, 512 of a buffer. Each call answers a word and changes no lent byte where it refuses.
+// The C entry points: settings, messages, open views and the planner's events. Lent bytes are little-endian words: 160 of a state,
+// 16384 of a desk, 512 of a buffer. Each call answers a word and changes no lent byte where it refuses.
 use c_events::Event;
 use message_format::Form;
 ghost use mathlib.Core.Path.{_≡_};
@@ -9,6 +9,7 @@ ghost use Rattle.c_events.specs.Events.{freshAnswer, freshLeaves, checkStateAns
 ghost use Rattle.c_report.specs.ReportCalls.{reportAnswer, reportLeaves, reportDesk};
 ghost use Rattle.c_decide.specs.Decisions.{DecideCall};
 ghost use Rattle.c_order.specs.OrderCalls.{orderAnswer, orderLeaves};
+ghost use Rattle.c_views.specs.ViewAnswers.{openViewAnswer};
 
 // 0 where the settings are right, else 2.
 #[no_mangle]
@@ -70,6 +71,20 @@ pub extern "C" fn restart_to_flat(settings: &[u8], message: &[u8], buffer: &mut 
     ensures bytes { λ r. ⌜ now (buffer .exit) ≡ toFlatLeaves (now (settings .entry)) (now (message .entry)) (now (buffer .entry)) ⌝ }
 {
     c_flat::to_flat(settings, message, buffer)
+}
+
+// Whether an open view counts, by the masks of those who sent something of it. It never refuses.
+#[no_mangle]
+pub extern "C" fn restart_open_view(
+    members: u32,
+    known: u32,
+    have: u32,
+    lack: u32,
+    passed: u32,
+) -> u32
+    ensures { λ r. ⌜ r ≡ openViewAnswer members known have lack passed ⌝ }
+{
+    c_views::open_view(members, known, have, lack, passed)
 }
 
 // Stores the fresh state: row 3 where the bytes are not 640.

@@ -1,13 +1,13 @@
-//! Compares the library's settings check, readers and writers with the
-//! reference: `messages [SEED [COUNT [FIRST]]]`.
+//! Compares the library's settings check, readers and writers, and what it finds
+//! of open views, with the reference: `messages [SEED [COUNT [FIRST]]]`.
 //!
-//! Every input depends on the seed and its index alone, so `messages SEED 1
-//! INDEX` makes one input again.
+//! Every input and every question depends on the seed and its index alone, so
+//! `messages SEED 1 INDEX` makes one of each again.
 
 use differential::lent::{self, hex};
-use differential::library::{self, Answer};
+use differential::library::{self, Answer, Library};
 use differential::messages::{self, Call, Desk, Input};
-use differential::{random, stored};
+use differential::{open_views, random, stored};
 use std::collections::BTreeMap;
 use std::process::ExitCode;
 
@@ -76,6 +76,13 @@ fn main() -> ExitCode {
             return ExitCode::FAILURE;
         }
     }
+    let mut rare = match open_views_compared(&library, seed, first, count) {
+        Ok(rare) => rare,
+        Err(what) => {
+            println!("messages: {what}");
+            return ExitCode::FAILURE;
+        }
+    };
     let mut desk = Desk::default();
     let mut answers = Answers::new();
     let mut records = Records::new();
@@ -99,7 +106,7 @@ fn main() -> ExitCode {
     for ((call, name), times) in &records {
         println!("  {call:?} {name}: {times}");
     }
-    let mut rare = rare_answers(&answers, count);
+    rare.extend(rare_answers(&answers, count));
     rare.extend(rare_records(&records, count));
     for what in &rare {
         println!("messages: {what} is rare: the inputs are no good");
@@ -109,6 +116,27 @@ fn main() -> ExitCode {
         return ExitCode::FAILURE;
     }
     ExitCode::SUCCESS
+}
+
+/// Compares what is found of open views; what was rare, or a difference.
+fn open_views_compared(
+    library: &Library,
+    seed: u64,
+    first: u64,
+    count: u64,
+) -> Result<Vec<String>, String> {
+    open_views::compare_small(library)?;
+    let situations = open_views::compare_random(library, seed, first, count)?;
+    for (name, times) in &situations {
+        println!("  open view, {name}: {times}");
+    }
+    let small = open_views::SMALL;
+    println!("messages: {small} small and {count} random questions on open views, 0 differ");
+    let rare = open_views::rare(&situations, count);
+    Ok(rare
+        .iter()
+        .map(|name| format!("open view, {name}"))
+        .collect())
 }
 
 /// All acceptances are one class, and so is a number with every index.

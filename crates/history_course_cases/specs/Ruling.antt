@@ -1,0 +1,117 @@
+-- A worked course of disks that keep the rule, from where the first restart of Worked was given up. Nodes 1 and 2 are restarted; node 2 gets the
+-- plan's view, node 1 reports without it, and node 2 forgets it. They are restarted again, both get the view, and it counts: they serve.
+use Prim.Native.Nat.{ℕ}
+use mathlib.Core.Bool.{Bool, true}
+use mathlib.Core.List.{List, [], _∷_, _++_}
+use mathlib.Core.Path.{_≡_, refl, sym, ap}
+use native.Mathlib.Omega.{arith}
+use lib.ListN.{take}
+use Rattle.base_ids.specs.Order.{notAfter}
+use Rattle.report_views.specs.declared.Layout.{Layout}
+use Rattle.report_views.specs.Logs.{pos}
+use Rattle.report_views.specs.Reports.{holdsAt}
+use Rattle.report_views.specs.Quorums.{target, holder}
+use Rattle.history_claims.specs.History.{Listed}
+use Rattle.history_cases.specs.Told.{listed-at}
+use Rattle.history_cases.specs.Supposing.{viewOfAll}
+use Rattle.history_open.specs.declared.Finding.the-variants.{Sure, Never, Undecided}
+use Rattle.history_open.specs.Judged.{saysSure, saysNever, judged}
+use Rattle.history_course.specs.Course.{Orderly, Settled}
+use Rattle.history_course.specs.Ever.{here, giving-up, settles-on}
+use Rattle.history_course.specs.Counting.{Copies, now, got, went, forgot, first-orderly}
+use Rattle.history_rule.specs.Disks.{Attempt, attempted, seenOn, counting, each-none, each-more, pass-none, pass-more, Counted, Idle, listing, Disks, first, plans, passes, counted, served}
+use Rattle.history_rule.specs.Stored.{stays-stored}
+use Rattle.history_course_cases.specs.Worked as worked
+
+-- the first attempt: node 2 gets the view, node 1 reports without it, node 2 forgets it
+abbrev listsFirst : ℕ → List Layout
+listsFirst i = take i worked.firstViews
+
+abbrev beforeAll : List Layout
+beforeAll = viewOfAll 1 7 ∷ []
+
+at-first : Listed worked.courseSettings worked.afterGivenUp (viewOfAll 1 7) 0
+at-first = listed-at worked.courseSettings worked.afterGivenUp 0 (omega arith)
+
+one-has : Copies 6 0 0 4 0
+one-has = got 0 0 2 refl refl now
+
+one-lacks : Copies 6 0 0 4 2
+one-lacks = went 4 0 1 refl one-has
+
+forgotten : Copies 6 0 0 0 6
+forgotten = forgot 4 2 2 1 refl refl one-lacks
+
+abbrev tried : Attempt 1
+tried = attempted worked.afterGivenUp worked.carriedPlan beforeAll
+
+abbrev failed : Attempt 1
+failed = seenOn tried 0 6
+
+disks-failed : Disks 1 worked.afterGivenUp worked.afterGivenUp listsFirst (failed ∷ [])
+disks-failed =
+    passes worked.afterGivenUp listsFirst (tried ∷ []) (failed ∷ []) (plans worked.afterGivenUp listsFirst [] first worked.carriedPlan each-none 0 at-first)
+    (pass-more tried 0 6 [] [] forgotten pass-none)
+
+-- the second: both get it
+both-have : Copies 6 0 0 6 0
+both-have = got 2 0 2 refl refl (got 0 0 1 refl refl now)
+
+abbrev prepared : Attempt 1
+prepared = seenOn tried 6 0
+
+disks-prepared : Disks 1 worked.afterGivenUp worked.afterGivenUp listsFirst (prepared ∷ failed ∷ [])
+disks-prepared =
+    passes worked.afterGivenUp listsFirst (tried ∷ failed ∷ []) (prepared ∷ failed ∷ [])
+    (plans worked.afterGivenUp listsFirst (failed ∷ []) disks-failed worked.carriedPlan (each-more failed [] (record { asked = λ c n l h. h }) each-none) 0 at-first)
+    (pass-more tried 6 0 (failed ∷ []) (failed ∷ []) both-have (pass-more failed 0 6 [] [] now pass-none))
+
+counts-second : Counted prepared worked.afterCarried
+counts-second = record { views = refl; remembered = worked.remembered-second; logs = λ n l h. h; ordered = worked.ordered-second }
+
+abbrev listsSecond : ℕ → List Layout
+listsSecond = listing listsFirst 1 beforeAll
+
+abbrev countsFirst : List (Attempt 1) → Bool
+countsFirst [] = true
+countsFirst (a ∷ l) = a .counts
+
+idle-second : Idle (counting prepared ∷ failed ∷ [])
+idle-second = record { latest = λ a u e. sym (ap countsFirst e) }
+
+disks-served : Disks 1 worked.afterGivenUp worked.afterRun listsSecond (counting prepared ∷ failed ∷ [])
+disks-served =
+    served worked.afterCarried worked.afterRun listsSecond (counting prepared ∷ failed ∷ [])
+    (counted worked.afterGivenUp worked.afterCarried listsFirst prepared (failed ∷ []) disks-prepared refl refl counts-second)
+    idle-second worked.served refl
+
+-- update 1 of view 1 is settled also after the restart that was given up
+settled-again : Settled worked.afterGivenUp 0 (pos 1 1)
+settled-again =
+    settles-on worked.orderly-first 0 (omega arith) (pos 1 1) worked.settled-first
+    (giving-up worked.atFirst worked.afterGivenUp here worked.givenUpPlan worked.given-up)
+
+orderly-again : Orderly worked.afterGivenUp
+orderly-again = first-orderly (viewOfAll 1 7) (worked.afterGivenUp .logged) (worked.afterGivenUp .updated)
+
+pub record DiskRows : Type 0 where
+  -- the disks keep the rule
+  pub disks : Disks 1 worked.afterGivenUp worked.afterRun listsSecond (counting prepared ∷ failed ∷ [])
+  -- what the leaders find meanwhile: of the first attempt's view with node 2 back alone, with both, and of the second's with both
+  pub alone : judged 6 0 4 0 0 ≡ Undecided
+  pub without-it : judged 6 0 4 2 0 ≡ Never
+  pub both : judged 6 0 6 0 0 ≡ Sure
+  -- the last plan has what was settled before
+  pub kept : (notAfter (pos 1 1) (target (viewOfAll 2 6) worked.endOfRun 7 worked.deskServed 0) ≡ true)
+      × (holdsAt worked.deskServed 0 (pos 1 1) (holder (viewOfAll 2 6) worked.endOfRun 7 worked.deskServed 0) ≡ true)
+
+pub disk-rows : DiskRows
+unfolding saysSure saysNever judged
+disk-rows =
+    record {
+      disks = disks-served;
+      alone = refl;
+      without-it = refl;
+      both = refl;
+      kept = stays-stored orderly-again disks-served worked.lastPlan 0 (omega arith) (pos 1 1) settled-again;
+    }

@@ -1,0 +1,1 @@
+// Worked courses of a group over several restarts. No code.
