@@ -4,3 +4,4 @@ pub mod Worked
 pub mod Duties
 pub mod Stories
 pub mod Ruling
+pub mod Long
