@@ -39,11 +39,12 @@ use Rattle.history_course.specs.Course.{lastOf, Succeeded, Orderly, Settled, Ne
 use Rattle.history_course.specs.Ever.{Restart}
 use Rattle.history_course.specs.Counting.{first-orderly}
 use Rattle.history_course_cases.specs.Steps.{ofEvery, sameLog, orderly-of, succeeded-of, not-succeeded, next-of, met-of, none-ended, planFrom, told-of, cut-of, plannedLog, planned-of, asked-of, ordered-of, remembered-of, others-alike, kept-alike, not-carried, keeps-of}
-use Rattle.history_course_cases.specs.Worked.{reportWith, runOf, runsUpTo}
+use Rattle.history_course_cases.specs.Worked.{reportOfShard, runOf, runsUpTo}
 
--- six nodes of six failure sets, and the word of the one shard
+-- six nodes, of which 0, 1 and 4 are of one failure set and 2, 3 and 5 of the other, and the word of the one shard: 2, if it needs nodes
+-- of both, 131073, if it needs one node and may have two
 abbrev pub settingsFor : ℕ → List ℕ
-settingsFor word = 6 ∷ 6 ∷ 2 ∷ 1 ∷ 0 ∷ 1 ∷ 2 ∷ 3 ∷ 4 ∷ 5 ∷ word ∷ []
+settingsFor word = 6 ∷ 2 ∷ 2 ∷ 1 ∷ 0 ∷ 0 ∷ 1 ∷ 1 ∷ 0 ∷ 1 ∷ word ∷ []
 
 -- a view whose shard some of the members carry
 abbrev pub viewWith : ℕ → ℕ → ℕ → Layout
@@ -57,53 +58,52 @@ noRun = 0 ∷ []
 abbrev pub LoggedByAll : History → Position → Type 0
 LoggedByAll H p = (n : ℕ) → n < 32 → has (maskAt (viewAt H (lastOf H)) 0) n ≡ true → H .updated n 0 p ≡ true
 
--- ---- succeeded: nodes 0 to 2 have logged view 1, nodes 3 to 5 view 2 of nodes 0, 1 and 3 to 5, and view 3 of their own, under which they
--- have stored an update. Then nodes 0 to 2 come back. So a view that 3 of its 5 members have logged, none of them a member of the view
--- before, hides what is stored after it.
+-- ---- succeeded: nodes 0 to 2 have logged view 1, nodes 3 to 5 view 2 of nodes 0, 1 and 3 to 5, and view 3 of their own, under which nodes
+-- 3 and 4 have stored an update. Then nodes 0 and 2 come back. So a view that 3 of its 5 members have logged, none of them a member of the
+-- view before, hides what is stored after it.
 
 unfoldable pub strandedDesk : List ℕ
 strandedDesk =
-    reportOfAll 0 1 7 1 ++ reportOfAll 1 1 7 1 ++ reportOfAll 2 1 7 1
-    ++ reportWith 3 3 56 56 (runsUpTo 1 1 3 1)
-    ++ reportWith 4 3 56 56 (runsUpTo 1 1 3 1)
-    ++ reportWith 5 3 56 56 (runsUpTo 1 1 3 1)
+    reportOfShard 0 1 7 5 (runOf 1 1) ++ reportOfShard 1 1 7 5 noRun ++ reportOfShard 2 1 7 5 (runOf 1 1) ++ reportOfShard 3 3 56 24 (runsUpTo 1 1 3 1)
+    ++ reportOfShard 4 3 56 24 (runsUpTo 1 1 3 1)
+    ++ reportOfShard 5 3 56 24 noRun
     ++ replicate 13312 0
 
 abbrev pub strandedViews : List Layout
-strandedViews = viewOfAll 1 7 ∷ viewWith 2 59 11 ∷ viewOfAll 3 56 ∷ []
+strandedViews = viewWith 1 7 5 ∷ viewWith 2 59 9 ∷ viewWith 3 56 24 ∷ []
 
 abbrev pub stranded : History
 stranded = toldBy strandedViews (7 ∷ 56 ∷ 56 ∷ []) strandedDesk
 
-pub slots-stranded : slotsOk (settingsFor 3) (viewOfAll 1 7) noTermination 7 strandedDesk ≡ true
+pub slots-stranded : slotsOk (settingsFor 2) (viewWith 1 7 5) noTermination 5 strandedDesk ≡ true
 unfolding strandedDesk allBelow anyBelow lowest tabulate unless unlessAt firstOf place following row5 row8 precedes shardsWhere row6 viewOk row7 kindOk plain kindAt shardAt surplus sequenceAt complete shardApart row10At row10 position viewFits legal row11At bodyWord bodyOf contentsOf recordsRefusal headRefusal messageRefusal slot reportOf sameView row12 sameTermination row13 termKept slotOk slotsOk
 slots-stranded = refl
 
-pub target-stranded : target (viewOfAll 1 7) noTermination 7 strandedDesk 0 ≡ pos 1 1
+pub target-stranded : target (viewWith 1 7 5) noTermination 5 strandedDesk 0 ≡ pos 1 1
 unfolding strandedDesk allBelow anyBelow lowest tabulate pairNotAfter place following bodyWord bodyOf contentsOf endOf slot reportOf candidate greatest best target
 target-stranded = refl
 
-pub holder-stranded : holder (viewOfAll 1 7) noTermination 7 strandedDesk 0 ≡ 0
+pub holder-stranded : holder (viewWith 1 7 5) noTermination 5 strandedDesk 0 ≡ 0
 unfolding strandedDesk allBelow anyBelow lowest tabulate pairNotAfter place following bodyWord bodyOf contentsOf endOf slot reportOf candidate greatest best target reaches holds hasUpdate able holder
 holder-stranded = refl
 
-pub met-stranded : QuorumMet (settingsFor 3) (viewOfAll 1 7) noTermination 7 strandedDesk
+pub met-stranded : QuorumMet (settingsFor 2) (viewWith 1 7 5) noTermination 5 strandedDesk
 unfolding ones onesIn
-met-stranded = met-of (settingsFor 3) (viewOfAll 1 7) noTermination 7 strandedDesk 0 refl (omega arith) (omega arith) (omega arith) (omega arith) holder-stranded
+met-stranded = met-of (settingsFor 2) (viewWith 1 7 5) noTermination 5 strandedDesk 0 refl (omega arith) (omega arith) (omega arith) (omega arith) holder-stranded
 
-pub reports-stranded : reportsTest (settingsFor 3) strandedViews (7 ∷ 56 ∷ 56 ∷ []) strandedDesk 7 [] ≡ true
+pub reports-stranded : reportsTest (settingsFor 2) strandedViews (7 ∷ 56 ∷ 56 ∷ []) strandedDesk 5 [] ≡ true
 unfolding strandedDesk allBelow slot reportOf contentsOf bodyOf bodyWord tabulate place following lowest anyBelow
 reports-stranded = refl
 
-pub next-stranded : Next (settingsFor 3) (viewOfAll 1 7) 7 (viewOfAll 2 7)
+pub next-stranded : Next (settingsFor 2) (viewWith 1 7 5) 5 (viewWith 2 5 5)
 unfolding allBelow
-next-stranded = next-of (settingsFor 3) (viewOfAll 1 7) 7 (viewOfAll 2 7) refl refl refl
+next-stranded = next-of (settingsFor 2) (viewWith 1 7 5) 5 (viewWith 2 5 5) refl refl refl
 
 abbrev pub strandedPlan : Restart 1 stranded
 strandedPlan =
-    planFrom (settingsFor 3) strandedViews (7 ∷ 56 ∷ 56 ∷ []) strandedDesk (viewOfAll 1 7) noTermination 7 (viewOfAll 2 7) (omega arith) (omega arith) (omega arith)
+    planFrom (settingsFor 2) strandedViews (7 ∷ 56 ∷ 56 ∷ []) strandedDesk (viewWith 1 7 5) noTermination 5 (viewWith 2 5 5) (omega arith) (omega arith) (omega arith)
     slots-stranded met-stranded next-stranded [] reports-stranded
-    (none-ended (settingsFor 3) noTermination stranded refl)
+    (none-ended (settingsFor 2) noTermination stranded refl)
 
 pub record SucceededNeeded : Type 0 where
   -- the rule of views holds, and the last view and the update were logged by all members
@@ -119,10 +119,10 @@ pub record SucceededNeeded : Type 0 where
   pub first : Succeeded stranded 0 → ⊥
   -- the next plan starts from view 1 and has not the update
   pub plan : Restart 1 stranded
-  pub goal : target (viewOfAll 1 7) noTermination 7 strandedDesk 0 ≡ pos 1 1
-  pub lost : holdsAt strandedDesk 0 (pos 3 1) (holder (viewOfAll 1 7) noTermination 7 strandedDesk 0) ≡ false
+  pub goal : target (viewWith 1 7 5) noTermination 5 strandedDesk 0 ≡ pos 1 1
+  pub lost : holdsAt strandedDesk 0 (pos 3 1) (holder (viewWith 1 7 5) noTermination 5 strandedDesk 0) ≡ false
 
-logged-stranded : implies (has 56) (λ n. holdsAt strandedDesk 0 (pos 3 1) n) ≡ true
+logged-stranded : implies (has 24) (λ n. holdsAt strandedDesk 0 (pos 3 1) n) ≡ true
 unfolding strandedDesk allBelow anyBelow lowest tabulate place following bodyWord bodyOf contentsOf reaches holds slot reportOf
 logged-stranded = refl
 
@@ -132,180 +132,30 @@ succeeded-needed =
     record {
       rule = rule-of stranded refl refl;
       full = full-of stranded 2 refl;
-      logged = implies-at (has 56) (λ n. holdsAt strandedDesk 0 (pos 3 1) n) logged-stranded;
+      logged = implies-at (has 24) (λ n. holdsAt strandedDesk 0 (pos 3 1) n) logged-stranded;
       most = refl;
       members = refl;
       none = refl;
       second = succeeded-of stranded 1 56 refl;
-      first = not-succeeded stranded 0 7 (omega arith) (omega arith) refl;
+      first = not-succeeded stranded 0 5 (omega arith) (omega arith) refl;
       plan = strandedPlan;
       goal = target-stranded;
       lost = told-of strandedDesk (pos 3 1) false holder-stranded refl;
     }
 
--- ---- most: nodes 0 and 2 of view 1 are restarted, its shard is on node 0 alone, which logs view 2 and stores an update. Then nodes 1 and 2
--- come back.
-
-unfoldable pub deskOfPair : List ℕ
-deskOfPair = reportWith 0 1 7 3 (runOf 1 1) ++ reportWith 1 1 7 3 (runOf 1 1) ++ reportWith 2 1 7 3 noRun ++ replicate 14848 0
-
-unfoldable pub deskOfOne : List ℕ
-deskOfOne = reportWith 0 2 5 1 (runsUpTo 1 1 2 1) ++ reportWith 1 1 7 3 (runOf 1 1) ++ reportWith 2 1 7 3 noRun ++ replicate 14848 0
-
-abbrev pub pairViews : List Layout
-pairViews = viewWith 1 7 3 ∷ []
-
-abbrev pub oneViews : List Layout
-oneViews = viewWith 1 7 3 ∷ viewWith 2 5 1 ∷ []
-
-abbrev pub pairBefore : History
-pairBefore = toldBy pairViews (7 ∷ []) deskOfPair
-
--- node 0 alone has logged view 2
-abbrev pub oneAfter : History
-oneAfter = toldBy oneViews (7 ∷ 1 ∷ []) deskOfPair
-
--- and stored an update
-abbrev pub oneStored : History
-oneStored = toldBy oneViews (7 ∷ 1 ∷ []) deskOfOne
-
-pub slots-pair : slotsOk (settingsFor 131073) (viewWith 1 7 3) noTermination 5 deskOfPair ≡ true
-unfolding deskOfPair allBelow anyBelow lowest tabulate unless unlessAt firstOf place following row5 row8 precedes shardsWhere row6 viewOk row7 kindOk plain kindAt shardAt surplus sequenceAt complete shardApart row10At row10 position viewFits legal row11At bodyWord bodyOf contentsOf recordsRefusal headRefusal messageRefusal slot reportOf sameView row12 sameTermination row13 termKept slotOk slotsOk
-slots-pair = refl
-
-pub target-pair : target (viewWith 1 7 3) noTermination 5 deskOfPair 0 ≡ pos 1 1
-unfolding deskOfPair allBelow anyBelow lowest tabulate pairNotAfter place following bodyWord bodyOf contentsOf endOf slot reportOf candidate greatest best target
-target-pair = refl
-
-pub holder-pair : holder (viewWith 1 7 3) noTermination 5 deskOfPair 0 ≡ 0
-unfolding deskOfPair allBelow anyBelow lowest tabulate pairNotAfter place following bodyWord bodyOf contentsOf endOf slot reportOf candidate greatest best target reaches holds hasUpdate able holder
-holder-pair = refl
-
-pub met-pair : QuorumMet (settingsFor 131073) (viewWith 1 7 3) noTermination 5 deskOfPair
-unfolding ones onesIn
-met-pair = met-of (settingsFor 131073) (viewWith 1 7 3) noTermination 5 deskOfPair 0 refl (omega arith) (omega arith) (omega arith) (omega arith) holder-pair
-
-pub reports-pair : reportsTest (settingsFor 131073) pairViews (7 ∷ []) deskOfPair 5 [] ≡ true
-unfolding deskOfPair allBelow slot reportOf contentsOf bodyOf bodyWord tabulate place following lowest anyBelow
-reports-pair = refl
-
-pub next-pair : Next (settingsFor 131073) (viewWith 1 7 3) 5 (viewWith 2 5 1)
-unfolding allBelow
-next-pair = next-of (settingsFor 131073) (viewWith 1 7 3) 5 (viewWith 2 5 1) refl refl refl
-
-abbrev pub pairPlan : Restart 1 pairBefore
-pairPlan =
-    planFrom (settingsFor 131073) pairViews (7 ∷ []) deskOfPair (viewWith 1 7 3) noTermination 5 (viewWith 2 5 1) (omega arith) (omega arith) (omega arith)
-    slots-pair met-pair next-pair [] reports-pair
-    (none-ended (settingsFor 131073) noTermination pairBefore refl)
-
-pub slots-others : slotsOk (settingsFor 131073) (viewWith 1 7 3) noTermination 6 deskOfOne ≡ true
-unfolding deskOfOne allBelow anyBelow lowest tabulate unless unlessAt firstOf place following row5 row8 precedes shardsWhere row6 viewOk row7 kindOk plain kindAt shardAt surplus sequenceAt complete shardApart row10At row10 position viewFits legal row11At bodyWord bodyOf contentsOf recordsRefusal headRefusal messageRefusal slot reportOf sameView row12 sameTermination row13 termKept slotOk slotsOk
-slots-others = refl
-
-pub target-others : target (viewWith 1 7 3) noTermination 6 deskOfOne 0 ≡ pos 1 1
-unfolding deskOfOne allBelow anyBelow lowest tabulate pairNotAfter place following bodyWord bodyOf contentsOf endOf slot reportOf candidate greatest best target
-target-others = refl
-
-pub holder-others : holder (viewWith 1 7 3) noTermination 6 deskOfOne 0 ≡ 1
-unfolding deskOfOne allBelow anyBelow lowest tabulate pairNotAfter place following bodyWord bodyOf contentsOf endOf slot reportOf candidate greatest best target reaches holds hasUpdate able holder
-holder-others = refl
-
-pub met-others : QuorumMet (settingsFor 131073) (viewWith 1 7 3) noTermination 6 deskOfOne
-unfolding ones onesIn
-met-others = met-of (settingsFor 131073) (viewWith 1 7 3) noTermination 6 deskOfOne 1 refl (omega arith) (omega arith) (omega arith) (omega arith) holder-others
-
-pub reports-others : reportsTest (settingsFor 131073) oneViews (7 ∷ 1 ∷ []) deskOfOne 6 [] ≡ true
-unfolding deskOfOne allBelow slot reportOf contentsOf bodyOf bodyWord tabulate place following lowest anyBelow
-reports-others = refl
-
-pub next-others : Next (settingsFor 131073) (viewWith 1 7 3) 6 (viewWith 2 6 2)
-unfolding allBelow
-next-others = next-of (settingsFor 131073) (viewWith 1 7 3) 6 (viewWith 2 6 2) refl refl refl
-
-abbrev pub othersPlan : Restart 1 oneStored
-othersPlan =
-    planFrom (settingsFor 131073) oneViews (7 ∷ 1 ∷ []) deskOfOne (viewWith 1 7 3) noTermination 6 (viewWith 2 6 2) (omega arith) (omega arith) (omega arith)
-    slots-others met-others next-others [] reports-others
-    (none-ended (settingsFor 131073) noTermination oneStored refl)
-
-log-pair : allBelow 1 (λ s. sameLog (plannedLog pairPlan s) (getD ((pos 1 1 ∷ []) ∷ []) s [])) ≡ true
-unfolding deskOfPair allBelow anyBelow lowest tabulate pairNotAfter place following bodyWord bodyOf contentsOf slot reportOf runsFrom runsOf updatesAfter updatesIn thoseOf onePosition sameLog
-log-pair = planned-of pairPlan refl (pos 1 1 ∷ []) (pos 1 1) 0 target-pair holder-pair refl
-
-pub record MostNeeded : Type 0 where
-  -- an orderly history and a plan; all of a restart that is carried out but that more than half of the kept view's members log its view
-  pub orderly : Orderly pairBefore
-  pub plan : Restart 1 pairBefore
-  pub views : oneAfter .views ≡ pairBefore .views ++ viewWith 2 5 1 ∷ []
-  pub remembered : (n i : ℕ) → i < length (pairBefore .views) → pairBefore .logged n i ≡ true → oneAfter .logged n i ≡ true
-  pub logs : (n : ℕ) → n < 32 → has 1 n ≡ true → oneAfter .logged n 1 ≡ true
-  pub ordered : (s : ℕ) → s < 1 → (n : ℕ) → n < 32 → has (maskAt (viewWith 2 5 1) s) n ≡ true → oneAfter .logged n 1 ≡ true
-      → (q : Position) → oneAfter .updated n s q ≡ asOrdered (viewWith 1 7 3) noTermination 5 deskOfPair n s q
-  pub few : CarriedOut (settingsFor 131073) (viewWith 1 7 3) noTermination 5 deskOfPair (viewWith 2 5 1) pairBefore oneAfter → ⊥
-  -- a run that keeps what is settled, before all members have logged the view
-  pub begun : Full oneAfter 1 → ⊥
-  pub keeps : (s : ℕ) → s < 1 → (p : Position) → Settled oneAfter s p → Settled oneStored s p
-  pub logged : LoggedByAll oneStored (pos 2 1)
-  -- the next plan makes a second view 2 and has not the update
-  pub again : Restart 1 oneStored
-  pub goal : target (viewWith 1 7 3) noTermination 6 deskOfOne 0 ≡ pos 1 1
-  pub lost : holdsAt deskOfOne 0 (pos 2 1) (holder (viewWith 1 7 3) noTermination 6 deskOfOne 0) ≡ false
-
-ordered-pair : (s : ℕ) → s < 1 → (n : ℕ) → n < 32 → has (maskAt (viewWith 2 5 1) s) n ≡ true → has 1 n ≡ true
-    → (q : Position) → holdsAt deskOfPair s q n ≡ asOrdered (viewWith 1 7 3) noTermination 5 deskOfPair n s q
-unfolding deskOfPair allBelow anyBelow lowest tabulate place following bodyWord bodyOf contentsOf slot reportOf runsFrom runsOf updatesAfter updatesIn onePosition among ofEvery sameLog
-ordered-pair = ordered-of pairPlan ((pos 1 1 ∷ []) ∷ []) log-pair 1 deskOfPair refl
-
-keeps-pair : (s : ℕ) → s < 1 → (p : Position) → Settled oneAfter s p → Settled oneStored s p
-unfolding deskOfPair deskOfOne allBelow anyBelow lowest tabulate place following bodyWord bodyOf contentsOf slot reportOf runsFrom runsOf updatesAfter updatesIn onePosition among ofEvery sameLog
-keeps-pair = keeps-of 1 oneViews (7 ∷ 1 ∷ []) deskOfPair oneViews (7 ∷ 1 ∷ []) deskOfOne 0 (omega arith) refl
-
-logged-one : implies (has 1) (λ n. holdsAt deskOfOne 0 (pos 2 1) n) ≡ true
-unfolding deskOfOne allBelow anyBelow lowest tabulate place following bodyWord bodyOf contentsOf reaches holds slot reportOf
-logged-one = refl
-
-pub most-needed : MostNeeded
-unfolding deskOfPair deskOfOne ones onesIn allBelow anyBelow lowest tabulate place following bodyWord bodyOf contentsOf reaches holds slot reportOf
-most-needed =
-    record {
-      orderly = first-orderly (viewWith 1 7 3) (pairBefore .logged) (pairBefore .updated);
-      plan = pairPlan;
-      views = refl;
-      remembered = remembered-of (7 ∷ []) (7 ∷ 1 ∷ []) 1 refl;
-      logs = λ n l h. h;
-      ordered = ordered-pair;
-      few = not-carried pairPlan oneAfter 6 (omega arith) refl;
-      begun = λ f. clash (f .all 2 (omega arith) refl) refl;
-      keeps = keeps-pair;
-      logged = implies-at (has 1) (λ n. holdsAt deskOfOne 0 (pos 2 1) n) logged-one;
-      again = othersPlan;
-      goal = target-others;
-      lost = told-of deskOfOne (pos 2 1) false holder-others refl;
-    }
-
--- ---- ordered: nodes 0, 2 and 3 of view 1 are restarted, its shard is on nodes 0 and 2, and node 2 logs view 2 without what it is to fetch.
--- Then nodes 2 and 3 come back.
+-- ---- most: nodes 0 and 1 of view 1 carry the shard. Nodes 0, 2 and 3 are restarted, the shard is on node 0 alone, which logs view 2 and
+-- stores an update. Then nodes 1 to 3 come back.
 
 unfoldable pub deskOfFour : List ℕ
-deskOfFour = reportWith 0 1 15 3 (runOf 1 1) ++ reportWith 1 1 15 3 (runOf 1 1) ++ reportWith 2 1 15 3 noRun ++ reportWith 3 1 15 3 noRun ++ replicate 14336 0
-
-unfoldable pub deskUnfetched : List ℕ
-deskUnfetched = reportWith 0 2 13 5 (runOf 1 1) ++ reportWith 1 1 15 3 (runOf 1 1) ++ reportWith 2 2 13 5 noRun ++ reportWith 3 2 13 5 noRun ++ replicate 14336 0
+deskOfFour = reportOfShard 0 1 15 3 (runOf 1 1) ++ reportOfShard 1 1 15 3 (runOf 1 1) ++ reportOfShard 2 1 15 3 noRun ++ reportOfShard 3 1 15 3 noRun ++ replicate 14336 0
 
 abbrev pub fourViews : List Layout
 fourViews = viewWith 1 15 3 ∷ []
 
-abbrev pub unfetchedViews : List Layout
-unfetchedViews = viewWith 1 15 3 ∷ viewWith 2 13 5 ∷ []
-
 abbrev pub fourBefore : History
 fourBefore = toldBy fourViews (15 ∷ []) deskOfFour
 
-abbrev pub unfetched : History
-unfetched = toldBy unfetchedViews (15 ∷ 13 ∷ []) deskUnfetched
-
-pub slots-four : slotsOk (settingsFor 2) (viewWith 1 15 3) noTermination 13 deskOfFour ≡ true
+pub slots-four : slotsOk (settingsFor 131073) (viewWith 1 15 3) noTermination 13 deskOfFour ≡ true
 unfolding deskOfFour allBelow anyBelow lowest tabulate unless unlessAt firstOf place following row5 row8 precedes shardsWhere row6 viewOk row7 kindOk plain kindAt shardAt surplus sequenceAt complete shardApart row10At row10 position viewFits legal row11At bodyWord bodyOf contentsOf recordsRefusal headRefusal messageRefusal slot reportOf sameView row12 sameTermination row13 termKept slotOk slotsOk
 slots-four = refl
 
@@ -317,25 +167,146 @@ pub holder-four : holder (viewWith 1 15 3) noTermination 13 deskOfFour 0 ≡ 0
 unfolding deskOfFour allBelow anyBelow lowest tabulate pairNotAfter place following bodyWord bodyOf contentsOf endOf slot reportOf candidate greatest best target reaches holds hasUpdate able holder
 holder-four = refl
 
-pub met-four : QuorumMet (settingsFor 2) (viewWith 1 15 3) noTermination 13 deskOfFour
+pub met-four : QuorumMet (settingsFor 131073) (viewWith 1 15 3) noTermination 13 deskOfFour
 unfolding ones onesIn
-met-four = met-of (settingsFor 2) (viewWith 1 15 3) noTermination 13 deskOfFour 0 refl (omega arith) (omega arith) (omega arith) (omega arith) holder-four
+met-four = met-of (settingsFor 131073) (viewWith 1 15 3) noTermination 13 deskOfFour 0 refl (omega arith) (omega arith) (omega arith) (omega arith) holder-four
 
-pub reports-four : reportsTest (settingsFor 2) fourViews (15 ∷ []) deskOfFour 13 [] ≡ true
+pub reports-four : reportsTest (settingsFor 131073) fourViews (15 ∷ []) deskOfFour 13 [] ≡ true
 unfolding deskOfFour allBelow slot reportOf contentsOf bodyOf bodyWord tabulate place following lowest anyBelow
 reports-four = refl
 
-pub next-four : Next (settingsFor 2) (viewWith 1 15 3) 13 (viewWith 2 13 5)
+unfoldable pub deskOfOne : List ℕ
+deskOfOne = reportOfShard 0 2 13 1 (runsUpTo 1 1 2 1) ++ reportOfShard 1 1 15 3 (runOf 1 1) ++ reportOfShard 2 1 15 3 noRun ++ reportOfShard 3 1 15 3 noRun ++ replicate 14336 0
+
+abbrev pub oneViews : List Layout
+oneViews = viewWith 1 15 3 ∷ viewWith 2 13 1 ∷ []
+
+-- node 0 alone has logged view 2
+abbrev pub oneAfter : History
+oneAfter = toldBy oneViews (15 ∷ 1 ∷ []) deskOfFour
+
+-- and stored an update
+abbrev pub oneStored : History
+oneStored = toldBy oneViews (15 ∷ 1 ∷ []) deskOfOne
+
+pub next-one : Next (settingsFor 131073) (viewWith 1 15 3) 13 (viewWith 2 13 1)
 unfolding allBelow
-next-four = next-of (settingsFor 2) (viewWith 1 15 3) 13 (viewWith 2 13 5) refl refl refl
+next-one = next-of (settingsFor 131073) (viewWith 1 15 3) 13 (viewWith 2 13 1) refl refl refl
+
+abbrev pub onePlan : Restart 1 fourBefore
+onePlan =
+    planFrom (settingsFor 131073) fourViews (15 ∷ []) deskOfFour (viewWith 1 15 3) noTermination 13 (viewWith 2 13 1) (omega arith) (omega arith) (omega arith)
+    slots-four met-four next-one [] reports-four
+    (none-ended (settingsFor 131073) noTermination fourBefore refl)
+
+pub slots-others : slotsOk (settingsFor 131073) (viewWith 1 15 3) noTermination 14 deskOfOne ≡ true
+unfolding deskOfOne allBelow anyBelow lowest tabulate unless unlessAt firstOf place following row5 row8 precedes shardsWhere row6 viewOk row7 kindOk plain kindAt shardAt surplus sequenceAt complete shardApart row10At row10 position viewFits legal row11At bodyWord bodyOf contentsOf recordsRefusal headRefusal messageRefusal slot reportOf sameView row12 sameTermination row13 termKept slotOk slotsOk
+slots-others = refl
+
+pub target-others : target (viewWith 1 15 3) noTermination 14 deskOfOne 0 ≡ pos 1 1
+unfolding deskOfOne allBelow anyBelow lowest tabulate pairNotAfter place following bodyWord bodyOf contentsOf endOf slot reportOf candidate greatest best target
+target-others = refl
+
+pub holder-others : holder (viewWith 1 15 3) noTermination 14 deskOfOne 0 ≡ 1
+unfolding deskOfOne allBelow anyBelow lowest tabulate pairNotAfter place following bodyWord bodyOf contentsOf endOf slot reportOf candidate greatest best target reaches holds hasUpdate able holder
+holder-others = refl
+
+pub met-others : QuorumMet (settingsFor 131073) (viewWith 1 15 3) noTermination 14 deskOfOne
+unfolding ones onesIn
+met-others = met-of (settingsFor 131073) (viewWith 1 15 3) noTermination 14 deskOfOne 1 refl (omega arith) (omega arith) (omega arith) (omega arith) holder-others
+
+pub reports-others : reportsTest (settingsFor 131073) oneViews (15 ∷ 1 ∷ []) deskOfOne 14 [] ≡ true
+unfolding deskOfOne allBelow slot reportOf contentsOf bodyOf bodyWord tabulate place following lowest anyBelow
+reports-others = refl
+
+pub next-others : Next (settingsFor 131073) (viewWith 1 15 3) 14 (viewWith 2 14 2)
+unfolding allBelow
+next-others = next-of (settingsFor 131073) (viewWith 1 15 3) 14 (viewWith 2 14 2) refl refl refl
+
+abbrev pub othersPlan : Restart 1 oneStored
+othersPlan =
+    planFrom (settingsFor 131073) oneViews (15 ∷ 1 ∷ []) deskOfOne (viewWith 1 15 3) noTermination 14 (viewWith 2 14 2) (omega arith) (omega arith) (omega arith)
+    slots-others met-others next-others [] reports-others
+    (none-ended (settingsFor 131073) noTermination oneStored refl)
+
+log-one : allBelow 1 (λ s. sameLog (plannedLog onePlan s) (getD ((pos 1 1 ∷ []) ∷ []) s [])) ≡ true
+unfolding deskOfFour allBelow anyBelow lowest tabulate pairNotAfter place following bodyWord bodyOf contentsOf slot reportOf runsFrom runsOf updatesAfter updatesIn thoseOf onePosition sameLog
+log-one = planned-of onePlan refl (pos 1 1 ∷ []) (pos 1 1) 0 target-four holder-four refl
+
+pub record MostNeeded : Type 0 where
+  -- an orderly history and a plan; all of a restart that is carried out but that more than half of the kept view's members log its view
+  pub orderly : Orderly fourBefore
+  pub plan : Restart 1 fourBefore
+  pub views : oneAfter .views ≡ fourBefore .views ++ viewWith 2 13 1 ∷ []
+  pub remembered : (n i : ℕ) → i < length (fourBefore .views) → fourBefore .logged n i ≡ true → oneAfter .logged n i ≡ true
+  pub logs : (n : ℕ) → n < 32 → has 1 n ≡ true → oneAfter .logged n 1 ≡ true
+  pub ordered : (s : ℕ) → s < 1 → (n : ℕ) → n < 32 → has (maskAt (viewWith 2 13 1) s) n ≡ true → oneAfter .logged n 1 ≡ true
+      → (q : Position) → oneAfter .updated n s q ≡ asOrdered (viewWith 1 15 3) noTermination 13 deskOfFour n s q
+  pub few : CarriedOut (settingsFor 131073) (viewWith 1 15 3) noTermination 13 deskOfFour (viewWith 2 13 1) fourBefore oneAfter → ⊥
+  -- a run that keeps what is settled, before all members have logged the view
+  pub begun : Full oneAfter 1 → ⊥
+  pub keeps : (s : ℕ) → s < 1 → (p : Position) → Settled oneAfter s p → Settled oneStored s p
+  pub logged : LoggedByAll oneStored (pos 2 1)
+  -- the next plan makes a second view 2 and has not the update
+  pub again : Restart 1 oneStored
+  pub goal : target (viewWith 1 15 3) noTermination 14 deskOfOne 0 ≡ pos 1 1
+  pub lost : holdsAt deskOfOne 0 (pos 2 1) (holder (viewWith 1 15 3) noTermination 14 deskOfOne 0) ≡ false
+
+ordered-one : (s : ℕ) → s < 1 → (n : ℕ) → n < 32 → has (maskAt (viewWith 2 13 1) s) n ≡ true → has 1 n ≡ true
+    → (q : Position) → holdsAt deskOfFour s q n ≡ asOrdered (viewWith 1 15 3) noTermination 13 deskOfFour n s q
+unfolding deskOfFour allBelow anyBelow lowest tabulate place following bodyWord bodyOf contentsOf slot reportOf runsFrom runsOf updatesAfter updatesIn onePosition among ofEvery sameLog
+ordered-one = ordered-of onePlan ((pos 1 1 ∷ []) ∷ []) log-one 1 deskOfFour refl
+
+keeps-one : (s : ℕ) → s < 1 → (p : Position) → Settled oneAfter s p → Settled oneStored s p
+unfolding deskOfFour deskOfOne allBelow anyBelow lowest tabulate place following bodyWord bodyOf contentsOf slot reportOf runsFrom runsOf updatesAfter updatesIn onePosition among ofEvery sameLog
+keeps-one = keeps-of 1 oneViews (15 ∷ 1 ∷ []) deskOfFour oneViews (15 ∷ 1 ∷ []) deskOfOne 0 (omega arith) refl
+
+logged-one : implies (has 1) (λ n. holdsAt deskOfOne 0 (pos 2 1) n) ≡ true
+unfolding deskOfOne allBelow anyBelow lowest tabulate place following bodyWord bodyOf contentsOf reaches holds slot reportOf
+logged-one = refl
+
+pub most-needed : MostNeeded
+unfolding deskOfFour deskOfOne ones onesIn allBelow anyBelow lowest tabulate place following bodyWord bodyOf contentsOf reaches holds slot reportOf
+most-needed =
+    record {
+      orderly = first-orderly (viewWith 1 15 3) (fourBefore .logged) (fourBefore .updated);
+      plan = onePlan;
+      views = refl;
+      remembered = remembered-of (15 ∷ []) (15 ∷ 1 ∷ []) 1 refl;
+      logs = λ n l h. h;
+      ordered = ordered-one;
+      few = not-carried onePlan oneAfter 14 (omega arith) refl;
+      begun = λ f. clash (f .all 2 (omega arith) refl) refl;
+      keeps = keeps-one;
+      logged = implies-at (has 1) (λ n. holdsAt deskOfOne 0 (pos 2 1) n) logged-one;
+      again = othersPlan;
+      goal = target-others;
+      lost = told-of deskOfOne (pos 2 1) false holder-others refl;
+    }
+
+-- ---- ordered: the same nodes are restarted, the shard is on nodes 0 and 2, and node 2 logs view 2 without what it is to fetch. Then nodes 2
+-- and 3 come back.
+
+unfoldable pub deskUnfetched : List ℕ
+deskUnfetched = reportOfShard 0 2 13 5 (runOf 1 1) ++ reportOfShard 1 1 15 3 (runOf 1 1) ++ reportOfShard 2 2 13 5 noRun ++ reportOfShard 3 2 13 5 noRun ++ replicate 14336 0
+
+abbrev pub unfetchedViews : List Layout
+unfetchedViews = viewWith 1 15 3 ∷ viewWith 2 13 5 ∷ []
+
+abbrev pub unfetched : History
+unfetched = toldBy unfetchedViews (15 ∷ 13 ∷ []) deskUnfetched
+
+pub next-four : Next (settingsFor 131073) (viewWith 1 15 3) 13 (viewWith 2 13 5)
+unfolding allBelow
+next-four = next-of (settingsFor 131073) (viewWith 1 15 3) 13 (viewWith 2 13 5) refl refl refl
 
 abbrev pub fourPlan : Restart 1 fourBefore
 fourPlan =
-    planFrom (settingsFor 2) fourViews (15 ∷ []) deskOfFour (viewWith 1 15 3) noTermination 13 (viewWith 2 13 5) (omega arith) (omega arith) (omega arith)
+    planFrom (settingsFor 131073) fourViews (15 ∷ []) deskOfFour (viewWith 1 15 3) noTermination 13 (viewWith 2 13 5) (omega arith) (omega arith) (omega arith)
     slots-four met-four next-four [] reports-four
-    (none-ended (settingsFor 2) noTermination fourBefore refl)
+    (none-ended (settingsFor 131073) noTermination fourBefore refl)
 
-pub slots-unfetched : slotsOk (settingsFor 2) (viewWith 2 13 5) noTermination 12 deskUnfetched ≡ true
+pub slots-unfetched : slotsOk (settingsFor 131073) (viewWith 2 13 5) noTermination 12 deskUnfetched ≡ true
 unfolding deskUnfetched allBelow anyBelow lowest tabulate unless unlessAt firstOf place following row5 row8 precedes shardsWhere row6 viewOk row7 kindOk plain kindAt shardAt surplus sequenceAt complete shardApart row10At row10 position viewFits legal row11At bodyWord bodyOf contentsOf recordsRefusal headRefusal messageRefusal slot reportOf sameView row12 sameTermination row13 termKept slotOk slotsOk
 slots-unfetched = refl
 
@@ -347,23 +318,23 @@ pub holder-unfetched : holder (viewWith 2 13 5) noTermination 12 deskUnfetched 0
 unfolding deskUnfetched allBelow anyBelow lowest tabulate pairNotAfter place following bodyWord bodyOf contentsOf endOf slot reportOf candidate greatest best target reaches holds hasUpdate able holder
 holder-unfetched = refl
 
-pub met-unfetched : QuorumMet (settingsFor 2) (viewWith 2 13 5) noTermination 12 deskUnfetched
+pub met-unfetched : QuorumMet (settingsFor 131073) (viewWith 2 13 5) noTermination 12 deskUnfetched
 unfolding ones onesIn
-met-unfetched = met-of (settingsFor 2) (viewWith 2 13 5) noTermination 12 deskUnfetched 2 refl (omega arith) (omega arith) (omega arith) (omega arith) holder-unfetched
+met-unfetched = met-of (settingsFor 131073) (viewWith 2 13 5) noTermination 12 deskUnfetched 2 refl (omega arith) (omega arith) (omega arith) (omega arith) holder-unfetched
 
-pub reports-unfetched : reportsTest (settingsFor 2) unfetchedViews (15 ∷ 13 ∷ []) deskUnfetched 12 (0 ∷ 0 ∷ 1 ∷ 1 ∷ []) ≡ true
+pub reports-unfetched : reportsTest (settingsFor 131073) unfetchedViews (15 ∷ 13 ∷ []) deskUnfetched 12 (0 ∷ 0 ∷ 1 ∷ 1 ∷ []) ≡ true
 unfolding deskUnfetched allBelow slot reportOf contentsOf bodyOf bodyWord tabulate place following lowest anyBelow
 reports-unfetched = refl
 
-pub next-unfetched : Next (settingsFor 2) (viewWith 2 13 5) 12 (viewWith 3 12 12)
+pub next-unfetched : Next (settingsFor 131073) (viewWith 2 13 5) 12 (viewWith 3 12 4)
 unfolding allBelow
-next-unfetched = next-of (settingsFor 2) (viewWith 2 13 5) 12 (viewWith 3 12 12) refl refl refl
+next-unfetched = next-of (settingsFor 131073) (viewWith 2 13 5) 12 (viewWith 3 12 4) refl refl refl
 
 abbrev pub unfetchedPlan : Restart 1 unfetched
 unfetchedPlan =
-    planFrom (settingsFor 2) unfetchedViews (15 ∷ 13 ∷ []) deskUnfetched (viewWith 2 13 5) noTermination 12 (viewWith 3 12 12) (omega arith) (omega arith) (omega arith)
+    planFrom (settingsFor 131073) unfetchedViews (15 ∷ 13 ∷ []) deskUnfetched (viewWith 2 13 5) noTermination 12 (viewWith 3 12 4) (omega arith) (omega arith) (omega arith)
     slots-unfetched met-unfetched next-unfetched (0 ∷ 0 ∷ 1 ∷ 1 ∷ []) reports-unfetched
-    (none-ended (settingsFor 2) noTermination unfetched refl)
+    (none-ended (settingsFor 131073) noTermination unfetched refl)
 
 pub record OrderedNeeded : Type 0 where
   -- an orderly history, in which all members of the shard have logged the update, and a plan
@@ -375,7 +346,7 @@ pub record OrderedNeeded : Type 0 where
   pub remembered : (n i : ℕ) → i < length (fourBefore .views) → fourBefore .logged n i ≡ true → unfetched .logged n i ≡ true
   pub logs : (n : ℕ) → n < 32 → has 13 n ≡ true → unfetched .logged n 1 ≡ true
   pub most : count 15 < 2 * count (bitAnd 13 15)
-  pub unordered : CarriedOut (settingsFor 2) (viewWith 1 15 3) noTermination 13 deskOfFour (viewWith 2 13 5) fourBefore unfetched → ⊥
+  pub unordered : CarriedOut (settingsFor 131073) (viewWith 1 15 3) noTermination 13 deskOfFour (viewWith 2 13 5) fourBefore unfetched → ⊥
   -- the history after it is orderly, and all members have logged the view
   pub standing : Orderly unfetched
   pub full : Full unfetched 1
@@ -392,6 +363,16 @@ logged-four : implies (has 3) (λ n. holdsAt deskOfFour 0 (pos 1 1) n) ≡ true
 unfolding deskOfFour allBelow anyBelow lowest tabulate place following bodyWord bodyOf contentsOf reaches holds slot reportOf
 logged-four = refl
 
+lacks-four : holdsAt deskUnfetched 0 (pos 1 1) 2 ≡ false
+unfolding deskUnfetched allBelow anyBelow lowest tabulate place following bodyWord bodyOf contentsOf reaches holds slot reportOf
+lacks-four = refl
+
+unordered-four : CarriedOut (settingsFor 131073) (viewWith 1 15 3) noTermination 13 deskOfFour (viewWith 2 13 5) fourBefore unfetched → ⊥
+unfolding among onePosition
+unordered-four c =
+    clash (c .ordered 0 (omega arith) 2 (omega arith) refl refl (pos 1 1) ∙ asked-of fourPlan ((pos 1 1 ∷ []) ∷ []) log-four 0 (omega arith) 2 (omega arith) refl (pos 1 1))
+    lacks-four
+
 pub ordered-needed : OrderedNeeded
 unfolding deskOfFour deskUnfetched ones onesIn allBelow anyBelow lowest tabulate place following bodyWord bodyOf contentsOf reaches holds slot reportOf onePosition among
 ordered-needed =
@@ -403,9 +384,7 @@ ordered-needed =
       remembered = remembered-of (15 ∷ []) (15 ∷ 13 ∷ []) 1 refl;
       logs = λ n l h. h;
       most = omega arith;
-      unordered = λ c.
-          clash (c .ordered 0 (omega arith) 2 (omega arith) refl refl (pos 1 1) ∙ asked-of fourPlan ((pos 1 1 ∷ []) ∷ []) log-four 0 (omega arith) 2 (omega arith) refl (pos 1 1))
-          refl;
+      unordered = unordered-four;
       standing = orderly-of unfetched (13 ∷ []) refl refl refl;
       full = full-of unfetched 1 refl;
       again = unfetchedPlan;
@@ -417,10 +396,10 @@ ordered-needed =
 -- given up when node 1's log is cut and nothing fetched. Then nodes 1 and 2 come back.
 
 unfoldable pub deskParted : List ℕ
-deskParted = reportWith 0 7 7 3 (runsUpTo 5 3 6 2) ++ reportWith 1 7 7 3 (runsUpTo 5 2 6 2) ++ reportWith 2 7 7 3 noRun ++ replicate 14848 0
+deskParted = reportOfShard 0 7 7 3 (runsUpTo 5 3 6 2) ++ reportOfShard 1 7 7 3 (runsUpTo 5 2 6 2) ++ reportOfShard 2 7 7 3 noRun ++ replicate 14848 0
 
 unfoldable pub deskCut : List ℕ
-deskCut = reportWith 0 7 7 3 (runsUpTo 5 3 6 2) ++ reportWith 1 7 7 3 (runOf 5 2) ++ reportWith 2 7 7 3 noRun ++ replicate 14848 0
+deskCut = reportOfShard 0 7 7 3 (runsUpTo 5 3 6 2) ++ reportOfShard 1 7 7 3 (runOf 5 2) ++ reportOfShard 2 7 7 3 noRun ++ replicate 14848 0
 
 abbrev pub partedViews : List Layout
 partedViews = viewWith 7 7 3 ∷ []
@@ -431,7 +410,7 @@ parted = toldBy partedViews (7 ∷ []) deskParted
 abbrev pub halfDone : History
 halfDone = toldBy partedViews (7 ∷ []) deskCut
 
-pub slots-parted : slotsOk (settingsFor 2) (viewWith 7 7 3) noTermination 3 deskParted ≡ true
+pub slots-parted : slotsOk (settingsFor 131073) (viewWith 7 7 3) noTermination 3 deskParted ≡ true
 unfolding deskParted allBelow anyBelow lowest tabulate unless unlessAt firstOf place following row5 row8 precedes shardsWhere row6 viewOk row7 kindOk plain kindAt shardAt surplus sequenceAt complete shardApart row10At row10 position viewFits legal row11At bodyWord bodyOf contentsOf recordsRefusal headRefusal messageRefusal slot reportOf sameView row12 sameTermination row13 termKept slotOk slotsOk
 slots-parted = refl
 
@@ -443,25 +422,25 @@ pub holder-parted : holder (viewWith 7 7 3) noTermination 3 deskParted 0 ≡ 0
 unfolding deskParted allBelow anyBelow lowest tabulate pairNotAfter place following bodyWord bodyOf contentsOf endOf slot reportOf candidate greatest best target reaches holds hasUpdate able holder
 holder-parted = refl
 
-pub met-parted : QuorumMet (settingsFor 2) (viewWith 7 7 3) noTermination 3 deskParted
+pub met-parted : QuorumMet (settingsFor 131073) (viewWith 7 7 3) noTermination 3 deskParted
 unfolding ones onesIn
-met-parted = met-of (settingsFor 2) (viewWith 7 7 3) noTermination 3 deskParted 0 refl (omega arith) (omega arith) (omega arith) (omega arith) holder-parted
+met-parted = met-of (settingsFor 131073) (viewWith 7 7 3) noTermination 3 deskParted 0 refl (omega arith) (omega arith) (omega arith) (omega arith) holder-parted
 
-pub reports-parted : reportsTest (settingsFor 2) partedViews (7 ∷ []) deskParted 3 [] ≡ true
+pub reports-parted : reportsTest (settingsFor 131073) partedViews (7 ∷ []) deskParted 3 [] ≡ true
 unfolding deskParted allBelow slot reportOf contentsOf bodyOf bodyWord tabulate place following lowest anyBelow
 reports-parted = refl
 
-pub next-parted : Next (settingsFor 2) (viewWith 7 7 3) 3 (viewWith 8 3 3)
+pub next-parted : Next (settingsFor 131073) (viewWith 7 7 3) 3 (viewWith 8 3 3)
 unfolding allBelow
-next-parted = next-of (settingsFor 2) (viewWith 7 7 3) 3 (viewWith 8 3 3) refl refl refl
+next-parted = next-of (settingsFor 131073) (viewWith 7 7 3) 3 (viewWith 8 3 3) refl refl refl
 
 abbrev pub partedPlan : Restart 1 parted
 partedPlan =
-    planFrom (settingsFor 2) partedViews (7 ∷ []) deskParted (viewWith 7 7 3) noTermination 3 (viewWith 8 3 3) (omega arith) (omega arith) (omega arith)
+    planFrom (settingsFor 131073) partedViews (7 ∷ []) deskParted (viewWith 7 7 3) noTermination 3 (viewWith 8 3 3) (omega arith) (omega arith) (omega arith)
     slots-parted met-parted next-parted [] reports-parted
-    (none-ended (settingsFor 2) noTermination parted refl)
+    (none-ended (settingsFor 131073) noTermination parted refl)
 
-pub slots-cut : slotsOk (settingsFor 2) (viewWith 7 7 3) noTermination 6 deskCut ≡ true
+pub slots-cut : slotsOk (settingsFor 131073) (viewWith 7 7 3) noTermination 6 deskCut ≡ true
 unfolding deskCut allBelow anyBelow lowest tabulate unless unlessAt firstOf place following row5 row8 precedes shardsWhere row6 viewOk row7 kindOk plain kindAt shardAt surplus sequenceAt complete shardApart row10At row10 position viewFits legal row11At bodyWord bodyOf contentsOf recordsRefusal headRefusal messageRefusal slot reportOf sameView row12 sameTermination row13 termKept slotOk slotsOk
 slots-cut = refl
 
@@ -473,23 +452,23 @@ pub holder-cut : holder (viewWith 7 7 3) noTermination 6 deskCut 0 ≡ 1
 unfolding deskCut allBelow anyBelow lowest tabulate pairNotAfter place following bodyWord bodyOf contentsOf endOf slot reportOf candidate greatest best target reaches holds hasUpdate able holder
 holder-cut = refl
 
-pub met-cut : QuorumMet (settingsFor 2) (viewWith 7 7 3) noTermination 6 deskCut
+pub met-cut : QuorumMet (settingsFor 131073) (viewWith 7 7 3) noTermination 6 deskCut
 unfolding ones onesIn
-met-cut = met-of (settingsFor 2) (viewWith 7 7 3) noTermination 6 deskCut 1 refl (omega arith) (omega arith) (omega arith) (omega arith) holder-cut
+met-cut = met-of (settingsFor 131073) (viewWith 7 7 3) noTermination 6 deskCut 1 refl (omega arith) (omega arith) (omega arith) (omega arith) holder-cut
 
-pub reports-cut : reportsTest (settingsFor 2) partedViews (7 ∷ []) deskCut 6 [] ≡ true
+pub reports-cut : reportsTest (settingsFor 131073) partedViews (7 ∷ []) deskCut 6 [] ≡ true
 unfolding deskCut allBelow slot reportOf contentsOf bodyOf bodyWord tabulate place following lowest anyBelow
 reports-cut = refl
 
-pub next-cut : Next (settingsFor 2) (viewWith 7 7 3) 6 (viewWith 8 6 6)
+pub next-cut : Next (settingsFor 131073) (viewWith 7 7 3) 6 (viewWith 8 6 2)
 unfolding allBelow
-next-cut = next-of (settingsFor 2) (viewWith 7 7 3) 6 (viewWith 8 6 6) refl refl refl
+next-cut = next-of (settingsFor 131073) (viewWith 7 7 3) 6 (viewWith 8 6 2) refl refl refl
 
 abbrev pub cutPlan : Restart 1 halfDone
 cutPlan =
-    planFrom (settingsFor 2) partedViews (7 ∷ []) deskCut (viewWith 7 7 3) noTermination 6 (viewWith 8 6 6) (omega arith) (omega arith) (omega arith)
+    planFrom (settingsFor 131073) partedViews (7 ∷ []) deskCut (viewWith 7 7 3) noTermination 6 (viewWith 8 6 2) (omega arith) (omega arith) (omega arith)
     slots-cut met-cut next-cut [] reports-cut
-    (none-ended (settingsFor 2) noTermination halfDone refl)
+    (none-ended (settingsFor 131073) noTermination halfDone refl)
 
 pub record UpdatedNeeded : Type 0 where
   -- an orderly history, in which all members of the shard have logged the update, and a plan
@@ -502,7 +481,7 @@ pub record UpdatedNeeded : Type 0 where
   pub others : (n : ℕ) → (n ≡ 1 → ⊥) → (q : Position) → halfDone .updated n 0 q ≡ parted .updated n 0 q
   pub cut : cutFor (viewWith 7 7 3) noTermination 3 deskParted 1 0 ≡ pos 5 2
   pub kept : (q : Position) → halfDone .updated 1 0 q ≡ (notAfter q (pos 5 2) && parted .updated 1 0 q)
-  pub unlike : GivenUp (settingsFor 2) (viewWith 7 7 3) noTermination 3 deskParted (viewWith 8 3 3) parted halfDone → ⊥
+  pub unlike : GivenUp (settingsFor 131073) (viewWith 7 7 3) noTermination 3 deskParted (viewWith 8 3 3) parted halfDone → ⊥
   -- the next plan ends the log at the cut
   pub again : Restart 1 halfDone
   pub goal : target (viewWith 7 7 3) noTermination 6 deskCut 0 ≡ pos 5 2
@@ -521,11 +500,26 @@ logged-parted = refl
 
 others-cut : (n : ℕ) → (n ≡ 1 → ⊥) → (q : Position) → holdsAt deskCut 0 q n ≡ holdsAt deskParted 0 q n
 unfolding deskParted deskCut allBelow anyBelow lowest tabulate place following bodyWord bodyOf contentsOf slot reportOf runsFrom runsOf updatesAfter updatesIn onePosition among ofEvery sameLog
-others-cut = others-alike deskParted deskCut 0 1 3 refl refl
+others-cut = others-alike deskParted deskCut 0 1 2 refl refl
 
 kept-cut : (q : Position) → holdsAt deskCut 0 q 1 ≡ (notAfter q (pos 5 2) && holdsAt deskParted 0 q 1)
 unfolding deskParted deskCut allBelow anyBelow lowest tabulate place following bodyWord bodyOf contentsOf slot reportOf runsFrom runsOf updatesAfter updatesIn onePosition among ofEvery sameLog pairNotAfter thoseOf
 kept-cut = kept-alike deskParted deskCut 0 1 (pos 5 2) refl
+
+had-cut : holdsAt deskParted 0 (pos 6 2) 1 ≡ true
+unfolding deskParted allBelow anyBelow lowest tabulate place following bodyWord bodyOf contentsOf reaches holds slot reportOf
+had-cut = refl
+
+lacks-cut : holdsAt deskCut 0 (pos 6 2) 1 ≡ false
+unfolding deskCut allBelow anyBelow lowest tabulate place following bodyWord bodyOf contentsOf reaches holds slot reportOf
+lacks-cut = refl
+
+unlike-cut : GivenUp (settingsFor 131073) (viewWith 7 7 3) noTermination 3 deskParted (viewWith 8 3 3) parted halfDone → ⊥
+unfolding among onePosition
+unlike-cut g =
+    ⊎-elim (λ e. clash (e (pos 6 2) ∙ had-cut) lacks-cut)
+    (λ e. clash (e .1 (pos 6 2) ∙ asked-of partedPlan partedLog log-parted 0 (omega arith) 1 (omega arith) refl (pos 6 2)) lacks-cut)
+    (g .updated 0 (omega arith) 1 (omega arith))
 
 pub updated-needed : UpdatedNeeded
 unfolding deskParted deskCut ones onesIn allBelow anyBelow lowest tabulate place following bodyWord bodyOf contentsOf reaches holds slot reportOf onePosition among runsFrom runsOf runsTo sharedAfter cutFrom
@@ -539,11 +533,7 @@ updated-needed =
       others = others-cut;
       cut = cut-of (viewWith 7 7 3) noTermination 3 deskParted 1 target-parted holder-parted refl;
       kept = kept-cut;
-      unlike =
-          λ g.
-          ⊎-elim (λ e. clash (e (pos 6 2)) refl)
-          (λ e. clash (e .1 (pos 6 2) ∙ asked-of partedPlan partedLog log-parted 0 (omega arith) 1 (omega arith) refl (pos 6 2)) refl)
-          (g .updated 0 (omega arith) 1 (omega arith));
+      unlike = unlike-cut;
       again = cutPlan;
       goal = target-cut;
       lost = told-of deskCut (pos 6 2) false holder-cut refl;

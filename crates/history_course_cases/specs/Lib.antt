@@ -3,5 +3,6 @@ pub mod Steps
 pub mod Worked
 pub mod Duties
 pub mod Stories
+pub mod Clauses
 pub mod Ruling
 pub mod Long

@@ -1,5 +1,5 @@
--- A worked course of disks that keep the rule, from where the first restart of Worked was given up. Nodes 1 and 2 are restarted; node 2 gets the
--- plan's view, node 1 reports without it, and node 2 forgets it. They are restarted again, both get the view, and it counts: they serve.
+-- A worked course of disks that keep the rule, from where the first restart of Worked was given up. Nodes 0 and 1 are restarted; node 1 gets the
+-- plan's view, node 0 reports without it, and node 1 forgets it. They are restarted again, both get the view, and it counts: they serve.
 use Prim.Native.Nat.{ℕ}
 use mathlib.Core.Bool.{Bool, true}
 use mathlib.Core.List.{List, [], _∷_, _++_}
@@ -23,7 +23,7 @@ use Rattle.history_rule.specs.Disks.{Attempt, attempted, seenOn, counting, each
 use Rattle.history_rule.specs.Stored.{stays-stored}
 use Rattle.history_course_cases.specs.Worked as worked
 
--- the first attempt: node 2 gets the view, node 1 reports without it, node 2 forgets it
+-- the first attempt: node 1 gets the view, node 0 reports without it, node 1 forgets it
 abbrev listsFirst : ℕ → List Layout
 listsFirst i = take i worked.firstViews
 
@@ -33,38 +33,38 @@ beforeAll = viewOfAll 1 7 ∷ []
 at-first : Listed worked.courseSettings worked.afterGivenUp (viewOfAll 1 7) 0
 at-first = listed-at worked.courseSettings worked.afterGivenUp 0 (omega arith)
 
-one-has : Copies 6 0 0 4 0
-one-has = got 0 0 2 refl refl now
+one-has : Copies 3 0 0 2 0
+one-has = got 0 0 1 refl refl now
 
-one-lacks : Copies 6 0 0 4 2
-one-lacks = went 4 0 1 refl one-has
+one-lacks : Copies 3 0 0 2 1
+one-lacks = went 2 0 0 refl one-has
 
-forgotten : Copies 6 0 0 0 6
-forgotten = forgot 4 2 2 1 refl refl one-lacks
+forgotten : Copies 3 0 0 0 3
+forgotten = forgot 2 1 1 0 refl refl one-lacks
 
 abbrev tried : Attempt 1
 tried = attempted worked.afterGivenUp worked.carriedPlan beforeAll
 
 abbrev failed : Attempt 1
-failed = seenOn tried 0 6
+failed = seenOn tried 0 3
 
 disks-failed : Disks 1 worked.afterGivenUp worked.afterGivenUp listsFirst (failed ∷ [])
 disks-failed =
     passes worked.afterGivenUp listsFirst (tried ∷ []) (failed ∷ []) (plans worked.afterGivenUp listsFirst [] first worked.carriedPlan each-none 0 at-first)
-    (pass-more tried 0 6 [] [] forgotten pass-none)
+    (pass-more tried 0 3 [] [] forgotten pass-none)
 
 -- the second: both get it
-both-have : Copies 6 0 0 6 0
-both-have = got 2 0 2 refl refl (got 0 0 1 refl refl now)
+both-have : Copies 3 0 0 3 0
+both-have = got 1 0 1 refl refl (got 0 0 0 refl refl now)
 
 abbrev prepared : Attempt 1
-prepared = seenOn tried 6 0
+prepared = seenOn tried 3 0
 
 disks-prepared : Disks 1 worked.afterGivenUp worked.afterGivenUp listsFirst (prepared ∷ failed ∷ [])
 disks-prepared =
     passes worked.afterGivenUp listsFirst (tried ∷ failed ∷ []) (prepared ∷ failed ∷ [])
     (plans worked.afterGivenUp listsFirst (failed ∷ []) disks-failed worked.carriedPlan (each-more failed [] (record { asked = λ c n l h. h }) each-none) 0 at-first)
-    (pass-more tried 6 0 (failed ∷ []) (failed ∷ []) both-have (pass-more failed 0 6 [] [] now pass-none))
+    (pass-more tried 3 0 (failed ∷ []) (failed ∷ []) both-have (pass-more failed 0 3 [] [] now pass-none))
 
 counts-second : Counted prepared worked.afterCarried
 counts-second = record { views = refl; remembered = worked.remembered-second; logs = λ n l h. h; ordered = worked.ordered-second }
@@ -97,13 +97,13 @@ orderly-again = first-orderly (viewOfAll 1 7) (worked.afterGivenUp .logged) (wor
 pub record DiskRows : Type 0 where
   -- the disks keep the rule
   pub disks : Disks 1 worked.afterGivenUp worked.afterRun listsSecond (counting prepared ∷ failed ∷ [])
-  -- what the leaders find meanwhile: of the first attempt's view with node 2 back alone, with both, and of the second's with both
-  pub alone : judged 6 0 4 0 0 ≡ Undecided
-  pub without-it : judged 6 0 4 2 0 ≡ Never
-  pub both : judged 6 0 6 0 0 ≡ Sure
+  -- what the leaders find meanwhile: of the first attempt's view with node 1 back alone, with both, and of the second's with both
+  pub alone : judged 3 0 2 0 0 ≡ Undecided
+  pub without-it : judged 3 0 2 1 0 ≡ Never
+  pub both : judged 3 0 3 0 0 ≡ Sure
   -- the last plan has what was settled before
-  pub kept : (notAfter (pos 1 1) (target (viewOfAll 2 6) worked.endOfRun 7 worked.deskServed 0) ≡ true)
-      × (holdsAt worked.deskServed 0 (pos 1 1) (holder (viewOfAll 2 6) worked.endOfRun 7 worked.deskServed 0) ≡ true)
+  pub kept : (notAfter (pos 1 1) (target (viewOfAll 2 3) worked.endOfRun 7 worked.deskServed 0) ≡ true)
+      × (holdsAt worked.deskServed 0 (pos 1 1) (holder (viewOfAll 2 3) worked.endOfRun 7 worked.deskServed 0) ≡ true)
 
 pub disk-rows : DiskRows
 unfolding saysSure saysNever judged

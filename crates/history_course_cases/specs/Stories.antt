@@ -42,7 +42,7 @@ use Rattle.history_course.specs.Course.{Succeeded, Orderly, Settled, Serves, Ne
 use Rattle.history_course.specs.Ever.{Restart, Course, here, running, carrying}
 use Rattle.history_course.specs.Counting.{first-orderly}
 use Rattle.history_course_cases.specs.Steps.{ofEvery, sameLog, orderly-of, not-succeeded, next-of, met-of, none-ended, planFrom, told-of, plannedLog, planned-of, ordered-of, remembered-of, given-up-of, keeps-of}
-use Rattle.history_course_cases.specs.Worked.{courseSettings, reportWith, runOf, runsUpTo}
+use Rattle.history_course_cases.specs.Worked.{courseSettings, reportOfShard, runOf, runsUpTo}
 use Rattle.history_course_cases.specs.Duties.{settingsFor, viewWith, noRun, LoggedByAll}
 
 -- ---- a stray view: nodes 0 to 4 have view 2. Nodes 2 to 4 are restarted, node 2 alone has logged their view 3 when all stop. Nodes 0, 1 and 3
@@ -50,31 +50,32 @@ use Rattle.history_course_cases.specs.Duties.{settingsFor, viewWith, noR
 
 unfoldable pub deskOfFive : List ℕ
 deskOfFive =
-    reportWith 0 2 31 6 noRun ++ reportWith 1 2 31 6 (runOf 2 1) ++ reportWith 2 2 31 6 (runOf 2 1) ++ reportWith 3 2 31 6 noRun
-    ++ reportWith 4 2 31 6 noRun
+    reportOfShard 0 2 31 6 noRun ++ reportOfShard 1 2 31 6 (runOf 2 1) ++ reportOfShard 2 2 31 6 (runOf 2 1) ++ reportOfShard 3 2 31 6 noRun
+    ++ reportOfShard 4 2 31 6 noRun
     ++ replicate 13824 0
 
 -- nodes 0, 1 and 3 have the other view 3, node 2 the stray one
 unfoldable pub deskOfBoth : List ℕ
 deskOfBoth =
-    reportWith 0 3 11 3 (runOf 2 1) ++ reportWith 1 3 11 3 (runOf 2 1) ++ reportWith 2 3 28 12 (runOf 2 1) ++ reportWith 3 3 11 3 noRun
-    ++ reportWith 4 2 31 6 noRun
+    reportOfShard 0 3 11 10 noRun ++ reportOfShard 1 3 11 10 (runOf 2 1) ++ reportOfShard 2 3 28 20 (runOf 2 1) ++ reportOfShard 3 3 11 10 (runOf 2 1)
+    ++ reportOfShard 4 2 31 6 noRun
     ++ replicate 13824 0
 
 unfoldable pub deskBothStored : List ℕ
 deskBothStored =
-    reportWith 0 3 11 3 (runsUpTo 2 1 3 1) ++ reportWith 1 3 11 3 (runsUpTo 2 1 3 1) ++ reportWith 2 3 28 12 (runOf 2 1) ++ reportWith 3 3 11 3 noRun
-    ++ reportWith 4 2 31 6 noRun
+    reportOfShard 0 3 11 10 noRun ++ reportOfShard 1 3 11 10 (runsUpTo 2 1 3 1) ++ reportOfShard 2 3 28 20 (runOf 2 1)
+    ++ reportOfShard 3 3 11 10 (runsUpTo 2 1 3 1)
+    ++ reportOfShard 4 2 31 6 noRun
     ++ replicate 13824 0
 
 abbrev pub fiveViews : List Layout
 fiveViews = viewWith 2 31 6 ∷ []
 
 abbrev pub otherViews : List Layout
-otherViews = viewWith 2 31 6 ∷ viewWith 3 11 3 ∷ []
+otherViews = viewWith 2 31 6 ∷ viewWith 3 11 10 ∷ []
 
 abbrev pub strayViews : List Layout
-strayViews = viewWith 2 31 6 ∷ viewWith 3 28 12 ∷ []
+strayViews = viewWith 2 31 6 ∷ viewWith 3 28 20 ∷ []
 
 abbrev pub fiveBefore : History
 fiveBefore = toldBy fiveViews (31 ∷ []) deskOfFive
@@ -89,31 +90,9 @@ otherStored = toldBy otherViews (31 ∷ 11 ∷ []) deskBothStored
 abbrev pub strayKnown : History
 strayKnown = toldBy strayViews (31 ∷ 4 ∷ []) deskBothStored
 
-pub slots-stray : slotsOk (settingsFor 2) (viewWith 2 31 6) noTermination 28 deskOfFive ≡ true
-unfolding deskOfFive allBelow anyBelow lowest tabulate unless unlessAt firstOf place following row5 row8 precedes shardsWhere row6 viewOk row7 kindOk plain kindAt shardAt surplus sequenceAt complete shardApart row10At row10 position viewFits legal row11At bodyWord bodyOf contentsOf recordsRefusal headRefusal messageRefusal slot reportOf sameView row12 sameTermination row13 termKept slotOk slotsOk
-slots-stray = refl
-
-pub holder-stray : holder (viewWith 2 31 6) noTermination 28 deskOfFive 0 ≡ 2
-unfolding deskOfFive allBelow anyBelow lowest tabulate pairNotAfter place following bodyWord bodyOf contentsOf endOf slot reportOf candidate greatest best target reaches holds hasUpdate able holder
-holder-stray = refl
-
-pub met-stray : QuorumMet (settingsFor 2) (viewWith 2 31 6) noTermination 28 deskOfFive
-unfolding ones onesIn
-met-stray = met-of (settingsFor 2) (viewWith 2 31 6) noTermination 28 deskOfFive 2 refl (omega arith) (omega arith) (omega arith) (omega arith) holder-stray
-
-pub reports-stray : reportsTest (settingsFor 2) fiveViews (31 ∷ []) deskOfFive 28 [] ≡ true
-unfolding deskOfFive allBelow slot reportOf contentsOf bodyOf bodyWord tabulate place following lowest anyBelow
-reports-stray = refl
-
-pub next-stray : Next (settingsFor 2) (viewWith 2 31 6) 28 (viewWith 3 28 12)
+pub next-stray : Next (settingsFor 2) (viewWith 2 31 6) 28 (viewWith 3 28 20)
 unfolding allBelow
-next-stray = next-of (settingsFor 2) (viewWith 2 31 6) 28 (viewWith 3 28 12) refl refl refl
-
-abbrev pub strayPlan : Restart 1 fiveBefore
-strayPlan =
-    planFrom (settingsFor 2) fiveViews (31 ∷ []) deskOfFive (viewWith 2 31 6) noTermination 28 (viewWith 3 28 12) (omega arith) (omega arith) (omega arith)
-    slots-stray met-stray next-stray [] reports-stray
-    (none-ended (settingsFor 2) noTermination fiveBefore refl)
+next-stray = next-of (settingsFor 2) (viewWith 2 31 6) 28 (viewWith 3 28 20) refl refl refl
 
 pub slots-other : slotsOk (settingsFor 2) (viewWith 2 31 6) noTermination 11 deskOfFive ≡ true
 unfolding deskOfFive allBelow anyBelow lowest tabulate unless unlessAt firstOf place following row5 row8 precedes shardsWhere row6 viewOk row7 kindOk plain kindAt shardAt surplus sequenceAt complete shardApart row10At row10 position viewFits legal row11At bodyWord bodyOf contentsOf recordsRefusal headRefusal messageRefusal slot reportOf sameView row12 sameTermination row13 termKept slotOk slotsOk
@@ -135,13 +114,13 @@ pub reports-other : reportsTest (settingsFor 2) fiveViews (31 ∷ []) deskOfFive
 unfolding deskOfFive allBelow slot reportOf contentsOf bodyOf bodyWord tabulate place following lowest anyBelow
 reports-other = refl
 
-pub next-other : Next (settingsFor 2) (viewWith 2 31 6) 11 (viewWith 3 11 3)
+pub next-other : Next (settingsFor 2) (viewWith 2 31 6) 11 (viewWith 3 11 10)
 unfolding allBelow
-next-other = next-of (settingsFor 2) (viewWith 2 31 6) 11 (viewWith 3 11 3) refl refl refl
+next-other = next-of (settingsFor 2) (viewWith 2 31 6) 11 (viewWith 3 11 10) refl refl refl
 
 abbrev pub otherPlan : Restart 1 fiveBefore
 otherPlan =
-    planFrom (settingsFor 2) fiveViews (31 ∷ []) deskOfFive (viewWith 2 31 6) noTermination 11 (viewWith 3 11 3) (omega arith) (omega arith) (omega arith)
+    planFrom (settingsFor 2) fiveViews (31 ∷ []) deskOfFive (viewWith 2 31 6) noTermination 11 (viewWith 3 11 10) (omega arith) (omega arith) (omega arith)
     slots-other met-other next-other [] reports-other
     (none-ended (settingsFor 2) noTermination fiveBefore refl)
 
@@ -149,12 +128,12 @@ log-other : allBelow 1 (λ s. sameLog (plannedLog otherPlan s) (getD ((pos 2 1 �
 unfolding deskOfFive allBelow anyBelow lowest tabulate pairNotAfter place following bodyWord bodyOf contentsOf slot reportOf runsFrom runsOf updatesAfter updatesIn thoseOf onePosition sameLog
 log-other = planned-of otherPlan refl (pos 2 1 ∷ []) (pos 2 1) 1 target-other holder-other refl
 
-ordered-other : (s : ℕ) → s < 1 → (n : ℕ) → n < 32 → has (maskAt (viewWith 3 11 3) s) n ≡ true → has 11 n ≡ true
+ordered-other : (s : ℕ) → s < 1 → (n : ℕ) → n < 32 → has (maskAt (viewWith 3 11 10) s) n ≡ true → has 11 n ≡ true
     → (q : Position) → holdsAt deskOfBoth s q n ≡ asOrdered (viewWith 2 31 6) noTermination 11 deskOfFive n s q
 unfolding deskOfBoth allBelow anyBelow lowest tabulate place following bodyWord bodyOf contentsOf slot reportOf runsFrom runsOf updatesAfter updatesIn onePosition among ofEvery sameLog
 ordered-other = ordered-of otherPlan ((pos 2 1 ∷ []) ∷ []) log-other 11 deskOfBoth refl
 
-pub carried-other : CarriedOut (settingsFor 2) (viewWith 2 31 6) noTermination 11 deskOfFive (viewWith 3 11 3) fiveBefore otherAfter
+pub carried-other : CarriedOut (settingsFor 2) (viewWith 2 31 6) noTermination 11 deskOfFive (viewWith 3 11 10) fiveBefore otherAfter
 unfolding ones onesIn allBelow
 carried-other =
     record {
@@ -168,31 +147,31 @@ carried-other =
 
 keeps-other : (s : ℕ) → s < 1 → (p : Position) → Settled otherAfter s p → Settled otherStored s p
 unfolding deskOfBoth deskBothStored allBelow anyBelow lowest tabulate place following bodyWord bodyOf contentsOf slot reportOf runsFrom runsOf updatesAfter updatesIn onePosition among ofEvery sameLog
-keeps-other = keeps-of 1 otherViews (31 ∷ 11 ∷ []) deskOfBoth otherViews (31 ∷ 11 ∷ []) deskBothStored 0 (omega arith) refl
+keeps-other = keeps-of 1 otherViews (31 ∷ 11 ∷ []) deskOfBoth otherViews (31 ∷ 11 ∷ []) deskBothStored 1 (omega arith) refl
 
 pub served-other : Serves 1 otherAfter otherStored
 unfolding ones onesIn allBelow anyBelow
 served-other = record { begun = full-of otherAfter 1 refl; standing = orderly-of otherStored (11 ∷ []) refl refl refl; keeps = keeps-other }
 
-logged-other : implies (has 3) (λ n. holdsAt deskBothStored 0 (pos 3 1) n) ≡ true
+logged-other : implies (has 10) (λ n. holdsAt deskBothStored 0 (pos 3 1) n) ≡ true
 unfolding deskBothStored allBelow anyBelow lowest tabulate place following bodyWord bodyOf contentsOf reaches holds slot reportOf
 logged-other = refl
 
-slots-back : slotsOk (settingsFor 2) (viewWith 3 28 12) noTermination 20 deskBothStored ≡ true
+slots-back : slotsOk (settingsFor 2) (viewWith 3 28 20) noTermination 20 deskBothStored ≡ true
 unfolding deskBothStored allBelow anyBelow lowest tabulate unless unlessAt firstOf place following row5 row8 precedes shardsWhere row6 viewOk row7 kindOk plain kindAt shardAt surplus sequenceAt complete shardApart row10At row10 position viewFits legal row11At bodyWord bodyOf contentsOf recordsRefusal headRefusal messageRefusal slot reportOf sameView row12 sameTermination row13 termKept slotOk slotsOk
 slots-back = refl
 
-target-back : target (viewWith 3 28 12) noTermination 20 deskBothStored 0 ≡ pos 2 1
+target-back : target (viewWith 3 28 20) noTermination 20 deskBothStored 0 ≡ pos 2 1
 unfolding deskBothStored allBelow anyBelow lowest tabulate pairNotAfter place following bodyWord bodyOf contentsOf endOf slot reportOf candidate greatest best target
 target-back = refl
 
-holder-back : holder (viewWith 3 28 12) noTermination 20 deskBothStored 0 ≡ 2
+holder-back : holder (viewWith 3 28 20) noTermination 20 deskBothStored 0 ≡ 2
 unfolding deskBothStored allBelow anyBelow lowest tabulate pairNotAfter place following bodyWord bodyOf contentsOf endOf slot reportOf candidate greatest best target reaches holds hasUpdate able holder
 holder-back = refl
 
-met-back : QuorumMet (settingsFor 2) (viewWith 3 28 12) noTermination 20 deskBothStored
+met-back : QuorumMet (settingsFor 2) (viewWith 3 28 20) noTermination 20 deskBothStored
 unfolding ones onesIn
-met-back = met-of (settingsFor 2) (viewWith 3 28 12) noTermination 20 deskBothStored 2 refl (omega arith) (omega arith) (omega arith) (omega arith) holder-back
+met-back = met-of (settingsFor 2) (viewWith 3 28 20) noTermination 20 deskBothStored 2 refl (omega arith) (omega arith) (omega arith) (omega arith) holder-back
 
 reports-back : reportsTest (settingsFor 2) strayViews (31 ∷ 4 ∷ []) deskBothStored 20 (0 ∷ 0 ∷ 1 ∷ 0 ∷ 0 ∷ []) ≡ true
 unfolding deskBothStored allBelow slot reportOf contentsOf bodyOf bodyWord tabulate place following lowest anyBelow
@@ -208,31 +187,31 @@ unfolding deskBothStored allBelow slot reportOf contentsOf bodyOf bodyWord tabul
 none-of-list = refl
 
 pub record StrayKept : Type 0 where
-  -- both plans start from the orderly history of view 2, and the second is carried out and served as the duties say
+  -- from the orderly history of view 2, of which both views 3 are the next, the other one is carried out and served as the duties say
   pub orderly : Orderly fiveBefore
-  pub stray : Restart 1 fiveBefore
+  pub stray : Next (settingsFor 2) (viewWith 2 31 6) 28 (viewWith 3 28 20)
   pub course : Course 1 fiveBefore otherStored
   pub logged : LoggedByAll otherStored (pos 3 1)
   -- nodes 2 and 4 report truly what they know: the stray view 3 is kept, with 2 of its 3 members
   pub reports : (n : ℕ) → n < 32 → has 20 n ≡ true → True (settingsFor 2) strayKnown (reportOf deskBothStored n)
-  pub slots : slotsOk (settingsFor 2) (viewWith 3 28 12) noTermination 20 deskBothStored ≡ true
-  pub met : QuorumMet (settingsFor 2) (viewWith 3 28 12) noTermination 20 deskBothStored
+  pub slots : slotsOk (settingsFor 2) (viewWith 3 28 20) noTermination 20 deskBothStored ≡ true
+  pub met : QuorumMet (settingsFor 2) (viewWith 3 28 20) noTermination 20 deskBothStored
   -- and the plan has not the update that was stored under the other
-  pub goal : target (viewWith 3 28 12) noTermination 20 deskBothStored 0 ≡ pos 2 1
-  pub lost : holdsAt deskBothStored 0 (pos 3 1) (holder (viewWith 3 28 12) noTermination 20 deskBothStored 0) ≡ false
+  pub goal : target (viewWith 3 28 20) noTermination 20 deskBothStored 0 ≡ pos 2 1
+  pub lost : holdsAt deskBothStored 0 (pos 3 1) (holder (viewWith 3 28 20) noTermination 20 deskBothStored 0) ≡ false
   -- which no duty allows: node 2's report is not true of the history that was served, since it has not forgotten the stray view
   pub untrue : True (settingsFor 2) otherStored (reportOf deskBothStored 2) → ⊥
   -- nor does a history list both
-  pub twice : KeepsRule (toldBy (viewWith 2 31 6 ∷ viewWith 3 28 12 ∷ viewWith 3 11 3 ∷ []) (31 ∷ 4 ∷ 11 ∷ []) deskBothStored) → ⊥
+  pub twice : KeepsRule (toldBy (viewWith 2 31 6 ∷ viewWith 3 28 20 ∷ viewWith 3 11 10 ∷ []) (31 ∷ 4 ∷ 11 ∷ []) deskBothStored) → ⊥
 
 pub stray-kept : StrayKept
 unfolding deskBothStored allBelow anyBelow lowest tabulate place following bodyWord bodyOf contentsOf reaches holds slot reportOf
 stray-kept =
     record {
       orderly = first-orderly (viewWith 2 31 6) (fiveBefore .logged) (fiveBefore .updated);
-      stray = strayPlan;
+      stray = next-stray;
       course = running otherAfter otherStored (carrying fiveBefore otherAfter here otherPlan carried-other) served-other;
-      logged = implies-at (has 3) (λ n. holdsAt deskBothStored 0 (pos 3 1) n) logged-other;
+      logged = implies-at (has 10) (λ n. holdsAt deskBothStored 0 (pos 3 1) n) logged-other;
       reports = reports-of (settingsFor 2) strayViews (31 ∷ 4 ∷ []) deskBothStored 20 (0 ∷ 0 ∷ 1 ∷ 0 ∷ 0 ∷ []) reports-back;
       slots = slots-back;
       met = met-back;
@@ -245,7 +224,7 @@ stray-kept =
 -- ---- a power cut: nodes 0 to 2 are restarted, the shard stays on nodes 0 and 1, and node 2 alone has logged view 2. All come back.
 
 unfoldable pub deskPrepared : List ℕ
-deskPrepared = reportWith 0 1 7 3 (runOf 1 1) ++ reportWith 1 1 7 3 (runOf 1 1) ++ reportWith 2 2 7 3 noRun ++ replicate 14848 0
+deskPrepared = reportOfShard 0 1 7 3 (runOf 1 1) ++ reportOfShard 1 1 7 3 (runOf 1 1) ++ reportOfShard 2 2 7 3 noRun ++ replicate 14848 0
 
 abbrev pub preparedViews : List Layout
 preparedViews = viewWith 1 7 3 ∷ viewWith 2 7 3 ∷ []
@@ -295,17 +274,17 @@ none-reports =
       first = not-succeeded preparedByOne 0 3 (omega arith) (omega arith) refl;
     }
 
--- ---- a stale machine: node 0 has view 1 and the others view 2, under which an update is stored. Nodes 0, 1 and 3 are restarted and given up
+-- ---- a stale machine: node 0 has view 1 and the others view 2, under which an update is stored. Nodes 0, 2 and 3 are restarted and given up
 -- when node 0 has fetched the update.
 
 unfoldable pub deskOfStale : List ℕ
 deskOfStale =
-    reportWith 0 1 15 3 (runOf 1 1) ++ reportWith 1 2 14 6 (runsUpTo 1 1 2 1) ++ reportWith 2 2 14 6 (runsUpTo 1 1 2 1) ++ reportWith 3 2 14 6 noRun
+    reportOfShard 0 1 15 3 (runOf 1 1) ++ reportOfShard 1 2 14 6 (runsUpTo 1 1 2 1) ++ reportOfShard 2 2 14 6 (runsUpTo 1 1 2 1) ++ reportOfShard 3 2 14 6 noRun
     ++ replicate 14336 0
 
 unfoldable pub deskAhead : List ℕ
 deskAhead =
-    reportWith 0 1 15 3 (runsUpTo 1 1 2 1) ++ reportWith 1 2 14 6 (runsUpTo 1 1 2 1) ++ reportWith 2 2 14 6 (runsUpTo 1 1 2 1) ++ reportWith 3 2 14 6 noRun
+    reportOfShard 0 1 15 3 (runsUpTo 1 1 2 1) ++ reportOfShard 1 2 14 6 (runsUpTo 1 1 2 1) ++ reportOfShard 2 2 14 6 (runsUpTo 1 1 2 1) ++ reportOfShard 3 2 14 6 noRun
     ++ replicate 14336 0
 
 abbrev pub staleViews : List Layout
@@ -314,46 +293,46 @@ staleViews = viewWith 1 15 3 ∷ viewWith 2 14 6 ∷ []
 abbrev pub staleBefore : History
 staleBefore = toldBy staleViews (15 ∷ 14 ∷ []) deskOfStale
 
-abbrev pub ahead : History
-ahead = toldBy staleViews (15 ∷ 14 ∷ []) deskAhead
+abbrev pub staleAhead : History
+staleAhead = toldBy staleViews (15 ∷ 14 ∷ []) deskAhead
 
-pub slots-stale : slotsOk (settingsFor 2) (viewWith 2 14 6) noTermination 11 deskOfStale ≡ true
+pub slots-stale : slotsOk (settingsFor 2) (viewWith 2 14 6) noTermination 13 deskOfStale ≡ true
 unfolding deskOfStale allBelow anyBelow lowest tabulate unless unlessAt firstOf place following row5 row8 precedes shardsWhere row6 viewOk row7 kindOk plain kindAt shardAt surplus sequenceAt complete shardApart row10At row10 position viewFits legal row11At bodyWord bodyOf contentsOf recordsRefusal headRefusal messageRefusal slot reportOf sameView row12 sameTermination row13 termKept slotOk slotsOk
 slots-stale = refl
 
-pub target-stale : target (viewWith 2 14 6) noTermination 11 deskOfStale 0 ≡ pos 2 1
+pub target-stale : target (viewWith 2 14 6) noTermination 13 deskOfStale 0 ≡ pos 2 1
 unfolding deskOfStale allBelow anyBelow lowest tabulate pairNotAfter place following bodyWord bodyOf contentsOf endOf slot reportOf candidate greatest best target
 target-stale = refl
 
-pub holder-stale : holder (viewWith 2 14 6) noTermination 11 deskOfStale 0 ≡ 1
+pub holder-stale : holder (viewWith 2 14 6) noTermination 13 deskOfStale 0 ≡ 2
 unfolding deskOfStale allBelow anyBelow lowest tabulate pairNotAfter place following bodyWord bodyOf contentsOf endOf slot reportOf candidate greatest best target reaches holds hasUpdate able holder
 holder-stale = refl
 
-pub met-stale : QuorumMet (settingsFor 2) (viewWith 2 14 6) noTermination 11 deskOfStale
+pub met-stale : QuorumMet (settingsFor 2) (viewWith 2 14 6) noTermination 13 deskOfStale
 unfolding ones onesIn
-met-stale = met-of (settingsFor 2) (viewWith 2 14 6) noTermination 11 deskOfStale 1 refl (omega arith) (omega arith) (omega arith) (omega arith) holder-stale
+met-stale = met-of (settingsFor 2) (viewWith 2 14 6) noTermination 13 deskOfStale 2 refl (omega arith) (omega arith) (omega arith) (omega arith) holder-stale
 
-pub reports-stale : reportsTest (settingsFor 2) staleViews (15 ∷ 14 ∷ []) deskOfStale 11 (0 ∷ 1 ∷ 1 ∷ 1 ∷ []) ≡ true
+pub reports-stale : reportsTest (settingsFor 2) staleViews (15 ∷ 14 ∷ []) deskOfStale 13 (0 ∷ 0 ∷ 1 ∷ 1 ∷ []) ≡ true
 unfolding deskOfStale allBelow slot reportOf contentsOf bodyOf bodyWord tabulate place following lowest anyBelow
 reports-stale = refl
 
-pub next-stale : Next (settingsFor 2) (viewWith 2 14 6) 11 (viewWith 3 11 3)
+pub next-stale : Next (settingsFor 2) (viewWith 2 14 6) 13 (viewWith 3 13 5)
 unfolding allBelow
-next-stale = next-of (settingsFor 2) (viewWith 2 14 6) 11 (viewWith 3 11 3) refl refl refl
+next-stale = next-of (settingsFor 2) (viewWith 2 14 6) 13 (viewWith 3 13 5) refl refl refl
 
 abbrev pub stalePlan : Restart 1 staleBefore
 stalePlan =
-    planFrom (settingsFor 2) staleViews (15 ∷ 14 ∷ []) deskOfStale (viewWith 2 14 6) noTermination 11 (viewWith 3 11 3) (omega arith) (omega arith) (omega arith)
-    slots-stale met-stale next-stale (0 ∷ 1 ∷ 1 ∷ 1 ∷ []) reports-stale
+    planFrom (settingsFor 2) staleViews (15 ∷ 14 ∷ []) deskOfStale (viewWith 2 14 6) noTermination 13 (viewWith 3 13 5) (omega arith) (omega arith) (omega arith)
+    slots-stale met-stale next-stale (0 ∷ 0 ∷ 1 ∷ 1 ∷ []) reports-stale
     (none-ended (settingsFor 2) noTermination staleBefore refl)
 
 log-stale : allBelow 1 (λ s. sameLog (plannedLog stalePlan s) (getD ((pos 1 1 ∷ pos 2 1 ∷ []) ∷ []) s [])) ≡ true
 unfolding deskOfStale allBelow anyBelow lowest tabulate pairNotAfter place following bodyWord bodyOf contentsOf slot reportOf runsFrom runsOf updatesAfter updatesIn thoseOf onePosition sameLog
-log-stale = planned-of stalePlan refl (pos 1 1 ∷ pos 2 1 ∷ []) (pos 2 1) 1 target-stale holder-stale refl
+log-stale = planned-of stalePlan refl (pos 1 1 ∷ pos 2 1 ∷ []) (pos 2 1) 2 target-stale holder-stale refl
 
-given-up-stale : GivenUp (settingsFor 2) (viewWith 2 14 6) noTermination 11 deskOfStale (viewWith 3 11 3) staleBefore ahead
+given-up-stale : GivenUp (settingsFor 2) (viewWith 2 14 6) noTermination 13 deskOfStale (viewWith 3 13 5) staleBefore staleAhead
 unfolding deskOfStale deskAhead allBelow anyBelow lowest tabulate place following bodyWord bodyOf contentsOf slot reportOf runsFrom runsOf updatesAfter updatesIn onePosition among ofEvery sameLog
-given-up-stale = given-up-of staleViews (15 ∷ 14 ∷ []) deskOfStale stalePlan ((pos 1 1 ∷ pos 2 1 ∷ []) ∷ []) log-stale 4 deskAhead refl refl
+given-up-stale = given-up-of staleViews (15 ∷ 14 ∷ []) deskOfStale stalePlan ((pos 1 1 ∷ pos 2 1 ∷ []) ∷ []) log-stale 1 deskAhead refl refl
 
 reports-ahead : reportsTest (settingsFor 2) staleViews (15 ∷ 14 ∷ []) deskAhead 1 [] ≡ true
 unfolding deskAhead allBelow slot reportOf contentsOf bodyOf bodyWord tabulate place following lowest anyBelow
@@ -377,7 +356,7 @@ no-run-above σ x accepted s small p h =
     )
 
 -- node 0's latest view is the first
-first-of-stale : (i : ℕ) → i < 2 → has (getD (15 ∷ 14 ∷ []) i 0) 0 ≡ true → numberAt ahead i ≡ 1
+first-of-stale : (i : ℕ) → i < 2 → has (getD (15 ∷ 14 ∷ []) i 0) 0 ≡ true → numberAt staleAhead i ≡ 1
 first-of-stale zero l h = refl
 first-of-stale (suc zero) l h = clash h refl
 first-of-stale (suc (suc i)) l h = absurd (omega arith)
@@ -386,14 +365,14 @@ pub record StaleRefused : Type 0 where
   -- a plan from true reports, given up as the duties say
   pub orderly : Orderly staleBefore
   pub plan : Restart 1 staleBefore
-  pub given-up : GivenUp (settingsFor 2) (viewWith 2 14 6) noTermination 11 deskOfStale (viewWith 3 11 3) staleBefore ahead
+  pub given-up : GivenUp (settingsFor 2) (viewWith 2 14 6) noTermination 13 deskOfStale (viewWith 3 13 5) staleBefore staleAhead
   -- node 0's true report is refused by number 11
-  pub report : True (settingsFor 2) ahead (reportOf deskAhead 0)
+  pub report : True (settingsFor 2) staleAhead (reportOf deskAhead 0)
   pub refusal : messageRefusal Report (settingsFor 2) (slot deskAhead 0) ≡ refused 11
   -- and no true report of node 0 is accepted
-  pub never : (x : List ℕ) → contentsOf x .node .0 ≡ 0 → True (settingsFor 2) ahead (contentsOf x) → messageRefusal Report (settingsFor 2) x ≡ none → ⊥
+  pub never : (x : List ℕ) → contentsOf x .node .0 ≡ 0 → True (settingsFor 2) staleAhead (contentsOf x) → messageRefusal Report (settingsFor 2) x ≡ none → ⊥
 
-never-ahead : (x : List ℕ) → contentsOf x .node .0 ≡ 0 → True (settingsFor 2) ahead (contentsOf x) → messageRefusal Report (settingsFor 2) x ≡ none → ⊥
+never-ahead : (x : List ℕ) → contentsOf x .node .0 ≡ 0 → True (settingsFor 2) staleAhead (contentsOf x) → messageRefusal Report (settingsFor 2) x ≡ none → ⊥
 never-ahead x own r accepted =
     let logged : has (getD (15 ∷ 14 ∷ []) (r .at) 0) 0 ≡ true = subst (λ (n : ℕ). has (getD (15 ∷ 14 ∷ []) (r .at) 0) n ≡ true) own (r .logged) in
     let told : holdsAt deskAhead 0 (pos 2 1) 0 ≡ holds (contentsOf x .body) (contentsOf x .len) 0 (pos 2 1) =

@@ -1,6 +1,6 @@
--- A worked course of nodes 0 to 2, which all carry the one shard in view 1 and have logged its first 2, 3 and 1 updates. Nodes 0 and 2 are
--- restarted and given up when node 2 has fetched; then nodes 1 and 2 are restarted, log view 2 and store under it; then all three come back,
--- node 0 with view 1, and a termination is kept. Every duty is met on the way, and the plan has what was settled at the beginning.
+-- A worked course of nodes 0 to 2, which all carry the one shard in view 1 and have logged its first 1, 3 and 2 updates. Nodes 0 and 2 are
+-- restarted and given up when node 0 has fetched; then nodes 0 and 1 are restarted, log view 2 and store under it; then all three come back,
+-- node 2 with view 1, and a termination is kept. Every duty is met on the way, and the plan has what was settled at the beginning.
 use Prim.Native.Nat.{ℕ, _<_, _≤_}
 use mathlib.Core.Bool.{Bool, true, not, _&&_, _||_}
 use mathlib.Core.List.{List, [], _∷_, _++_}
@@ -48,8 +48,8 @@ abbrev pub courseSettings : List ℕ
 courseSettings = 3 ∷ 3 ∷ 2 ∷ 1 ∷ 0 ∷ 1 ∷ 2 ∷ 196610 ∷ []
 
 -- a report of a view with the shard's mask; what follows are its runs
-abbrev pub reportWith : ℕ → ℕ → ℕ → ℕ → List ℕ → List ℕ
-reportWith node number members mask rest = slotOf (node ∷ number ∷ members ∷ 1 ∷ 256 ∷ mask ∷ 0 ∷ rest)
+abbrev pub reportOfShard : ℕ → ℕ → ℕ → ℕ → List ℕ → List ℕ
+reportOfShard node number members mask rest = slotOf (node ∷ number ∷ members ∷ 1 ∷ 256 ∷ mask ∷ 0 ∷ rest)
 
 -- one run, and two
 abbrev pub runOf : ℕ → ℕ → List ℕ
@@ -65,7 +65,7 @@ endedRuns c = 2 ∷ 512 ∷ 2 ∷ 1 ∷ 3 ∷ 768 ∷ 1 ∷ 3 ∷ 4 ∷ 768 ∷ 
 -- ---- at the beginning
 
 unfoldable pub deskAtFirst : List ℕ
-deskAtFirst = reportOfAll 0 1 7 2 ++ reportOfAll 1 1 7 3 ++ reportOfAll 2 1 7 1 ++ replicate 14848 0
+deskAtFirst = reportOfAll 0 1 7 1 ++ reportOfAll 1 1 7 3 ++ reportOfAll 2 1 7 2 ++ replicate 14848 0
 
 abbrev pub firstViews : List Layout
 firstViews = viewOfAll 1 7 ∷ []
@@ -81,7 +81,7 @@ pub settled-first : Settled atFirst 0 (pos 1 1)
 unfolding deskAtFirst allBelow anyBelow lowest tabulate place following bodyWord bodyOf contentsOf reaches holds slot reportOf
 settled-first = settled-of atFirst 0 (pos 1 1) refl
 
--- ---- nodes 0 and 2 are restarted: node 0 is the holder, and both are placed
+-- ---- nodes 0 and 2 are restarted: node 2 is the holder, and both are placed
 
 pub slots-first : slotsOk courseSettings (viewOfAll 1 7) noTermination 5 deskAtFirst ≡ true
 unfolding deskAtFirst allBelow anyBelow lowest tabulate unless unlessAt firstOf place following row5 row8 precedes shardsWhere row6 viewOk row7 kindOk plain kindAt shardAt surplus sequenceAt complete shardApart row10At row10 position viewFits legal row11At bodyWord bodyOf contentsOf recordsRefusal headRefusal messageRefusal slot reportOf sameView row12 sameTermination row13 termKept slotOk slotsOk
@@ -91,13 +91,13 @@ pub target-first : target (viewOfAll 1 7) noTermination 5 deskAtFirst 0 ≡ pos 
 unfolding deskAtFirst allBelow anyBelow lowest tabulate pairNotAfter place following bodyWord bodyOf contentsOf endOf slot reportOf candidate greatest best target
 target-first = refl
 
-pub holder-first : holder (viewOfAll 1 7) noTermination 5 deskAtFirst 0 ≡ 0
+pub holder-first : holder (viewOfAll 1 7) noTermination 5 deskAtFirst 0 ≡ 2
 unfolding deskAtFirst allBelow anyBelow lowest tabulate pairNotAfter place following bodyWord bodyOf contentsOf endOf slot reportOf candidate greatest best target reaches holds hasUpdate able holder
 holder-first = refl
 
 pub met-first : QuorumMet courseSettings (viewOfAll 1 7) noTermination 5 deskAtFirst
 unfolding ones onesIn
-met-first = met-of courseSettings (viewOfAll 1 7) noTermination 5 deskAtFirst 0 refl (omega arith) (omega arith) (omega arith) (omega arith) holder-first
+met-first = met-of courseSettings (viewOfAll 1 7) noTermination 5 deskAtFirst 2 refl (omega arith) (omega arith) (omega arith) (omega arith) holder-first
 
 pub reports-first : reportsTest courseSettings firstViews (7 ∷ []) deskAtFirst 5 [] ≡ true
 unfolding deskAtFirst allBelow slot reportOf contentsOf bodyOf bodyWord tabulate place following lowest anyBelow
@@ -118,9 +118,9 @@ firstLog = (pos 1 1 ∷ pos 1 2 ∷ []) ∷ []
 
 log-first : allBelow 1 (λ s. sameLog (plannedLog givenUpPlan s) (getD firstLog s [])) ≡ true
 unfolding deskAtFirst allBelow anyBelow lowest tabulate pairNotAfter place following bodyWord bodyOf contentsOf slot reportOf runsFrom runsOf updatesAfter updatesIn thoseOf onePosition sameLog
-log-first = planned-of givenUpPlan refl (pos 1 1 ∷ pos 1 2 ∷ []) (pos 1 2) 0 target-first holder-first refl
+log-first = planned-of givenUpPlan refl (pos 1 1 ∷ pos 1 2 ∷ []) (pos 1 2) 2 target-first holder-first refl
 
--- it is given up when node 2 has fetched update 2 and nobody has logged view 2
+-- it is given up when node 0 has fetched update 2 and nobody has logged view 2
 unfoldable pub deskGivenUp : List ℕ
 deskGivenUp = reportOfAll 0 1 7 2 ++ reportOfAll 1 1 7 3 ++ reportOfAll 2 1 7 2 ++ replicate 14848 0
 
@@ -129,37 +129,37 @@ afterGivenUp = toldBy firstViews (7 ∷ []) deskGivenUp
 
 pub given-up : GivenUp courseSettings (viewOfAll 1 7) noTermination 5 deskAtFirst (viewOfAll 2 5) atFirst afterGivenUp
 unfolding deskAtFirst deskGivenUp allBelow anyBelow lowest tabulate place following bodyWord bodyOf contentsOf slot reportOf runsFrom runsOf updatesAfter updatesIn onePosition among ofEvery sameLog
-given-up = given-up-of firstViews (7 ∷ []) deskAtFirst givenUpPlan firstLog log-first 3 deskGivenUp refl refl
+given-up = given-up-of firstViews (7 ∷ []) deskAtFirst givenUpPlan firstLog log-first 1 deskGivenUp refl refl
 
--- ---- nodes 1 and 2 are restarted: node 1 is the holder, node 2 keeps two updates and fetches the third
+-- ---- nodes 0 and 1 are restarted: node 1 is the holder, node 0 keeps two updates and fetches the third
 
-pub slots-second : slotsOk courseSettings (viewOfAll 1 7) noTermination 6 deskGivenUp ≡ true
+pub slots-second : slotsOk courseSettings (viewOfAll 1 7) noTermination 3 deskGivenUp ≡ true
 unfolding deskGivenUp allBelow anyBelow lowest tabulate unless unlessAt firstOf place following row5 row8 precedes shardsWhere row6 viewOk row7 kindOk plain kindAt shardAt surplus sequenceAt complete shardApart row10At row10 position viewFits legal row11At bodyWord bodyOf contentsOf recordsRefusal headRefusal messageRefusal slot reportOf sameView row12 sameTermination row13 termKept slotOk slotsOk
 slots-second = refl
 
-pub target-second : target (viewOfAll 1 7) noTermination 6 deskGivenUp 0 ≡ pos 1 3
+pub target-second : target (viewOfAll 1 7) noTermination 3 deskGivenUp 0 ≡ pos 1 3
 unfolding deskGivenUp allBelow anyBelow lowest tabulate pairNotAfter place following bodyWord bodyOf contentsOf endOf slot reportOf candidate greatest best target
 target-second = refl
 
-pub holder-second : holder (viewOfAll 1 7) noTermination 6 deskGivenUp 0 ≡ 1
+pub holder-second : holder (viewOfAll 1 7) noTermination 3 deskGivenUp 0 ≡ 1
 unfolding deskGivenUp allBelow anyBelow lowest tabulate pairNotAfter place following bodyWord bodyOf contentsOf endOf slot reportOf candidate greatest best target reaches holds hasUpdate able holder
 holder-second = refl
 
-pub met-second : QuorumMet courseSettings (viewOfAll 1 7) noTermination 6 deskGivenUp
+pub met-second : QuorumMet courseSettings (viewOfAll 1 7) noTermination 3 deskGivenUp
 unfolding ones onesIn
-met-second = met-of courseSettings (viewOfAll 1 7) noTermination 6 deskGivenUp 1 refl (omega arith) (omega arith) (omega arith) (omega arith) holder-second
+met-second = met-of courseSettings (viewOfAll 1 7) noTermination 3 deskGivenUp 1 refl (omega arith) (omega arith) (omega arith) (omega arith) holder-second
 
-pub reports-second : reportsTest courseSettings firstViews (7 ∷ []) deskGivenUp 6 [] ≡ true
+pub reports-second : reportsTest courseSettings firstViews (7 ∷ []) deskGivenUp 3 [] ≡ true
 unfolding deskGivenUp allBelow slot reportOf contentsOf bodyOf bodyWord tabulate place following lowest anyBelow
 reports-second = refl
 
-pub next-second : Next courseSettings (viewOfAll 1 7) 6 (viewOfAll 2 6)
+pub next-second : Next courseSettings (viewOfAll 1 7) 3 (viewOfAll 2 3)
 unfolding allBelow
-next-second = next-of courseSettings (viewOfAll 1 7) 6 (viewOfAll 2 6) refl refl refl
+next-second = next-of courseSettings (viewOfAll 1 7) 3 (viewOfAll 2 3) refl refl refl
 
 abbrev pub carriedPlan : Restart 1 afterGivenUp
 carriedPlan =
-    planFrom courseSettings firstViews (7 ∷ []) deskGivenUp (viewOfAll 1 7) noTermination 6 (viewOfAll 2 6) (omega arith) (omega arith) (omega arith)
+    planFrom courseSettings firstViews (7 ∷ []) deskGivenUp (viewOfAll 1 7) noTermination 3 (viewOfAll 2 3) (omega arith) (omega arith) (omega arith)
     slots-second met-second next-second [] reports-second
     (none-ended courseSettings noTermination afterGivenUp refl)
 
@@ -172,44 +172,44 @@ log-second = planned-of carriedPlan refl (pos 1 1 ∷ pos 1 2 ∷ pos 1 3 ∷ []
 
 -- it is carried out: both have logged view 2
 unfoldable pub deskCarried : List ℕ
-deskCarried = reportOfAll 0 1 7 2 ++ reportWith 1 2 6 6 (runOf 1 3) ++ reportWith 2 2 6 6 (runOf 1 3) ++ replicate 14848 0
+deskCarried = reportOfShard 0 2 3 3 (runOf 1 3) ++ reportOfShard 1 2 3 3 (runOf 1 3) ++ reportOfAll 2 1 7 2 ++ replicate 14848 0
 
 abbrev pub laterViews : List Layout
-laterViews = viewOfAll 1 7 ∷ viewOfAll 2 6 ∷ []
+laterViews = viewOfAll 1 7 ∷ viewOfAll 2 3 ∷ []
 
 abbrev pub afterCarried : History
-afterCarried = toldBy laterViews (7 ∷ 6 ∷ []) deskCarried
+afterCarried = toldBy laterViews (7 ∷ 3 ∷ []) deskCarried
 
-pub ordered-second : (s : ℕ) → s < 1 → (n : ℕ) → n < 32 → has (maskAt (viewOfAll 2 6) s) n ≡ true → has 6 n ≡ true
-    → (q : Position) → holdsAt deskCarried s q n ≡ asOrdered (viewOfAll 1 7) noTermination 6 deskGivenUp n s q
+pub ordered-second : (s : ℕ) → s < 1 → (n : ℕ) → n < 32 → has (maskAt (viewOfAll 2 3) s) n ≡ true → has 3 n ≡ true
+    → (q : Position) → holdsAt deskCarried s q n ≡ asOrdered (viewOfAll 1 7) noTermination 3 deskGivenUp n s q
 unfolding deskCarried allBelow anyBelow lowest tabulate place following bodyWord bodyOf contentsOf slot reportOf runsFrom runsOf updatesAfter updatesIn onePosition among ofEvery sameLog
-ordered-second = ordered-of carriedPlan secondLog log-second 6 deskCarried refl
+ordered-second = ordered-of carriedPlan secondLog log-second 3 deskCarried refl
 
-pub remembered-second : (n i : ℕ) → i < 1 → has (getD (7 ∷ []) i 0) n ≡ true → has (getD (7 ∷ 6 ∷ []) i 0) n ≡ true
+pub remembered-second : (n i : ℕ) → i < 1 → has (getD (7 ∷ []) i 0) n ≡ true → has (getD (7 ∷ 3 ∷ []) i 0) n ≡ true
 unfolding allBelow
-remembered-second = remembered-of (7 ∷ []) (7 ∷ 6 ∷ []) 1 refl
+remembered-second = remembered-of (7 ∷ []) (7 ∷ 3 ∷ []) 1 refl
 
-pub carried : CarriedOut courseSettings (viewOfAll 1 7) noTermination 6 deskGivenUp (viewOfAll 2 6) afterGivenUp afterCarried
+pub carried : CarriedOut courseSettings (viewOfAll 1 7) noTermination 3 deskGivenUp (viewOfAll 2 3) afterGivenUp afterCarried
 carried =
-    counted-carried courseSettings (viewOfAll 1 7) noTermination 6 deskGivenUp (carriedPlan .met) (viewOfAll 2 6) next-second afterGivenUp afterCarried refl
-    remembered-second ordered-second 6 (λ n l h. h) refl
+    counted-carried courseSettings (viewOfAll 1 7) noTermination 3 deskGivenUp (carriedPlan .met) (viewOfAll 2 3) next-second afterGivenUp afterCarried refl
+    remembered-second ordered-second 3 (λ n l h. h) refl
 
--- ---- the service runs: both store update 1 of view 2, node 2 also update 2, and a termination ends the shard at update 1
+-- ---- the service runs: both store update 1 of view 2, node 1 also update 2, and a termination ends the shard at update 1
 
 unfoldable pub deskServed : List ℕ
-deskServed = reportOfAll 0 1 7 2 ++ reportWith 1 2 6 6 (endedRuns 1) ++ reportWith 2 2 6 6 (endedRuns 2) ++ replicate 14848 0
+deskServed = reportOfShard 0 2 3 3 (endedRuns 1) ++ reportOfShard 1 2 3 3 (endedRuns 2) ++ reportOfAll 2 1 7 2 ++ replicate 14848 0
 
 abbrev pub afterRun : History
-afterRun = toldBy laterViews (7 ∷ 6 ∷ []) deskServed
+afterRun = toldBy laterViews (7 ∷ 3 ∷ []) deskServed
 
 full-second : Full afterCarried 1
 full-second =
-    counted-full courseSettings (viewOfAll 1 7) noTermination 6 deskGivenUp (carriedPlan .met) (viewOfAll 2 6) next-second afterGivenUp afterCarried refl
-    remembered-second ordered-second 6 (λ n l h. h) refl
+    counted-full courseSettings (viewOfAll 1 7) noTermination 3 deskGivenUp (carriedPlan .met) (viewOfAll 2 3) next-second afterGivenUp afterCarried refl
+    remembered-second ordered-second 3 (λ n l h. h) refl
 
 orderly-run : Orderly afterRun
 unfolding allBelow anyBelow ones onesIn
-orderly-run = orderly-of afterRun (6 ∷ []) refl refl refl
+orderly-run = orderly-of afterRun (3 ∷ []) refl refl refl
 
 pub served : Serves 1 afterCarried afterRun
 unfolding deskCarried deskServed allBelow anyBelow lowest tabulate place following bodyWord bodyOf contentsOf slot reportOf runsFrom runsOf updatesAfter updatesIn onePosition among ofEvery sameLog
@@ -217,7 +217,7 @@ served =
     record {
       begun = full-second;
       standing = orderly-run;
-      keeps = keeps-of 1 laterViews (7 ∷ 6 ∷ []) deskCarried laterViews (7 ∷ 6 ∷ []) deskServed 1 (omega arith) refl;
+      keeps = keeps-of 1 laterViews (7 ∷ 3 ∷ []) deskCarried laterViews (7 ∷ 3 ∷ []) deskServed 0 (omega arith) refl;
     }
 
 -- ---- all come back
@@ -225,43 +225,43 @@ served =
 abbrev pub endOfRun : Termination
 endOfRun = record { made = true; positions = pos 2 1 ∷ replicate 15 start }
 
--- node 0, which has view 1, is held and not placed
-abbrev pub lastView : Layout
-lastView = record { number = record { 0 = 3 }; members = 7; masks = 6 ∷ replicate 15 0 }
+-- node 2, which has view 1, is held and not placed
+abbrev pub thirdView : Layout
+thirdView = record { number = record { 0 = 3 }; members = 7; masks = 3 ∷ replicate 15 0 }
 
-pub slots-last : slotsOk courseSettings (viewOfAll 2 6) endOfRun 7 deskServed ≡ true
+pub slots-last : slotsOk courseSettings (viewOfAll 2 3) endOfRun 7 deskServed ≡ true
 unfolding deskServed allBelow anyBelow lowest tabulate unless unlessAt firstOf place following row5 row8 precedes shardsWhere row6 viewOk row7 kindOk plain kindAt shardAt surplus sequenceAt complete shardApart row10At row10 position viewFits legal row11At bodyWord bodyOf contentsOf recordsRefusal headRefusal messageRefusal slot reportOf sameView row12 sameTermination row13 termKept slotOk slotsOk
 slots-last = refl
 
-pub target-last : target (viewOfAll 2 6) endOfRun 7 deskServed 0 ≡ pos 2 1
+pub target-last : target (viewOfAll 2 3) endOfRun 7 deskServed 0 ≡ pos 2 1
 unfolding deskServed allBelow anyBelow lowest tabulate pairNotAfter place following bodyWord bodyOf contentsOf endOf slot reportOf candidate greatest best target
 target-last = refl
 
-pub holder-last : holder (viewOfAll 2 6) endOfRun 7 deskServed 0 ≡ 2
+pub holder-last : holder (viewOfAll 2 3) endOfRun 7 deskServed 0 ≡ 1
 unfolding deskServed allBelow anyBelow lowest tabulate pairNotAfter place following bodyWord bodyOf contentsOf endOf slot reportOf candidate greatest best target reaches holds hasUpdate able holder
 holder-last = refl
 
-pub met-last : QuorumMet courseSettings (viewOfAll 2 6) endOfRun 7 deskServed
+pub met-last : QuorumMet courseSettings (viewOfAll 2 3) endOfRun 7 deskServed
 unfolding ones onesIn
-met-last = met-of courseSettings (viewOfAll 2 6) endOfRun 7 deskServed 2 refl (omega arith) (omega arith) (omega arith) (omega arith) holder-last
+met-last = met-of courseSettings (viewOfAll 2 3) endOfRun 7 deskServed 1 refl (omega arith) (omega arith) (omega arith) (omega arith) holder-last
 
-pub reports-last : reportsTest courseSettings laterViews (7 ∷ 6 ∷ []) deskServed 7 (0 ∷ 1 ∷ 1 ∷ []) ≡ true
+pub reports-last : reportsTest courseSettings laterViews (7 ∷ 3 ∷ []) deskServed 7 (1 ∷ 1 ∷ 0 ∷ []) ≡ true
 unfolding deskServed allBelow slot reportOf contentsOf bodyOf bodyWord tabulate place following lowest anyBelow
 reports-last = refl
 
-pub next-last : Next courseSettings (viewOfAll 2 6) 7 lastView
+pub next-last : Next courseSettings (viewOfAll 2 3) 7 thirdView
 unfolding allBelow
-next-last = next-of courseSettings (viewOfAll 2 6) 7 lastView refl refl refl
+next-last = next-of courseSettings (viewOfAll 2 3) 7 thirdView refl refl refl
 
--- the termination ends the shard where node 1's log ends
+-- the termination ends the shard where node 0's log ends
 pub covers-last : Covers courseSettings endOfRun afterRun
 unfolding deskServed pairNotAfter allBelow anyBelow lowest tabulate place following bodyWord bodyOf contentsOf slot reportOf runsFrom runsOf updatesAfter updatesIn onePosition among ofEvery sameLog
-covers-last = covers-of courseSettings endOfRun laterViews (7 ∷ 6 ∷ []) deskServed 1 (omega arith) refl
+covers-last = covers-of courseSettings endOfRun laterViews (7 ∷ 3 ∷ []) deskServed 0 (omega arith) refl
 
 abbrev pub lastPlan : Restart 1 afterRun
 lastPlan =
-    planFrom courseSettings laterViews (7 ∷ 6 ∷ []) deskServed (viewOfAll 2 6) endOfRun 7 lastView (omega arith) (omega arith) (omega arith)
-    slots-last met-last next-last (0 ∷ 1 ∷ 1 ∷ []) reports-last covers-last
+    planFrom courseSettings laterViews (7 ∷ 3 ∷ []) deskServed (viewOfAll 2 3) endOfRun 7 thirdView (omega arith) (omega arith) (omega arith)
+    slots-last met-last next-last (1 ∷ 1 ∷ 0 ∷ []) reports-last covers-last
 
 abbrev pub lastLog : List (List Position)
 lastLog = (pos 1 1 ∷ pos 1 2 ∷ pos 1 3 ∷ pos 2 1 ∷ []) ∷ []
@@ -283,14 +283,14 @@ settled-run = settled-of afterRun 0 (pos 2 1) refl
 
 -- the mask is a valid placement of the last plan, and without moves
 abbrev pub unmoved : ℕ → Bool
-unmoved m = groupValid courseSettings 7 (λ s. m) 0 && eqb (groupMoves courseSettings (λ s. 6) (λ s. m) 0) 0
+unmoved m = groupValid courseSettings 7 (λ s. m) 0 && eqb (groupMoves courseSettings (λ s. 3) (λ s. m) 0) 0
 
 pub record CourseRows : Type 0 where
   -- the settings are right; of a placement by the masks of nodes 0 to 2 each plan has the only valid one, or the only one without a move
   pub settings : settingsOk courseSettings ≡ true
   pub placed-first : (groupValid courseSettings 5 (λ s. 5) 0 && allBelow 8 (λ m. eqb m 5 || not (groupValid courseSettings 5 (λ s. m) 0))) ≡ true
-  pub placed-second : (groupValid courseSettings 6 (λ s. 6) 0 && allBelow 8 (λ m. eqb m 6 || not (groupValid courseSettings 6 (λ s. m) 0))) ≡ true
-  pub placed-last : (unmoved 6 && allBelow 8 (λ m. eqb m 6 || not (unmoved m))) ≡ true
+  pub placed-second : (groupValid courseSettings 3 (λ s. 3) 0 && allBelow 8 (λ m. eqb m 3 || not (groupValid courseSettings 3 (λ s. m) 0))) ≡ true
+  pub placed-last : (unmoved 3 && allBelow 8 (λ m. eqb m 3 || not (unmoved m))) ≡ true
   -- the history at the beginning is orderly, and update 1 is settled
   pub orderly : Orderly atFirst
   pub settled : Settled atFirst 0 (pos 1 1)
@@ -298,18 +298,18 @@ pub record CourseRows : Type 0 where
   pub course : Course 1 atFirst afterRun
   pub plan : Restart 1 afterRun
   -- which has update 1 of view 1, by the theorem
-  pub kept : (notAfter (pos 1 1) (target (viewOfAll 2 6) endOfRun 7 deskServed 0) ≡ true)
-      × (holdsAt deskServed 0 (pos 1 1) (holder (viewOfAll 2 6) endOfRun 7 deskServed 0) ≡ true)
+  pub kept : (notAfter (pos 1 1) (target (viewOfAll 2 3) endOfRun 7 deskServed 0) ≡ true)
+      × (holdsAt deskServed 0 (pos 1 1) (holder (viewOfAll 2 3) endOfRun 7 deskServed 0) ≡ true)
   -- and what was stored under view 2
-  pub stored : (notAfter (pos 2 1) (target (viewOfAll 2 6) endOfRun 7 deskServed 0) ≡ true)
-      × (holdsAt deskServed 0 (pos 2 1) (holder (viewOfAll 2 6) endOfRun 7 deskServed 0) ≡ true)
+  pub stored : (notAfter (pos 2 1) (target (viewOfAll 2 3) endOfRun 7 deskServed 0) ≡ true)
+      × (holdsAt deskServed 0 (pos 2 1) (holder (viewOfAll 2 3) endOfRun 7 deskServed 0) ≡ true)
   -- computed: the holder of each plan, the target and the log that it gives every placed node
-  pub holder-first : holder (viewOfAll 1 7) noTermination 5 deskAtFirst 0 ≡ 0
-  pub holder-second : holder (viewOfAll 1 7) noTermination 6 deskGivenUp 0 ≡ 1
-  pub cut-second : cutFor (viewOfAll 1 7) noTermination 6 deskGivenUp 2 0 ≡ pos 1 2
-  pub target-second : target (viewOfAll 1 7) noTermination 6 deskGivenUp 0 ≡ pos 1 3
-  pub holder-last : holder (viewOfAll 2 6) endOfRun 7 deskServed 0 ≡ 2
-  pub target-last : target (viewOfAll 2 6) endOfRun 7 deskServed 0 ≡ pos 2 1
+  pub holder-first : holder (viewOfAll 1 7) noTermination 5 deskAtFirst 0 ≡ 2
+  pub holder-second : holder (viewOfAll 1 7) noTermination 3 deskGivenUp 0 ≡ 1
+  pub cut-second : cutFor (viewOfAll 1 7) noTermination 3 deskGivenUp 0 0 ≡ pos 1 2
+  pub target-second : target (viewOfAll 1 7) noTermination 3 deskGivenUp 0 ≡ pos 1 3
+  pub holder-last : holder (viewOfAll 2 3) endOfRun 7 deskServed 0 ≡ 1
+  pub target-last : target (viewOfAll 2 3) endOfRun 7 deskServed 0 ≡ pos 2 1
   pub log-last : allBelow 1 (λ s. sameLog (plannedLog lastPlan s) (getD lastLog s [])) ≡ true
 
 pub course-rows : CourseRows
@@ -328,9 +328,9 @@ course-rows =
       stored = never-lost (served .standing) 0 (omega arith) (pos 2 1) settled-run here lastPlan;
       holder-first = holder-first;
       holder-second = holder-second;
-      cut-second = cut-of (viewOfAll 1 7) noTermination 6 deskGivenUp 2 target-second holder-second refl;
+      cut-second = cut-of (viewOfAll 1 7) noTermination 3 deskGivenUp 0 target-second holder-second refl;
       target-second = target-second;
       holder-last = holder-last;
       target-last = target-last;
-      log-last = planned-of lastPlan refl (pos 1 1 ∷ pos 1 2 ∷ pos 1 3 ∷ pos 2 1 ∷ []) (pos 2 1) 2 target-last holder-last refl;
+      log-last = planned-of lastPlan refl (pos 1 1 ∷ pos 1 2 ∷ pos 1 3 ∷ pos 2 1 ∷ []) (pos 2 1) 1 target-last holder-last refl;
     }
