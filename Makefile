@@ -1,7 +1,8 @@
 # make help              these lines
 # make try               runs the program restart on the example of restart-model(7), in seconds; nothing is proved by it
 # make case-a            proves and builds the program restart, says how far it is, and runs it on that example
-# make test              proves every crate, tries every wrong program and runs every test
+# make test              proves every crate, tries the wrong programs of the gate and runs every test
+# make wrong-programs    tries the other wrong programs, of all crates or of CRATE=NAME
 # make lib               target/librestart.a and target/librestart.so.0, the proved library for C
 # make example           target/c/service, the example service over it
 # make test-c            the tests in C: plainly, under valgrind, with sanitizers and as an installed library
@@ -11,7 +12,7 @@
 # make uninstall         removes them
 # make dist              two archives in target/: the sources as last committed, and the installed tree, which can be unpacked anywhere
 # make clean             removes target/, all proofs among it
-.PHONY: help try case-a test lib example test-c fuzz performance install uninstall dist clean
+.PHONY: help try case-a test wrong-programs lib example test-c fuzz performance install uninstall dist clean
 
 .DEFAULT_GOAL := try
 
@@ -29,6 +30,10 @@ case-a: target/bin/restart
 
 test:
 	@python3 tests/run.py
+
+CRATE ?=
+wrong-programs:
+	@python3 tests/wrong.py $(CRATE)
 
 SECONDS ?= 60
 fuzz:

@@ -34,6 +34,7 @@ FIRST = [
     ("crates by layer, definitions by name", ["python3", "tests/layers.py"]),
     ("nodes, shards and views by their types", ["python3", "tests/types.py"]),
     ("what has to be read", ["python3", "tests/read.py"]),
+    ("the judge of wrong programs", ["python3", "tests/judge.py"]),
     ("proofs, wrong programs and runs", ["rt", "ci"]),
     ("wrong programs are refused for a fact", ["python3", "tests/edits.py"]),
     ("names and links in the documents", ["python3", "tests/promises.py"]),

@@ -53,7 +53,9 @@ half-fails s = let few = count-subset (bitAnd (s .by) 15) 3 inside in absurd (om
     inside : subset (bitAnd (s .by) 15) 3 ≡ true
     inside =
         subset-of 32 (bitAnd (s .by) 15) 3 (omega (arith, and-le-r (s .by) 15))
-        (λ n l h. let (j, after, below, logged) = s .later n l (and-left (has (s .by) n) (has 15 n) (sym (has-and (s .by) 15 n) ∙ h)) in second n j after below logged)
+        (λ n l h.
+        let (j, after, below, logged) = s .later n l (and-left (has (s .by) n) (has 15 n) (sym (has-and (s .by) 15 n) ∙ h)) in
+        second n j after below logged)
 
 -- a termination that ends the shard before its first update
 abbrev pub endedAtStart : Termination
@@ -110,7 +112,12 @@ course-clauses =
       begun = λ s. clash (s .begun .all 2 (omega arith) refl) refl;
       standing = λ s. not-succeeded (twoViews 1 0) 0 6 (omega arith) (omega arith) refl (s .standing .succeeded 0 (omega arith));
       keeps = λ s. clash (s .keeps 0 (omega arith) (pos 1 1) (settled-of (twoViews 7 3) 0 (pos 1 1) refl) .all 1 (omega arith) refl refl) refl;
-      changes = record { begun = full-of (twoViews 7 3) 1 refl; standing = orderly-of changedView (7 ∷ 3 ∷ []) refl refl refl; keeps = λ s l p h. settled-changed s p l };
+      changes =
+          record {
+            begun = full-of (twoViews 7 3) 1 refl;
+            standing = orderly-of changedView (7 ∷ 3 ∷ []) refl refl refl;
+            keeps = λ s l p h. settled-changed s p l;
+          };
       drops =
           record {
             begun = full-of (twoViews 7 1) 1 refl;

@@ -1,14 +1,13 @@
 -- Each duty is needed: an example in which all but that one are met, and an update that all members of the shard have logged is not in the
 -- next plan.
 use Prim.Native.Nat.{ℕ, _*_, _<_}
-use mathlib.Core.Bool.{Bool, true, false, not, _&&_, _||_}
+use mathlib.Core.Bool.{true, false, _&&_}
 use mathlib.Core.List.{List, [], _∷_, _++_}
 use mathlib.Core.Logic.{⊎-elim}
 use mathlib.Core.Path.{_≡_, refl, _∙_}
 use native.Mathlib.Omega.{arith}
 use lib.Bits.{bitAnd}
 use lib.Count.{ones, onesIn}
-use lib.Dec.{eqb}
 use lib.ListN.{length, getD, replicate}
 use Rattle.base_laws.specs.Bools.{clash}
 use Rattle.base_laws.specs.Below.{allBelow, anyBelow, lowest}
@@ -30,11 +29,10 @@ use Rattle.report_views.specs.Slots.{sameView, row12, sameTermination, row13, t
 use Rattle.report_views.specs.Quorums.{candidate, greatest, best, target, able, holder}
 use Rattle.report_views.specs.Meets.{QuorumMet}
 use Rattle.report_views.specs.Cuts.{runsTo, sharedAfter, cutFrom}
-use Rattle.report_views.specs.Updates.{updatesAfter, updatesIn, updatesAt, upTo, thoseOf, onePosition}
+use Rattle.report_views.specs.Updates.{updatesAfter, updatesIn, thoseOf, onePosition}
 use Rattle.report_views.specs.Stretches.{among}
 use Rattle.history_claims.specs.History.{History, KeepsRule, Full, viewAt}
 use Rattle.history_cases.specs.Told.{toldBy, implies, implies-at, rule-of, full-of, reportsTest}
-use Rattle.history_cases.specs.Supposing.{viewOfAll, reportOfAll}
 use Rattle.history_course.specs.Course.{lastOf, Succeeded, Orderly, Settled, Next, CarriedOut, GivenUp, cutFor, asOrdered}
 use Rattle.history_course.specs.Ever.{Restart}
 use Rattle.history_course.specs.Counting.{first-orderly}
@@ -64,7 +62,8 @@ LoggedByAll H p = (n : ℕ) → n < 32 → has (maskAt (viewAt H (lastOf H)) 0) 
 
 unfoldable pub strandedDesk : List ℕ
 strandedDesk =
-    reportOfShard 0 1 7 5 (runOf 1 1) ++ reportOfShard 1 1 7 5 noRun ++ reportOfShard 2 1 7 5 (runOf 1 1) ++ reportOfShard 3 3 56 24 (runsUpTo 1 1 3 1)
+    reportOfShard 0 1 7 5 (runOf 1 1) ++ reportOfShard 1 1 7 5 noRun
+    ++ reportOfShard 2 1 7 5 (runOf 1 1) ++ reportOfShard 3 3 56 24 (runsUpTo 1 1 3 1)
     ++ reportOfShard 4 3 56 24 (runsUpTo 1 1 3 1)
     ++ reportOfShard 5 3 56 24 noRun
     ++ replicate 13312 0
@@ -89,7 +88,9 @@ holder-stranded = refl
 
 pub met-stranded : QuorumMet (settingsFor 2) (viewWith 1 7 5) noTermination 5 strandedDesk
 unfolding ones onesIn
-met-stranded = met-of (settingsFor 2) (viewWith 1 7 5) noTermination 5 strandedDesk 0 refl (omega arith) (omega arith) (omega arith) (omega arith) holder-stranded
+met-stranded =
+    met-of (settingsFor 2) (viewWith 1 7 5) noTermination 5 strandedDesk 0
+    refl (omega arith) (omega arith) (omega arith) (omega arith) holder-stranded
 
 pub reports-stranded : reportsTest (settingsFor 2) strandedViews (7 ∷ 56 ∷ 56 ∷ []) strandedDesk 5 [] ≡ true
 unfolding strandedDesk allBelow slot reportOf contentsOf bodyOf bodyWord tabulate place following lowest anyBelow
@@ -101,8 +102,8 @@ next-stranded = next-of (settingsFor 2) (viewWith 1 7 5) 5 (viewWith 2 5 5) refl
 
 abbrev pub strandedPlan : Restart 1 stranded
 strandedPlan =
-    planFrom (settingsFor 2) strandedViews (7 ∷ 56 ∷ 56 ∷ []) strandedDesk (viewWith 1 7 5) noTermination 5 (viewWith 2 5 5) (omega arith) (omega arith) (omega arith)
-    slots-stranded met-stranded next-stranded [] reports-stranded
+    planFrom (settingsFor 2) strandedViews (7 ∷ 56 ∷ 56 ∷ []) strandedDesk (viewWith 1 7 5) noTermination 5 (viewWith 2 5 5)
+    (omega arith) (omega arith) (omega arith) slots-stranded met-stranded next-stranded [] reports-stranded
     (none-ended (settingsFor 2) noTermination stranded refl)
 
 pub record SucceededNeeded : Type 0 where
@@ -147,7 +148,9 @@ succeeded-needed =
 -- stores an update. Then nodes 1 to 3 come back.
 
 unfoldable pub deskOfFour : List ℕ
-deskOfFour = reportOfShard 0 1 15 3 (runOf 1 1) ++ reportOfShard 1 1 15 3 (runOf 1 1) ++ reportOfShard 2 1 15 3 noRun ++ reportOfShard 3 1 15 3 noRun ++ replicate 14336 0
+deskOfFour =
+    reportOfShard 0 1 15 3 (runOf 1 1) ++ reportOfShard 1 1 15 3 (runOf 1 1)
+    ++ reportOfShard 2 1 15 3 noRun ++ reportOfShard 3 1 15 3 noRun ++ replicate 14336 0
 
 abbrev pub fourViews : List Layout
 fourViews = viewWith 1 15 3 ∷ []
@@ -169,14 +172,18 @@ holder-four = refl
 
 pub met-four : QuorumMet (settingsFor 131073) (viewWith 1 15 3) noTermination 13 deskOfFour
 unfolding ones onesIn
-met-four = met-of (settingsFor 131073) (viewWith 1 15 3) noTermination 13 deskOfFour 0 refl (omega arith) (omega arith) (omega arith) (omega arith) holder-four
+met-four =
+    met-of (settingsFor 131073) (viewWith 1 15 3) noTermination 13 deskOfFour 0
+    refl (omega arith) (omega arith) (omega arith) (omega arith) holder-four
 
 pub reports-four : reportsTest (settingsFor 131073) fourViews (15 ∷ []) deskOfFour 13 [] ≡ true
 unfolding deskOfFour allBelow slot reportOf contentsOf bodyOf bodyWord tabulate place following lowest anyBelow
 reports-four = refl
 
 unfoldable pub deskOfOne : List ℕ
-deskOfOne = reportOfShard 0 2 13 1 (runsUpTo 1 1 2 1) ++ reportOfShard 1 1 15 3 (runOf 1 1) ++ reportOfShard 2 1 15 3 noRun ++ reportOfShard 3 1 15 3 noRun ++ replicate 14336 0
+deskOfOne =
+    reportOfShard 0 2 13 1 (runsUpTo 1 1 2 1) ++ reportOfShard 1 1 15 3 (runOf 1 1)
+    ++ reportOfShard 2 1 15 3 noRun ++ reportOfShard 3 1 15 3 noRun ++ replicate 14336 0
 
 abbrev pub oneViews : List Layout
 oneViews = viewWith 1 15 3 ∷ viewWith 2 13 1 ∷ []
@@ -195,8 +202,8 @@ next-one = next-of (settingsFor 131073) (viewWith 1 15 3) 13 (viewWith 2 13 1) r
 
 abbrev pub onePlan : Restart 1 fourBefore
 onePlan =
-    planFrom (settingsFor 131073) fourViews (15 ∷ []) deskOfFour (viewWith 1 15 3) noTermination 13 (viewWith 2 13 1) (omega arith) (omega arith) (omega arith)
-    slots-four met-four next-one [] reports-four
+    planFrom (settingsFor 131073) fourViews (15 ∷ []) deskOfFour (viewWith 1 15 3) noTermination 13 (viewWith 2 13 1)
+    (omega arith) (omega arith) (omega arith) slots-four met-four next-one [] reports-four
     (none-ended (settingsFor 131073) noTermination fourBefore refl)
 
 pub slots-others : slotsOk (settingsFor 131073) (viewWith 1 15 3) noTermination 14 deskOfOne ≡ true
@@ -213,7 +220,9 @@ holder-others = refl
 
 pub met-others : QuorumMet (settingsFor 131073) (viewWith 1 15 3) noTermination 14 deskOfOne
 unfolding ones onesIn
-met-others = met-of (settingsFor 131073) (viewWith 1 15 3) noTermination 14 deskOfOne 1 refl (omega arith) (omega arith) (omega arith) (omega arith) holder-others
+met-others =
+    met-of (settingsFor 131073) (viewWith 1 15 3) noTermination 14 deskOfOne 1
+    refl (omega arith) (omega arith) (omega arith) (omega arith) holder-others
 
 pub reports-others : reportsTest (settingsFor 131073) oneViews (15 ∷ 1 ∷ []) deskOfOne 14 [] ≡ true
 unfolding deskOfOne allBelow slot reportOf contentsOf bodyOf bodyWord tabulate place following lowest anyBelow
@@ -225,8 +234,8 @@ next-others = next-of (settingsFor 131073) (viewWith 1 15 3) 14 (viewWith 2 14 2
 
 abbrev pub othersPlan : Restart 1 oneStored
 othersPlan =
-    planFrom (settingsFor 131073) oneViews (15 ∷ 1 ∷ []) deskOfOne (viewWith 1 15 3) noTermination 14 (viewWith 2 14 2) (omega arith) (omega arith) (omega arith)
-    slots-others met-others next-others [] reports-others
+    planFrom (settingsFor 131073) oneViews (15 ∷ 1 ∷ []) deskOfOne (viewWith 1 15 3) noTermination 14 (viewWith 2 14 2)
+    (omega arith) (omega arith) (omega arith) slots-others met-others next-others [] reports-others
     (none-ended (settingsFor 131073) noTermination oneStored refl)
 
 log-one : allBelow 1 (λ s. sameLog (plannedLog onePlan s) (getD ((pos 1 1 ∷ []) ∷ []) s [])) ≡ true
@@ -288,7 +297,9 @@ most-needed =
 -- and 3 come back.
 
 unfoldable pub deskUnfetched : List ℕ
-deskUnfetched = reportOfShard 0 2 13 5 (runOf 1 1) ++ reportOfShard 1 1 15 3 (runOf 1 1) ++ reportOfShard 2 2 13 5 noRun ++ reportOfShard 3 2 13 5 noRun ++ replicate 14336 0
+deskUnfetched =
+    reportOfShard 0 2 13 5 (runOf 1 1) ++ reportOfShard 1 1 15 3 (runOf 1 1)
+    ++ reportOfShard 2 2 13 5 noRun ++ reportOfShard 3 2 13 5 noRun ++ replicate 14336 0
 
 abbrev pub unfetchedViews : List Layout
 unfetchedViews = viewWith 1 15 3 ∷ viewWith 2 13 5 ∷ []
@@ -302,8 +313,8 @@ next-four = next-of (settingsFor 131073) (viewWith 1 15 3) 13 (viewWith 2 13 5) 
 
 abbrev pub fourPlan : Restart 1 fourBefore
 fourPlan =
-    planFrom (settingsFor 131073) fourViews (15 ∷ []) deskOfFour (viewWith 1 15 3) noTermination 13 (viewWith 2 13 5) (omega arith) (omega arith) (omega arith)
-    slots-four met-four next-four [] reports-four
+    planFrom (settingsFor 131073) fourViews (15 ∷ []) deskOfFour (viewWith 1 15 3) noTermination 13 (viewWith 2 13 5)
+    (omega arith) (omega arith) (omega arith) slots-four met-four next-four [] reports-four
     (none-ended (settingsFor 131073) noTermination fourBefore refl)
 
 pub slots-unfetched : slotsOk (settingsFor 131073) (viewWith 2 13 5) noTermination 12 deskUnfetched ≡ true
@@ -320,7 +331,9 @@ holder-unfetched = refl
 
 pub met-unfetched : QuorumMet (settingsFor 131073) (viewWith 2 13 5) noTermination 12 deskUnfetched
 unfolding ones onesIn
-met-unfetched = met-of (settingsFor 131073) (viewWith 2 13 5) noTermination 12 deskUnfetched 2 refl (omega arith) (omega arith) (omega arith) (omega arith) holder-unfetched
+met-unfetched =
+    met-of (settingsFor 131073) (viewWith 2 13 5) noTermination 12 deskUnfetched 2
+    refl (omega arith) (omega arith) (omega arith) (omega arith) holder-unfetched
 
 pub reports-unfetched : reportsTest (settingsFor 131073) unfetchedViews (15 ∷ 13 ∷ []) deskUnfetched 12 (0 ∷ 0 ∷ 1 ∷ 1 ∷ []) ≡ true
 unfolding deskUnfetched allBelow slot reportOf contentsOf bodyOf bodyWord tabulate place following lowest anyBelow
@@ -332,8 +345,8 @@ next-unfetched = next-of (settingsFor 131073) (viewWith 2 13 5) 12 (viewWith 3 1
 
 abbrev pub unfetchedPlan : Restart 1 unfetched
 unfetchedPlan =
-    planFrom (settingsFor 131073) unfetchedViews (15 ∷ 13 ∷ []) deskUnfetched (viewWith 2 13 5) noTermination 12 (viewWith 3 12 4) (omega arith) (omega arith) (omega arith)
-    slots-unfetched met-unfetched next-unfetched (0 ∷ 0 ∷ 1 ∷ 1 ∷ []) reports-unfetched
+    planFrom (settingsFor 131073) unfetchedViews (15 ∷ 13 ∷ []) deskUnfetched (viewWith 2 13 5) noTermination 12 (viewWith 3 12 4)
+    (omega arith) (omega arith) (omega arith) slots-unfetched met-unfetched next-unfetched (0 ∷ 0 ∷ 1 ∷ 1 ∷ []) reports-unfetched
     (none-ended (settingsFor 131073) noTermination unfetched refl)
 
 pub record OrderedNeeded : Type 0 where
@@ -370,7 +383,9 @@ lacks-four = refl
 unordered-four : CarriedOut (settingsFor 131073) (viewWith 1 15 3) noTermination 13 deskOfFour (viewWith 2 13 5) fourBefore unfetched → ⊥
 unfolding among onePosition
 unordered-four c =
-    clash (c .ordered 0 (omega arith) 2 (omega arith) refl refl (pos 1 1) ∙ asked-of fourPlan ((pos 1 1 ∷ []) ∷ []) log-four 0 (omega arith) 2 (omega arith) refl (pos 1 1))
+    clash
+    (c .ordered 0 (omega arith) 2 (omega arith) refl refl (pos 1 1)
+    ∙ asked-of fourPlan ((pos 1 1 ∷ []) ∷ []) log-four 0 (omega arith) 2 (omega arith) refl (pos 1 1))
     lacks-four
 
 pub ordered-needed : OrderedNeeded
@@ -424,7 +439,9 @@ holder-parted = refl
 
 pub met-parted : QuorumMet (settingsFor 131073) (viewWith 7 7 3) noTermination 3 deskParted
 unfolding ones onesIn
-met-parted = met-of (settingsFor 131073) (viewWith 7 7 3) noTermination 3 deskParted 0 refl (omega arith) (omega arith) (omega arith) (omega arith) holder-parted
+met-parted =
+    met-of (settingsFor 131073) (viewWith 7 7 3) noTermination 3 deskParted 0
+    refl (omega arith) (omega arith) (omega arith) (omega arith) holder-parted
 
 pub reports-parted : reportsTest (settingsFor 131073) partedViews (7 ∷ []) deskParted 3 [] ≡ true
 unfolding deskParted allBelow slot reportOf contentsOf bodyOf bodyWord tabulate place following lowest anyBelow
@@ -436,8 +453,8 @@ next-parted = next-of (settingsFor 131073) (viewWith 7 7 3) 3 (viewWith 8 3 3) r
 
 abbrev pub partedPlan : Restart 1 parted
 partedPlan =
-    planFrom (settingsFor 131073) partedViews (7 ∷ []) deskParted (viewWith 7 7 3) noTermination 3 (viewWith 8 3 3) (omega arith) (omega arith) (omega arith)
-    slots-parted met-parted next-parted [] reports-parted
+    planFrom (settingsFor 131073) partedViews (7 ∷ []) deskParted (viewWith 7 7 3) noTermination 3 (viewWith 8 3 3)
+    (omega arith) (omega arith) (omega arith) slots-parted met-parted next-parted [] reports-parted
     (none-ended (settingsFor 131073) noTermination parted refl)
 
 pub slots-cut : slotsOk (settingsFor 131073) (viewWith 7 7 3) noTermination 6 deskCut ≡ true
@@ -454,7 +471,9 @@ holder-cut = refl
 
 pub met-cut : QuorumMet (settingsFor 131073) (viewWith 7 7 3) noTermination 6 deskCut
 unfolding ones onesIn
-met-cut = met-of (settingsFor 131073) (viewWith 7 7 3) noTermination 6 deskCut 1 refl (omega arith) (omega arith) (omega arith) (omega arith) holder-cut
+met-cut =
+    met-of (settingsFor 131073) (viewWith 7 7 3) noTermination 6 deskCut 1
+    refl (omega arith) (omega arith) (omega arith) (omega arith) holder-cut
 
 pub reports-cut : reportsTest (settingsFor 131073) partedViews (7 ∷ []) deskCut 6 [] ≡ true
 unfolding deskCut allBelow slot reportOf contentsOf bodyOf bodyWord tabulate place following lowest anyBelow
@@ -466,8 +485,8 @@ next-cut = next-of (settingsFor 131073) (viewWith 7 7 3) 6 (viewWith 8 6 2) refl
 
 abbrev pub cutPlan : Restart 1 halfDone
 cutPlan =
-    planFrom (settingsFor 131073) partedViews (7 ∷ []) deskCut (viewWith 7 7 3) noTermination 6 (viewWith 8 6 2) (omega arith) (omega arith) (omega arith)
-    slots-cut met-cut next-cut [] reports-cut
+    planFrom (settingsFor 131073) partedViews (7 ∷ []) deskCut (viewWith 7 7 3) noTermination 6 (viewWith 8 6 2)
+    (omega arith) (omega arith) (omega arith) slots-cut met-cut next-cut [] reports-cut
     (none-ended (settingsFor 131073) noTermination halfDone refl)
 
 pub record UpdatedNeeded : Type 0 where

@@ -2,7 +2,7 @@
 -- which the checker computes. A shard's log is compared as the list of its updates.
 use Prim.Native.Nat.{ℕ, suc, _+_, _-_, _*_, _^_, _<_, _≤_}
 use mathlib.Core.Bool.{Bool, true, false, not, _&&_, _||_}
-use mathlib.Core.List.{List, [], _∷_, _++_}
+use mathlib.Core.List.{List, [], _∷_}
 use mathlib.Core.Logic.{_⊎_, inl, inr, ⊎-elim}
 use mathlib.Core.Path.{_≡_, refl, sym, ap, ap₂, _∙_, subst, subst⁻¹}
 use native.Mathlib.Omega.{arith}
@@ -31,9 +31,9 @@ use Rattle.report_views.specs.Stretches.{among, among-those, one-same}
 use Rattle.report_views.specs.UpdateLaws.{holds-runs}
 use Rattle.report_views.specs.RunLaws as runs
 use Rattle.report_views.specs.CutLaws.{kept-or-fetched}
-use Rattle.history_claims.specs.History.{History, Full, viewAt, membersAt}
+use Rattle.history_claims.specs.History.{History, viewAt, membersAt}
 use Rattle.history_cases.specs.Told.{toldBy, implies, implies-at, risesTest, overlapsTest, rule-of, reportsTest, reports-of}
-use Rattle.history_course.specs.Course.{lastOf, Succeeded, Orderly, Settled, Serves, Next, Covers, CarriedOut, GivenUp, cutFor, asOrdered}
+use Rattle.history_course.specs.Course.{lastOf, Succeeded, Orderly, Settled, Next, Covers, CarriedOut, GivenUp, cutFor, asOrdered}
 use Rattle.history_course.specs.Ever.{Restart}
 
 -- ---- lists of updates
@@ -179,7 +179,8 @@ covers-of σ t views logs d a l h =
           let asks = askedAt H s a in
           let ends = ofEvery (λ q. notAfter q (positionAt t s)) (updatesAt d s a) in
           let both = all-at (shards σ) (λ i. askedAt H i a && ofEvery (λ q. notAfter q (positionAt t i)) (updatesAt d i a)) h s k in
-          every-at (λ q. notAfter q (positionAt t s)) (updatesAt d s a) (and-right asks ends both) p (settled-among views logs d s a l (and-left asks ends both) p settled);
+          every-at (λ q. notAfter q (positionAt t s)) (updatesAt d s a) (and-right asks ends both) p
+          (settled-among views logs d s a l (and-left asks ends both) p settled);
     }
 
 module _ (σ : List ℕ) (views : List Layout) (logs d : List ℕ) (v : Layout) (t : Termination) (held : ℕ) (w : Layout) where
@@ -239,7 +240,8 @@ module _ {S : ℕ} {H : History} (r : Restart S H) where
     where
       runs-of : (n : ℕ) → n < 32 → has (r .held) n ≡ true → runs.Runs (reportOf (r .d) n .body) (reportOf (r .d) n .len) s
       runs-of n l k =
-          runs.passed-runs (r .σ) (reportOf (r .d) n .node .0) (viewOf (r .d) n) (reportOf (r .d) n .members) (reportOf (r .d) n .body) (reportOf (r .d) n .len)
+          runs.passed-runs (r .σ) (reportOf (r .d) n .node .0) (viewOf (r .d) n) (reportOf (r .d) n .members)
+          (reportOf (r .d) n .body) (reportOf (r .d) n .len)
           (report-records (r .σ) (r .v) (r .t) (r .d) n (slot-given (r .σ) (r .v) (r .t) (r .held) (r .d) (r .slots) n l k)) s (omega (arith, r .few))
 
   -- with one shard: the holder is h, the target p
@@ -333,7 +335,8 @@ module _ {S : ℕ} (views : List Layout) (logs d : List ℕ) (r : Restart S (tol
       let placed : ℕ → ℕ → Bool = λ i j. has (maskAt (r .w) i) j in
       let new : ℕ → ℕ → Bool = λ i j. sameLog (updatesAt e i j) (getD planned i []) in
       let one : (same s n || placed s n && new s n) ≡ true =
-      all-at k (λ j. same s j || placed s j && new s j) (all-at (shards (r .σ)) (λ i. allBelow k (λ j. same i j || placed i j && new i j)) h s below) n low in
+      all-at k (λ j. same s j || placed s j && new s j)
+      (all-at (shards (r .σ)) (λ i. allBelow k (λ j. same i j || placed i j && new i j)) h s below) n low in
       ⊎-elim (λ a. inl (λ q. same-holds d e s n a q))
       (λ a. let m = and-left (placed s n) (new s n) a in inr (m, ordered-at r planned log e s below n l m (and-right (placed s n) (new s n) a)))
       (or-holds (same s n) (placed s n && new s n) one)

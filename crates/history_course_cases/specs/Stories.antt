@@ -1,7 +1,7 @@
 -- Four ways in which a service that logs a plan's view as soon as it can, or fetches into the logs that it reports, loses an update or waits
 -- for ever. The first, the second and the third stand here; the fourth, a view that hides what is stored after it, is
 -- Duties.succeeded-needed.
-use Prim.Native.Nat.{ℕ, zero, suc, _-_, _*_, _^_, _<_, _≤_}
+use Prim.Native.Nat.{ℕ, zero, suc, _-_, _^_, _<_, _≤_}
 use mathlib.Core.Bool.{true, false}
 use mathlib.Core.List.{List, [], _∷_, _++_}
 use mathlib.Core.Path.{_≡_, refl, sym, _∙_, subst}
@@ -108,7 +108,9 @@ holder-other = refl
 
 pub met-other : QuorumMet (settingsFor 2) (viewWith 2 31 6) noTermination 11 deskOfFive
 unfolding ones onesIn
-met-other = met-of (settingsFor 2) (viewWith 2 31 6) noTermination 11 deskOfFive 1 refl (omega arith) (omega arith) (omega arith) (omega arith) holder-other
+met-other =
+    met-of (settingsFor 2) (viewWith 2 31 6) noTermination 11 deskOfFive 1
+    refl (omega arith) (omega arith) (omega arith) (omega arith) holder-other
 
 pub reports-other : reportsTest (settingsFor 2) fiveViews (31 ∷ []) deskOfFive 11 [] ≡ true
 unfolding deskOfFive allBelow slot reportOf contentsOf bodyOf bodyWord tabulate place following lowest anyBelow
@@ -120,8 +122,8 @@ next-other = next-of (settingsFor 2) (viewWith 2 31 6) 11 (viewWith 3 11 10) ref
 
 abbrev pub otherPlan : Restart 1 fiveBefore
 otherPlan =
-    planFrom (settingsFor 2) fiveViews (31 ∷ []) deskOfFive (viewWith 2 31 6) noTermination 11 (viewWith 3 11 10) (omega arith) (omega arith) (omega arith)
-    slots-other met-other next-other [] reports-other
+    planFrom (settingsFor 2) fiveViews (31 ∷ []) deskOfFive (viewWith 2 31 6) noTermination 11 (viewWith 3 11 10)
+    (omega arith) (omega arith) (omega arith) slots-other met-other next-other [] reports-other
     (none-ended (settingsFor 2) noTermination fiveBefore refl)
 
 log-other : allBelow 1 (λ s. sameLog (plannedLog otherPlan s) (getD ((pos 2 1 ∷ []) ∷ []) s [])) ≡ true
@@ -171,7 +173,9 @@ holder-back = refl
 
 met-back : QuorumMet (settingsFor 2) (viewWith 3 28 20) noTermination 20 deskBothStored
 unfolding ones onesIn
-met-back = met-of (settingsFor 2) (viewWith 3 28 20) noTermination 20 deskBothStored 2 refl (omega arith) (omega arith) (omega arith) (omega arith) holder-back
+met-back =
+    met-of (settingsFor 2) (viewWith 3 28 20) noTermination 20 deskBothStored 2
+    refl (omega arith) (omega arith) (omega arith) (omega arith) holder-back
 
 reports-back : reportsTest (settingsFor 2) strayViews (31 ∷ 4 ∷ []) deskBothStored 20 (0 ∷ 0 ∷ 1 ∷ 0 ∷ 0 ∷ []) ≡ true
 unfolding deskBothStored allBelow slot reportOf contentsOf bodyOf bodyWord tabulate place following lowest anyBelow
@@ -279,12 +283,14 @@ none-reports =
 
 unfoldable pub deskOfStale : List ℕ
 deskOfStale =
-    reportOfShard 0 1 15 3 (runOf 1 1) ++ reportOfShard 1 2 14 6 (runsUpTo 1 1 2 1) ++ reportOfShard 2 2 14 6 (runsUpTo 1 1 2 1) ++ reportOfShard 3 2 14 6 noRun
+    reportOfShard 0 1 15 3 (runOf 1 1) ++ reportOfShard 1 2 14 6 (runsUpTo 1 1 2 1)
+    ++ reportOfShard 2 2 14 6 (runsUpTo 1 1 2 1) ++ reportOfShard 3 2 14 6 noRun
     ++ replicate 14336 0
 
 unfoldable pub deskAhead : List ℕ
 deskAhead =
-    reportOfShard 0 1 15 3 (runsUpTo 1 1 2 1) ++ reportOfShard 1 2 14 6 (runsUpTo 1 1 2 1) ++ reportOfShard 2 2 14 6 (runsUpTo 1 1 2 1) ++ reportOfShard 3 2 14 6 noRun
+    reportOfShard 0 1 15 3 (runsUpTo 1 1 2 1) ++ reportOfShard 1 2 14 6 (runsUpTo 1 1 2 1)
+    ++ reportOfShard 2 2 14 6 (runsUpTo 1 1 2 1) ++ reportOfShard 3 2 14 6 noRun
     ++ replicate 14336 0
 
 abbrev pub staleViews : List Layout
@@ -310,7 +316,9 @@ holder-stale = refl
 
 pub met-stale : QuorumMet (settingsFor 2) (viewWith 2 14 6) noTermination 13 deskOfStale
 unfolding ones onesIn
-met-stale = met-of (settingsFor 2) (viewWith 2 14 6) noTermination 13 deskOfStale 2 refl (omega arith) (omega arith) (omega arith) (omega arith) holder-stale
+met-stale =
+    met-of (settingsFor 2) (viewWith 2 14 6) noTermination 13 deskOfStale 2
+    refl (omega arith) (omega arith) (omega arith) (omega arith) holder-stale
 
 pub reports-stale : reportsTest (settingsFor 2) staleViews (15 ∷ 14 ∷ []) deskOfStale 13 (0 ∷ 0 ∷ 1 ∷ 1 ∷ []) ≡ true
 unfolding deskOfStale allBelow slot reportOf contentsOf bodyOf bodyWord tabulate place following lowest anyBelow
@@ -322,8 +330,8 @@ next-stale = next-of (settingsFor 2) (viewWith 2 14 6) 13 (viewWith 3 13 5) refl
 
 abbrev pub stalePlan : Restart 1 staleBefore
 stalePlan =
-    planFrom (settingsFor 2) staleViews (15 ∷ 14 ∷ []) deskOfStale (viewWith 2 14 6) noTermination 13 (viewWith 3 13 5) (omega arith) (omega arith) (omega arith)
-    slots-stale met-stale next-stale (0 ∷ 0 ∷ 1 ∷ 1 ∷ []) reports-stale
+    planFrom (settingsFor 2) staleViews (15 ∷ 14 ∷ []) deskOfStale (viewWith 2 14 6) noTermination 13 (viewWith 3 13 5)
+    (omega arith) (omega arith) (omega arith) slots-stale met-stale next-stale (0 ∷ 0 ∷ 1 ∷ 1 ∷ []) reports-stale
     (none-ended (settingsFor 2) noTermination staleBefore refl)
 
 log-stale : allBelow 1 (λ s. sameLog (plannedLog stalePlan s) (getD ((pos 1 1 ∷ pos 2 1 ∷ []) ∷ []) s [])) ≡ true
@@ -370,13 +378,16 @@ pub record StaleRefused : Type 0 where
   pub report : True (settingsFor 2) staleAhead (reportOf deskAhead 0)
   pub refusal : messageRefusal Report (settingsFor 2) (slot deskAhead 0) ≡ refused 11
   -- and no true report of node 0 is accepted
-  pub never : (x : List ℕ) → contentsOf x .node .0 ≡ 0 → True (settingsFor 2) staleAhead (contentsOf x) → messageRefusal Report (settingsFor 2) x ≡ none → ⊥
+  pub never : (x : List ℕ) → contentsOf x .node .0 ≡ 0 → True (settingsFor 2) staleAhead (contentsOf x)
+      → messageRefusal Report (settingsFor 2) x ≡ none → ⊥
 
-never-ahead : (x : List ℕ) → contentsOf x .node .0 ≡ 0 → True (settingsFor 2) staleAhead (contentsOf x) → messageRefusal Report (settingsFor 2) x ≡ none → ⊥
+never-ahead : (x : List ℕ) → contentsOf x .node .0 ≡ 0 → True (settingsFor 2) staleAhead (contentsOf x)
+    → messageRefusal Report (settingsFor 2) x ≡ none → ⊥
 never-ahead x own r accepted =
     let logged : has (getD (15 ∷ 14 ∷ []) (r .at) 0) 0 ≡ true = subst (λ (n : ℕ). has (getD (15 ∷ 14 ∷ []) (r .at) 0) n ≡ true) own (r .logged) in
     let told : holdsAt deskAhead 0 (pos 2 1) 0 ≡ holds (contentsOf x .body) (contentsOf x .len) 0 (pos 2 1) =
-    subst (λ (n : ℕ). holdsAt deskAhead 0 (pos 2 1) n ≡ holds (contentsOf x .body) (contentsOf x .len) 0 (pos 2 1)) own (r .updates 0 (omega arith) (pos 2 1)) in
+    subst (λ (n : ℕ). holdsAt deskAhead 0 (pos 2 1) n ≡ holds (contentsOf x .body) (contentsOf x .len) 0 (pos 2 1)) own
+    (r .updates 0 (omega arith) (pos 2 1)) in
     omega (
       arith,
       no-run-above (settingsFor 2) x accepted 0 (omega arith) (pos 2 1) (sym told ∙ has-ahead),

@@ -1,7 +1,7 @@
 -- A worked course of nodes 0 to 2, which all carry the one shard in view 1 and have logged its first 1, 3 and 2 updates. Nodes 0 and 2 are
 -- restarted and given up when node 0 has fetched; then nodes 0 and 1 are restarted, log view 2 and store under it; then all three come back,
 -- node 2 with view 1, and a termination is kept. Every duty is met on the way, and the plan has what was settled at the beginning.
-use Prim.Native.Nat.{ℕ, _<_, _≤_}
+use Prim.Native.Nat.{ℕ, _<_}
 use mathlib.Core.Bool.{Bool, true, not, _&&_, _||_}
 use mathlib.Core.List.{List, [], _∷_, _++_}
 use mathlib.Core.Path.{_≡_, refl}
@@ -31,7 +31,7 @@ use Rattle.report_views.specs.Slots.{sameView, row12, sameTermination, row13, t
 use Rattle.report_views.specs.Quorums.{candidate, greatest, best, target, able, holder}
 use Rattle.report_views.specs.Meets.{QuorumMet}
 use Rattle.report_views.specs.Cuts.{runsTo, sharedAfter, cutFrom}
-use Rattle.report_views.specs.Updates.{updatesAfter, updatesIn, updatesAt, thoseOf, onePosition}
+use Rattle.report_views.specs.Updates.{updatesAfter, updatesIn, thoseOf, onePosition}
 use Rattle.report_views.specs.Stretches.{among}
 use Rattle.place_groups.specs.Placements.{meetsSet, setsIn, shardValid, groupValidAt, groupValid, groupMovesAt, groupMoves}
 use Rattle.history_claims.specs.History.{History, Full}
@@ -97,7 +97,9 @@ holder-first = refl
 
 pub met-first : QuorumMet courseSettings (viewOfAll 1 7) noTermination 5 deskAtFirst
 unfolding ones onesIn
-met-first = met-of courseSettings (viewOfAll 1 7) noTermination 5 deskAtFirst 2 refl (omega arith) (omega arith) (omega arith) (omega arith) holder-first
+met-first =
+    met-of courseSettings (viewOfAll 1 7) noTermination 5 deskAtFirst 2
+    refl (omega arith) (omega arith) (omega arith) (omega arith) holder-first
 
 pub reports-first : reportsTest courseSettings firstViews (7 ∷ []) deskAtFirst 5 [] ≡ true
 unfolding deskAtFirst allBelow slot reportOf contentsOf bodyOf bodyWord tabulate place following lowest anyBelow
@@ -109,8 +111,8 @@ next-first = next-of courseSettings (viewOfAll 1 7) 5 (viewOfAll 2 5) refl refl 
 
 abbrev pub givenUpPlan : Restart 1 atFirst
 givenUpPlan =
-    planFrom courseSettings firstViews (7 ∷ []) deskAtFirst (viewOfAll 1 7) noTermination 5 (viewOfAll 2 5) (omega arith) (omega arith) (omega arith)
-    slots-first met-first next-first [] reports-first
+    planFrom courseSettings firstViews (7 ∷ []) deskAtFirst (viewOfAll 1 7) noTermination 5 (viewOfAll 2 5)
+    (omega arith) (omega arith) (omega arith) slots-first met-first next-first [] reports-first
     (none-ended courseSettings noTermination atFirst refl)
 
 abbrev pub firstLog : List (List Position)
@@ -147,7 +149,9 @@ holder-second = refl
 
 pub met-second : QuorumMet courseSettings (viewOfAll 1 7) noTermination 3 deskGivenUp
 unfolding ones onesIn
-met-second = met-of courseSettings (viewOfAll 1 7) noTermination 3 deskGivenUp 1 refl (omega arith) (omega arith) (omega arith) (omega arith) holder-second
+met-second =
+    met-of courseSettings (viewOfAll 1 7) noTermination 3 deskGivenUp 1
+    refl (omega arith) (omega arith) (omega arith) (omega arith) holder-second
 
 pub reports-second : reportsTest courseSettings firstViews (7 ∷ []) deskGivenUp 3 [] ≡ true
 unfolding deskGivenUp allBelow slot reportOf contentsOf bodyOf bodyWord tabulate place following lowest anyBelow
@@ -159,8 +163,8 @@ next-second = next-of courseSettings (viewOfAll 1 7) 3 (viewOfAll 2 3) refl refl
 
 abbrev pub carriedPlan : Restart 1 afterGivenUp
 carriedPlan =
-    planFrom courseSettings firstViews (7 ∷ []) deskGivenUp (viewOfAll 1 7) noTermination 3 (viewOfAll 2 3) (omega arith) (omega arith) (omega arith)
-    slots-second met-second next-second [] reports-second
+    planFrom courseSettings firstViews (7 ∷ []) deskGivenUp (viewOfAll 1 7) noTermination 3 (viewOfAll 2 3)
+    (omega arith) (omega arith) (omega arith) slots-second met-second next-second [] reports-second
     (none-ended courseSettings noTermination afterGivenUp refl)
 
 abbrev pub secondLog : List (List Position)
@@ -191,8 +195,8 @@ remembered-second = remembered-of (7 ∷ []) (7 ∷ 3 ∷ []) 1 refl
 
 pub carried : CarriedOut courseSettings (viewOfAll 1 7) noTermination 3 deskGivenUp (viewOfAll 2 3) afterGivenUp afterCarried
 carried =
-    counted-carried courseSettings (viewOfAll 1 7) noTermination 3 deskGivenUp (carriedPlan .met) (viewOfAll 2 3) next-second afterGivenUp afterCarried refl
-    remembered-second ordered-second 3 (λ n l h. h) refl
+    counted-carried courseSettings (viewOfAll 1 7) noTermination 3 deskGivenUp (carriedPlan .met) (viewOfAll 2 3) next-second
+    afterGivenUp afterCarried refl remembered-second ordered-second 3 (λ n l h. h) refl
 
 -- ---- the service runs: both store update 1 of view 2, node 1 also update 2, and a termination ends the shard at update 1
 
@@ -204,8 +208,8 @@ afterRun = toldBy laterViews (7 ∷ 3 ∷ []) deskServed
 
 full-second : Full afterCarried 1
 full-second =
-    counted-full courseSettings (viewOfAll 1 7) noTermination 3 deskGivenUp (carriedPlan .met) (viewOfAll 2 3) next-second afterGivenUp afterCarried refl
-    remembered-second ordered-second 3 (λ n l h. h) refl
+    counted-full courseSettings (viewOfAll 1 7) noTermination 3 deskGivenUp (carriedPlan .met) (viewOfAll 2 3) next-second
+    afterGivenUp afterCarried refl remembered-second ordered-second 3 (λ n l h. h) refl
 
 orderly-run : Orderly afterRun
 unfolding allBelow anyBelow ones onesIn
@@ -270,7 +274,8 @@ lastLog = (pos 1 1 ∷ pos 1 2 ∷ pos 1 3 ∷ pos 2 1 ∷ []) ∷ []
 
 abbrev pub workedCourse : Course 1 atFirst afterRun
 workedCourse =
-    running afterCarried afterRun (carrying afterGivenUp afterCarried (giving-up atFirst afterGivenUp here givenUpPlan given-up) carriedPlan carried) served
+    running afterCarried afterRun
+    (carrying afterGivenUp afterCarried (giving-up atFirst afterGivenUp here givenUpPlan given-up) carriedPlan carried) served
 
 -- all members of the shard have logged update 1 at the beginning
 all-first : (n : ℕ) → n < 32 → has 7 n ≡ true → atFirst .updated n 0 (pos 1 1) ≡ true
