@@ -45,6 +45,7 @@ performance:
 # ---- The operators' tool: its program, its package and its page
 
 TOOLDIR ?= $(PREFIX)/share/restart
+SCHEMAS := explain.schema.json convert.schema.json
 TOOL_FILES := $(patsubst tools/%,%,$(wildcard tools/restart_text/*.py tools/restart_text/*/*.py))
 
 .PHONY: install-tool uninstall-tool
@@ -57,11 +58,11 @@ install-tool:
 	sed 's|@TOOLDIR@|$(TOOLDIR)|' tools/restart-text > $(TO)$(BINDIR)/restart-text
 	chmod 755 $(TO)$(BINDIR)/restart-text
 	install -m 644 man/restart-text.1 $(TO)$(MANDIR)/man1
-	install -m 644 docs/explain.schema.json $(TO)$(TOOLDIR)
+	install -m 644 $(SCHEMAS:%=docs/%) $(TO)$(TOOLDIR)
 
 uninstall-tool:
 	rm -f $(TO)$(BINDIR)/restart-text $(TO)$(MANDIR)/man1/restart-text.1
-	rm -rf $(TO)$(TOOLDIR)/restart_text $(TO)$(TOOLDIR)/explain.schema.json
+	rm -rf $(TO)$(TOOLDIR)/restart_text $(SCHEMAS:%=$(TO)$(TOOLDIR)/%)
 	rmdir $(TO)$(TOOLDIR) 2>/dev/null || true
 
 # ---- The library for C and what is built over it

@@ -30,6 +30,9 @@ static const char numbers[][WIDTH] = {
     "a record names an unknown shard",
     "a record is out of sequence, missing or surplus",
     "the machine has reported a later view before",
+    "the flat report's counts do not fit its length",
+    "a run of the flat report has count 0",
+    "the flat report needs over 128 records",
     "unknown number",
 };
 

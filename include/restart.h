@@ -14,8 +14,8 @@
  *
  * Every call answers with a word: see "Answers". A refused call changes no lent byte, and its
  * number says why: of those that are named at the call the first that applies, in the order of
- * enum restart_number. That order is 1, 2, 3, 4, 5, 6, 7, 8, 9, 16, 17, 10, 11, 18, 12, 13, 14, not
- * the order of their size.
+ * enum restart_number. That order is 1, 2, 3, 4, 19, 20, 21, 5, 6, 7, 8, 9, 16, 17, 10, 11, 18, 12,
+ * 13, 14, not the order of their size.
  *
  * What is proved: the calls under "Settings and messages", "Open views" and "Events" are proved
  * functions. For any bytes whatever they end, touch nothing but what was lent, and answer and leave
@@ -47,9 +47,9 @@ extern "C" {
 
 #define RESTART_VERSION_MAJOR 0
 #define RESTART_VERSION_MINOR 4
-#define RESTART_VERSION_PATCH 2
-#define RESTART_VERSION "0.4.2"
-#define RESTART_VERSION_NUMBER 402 /* major * 10000 + minor * 100 + patch */
+#define RESTART_VERSION_PATCH 3
+#define RESTART_VERSION "0.4.3"
+#define RESTART_VERSION_NUMBER 403 /* major * 10000 + minor * 100 + patch */
 
 /* Of the settings, the messages and the state. It is raised when any of their words changes its
  * meaning; save it beside a state, and start fresh where it differs. */
@@ -122,6 +122,13 @@ enum restart_number {
     RESTART_UNSOUND_STATE = 3,
     /* the event is not for this phase */
     RESTART_WRONG_PHASE = 4,
+    /* flat report: no whole words, or a length that its counts do not explain; a termination word
+     * above 1 */
+    RESTART_FLAT_LENGTH = 19,
+    /* flat report: a run with count 0 */
+    RESTART_FLAT_COUNT = 20,
+    /* flat report: more than 128 records would be needed */
+    RESTART_FLAT_RECORDS = 21,
     /* message of 0 or more than 512 words, or no whole records */
     RESTART_WRONG_LENGTH = 5,
     /* node not below the number of nodes */
@@ -304,7 +311,9 @@ RESTART_INLINE int restart_has_index(uint32_t answer)
 /* A refusal's index; 0 where there is none. It is the index of the record looked at: word 4 * index
  * is the record's first word. Where a record is missing it is that of the last one on the chain. Of
  * contents to be written it is the record's index in the message as it would stand: word 3 * index
- * of the contents is the record's first word. */
+ * of the contents is the record's first word. Of a flat report it is the index in the report that
+ * it would become: masks are records 1 to S, positions, if there are any, S + 1 to 2 * S, and runs
+ * follow. */
 RESTART_INLINE uint32_t restart_index_of(uint32_t answer)
 {
     return restart_is_refusal(answer) ? answer / 256 : 0;
@@ -408,6 +417,29 @@ uint32_t restart_write_report(const uint8_t *settings, size_t settings_len, cons
 uint32_t restart_write_order(const uint8_t *settings, size_t settings_len, const uint8_t *contents,
                              size_t contents_len, uint8_t *buffer,
                              size_t buffer_len) RESTART_NONNULL RESTART_CHECKED;
+
+/*
+ * Turn a flat report of the former seller into a report, and a report into a flat one. A flat
+ * report is words: node, view, members, S, S masks, a word 0 or 1 and, if 1, S positions of two
+ * words (view, k), then a count of runs and as many triples of shard, view and count. S and the
+ * count of runs are its own words. What is written has zeros after it, to 512 words; the report has
+ * its records one after another. A flat report that is taken comes back word for word, a report with
+ * the same contents. Lend a flat report without the zeros after it: no count explains them.
+ *
+ * restart_from_flat answers class 1 with the report's length in words; or one of the numbers 1
+ * (buffer not 2048 bytes), 2, 19, 20, 21, 6, 7, 16, 17, 10, 11. A shard too large for a record is
+ * one that the settings do not have (16). Runs are not sorted: one out of sequence is refused (17).
+ * A flat report may have any length.
+ * restart_to_flat answers class 1 with the flat report's length in words, at most 385; or one of
+ * the numbers 1 (buffer not 2048 bytes), 2, 5 to 9, 16, 17, 10, 11, as restart_read_report does.
+ * Both change the buffer.
+ */
+uint32_t restart_from_flat(const uint8_t *settings, size_t settings_len, const uint8_t *flat,
+                           size_t flat_len, uint8_t *buffer,
+                           size_t buffer_len) RESTART_NONNULL RESTART_CHECKED;
+uint32_t restart_to_flat(const uint8_t *settings, size_t settings_len, const uint8_t *message,
+                         size_t message_len, uint8_t *buffer,
+                         size_t buffer_len) RESTART_NONNULL RESTART_CHECKED;
 
 /* ---- Open views ----
  * A view on a machine's disk is sure, where the machine knows that it was committed, or open, where

@@ -43,13 +43,14 @@ FIRST = [
 LIBRARY, PLACEMENT = "the library for C", "the placement for C"
 THEN = [
     (LIBRARY, ["make", "--no-print-directory", "lib"], None),
-    ("texts and explanations for operators", ["python3", "tools/tests/run.py", "target/bin/restart", "target/bin/mondays"], None),
     ("the reference's own tests", cargo("reference", "test", "--release"), None),
     ("tests of the comparison itself", cargo("tests", "test", "--release", "--features", "mock"), None),
+    ("texts and explanations for operators", ["python3", "tools/tests/run.py", "target/bin/restart", "target/bin/mondays", "target/librestart.so.0"], LIBRARY),
     (PLACEMENT, ["rt", "staticlib", "c_placement"], LIBRARY),
     ("the program restart against the reference", cargo("tests", "run", "--release", "--bin", "runs", "--", "target/bin/restart", "1", "20000"), LIBRARY),
     ("the program mondays against the reference", cargo("tests", "run", "--release", "--bin", "mondays", "--", "target/bin/mondays", "1"), LIBRARY),
     ("settings and messages against the reference", cargo("tests", "run", "--release", "--bin", "messages"), LIBRARY),
+    ("flat reports against the reference", cargo("tests", "run", "--release", "--bin", "flat"), LIBRARY),
     ("events against the reference", cargo("tests", "run", "--release", "--bin", "events"), LIBRARY),
     ("plans against the reference", cargo("tests", "run", "--release", "--bin", "plans"), LIBRARY),
     ("events against the peer in C and the reference", cargo("bench/events", "run", "--release", "--", "compare", "20000", "1"), LIBRARY),

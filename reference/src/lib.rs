@@ -11,6 +11,7 @@
 //! - `settings`: the settings
 //! - `message`: reading and writing reports and orders
 //! - `log`: logs, positions and cuts
+//! - `flat`: flat reports, turned into ours and back
 //! - `flow`: flow of least cost, for placements
 //! - `weights`: placements by weight, where there are many
 //! - `placement`: placing held nodes in shards
@@ -29,6 +30,7 @@
 mod cases;
 pub mod desk;
 pub mod events;
+pub mod flat;
 pub mod flow;
 pub mod log;
 pub mod mask;

@@ -77,6 +77,13 @@ pub const OTHER_MASKS: Number = Number(12);
 pub const OTHER_TERMINATION: Number = Number(13);
 /// Row 14: a node that is not held, or is marked already.
 pub const NOT_HELD: Number = Number(14);
+/// Request Nine, before row 5: a flat length that its counts do not explain, or
+/// a termination word above 1.
+pub const FLAT_LENGTH: Number = Number(19);
+/// Request Nine, after 19: a triple with count 0.
+pub const ZERO_COUNT: Number = Number(20);
+/// Request Nine, after 20: a result over 128 records.
+pub const TOO_MANY: Number = Number(21);
 /// Request Thirteen: a line of the moves file out of sequence or cut short.
 pub const LINE: Number = Number(24);
 /// Request Thirteen: more moves than a restart has.

@@ -33,6 +33,18 @@ static uint32_t call_write_order(const struct piece *p, uint32_t node)
     return restart_write_order(PIECE(0), PIECE(1), PIECE(2));
 }
 
+static uint32_t call_from_flat(const struct piece *p, uint32_t node)
+{
+    (void)node;
+    return restart_from_flat(PIECE(0), PIECE(1), PIECE(2));
+}
+
+static uint32_t call_to_flat(const struct piece *p, uint32_t node)
+{
+    (void)node;
+    return restart_to_flat(PIECE(0), PIECE(1), PIECE(2));
+}
+
 /* Not lent anything: machine `node` alone is the view's member and has it. */
 static uint32_t call_open_view(const struct piece *p, uint32_t node)
 {
@@ -89,6 +101,8 @@ const struct entry read_report = {"restart_read_report", 3, 1u << 2, call_read_r
 const struct entry read_order = {"restart_read_order", 3, 1u << 2, call_read_order};
 const struct entry write_report = {"restart_write_report", 3, 1u << 2, call_write_report};
 const struct entry write_order = {"restart_write_order", 3, 1u << 2, call_write_order};
+const struct entry from_flat = {"restart_from_flat", 3, 1u << 2, call_from_flat};
+const struct entry to_flat = {"restart_to_flat", 3, 1u << 2, call_to_flat};
 const struct entry open_view = {"restart_open_view", 0, 0, call_open_view};
 const struct entry fresh = {"restart_fresh", 1, 1u << 0, call_fresh};
 const struct entry check_state = {"restart_check_state", 3, 0, call_check_state};
@@ -99,6 +113,7 @@ const struct entry order = {"restart_order", 4, 1u << 3, call_order};
 const struct entry fetched = {"restart_fetched", 3, 1u << 1, call_fetched};
 const struct entry prepared = {"restart_prepared", 3, 1u << 1, call_prepared};
 
-const struct entry *const entries[] = {
-    &check_settings, &read_report, &read_order, &write_report, &write_order, &open_view, &fresh,
-    &check_state,    &report,      &drop,       &decide,       &order,       &fetched,   &prepared};
+const struct entry *const entries[] = {&check_settings, &read_report, &read_order, &write_report,
+                                       &write_order,    &from_flat,   &to_flat,    &open_view,
+                                       &fresh,          &check_state, &report,     &drop,
+                                       &decide,         &order,       &fetched,    &prepared};

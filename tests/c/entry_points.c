@@ -45,6 +45,9 @@ static void answers(void)
         {16 + 256 * 5, 0, 1, 0, 0, 16, 1, 5, 0, 0, 0, 0},
         {17, 0, 1, 0, 0, 17, 1, 0, 0, 0, 0, 0},
         {18, 0, 1, 0, 0, 18, 0, 0, 0, 0, 0, 0},
+        {19, 0, 1, 0, 0, 19, 0, 0, 0, 0, 0, 0},
+        {20, 0, 1, 0, 0, 20, 0, 0, 0, 0, 0, 0},
+        {21, 0, 1, 0, 0, 21, 0, 0, 0, 0, 0, 0},
         {16777216 + 512, 1, 0, 0, 0, 0, 0, 0, 0, 0, 512, 0},
         {16777216 + 8, 1, 0, 0, 0, 0, 0, 0, 0, 0, 8, 0},
         {33554432, 2, 0, 1, 0, 0, 0, 0, 0, 0, 0, 0},
@@ -105,7 +108,13 @@ static void texts(void)
     check_text("number 15", restart_number_text(15), "unknown number");
     check_text("number 18", restart_number_text(RESTART_EARLIER_VIEW),
                "the machine has reported a later view before");
-    check_text("number 19", restart_number_text(19), "unknown number");
+    check_text("number 19", restart_number_text(RESTART_FLAT_LENGTH),
+               "the flat report's counts do not fit its length");
+    check_text("number 20", restart_number_text(RESTART_FLAT_COUNT),
+               "a run of the flat report has count 0");
+    check_text("number 21", restart_number_text(RESTART_FLAT_RECORDS),
+               "the flat report needs over 128 records");
+    check_text("number 22", restart_number_text(22), "unknown number");
     check_text("reason 6", restart_reason_text(RESTART_NO_PLACEMENT + 1), "unknown reason");
     check_text("phase 4", restart_phase_text(RESTART_COMMITTED + 1), "unknown phase");
     check_text("finding 1", restart_view_text(RESTART_VIEW_SURE), "the open view counts");
@@ -113,8 +122,8 @@ static void texts(void)
                "the open view is said to count and not to");
     check_text("finding 5", restart_view_text(RESTART_VIEW_CONTRADICTED + 1), "unknown finding");
     check_text("the last number", restart_number_text(UINT32_MAX), "unknown number");
-    for (uint32_t one = 0; one <= RESTART_EARLIER_VIEW; one++)
-        for (uint32_t other = one + 1; one != 15 && other <= RESTART_EARLIER_VIEW + 1; other++)
+    for (uint32_t one = 0; one <= RESTART_FLAT_RECORDS; one++)
+        for (uint32_t other = one + 1; one != 15 && other <= RESTART_FLAT_RECORDS + 1; other++)
             check_word("two numbers have two texts",
                        strcmp(restart_number_text(one), restart_number_text(other)) != 0, 1);
     for (uint32_t one = 0; one <= RESTART_VIEW_CONTRADICTED; one++)
@@ -135,11 +144,13 @@ static void check_buffer(const char *what, const uint8_t *found, const uint32_t 
     check_bytes(what, found, expected, sizeof expected);
 }
 
-/* Node 4's report in case A: its words and its contents. */
+/* Node 4's report in case A: its words, its contents and its flat report. */
 static const uint32_t report_words[20] = {4, 7, 127, 1,  256, 5, 0,   2, 257, 82,
                                           0, 3, 258, 32, 0,   4, 769, 7, 4,   0};
 static const uint32_t report_contents[15] = {4, 7,   127, 256, 5,   0, 257, 82,
                                              0, 258, 32,  0,   769, 7, 4};
+
+static const uint32_t flat_words[12] = {4, 7, 127, 3, 5, 82, 32, 0, 1, 1, 7, 4};
 
 /* Node 4's order: it carries shard 1, whose holder is node 1, and its cut is (7, 4). */
 static const uint32_t order_words[36] = {
@@ -171,6 +182,17 @@ static void messages(struct world *world)
                                     buffer, sizeof buffer),
                16777216 + 20);
     check_buffer("a written report", buffer, report_words, 20);
+
+    check_word("make a flat report",
+               restart_to_flat(world->settings, sizeof world->settings, message, length, contents,
+                               sizeof contents),
+               16777216 + 12);
+    check_buffer("a flat report", contents, flat_words, 12);
+    check_word("turn it back",
+               restart_from_flat(world->settings, sizeof world->settings, contents, 4 * 12, buffer,
+                                 sizeof buffer),
+               16777216 + 20);
+    check_buffer("a report that was flat", buffer, report_words, 20);
 
     length = put_words(message, order_words, 36);
     check_word("read an order",

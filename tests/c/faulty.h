@@ -239,4 +239,60 @@ static inline uint32_t faulty(uint32_t members, uint32_t known, uint32_t have, u
     return restart_open_view(members & seen, known & seen, have & seen, lack & seen, passed & seen);
 }
 #define restart_open_view faulty
+
+#elif FAULT == 23 /* the counts of a flat report are added up in 32 bits */
+static inline uint32_t faulty(CONVERSION)
+{
+    uint32_t answer =
+        restart_from_flat(settings, settings_len, input, input_len, output, output_len);
+    if (answer != RESTART_FLAT_LENGTH || input_len % 4 != 0 || input_len < 24)
+        return answer;
+    uint32_t masks = restart_get_word(input, 3);
+    if (masks > RESTART_SHARDS || input_len < 4 * (6 + (size_t)masks))
+        return answer;
+    uint32_t runs = restart_get_word(input, 5 + masks);
+    return restart_get_word(input, 4 + masks) == 0 && 6 + masks + 3 * runs == input_len / 4
+               ? RESTART_CLASS_UNIT + 4 * (1 + masks + runs)
+               : answer;
+}
+#define restart_from_flat faulty
+
+#elif FAULT == 24 /* a shard is taken modulo 256 */
+static inline uint32_t faulty(CONVERSION)
+{
+    uint32_t answer =
+        restart_from_flat(settings, settings_len, input, input_len, output, output_len);
+    if (restart_number_of(answer) != RESTART_UNKNOWN_SHARD || input_len != 48)
+        return answer;
+    uint8_t copy[48];
+    memcpy(copy, input, sizeof copy);
+    restart_put_word(copy, 9, restart_get_word(copy, 9) % 256);
+    return restart_from_flat(settings, settings_len, copy, sizeof copy, output, output_len);
+}
+#define restart_from_flat faulty
+
+#elif FAULT == 25 /* what follows the flat report is left */
+static inline uint32_t faulty(CONVERSION)
+{
+    uint8_t copy[RESTART_BUFFER_BYTES];
+    if (output_len != sizeof copy)
+        return restart_to_flat(settings, settings_len, input, input_len, output, output_len);
+    uint32_t answer = restart_to_flat(settings, settings_len, input, input_len, copy, sizeof copy);
+    memcpy(output, copy, 4 * (size_t)restart_length_of(answer));
+    return answer;
+}
+#define restart_to_flat faulty
+
+#elif FAULT == 26 /* row 21 before row 20 */
+static inline uint32_t faulty(CONVERSION)
+{
+    uint32_t answer =
+        restart_from_flat(settings, settings_len, input, input_len, output, output_len);
+    if (answer != RESTART_FLAT_COUNT)
+        return answer;
+    uint32_t masks = restart_get_word(input, 3);
+    int few = masks + restart_get_word(input, 5 + (size_t)masks) < RESTART_RECORDS;
+    return few ? answer : (uint32_t)RESTART_FLAT_RECORDS;
+}
+#define restart_from_flat faulty
 #endif

@@ -56,8 +56,9 @@ def small_functions():
     assert [helper("phase_text", phase) for phase in range(4)] == [b"gathering", b"ordered", b"preparing", b"committed"]
     assert helper("number_text", 16) == b"a record names an unknown shard"
     assert helper("number_text", 18) == b"the machine has reported a later view before"
+    assert helper("number_text", 20) == b"a run of the flat report has count 0"
     assert helper("view_text", 2) == b"the open view was never served"
-    for name, first, called in (("number", 19, "number"), ("reason", 6, "reason"), ("phase", 4, "phase"), ("view", 5, "finding")):
+    for name, first, called in (("number", 22, "number"), ("reason", 6, "reason"), ("phase", 4, "phase"), ("view", 5, "finding")):
         assert {helper(name + "_text", word) for word in (first, 255, 4294967295)} == {b"unknown " + called.encode()}
     wait = 3 * 16777216 + 256 * 4 + 15
     found = [helper(name, wait) for name in ("class_of", "is_wait", "is_plan", "is_refusal", "reason_of", "value_of", "number_of")]

@@ -59,6 +59,7 @@ static void messages(struct world *world)
                                               0, 258, 32,  0,   769, 7, 4};
     static const uint32_t order_words[] = {6, 8,   127, 256, 5,   0, 257, 50,  0, 258, 8,
                                            0, 512, 0,   0,   513, 7, 5,   514, 0, 0};
+    static const uint32_t flat_words[] = {4, 7, 127, 3, 5, 82, 32, 0, 1, 1, 7, 4};
     uint8_t input[RESTART_MESSAGE_BYTES], buffer[RESTART_BUFFER_BYTES];
     struct piece pieces[MOST_PIECES] = {
         {world->settings, sizeof world->settings}, {input, 0}, {buffer, sizeof buffer}};
@@ -67,6 +68,9 @@ static void messages(struct world *world)
     both(&check_settings, pieces, 0, RESTART_ACCEPTED);
     pieces[1].length = put_report(input, 4);
     both(&read_report, pieces, 0, 16777216 + 15);
+    both(&to_flat, pieces, 0, 16777216 + 12);
+    pieces[1].length = put_words(input, flat_words, sizeof flat_words / 4);
+    both(&from_flat, pieces, 0, 16777216 + 20);
     pieces[1].length = put_words(input, contents_words, sizeof contents_words / 4);
     both(&write_report, pieces, 0, 16777216 + 20);
     pieces[1].length = put_words(input, order_words, sizeof order_words / 4);

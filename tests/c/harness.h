@@ -35,12 +35,12 @@ struct entry {
 };
 
 extern const struct entry check_settings, read_report, read_order, write_report, write_order;
-extern const struct entry open_view, fresh, check_state, report, drop, decide, order, fetched,
-    prepared;
+extern const struct entry from_flat, to_flat, open_view;
+extern const struct entry fresh, check_state, report, drop, decide, order, fetched, prepared;
 
 /* All of them. */
 extern const struct entry *const entries[];
-enum { ENTRIES = 14 };
+enum { ENTRIES = 16 };
 
 /*
  * Calls with every piece in pages of its own between two pages without access; a piece that the

@@ -40,7 +40,7 @@ all_there() { # FOLDER
 
 # The operators' tool.
 tool_names() {
-    echo bin/restart-text share/man/man1/restart-text.1 share/restart/explain.schema.json
+    echo bin/restart-text share/man/man1/restart-text.1 share/restart/explain.schema.json share/restart/convert.schema.json
     (cd tools && find restart_text -name '*.py' | sed 's|^|share/restart/|')
 }
 
@@ -142,12 +142,14 @@ shard 2 holder 5 target 7 3 members 3
 PLAN
 }
 
-# The tool asks the program that is installed beside it; what Python leaves behind is removed as well.
+# The tool asks the program and the library that are installed with it; what Python leaves behind is removed as well.
 installed_tool() { # PREFIX-FOLDER
     cd / && "$1/bin/restart-text" explain "$root/examples/case-a.txt" >"$room/printed" &&
         grep -q '^Plan: new view 8 after view 7, 2 moves' "$room/printed" || return
     "$1/bin/restart-text" explain "$root/examples/night.txt" >"$room/printed"
-    test $? = 1 && grep -q '^Switch on machines rack1-a, rack1-c and rack3-a' "$room/printed"
+    test $? = 1 && grep -q '^Switch on machines rack1-a, rack1-c and rack3-a' "$room/printed" || return
+    rm -rf "$room/ours" && "$1/bin/restart-text" convert "$root/examples/flat" -o "$room/ours" >"$room/printed"
+    test $? = 2 && grep -q '^1-machine-1.bin: converted, machine 1 in view 7' "$room/printed" && cmp "$root/examples/flat/1-machine-0.bin" "$room/ours/1-machine-0.bin"
 }
 
 installed_mondays() { # PREFIX-FOLDER

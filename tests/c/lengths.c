@@ -1,7 +1,7 @@
 /*
  * Wrong lengths by bytes and words for each argument of each entry point, with document 01's
  * number; all memory lies between pages without access. A length that is no whole words is wrong: 1
- * for desk and buffers, 2 for settings, 3 for the state, 5 for a message.
+ * for desk and buffers, 2 for settings, 3 for the state, 5 for a message, 19 for a flat report.
  */
 #include "world.h"
 
@@ -107,13 +107,22 @@ static void contents_lengths(void)
     check_length(1, 1536, AT(9, 5));
 }
 
+/* A flat report of 12 words. */
+static void flat_lengths(void)
+{
+    static const size_t lengths[] = {0,  1,  2,  3,  4,  8,  12, 16, 20, 24, 28,   32,   36,
+                                     40, 44, 45, 46, 47, 49, 50, 51, 52, 60, 2048, 65536};
+    check_lengths(1, lengths, COUNT(lengths), 19);
+}
+
 static void messages(void)
 {
     static const uint32_t contents_words[] = {4, 7,   127, 256, 5,   0, 257, 82,
                                               0, 258, 32,  0,   769, 7, 4};
+    static const uint32_t flat_words[] = {4, 7, 127, 3, 5, 82, 32, 0, 1, 1, 7, 4};
     static struct world world;
     uint8_t message[RESTART_MESSAGE_BYTES], contents[sizeof contents_words],
-        buffer[RESTART_BUFFER_BYTES];
+        flat[sizeof flat_words], buffer[RESTART_BUFFER_BYTES];
     size_t length = put_report(message, 4);
     put_words(contents, contents_words, COUNT(contents_words));
     memset(buffer, 0xEE, sizeof buffer);
@@ -129,6 +138,22 @@ static void messages(void)
     add(buffer, sizeof buffer);
     settings_lengths();
     message_lengths(1);
+    buffer_lengths(2);
+
+    take(&to_flat, 16777216 + 12);
+    add(world.settings, sizeof world.settings);
+    add(message, length);
+    add(buffer, sizeof buffer);
+    settings_lengths();
+    message_lengths(1);
+    buffer_lengths(2);
+
+    take(&from_flat, 16777216 + 20);
+    add(world.settings, sizeof world.settings);
+    add(flat, put_words(flat, flat_words, COUNT(flat_words)));
+    add(buffer, sizeof buffer);
+    settings_lengths();
+    flat_lengths();
     buffer_lengths(2);
 
     take(&write_report, 16777216 + 20);

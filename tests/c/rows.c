@@ -109,6 +109,8 @@ static void messages(void)
     };
     message_call(&read_report, report_words, COUNT(report_words), 6, report_faults,
                  COUNT(report_faults), 16777216 + 15);
+    message_call(&to_flat, report_words, COUNT(report_words), 6, report_faults,
+                 COUNT(report_faults), 16777216 + 12);
     message_call(&read_order, order_words, COUNT(order_words), 6, order_faults, COUNT(order_faults),
                  16777216 + 27);
 }
@@ -148,6 +150,46 @@ static void contents(void)
                  COUNT(report_faults), 16777216 + 20);
     message_call(&write_order, order_contents, COUNT(order_contents), 13, order_faults,
                  COUNT(order_faults), 16777216 + 36);
+}
+
+/* ---- Flat reports: rows 1, 2, 19, 20, 21 and then those of the report as it would stand ---- */
+
+static void flat_reports(void)
+{
+    enum { HEAD_WORDS = 9, RUNS = 125, COUNT_AT = 8 };
+    static const uint32_t head[HEAD_WORDS] = {1, 7, 127, 3, 5, 82, 32, 0, RUNS};
+    static const uint32_t runs[6] = {1, 6, 5, 1, 7, 5};
+    /* Run 0 of a shard that no record can name, run 1 of a shard before it and of a view after the
+     * head's. */
+    static const struct fault faults[] = {
+        {0, 7, 1, 6},          {1, 0, 7, 7},  {9, 300, 1, AT(16, 4)},
+        {12, 0, 1, AT(17, 5)}, {4, 0, 5, 10}, {13, 8, 7, 11},
+    };
+    uint8_t flat[4 * (HEAD_WORDS + 3 * RUNS + 1)];
+    world_fresh(&world);
+    memset(flat, 1, sizeof flat);
+    put_words(flat, head, HEAD_WORDS);
+    put_words(flat + 4 * HEAD_WORDS, runs, COUNT(runs));
+    pieces[0] = (struct piece){world.settings, sizeof world.settings};
+    pieces[1] = (struct piece){flat, sizeof flat};
+    pieces[2] = (struct piece){buffer, sizeof buffer - 4};
+    memset(buffer, 0xEE, sizeof buffer);
+    spoil(pieces[1], faults, COUNT(faults));
+    restart_put_word(world.settings, 0, 0);
+    restart_put_word(flat, HEAD_WORDS + 3 * RUNS - 1, 0);
+    check_call(&from_flat, pieces, 0, 1);
+    pieces[2].length = sizeof buffer;
+    check_call(&from_flat, pieces, 0, 2);
+    restart_put_word(world.settings, 0, 7);
+    check_call(&from_flat, pieces, 0, 19);
+    pieces[1].length -= 4;
+    check_call(&from_flat, pieces, 0, 20);
+    restart_put_word(flat, HEAD_WORDS + 3 * RUNS - 1, 1);
+    check_call(&from_flat, pieces, 0, 21);
+    restart_put_word(flat, COUNT_AT, 2);
+    pieces[1].length = 4 * (HEAD_WORDS + 3 * 2);
+    mend(&from_flat, pieces[1], faults, COUNT(faults));
+    check_call(&from_flat, pieces, 0, 16777216 + 24);
 }
 
 /* ---- Which record is told ---- */
@@ -415,6 +457,7 @@ int main(void)
 {
     messages();
     contents();
+    flat_reports();
     told_records();
     states();
     reports();

@@ -184,6 +184,17 @@ static void there_and_back(const struct entry *reading, const struct entry *writ
     made(writing, to_buffer, 0, RESTART_LENGTH);
 }
 
+/* Makes a flat report of the message and turns it back. */
+static void flat_and_back(void)
+{
+    const struct piece to_contents[3] = {on_settings, on_message, on_contents};
+    made(&to_flat, to_contents, 0, RESTART_LENGTH);
+    const struct piece words = {contents, 4 * (size_t)restart_length_of(job.answer)};
+    const struct piece to_buffer[3] = {on_settings, words, on_buffer};
+    made(&from_flat, to_buffer, 0, RESTART_LENGTH);
+    check_bytes("the message that comes back", buffer, message, sizeof message);
+}
+
 static void gather(void)
 {
     const struct piece lent[4] = {on_settings, on_state, on_desk, on_message};
@@ -251,6 +262,7 @@ int main(int count, char **arguments)
     put_report(0);
     made(&check_settings, &on_settings, 0, RESTART_PLAIN);
     there_and_back(&read_report, &write_report, on_message);
+    flat_and_back();
     made(&open_view, NULL, 31, RESTART_VIEW);
     restart_once();
     for (size_t i = 0; i < ENTRIES; i++) {

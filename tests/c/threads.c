@@ -19,6 +19,7 @@ static size_t lengths[ORDERS];
 struct work {
     struct world world;                           /* this thread's own */
     uint8_t orders[ORDERS][RESTART_BUFFER_BYTES]; /* of the shared state */
+    uint8_t flat[ORDERS][RESTART_BUFFER_BYTES];   /* of the shared messages */
     int good;
 };
 
@@ -54,10 +55,27 @@ static int writes_orders(struct work *work)
     return 1;
 }
 
+/* Makes a flat report of each shared message, and the message of that. */
+static int turns(struct work *work)
+{
+    for (uint32_t node = 0; node < ORDERS; node++) {
+        uint8_t back[RESTART_BUFFER_BYTES];
+        uint32_t flat = restart_to_flat(alone->settings, sizeof alone->settings, messages[node],
+                                        lengths[node], work->flat[node], RESTART_BUFFER_BYTES);
+        uint32_t turned =
+            restart_from_flat(alone->settings, sizeof alone->settings, work->flat[node],
+                              4 * (size_t)restart_length_of(flat), back, sizeof back);
+        if (4 * (size_t)restart_length_of(turned) != lengths[node] ||
+            memcmp(back, messages[node], lengths[node]) != 0)
+            return 0;
+    }
+    return 1;
+}
+
 static void *run(void *given)
 {
     struct work *work = (struct work *)given;
-    work->good = plans(work) && writes_orders(work);
+    work->good = plans(work) && writes_orders(work) && turns(work);
     return NULL;
 }
 
@@ -83,6 +101,7 @@ int main(void)
         check_bytes("its state", works[i].world.state, world.state, sizeof world.state);
         check_bytes("its desk", works[i].world.desk, world.desk, sizeof world.desk);
         check_bytes("its orders", works[i].orders[0], one.orders[0], sizeof one.orders);
+        check_bytes("its flat reports", works[i].flat[0], one.flat[0], sizeof one.flat);
     }
     return summary();
 }

@@ -255,7 +255,8 @@ fn word_2(random: &mut Random, contents: &mut Contents) {
     }
 }
 
-fn shard_mask(random: &mut Random, settings: &Settings, contents: &mut Contents) {
+/// Damages the members mask of a shard.
+pub fn shard_mask(random: &mut Random, settings: &Settings, contents: &mut Contents) {
     let (members, node) = (contents.members, contents.node.min(31));
     let other = random.between(0, settings.shards - 1);
     let others = contents.shard_mask(other);

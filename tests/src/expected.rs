@@ -1,6 +1,7 @@
 //! What the reference says each call of the C interface must do.
 
 use crate::library::ACCEPTED;
+use reference::flat::{self, Converted};
 use reference::message::{self, Contents, Form, Triple};
 use reference::number::{self, refuse_if, Number, Refusal};
 use reference::{settings, words};
@@ -60,6 +61,30 @@ fn write_words(
     message::write_with(form, &settings, &contents)
 }
 
+/// Turns a flat report given as bytes into ours.
+pub fn from_flat(settings: &[u8], flat: &[u8], buffer: usize) -> Expected {
+    converted(from_flat_words(settings, flat, buffer))
+}
+
+fn from_flat_words(settings: &[u8], flat: &[u8], buffer: usize) -> Result<Converted, Refusal> {
+    refuse_if(buffer != BUFFER_BYTES, number::LENT_LENGTH)?;
+    let settings = parse_settings(settings)?;
+    let flat = words::from_bytes(flat).ok_or(number::FLAT_LENGTH)?;
+    flat::from_flat_with(&settings, &flat)
+}
+
+/// Turns a report of ours, given as bytes, into a flat one.
+pub fn to_flat(settings: &[u8], message: &[u8], buffer: usize) -> Expected {
+    converted(to_flat_words(settings, message, buffer))
+}
+
+fn to_flat_words(settings: &[u8], message: &[u8], buffer: usize) -> Result<Converted, Refusal> {
+    refuse_if(buffer != BUFFER_BYTES, number::LENT_LENGTH)?;
+    let settings = parse_settings(settings)?;
+    let message = words::from_bytes(message).ok_or(number::LENGTH)?;
+    flat::to_flat_with(&settings, &message)
+}
+
 fn parse_settings(bytes: &[u8]) -> Result<settings::Settings, Number> {
     let words = words::from_bytes(bytes).ok_or(number::SETTINGS)?;
     settings::parse(&words)
@@ -67,13 +92,18 @@ fn parse_settings(bytes: &[u8]) -> Result<settings::Settings, Number> {
 
 /// The answer and the whole buffer: the words, then zeros.
 fn outcome(result: Result<Vec<u32>, Refusal>) -> Expected {
+    converted(result.map(|written| Converted {
+        buffer: words::padded(&written, message::MOST_WORDS),
+        length: written.len(),
+    }))
+}
+
+/// The same of a whole buffer and the length before its zeros.
+fn converted(result: Result<Converted, Refusal>) -> Expected {
     match result {
-        Ok(written) => Expected {
-            answer: ACCEPTED + written.len() as u32,
-            output: Some(words::to_bytes(&words::padded(
-                &written,
-                message::MOST_WORDS,
-            ))),
+        Ok(converted) => Expected {
+            answer: ACCEPTED + converted.length as u32,
+            output: Some(words::to_bytes(&converted.buffer)),
         },
         Err(refusal) => Expected {
             answer: refusal.word(),

@@ -5,6 +5,8 @@
 //! before, against the page after or in between: reading or writing one byte
 //! outside ends the program with a message, and writing anywhere else in the
 //! pages is found by looking at the guard bytes.
+//!
+//! Pieces of more than 4 GiB are lent for reading alone and take no room.
 
 use std::ffi::{c_int, c_long, c_void};
 use std::sync::atomic::{AtomicU64, Ordering};
@@ -22,6 +24,7 @@ extern "C" {
         o: c_long,
     ) -> *mut c_void;
     fn mprotect(at: *mut c_void, len: usize, prot: c_int) -> c_int;
+    fn munmap(at: *mut c_void, len: usize) -> c_int;
     fn signal(number: c_int, handler: usize) -> usize;
     fn write(fd: c_int, bytes: *const c_void, len: usize) -> isize;
     fn _exit(status: c_int) -> !;
@@ -137,6 +140,45 @@ impl Lent {
 
 fn all_guard(bytes: &[u8]) -> bool {
     bytes.iter().fold(0, |all, &byte| all | byte ^ GUARD) == 0
+}
+
+/// A piece of any length, to be read only: some bytes, then zeros, which take
+/// no room.
+pub struct Sparse {
+    at: *mut u8,
+    length: usize,
+}
+
+impl Sparse {
+    /// The bytes, and zeros to this length, which is not less than a page.
+    pub fn new(bytes: &[u8], length: usize) -> Sparse {
+        assert!(bytes.len() <= PAGE && PAGE <= length);
+        let none = std::ptr::null_mut();
+        // SAFETY: a fresh private mapping, whose first page is written and made
+        // read-only like the rest.
+        let at = unsafe {
+            let all = mmap(none, length, PROT_READ, MAP_PRIVATE_ANONYMOUS, -1, 0);
+            assert!(all as isize != -1, "no addresses to lend");
+            assert_eq!(mprotect(all, PAGE, PROT_READ_WRITE), 0);
+            std::ptr::copy_nonoverlapping(bytes.as_ptr(), all.cast(), bytes.len());
+            assert_eq!(mprotect(all, PAGE, PROT_READ), 0);
+            all.cast()
+        };
+        Sparse { at, length }
+    }
+
+    /// A pointer for a call that may not write, but may be lent what it would
+    /// write.
+    pub fn pointer(&self) -> *mut u8 {
+        self.at
+    }
+}
+
+impl Drop for Sparse {
+    fn drop(&mut self) {
+        // SAFETY: the mapping is this value's own.
+        unsafe { munmap(self.at.cast(), self.length) };
+    }
 }
 
 /// The bytes in hex, a space after each word.

@@ -9,8 +9,12 @@
 //! - `damage`: faults put into them
 //! - `records`: what a refusal with a record's index was about
 //! - `messages`: the inputs of the `messages` program and their comparison
+//! - `flat`: the inputs of the `flat` program, and their round trips
+//! - `flat_faults`, `flat_traps`: faults put into flat reports, and what the
+//!   inputs came to
+//! - `flat_huge`: lengths of more than 4 GiB
 //! - `open_views`: questions on open views and their comparison
-//! - `stored`: stored calls of the readers and writers
+//! - `stored`: stored calls of the readers, writers and converters
 //! - `world`: groups whose nodes report
 //! - `sequences`: events that a state's phase takes
 //! - `calls`: one call of an event, what the reference says of it, and their
@@ -32,6 +36,10 @@ pub mod events;
 pub mod expected;
 pub mod failing;
 pub mod feeding;
+pub mod flat;
+pub mod flat_faults;
+pub mod flat_huge;
+pub mod flat_traps;
 pub mod generate;
 pub mod lent;
 pub mod library;

@@ -140,6 +140,8 @@ pub struct Library {
     pub read_order: Convert,
     pub write_report: Convert,
     pub write_order: Convert,
+    pub from_flat: Convert,
+    pub to_flat: Convert,
     pub open_view: OpenView,
 }
 
@@ -176,6 +178,22 @@ mod linked {
             settings_len: usize,
             contents: *const u8,
             contents_len: usize,
+            buffer: *mut u8,
+            buffer_len: usize,
+        ) -> u32;
+        pub fn restart_from_flat(
+            settings: *const u8,
+            settings_len: usize,
+            flat: *const u8,
+            flat_len: usize,
+            buffer: *mut u8,
+            buffer_len: usize,
+        ) -> u32;
+        pub fn restart_to_flat(
+            settings: *const u8,
+            settings_len: usize,
+            message: *const u8,
+            message_len: usize,
             buffer: *mut u8,
             buffer_len: usize,
         ) -> u32;
@@ -263,6 +281,8 @@ pub fn tested() -> Library {
         read_order: linked::restart_read_order,
         write_report: linked::restart_write_report,
         write_order: linked::restart_write_order,
+        from_flat: linked::restart_from_flat,
+        to_flat: linked::restart_to_flat,
         open_view: linked::restart_open_view,
     }
 }

@@ -1,14 +1,15 @@
-//! The inputs of the `messages` program, and the comparison of one input.
+//! The inputs of the `messages` program, and the comparison of one input, of the
+//! `flat` program too.
 
 use crate::expected::{self, Expected, BUFFER_BYTES};
 use crate::lent::{Lent, Place};
 use crate::library::{Answer, Convert, Library, ACCEPTED};
 use crate::random::Random;
-use crate::{damage, generate, records};
+use crate::{damage, flat, generate, records};
 use reference::message::Form;
 use reference::{settings, words};
 
-/// The functions of the C interface.
+/// The functions on settings and messages.
 #[derive(Clone, Copy, Debug, PartialEq, Eq, PartialOrd, Ord)]
 pub enum Call {
     CheckSettings,
@@ -16,10 +17,13 @@ pub enum Call {
     ReadOrder,
     WriteReport,
     WriteOrder,
+    FromFlat,
+    ToFlat,
 }
 
 impl Call {
-    pub const ALL: [Call; 5] = [
+    /// The calls that the `messages` program makes.
+    pub const MESSAGES: [Call; 5] = [
         Call::CheckSettings,
         Call::ReadReport,
         Call::ReadOrder,
@@ -34,8 +38,9 @@ impl Call {
         }
     }
 
+    /// The call is given a message.
     fn reads(self) -> bool {
-        matches!(self, Call::ReadReport | Call::ReadOrder)
+        matches!(self, Call::ReadReport | Call::ReadOrder | Call::ToFlat)
     }
 }
 
@@ -44,7 +49,8 @@ impl Call {
 pub struct Input {
     pub call: Call,
     pub settings: Vec<u8>,
-    /// The message of a reader, the contents of a writer.
+    /// The message of a reader, the contents of a writer, the flat report or
+    /// message of a converter.
     pub given: Vec<u8>,
     /// What the buffer holds before the call.
     pub buffer: Vec<u8>,
@@ -62,9 +68,21 @@ pub fn input(seed: u64, index: u64) -> Input {
         67..=83 => Call::WriteReport,
         _ => Call::WriteOrder,
     };
-    let mut settings = generate::settings_words(random);
+    let settings = generate::settings_words(random);
     let given = given(random, call, &settings);
     let bad_settings = if call == Call::CheckSettings { 70 } else { 5 };
+    lent(random, call, settings, bad_settings, given)
+}
+
+/// A call with what it is given and these settings, which are to be bad in so
+/// many of a hundred cases.
+pub fn lent(
+    random: &mut Random,
+    call: Call,
+    mut settings: Vec<u32>,
+    bad_settings: u32,
+    given: Vec<u8>,
+) -> Input {
     if random.chance(bad_settings) {
         damage::settings(random, &mut settings);
     }
@@ -101,7 +119,7 @@ fn place(random: &mut Random) -> Place {
 }
 
 /// The message or contents of a call.
-fn given(random: &mut Random, call: Call, settings: &[u32]) -> Vec<u8> {
+pub fn given(random: &mut Random, call: Call, settings: &[u32]) -> Vec<u8> {
     let mut words = if random.chance(3) {
         random_words(random)
     } else {
@@ -117,7 +135,8 @@ fn given(random: &mut Random, call: Call, settings: &[u32]) -> Vec<u8> {
     bytes
 }
 
-fn random_words(random: &mut Random) -> Vec<u32> {
+/// A few words, all small or any.
+pub fn random_words(random: &mut Random) -> Vec<u32> {
     let length = random.between(0, 40);
     let greatest = random.pick(&[3, 40, 2000, u32::MAX]);
     (0..length).map(|_| random.between(0, greatest)).collect()
@@ -184,13 +203,20 @@ pub struct Desk {
     buffer: Lent,
 }
 
-impl Default for Desk {
-    fn default() -> Desk {
+impl Desk {
+    /// Pages for inputs that are given up to so many bytes.
+    pub fn new(most_given: usize) -> Desk {
         Desk {
             settings: Lent::new(4096),
-            given: Lent::new(4096),
+            given: Lent::new(most_given),
             buffer: Lent::new(4096),
         }
+    }
+}
+
+impl Default for Desk {
+    fn default() -> Desk {
+        Desk::new(4096)
     }
 }
 
@@ -203,6 +229,8 @@ pub fn compare(library: &Library, desk: &mut Desk, input: &Input) -> Result<u32,
             answer: expected::check_settings(settings),
             output: None,
         },
+        Call::FromFlat => expected::from_flat(settings, given, length),
+        Call::ToFlat => expected::to_flat(settings, given, length),
         call if call.reads() => expected::read(call.form(), settings, given, length),
         call => expected::write(call.form(), settings, given, length),
     };
@@ -219,9 +247,46 @@ pub fn compare(library: &Library, desk: &mut Desk, input: &Input) -> Result<u32,
         return Err("the buffer differs".into());
     }
     if accepted {
-        round_trip(library, desk, input, answer, &after)?;
+        let again = &mut |call: Call, given: &[u8]| again(library, desk, input, call, given);
+        let length = (answer - ACCEPTED) as usize * 4;
+        match input.call {
+            Call::FromFlat => flat::there_and_back(again, &input.given, length, &after)?,
+            Call::ToFlat => flat::back_and_there(again, &input.given, length, &after)?,
+            _ => round_trip(again, input, length, &after)?,
+        }
     }
     Ok(answer)
+}
+
+/// Makes another call with the settings of an input: the bytes before the zeros
+/// and the whole buffer.
+pub type Again<'a> = dyn FnMut(Call, &[u8]) -> Result<(Vec<u8>, Vec<u8>), String> + 'a;
+
+fn again(
+    library: &Library,
+    desk: &mut Desk,
+    input: &Input,
+    call: Call,
+    given: &[u8],
+) -> Result<(Vec<u8>, Vec<u8>), String> {
+    let input = Input {
+        call,
+        given: given.to_vec(),
+        ..input.clone()
+    };
+    let (answer, after) = self::call(library, desk, &input)?;
+    let length = answer.wrapping_sub(ACCEPTED) as usize * 4;
+    if length > after.len() {
+        return Err(format!("round trip: {call:?} answers {answer}"));
+    }
+    Ok((after[..length].to_vec(), after))
+}
+
+/// A message as it lies in a slot: with zeros to 512 words.
+pub fn slot(message: &[u8]) -> Vec<u8> {
+    let mut slot = message.to_vec();
+    slot.resize(BUFFER_BYTES, 0);
+    slot
 }
 
 /// Calls the library. Gives its answer and the buffer afterwards, or says that
@@ -264,6 +329,8 @@ fn call_lent(
         Call::ReadOrder => library.read_order,
         Call::WriteReport => library.write_report,
         Call::WriteOrder => library.write_order,
+        Call::FromFlat => library.from_flat,
+        Call::ToFlat => library.to_flat,
     };
     // SAFETY: the pointers are to lent memory of those lengths, disjoint.
     unsafe {
@@ -281,46 +348,28 @@ fn call_lent(
 /// What was accepted can be written and read back to the same contents, from
 /// its own length and from 512 words.
 fn round_trip(
-    library: &Library,
-    desk: &mut Desk,
+    again: &mut Again,
     input: &Input,
-    answer: u32,
+    length: usize,
     output: &[u8],
 ) -> Result<(), String> {
     let (reader, writer) = match input.call.form() {
         Form::Report => (Call::ReadReport, Call::WriteReport),
         Form::Order => (Call::ReadOrder, Call::WriteOrder),
     };
-    let again = |desk: &mut Desk, call: Call, given: Vec<u8>| {
-        let input = Input {
-            call,
-            given,
-            ..input.clone()
-        };
-        let (answer, after) = self::call(library, desk, &input)?;
-        let length = answer.wrapping_sub(ACCEPTED) as usize * 4;
-        if length > after.len() {
-            return Err(format!("round trip: {call:?} answers {answer}"));
-        }
-        Ok((after[..length].to_vec(), after))
-    };
-    let length = (answer - ACCEPTED) as usize * 4;
+    let output = &output[..length];
     let (contents, message) = if input.call.reads() {
-        let mut slot = input.given.clone();
-        slot.resize(BUFFER_BYTES, 0);
-        let (from_slot, _) = again(desk, reader, slot)?;
-        let (message, _) = again(desk, writer, output[..length].to_vec())?;
-        if from_slot != output[..length] {
+        let (from_slot, _) = again(reader, &slot(&input.given))?;
+        let (message, _) = again(writer, output)?;
+        if from_slot != output {
             return Err("round trip: zeros after the message change its contents".into());
         }
-        (output[..length].to_vec(), message)
+        (output.to_vec(), message)
     } else {
-        (input.given.clone(), output[..length].to_vec())
+        (input.given.clone(), output.to_vec())
     };
-    let mut slot = message.clone();
-    slot.resize(BUFFER_BYTES, 0);
-    let (back, _) = again(desk, reader, message)?;
-    let (from_slot, _) = again(desk, reader, slot)?;
+    let (back, _) = again(reader, &message)?;
+    let (from_slot, _) = again(reader, &slot(&message))?;
     if back != contents || from_slot != contents {
         return Err("round trip: what was written is read to other contents".into());
     }

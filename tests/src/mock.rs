@@ -20,6 +20,12 @@ pub trait Behaviour {
     fn write(form: Form, settings: &[u8], contents: &[u8], buffer: usize) -> Expected {
         expected::write(form, settings, contents, buffer)
     }
+    fn from_flat(settings: &[u8], flat: &[u8], buffer: usize) -> Expected {
+        expected::from_flat(settings, flat, buffer)
+    }
+    fn to_flat(settings: &[u8], message: &[u8], buffer: usize) -> Expected {
+        expected::to_flat(settings, message, buffer)
+    }
     fn open_view(question: &Question) -> u32 {
         open_views::expected(question)
     }
@@ -41,6 +47,8 @@ pub fn library<B: Behaviour>() -> Library {
         read_order: read_order::<B>,
         write_report: write_report::<B>,
         write_order: write_order::<B>,
+        from_flat: from_flat::<B>,
+        to_flat: to_flat::<B>,
         open_view: open_view::<B>,
     }
 }
@@ -66,7 +74,7 @@ unsafe extern "C" fn check_settings<B: Behaviour>(settings: *const u8, length: u
 }
 
 macro_rules! convert {
-    ($name:ident, $call:ident, $form:expr) => {
+    ($name:ident, $call:ident $(, $form:expr)?) => {
         unsafe extern "C" fn $name<B: Behaviour>(
             settings: *const u8,
             settings_len: usize,
@@ -77,7 +85,7 @@ macro_rules! convert {
         ) -> u32 {
             let settings = from_raw_parts(settings, settings_len);
             let input = from_raw_parts(input, input_len);
-            let expected = B::$call($form, settings, input, buffer_len);
+            let expected = B::$call($($form,)? settings, input, buffer_len);
             if let Some(output) = expected.output {
                 let buffer = std::slice::from_raw_parts_mut(buffer, output.len());
                 buffer.copy_from_slice(&output);
@@ -91,6 +99,8 @@ convert!(read_report, read, Form::Report);
 convert!(read_order, read, Form::Order);
 convert!(write_report, write, Form::Report);
 convert!(write_order, write, Form::Order);
+convert!(from_flat, from_flat);
+convert!(to_flat, to_flat);
 
 /// The table of a stand-in's events.
 pub fn planner<B: Behaviour>() -> Planner {

@@ -1,9 +1,12 @@
-//! Stored calls of the readers and writers, as text (tests/regressions/messages):
+//! Stored calls of the readers, writers and converters, as text
+//! (tests/regressions/messages and tests/regressions/flat):
 //!
 //! ```text
 //! settings WORD ..
 //! read_report WORD .. = ANSWER         read_order alike: the words of a message
 //! write_report WORD .. = ANSWER        write_order alike: the words of contents
+//! from_flat WORD .. = ANSWER           the words of a flat report
+//! to_flat WORD .. = ANSWER             the words of a message
 //! ```
 //!
 //! The answers are written by hand from the specification; each call is compared
@@ -17,9 +20,9 @@ use crate::regressions;
 use reference::words;
 use std::path::PathBuf;
 
-/// Makes every stored call and gives their number.
-pub fn play_all(library: &Library) -> Result<usize, String> {
-    let directory = regressions::directory().join("messages");
+/// Makes every stored call of a folder and gives their number.
+pub fn play_all(library: &Library, folder: &str) -> Result<usize, String> {
+    let directory = regressions::directory().join(folder);
     let files = std::fs::read_dir(directory).map_err(|error| error.to_string())?;
     let mut paths: Vec<PathBuf> = files.flatten().map(|file| file.path()).collect();
     paths.sort();
@@ -60,7 +63,7 @@ fn made(
     name: &str,
     rest: &str,
 ) -> Result<(), String> {
-    let (given, answer) = rest.split_once(" = ").ok_or("no answer")?;
+    let (given, answer) = rest.split_once("= ").ok_or("no answer")?;
     let input = Input {
         call: call(name)?,
         settings: words::to_bytes(settings),
@@ -81,6 +84,8 @@ fn call(name: &str) -> Result<Call, String> {
         "read_order" => Ok(Call::ReadOrder),
         "write_report" => Ok(Call::WriteReport),
         "write_order" => Ok(Call::WriteOrder),
+        "from_flat" => Ok(Call::FromFlat),
+        "to_flat" => Ok(Call::ToFlat),
         _ => Err(format!("{name} is no call")),
     }
 }
@@ -98,7 +103,9 @@ mod tests {
     #[test]
     fn the_stored_calls() {
         let library = mock::library::<Faithful>();
-        assert!(play_all(&library).is_ok_and(|calls| calls > 50));
+        for folder in ["messages", "flat"] {
+            assert!(play_all(&library, folder).is_ok_and(|calls| calls > 50));
+        }
     }
 
     #[test]

@@ -3,7 +3,7 @@ import argparse
 import sys
 
 from .answers import BadAnswer
-from .commands import diff, draw, explain, join, page, split, text, watch, windows, words
+from .commands import convert, diff, draw, explain, join, page, split, text, watch, windows, words
 from .files import Trouble, Unfit
 from .lines import BadText
 from .model import Refused
@@ -15,6 +15,7 @@ COMMANDS = [
     ("text", text, "turn words into text"),
     ("join", join, "make one input from a file with settings and files with reports"),
     ("split", split, "take an input apart into a file with settings and files with reports, as watch reads them"),
+    ("convert", convert, "turn a folder of flat reports of the former seller into ours, or back"),
     ("explain", explain, "explain what restart answers to an input, and say which machines to switch on"),
     ("draw", draw, "draw what restart answers to an input, a plan or a wait, as SVG"),
     ("page", page, "write drawing, table and explanation as one file of HTML"),

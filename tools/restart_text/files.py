@@ -1,8 +1,10 @@
 """Files that the commands read and write."""
+import os
 import sys
+from dataclasses import replace
 
 from . import decode, words
-from .inputs import Input, is_text, load
+from .inputs import is_text, load
 from .lines import BadText, sections
 from .model import Refused
 from .texts import settings_of
@@ -42,6 +44,33 @@ def write(path, data):
         raise Trouble("cannot write %s: %s" % (path or "standard output", error.strerror)) from None
 
 
+def write_new(path, data, like=None):
+    """Writes a file that is not there yet, with the time of the file `like`."""
+    made = done = False
+    try:
+        with open(path, "xb") as file:
+            made = True
+            file.write(data)
+        if like:
+            state = os.stat(like)
+            os.utime(path, ns=(state.st_atime_ns, state.st_mtime_ns))
+        done = True
+    except FileExistsError:
+        raise Trouble("%s is there already, and is not overwritten" % path) from None
+    except OSError as error:
+        raise Trouble("cannot write %s: %s" % (path, error.strerror)) from None
+    finally:
+        if made and not done:
+            os.remove(path)
+
+
+def make_folder(path):
+    try:
+        os.makedirs(path, exist_ok=True)
+    except OSError as error:
+        raise Trouble("cannot make %s: %s" % (path, error.strerror)) from None
+
+
 def write_lines(path, lines):
     write(path, ("\n".join(lines) + "\n").encode())
 
@@ -61,7 +90,7 @@ def placed(path, work):
 def read_input(path, names=None):
     """The input, text or words, with the machines' names of the text or of a file that has them."""
     given = placed(path, lambda: load(read(path)))
-    return Input(given.blocks, given.lines, read_names(names) if names else given.names, given.files)
+    return replace(given, names=read_names(names) if names else given.names)
 
 
 def read_names(path):

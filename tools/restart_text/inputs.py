@@ -2,6 +2,7 @@
 from dataclasses import dataclass, field
 
 from . import decode, encode, printing, words
+from .flat import looks_flat
 from .lines import BadText, sections
 from .model import Refused
 from .texts import report_of, settings_of
@@ -13,6 +14,7 @@ class Input:
     lines: list  # where the input was a text, the line at which each block begins
     names: tuple = ()  # each machine's name or None, where a text gave names
     files: list = field(default_factory=list)  # where each block has a file of its own, its path
+    flat: bool = False  # whether the whole looks like a flat report of the former seller
 
     @property
     def data(self):
@@ -29,7 +31,9 @@ def is_text(data):
 
 def load(data):
     """The input that these bytes are, text or words."""
-    return from_text(data.decode("utf-8-sig")) if is_text(data) else Input(words.split(data), [])
+    if is_text(data):
+        return from_text(data.decode("utf-8-sig"))
+    return Input(words.split(data), [], flat=len(data) % 4 == 0 and looks_flat(words.from_bytes(data)))
 
 
 def from_text(text):

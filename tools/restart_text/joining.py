@@ -1,6 +1,7 @@
 """One input from a file with settings and files with reports."""
 from . import decode, encode, words
 from .files import Unfit, name_of, placed, read
+from .flat import LOOKS_FLAT, looks_flat
 from .inputs import Input, from_text, is_text
 from .lines import sections
 from .model import Refused
@@ -25,7 +26,8 @@ def first_of(path, data):
     try:
         decode.settings_from(given.blocks[0])
     except Refused as refused:
-        raise Unfit("%s is not settings: %s" % (name_of(path), refused.why)) from None
+        hint = "; it " + LOOKS_FLAT if looks_flat(given.blocks[0]) else ""
+        raise Unfit("%s is not settings: %s%s" % (name_of(path), refused.why, hint)) from None
     return Input(given.blocks, [], given.names, [path] * len(given.blocks))
 
 
@@ -38,7 +40,8 @@ def reports_in(path, data, settings, anyway=False):
         decode.report_from(block, settings)
     except Refused as refused:
         if not anyway:
-            raise Unfit("%s is no report for these settings: %s" % (name_of(path), refused)) from None
+            hint = "; it " + LOOKS_FLAT if looks_flat(block) else ""
+            raise Unfit("%s is no report for these settings: %s%s" % (name_of(path), refused, hint)) from None
     return [block]
 
 

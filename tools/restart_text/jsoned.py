@@ -1,11 +1,12 @@
-"""An explanation as a value for JSON; docs/explain.schema.json says what it has."""
+"""An explanation and a conversion as values for JSON; docs/explain.schema.json and docs/convert.schema.json say what they have."""
 from .answers import Plan, Wait
+from .converting import last_lines
 from .explaining import stale
 from .gathering import holding, waits
 from .planning import log_of, moves, not_kept
 from .waiting import wait_lines
 
-SCHEMA = 1
+SCHEMA = CONVERT_SCHEMA = 1
 
 
 def json_of(given, told):
@@ -99,3 +100,27 @@ def refusal_value(given, told):
     return {"block": fault, "words": record, "file": given.files[fault] if fault is not None and fault < len(given.files) else None,
             "line": given.lines[fault] if fault is not None and fault < len(given.lines) else None, "why": refused.why,
             "without": [without_value(one) for one in told.advice.without]}
+
+
+def conversion_value(folder, outcomes):
+    return {"schema": CONVERT_SCHEMA, "target": folder.target, "files": [outcome_value(folder, outcome) for outcome in outcomes],
+            "text": last_lines(folder, outcomes)}
+
+
+def outcome_value(folder, outcome):
+    taken = [reading for reading in outcome.readings if reading.words]
+    return {"file": outcome.name, "happened": outcome.happened, "output": outcome.output,
+            "readings": [reading_value(reading) for reading in outcome.readings],
+            "dropped": [place_value(place) for reading in taken for place in reading.dropped], "text": outcome.line,
+            "to_do": outcome.advice[1] if outcome.advice else None}
+
+
+def reading_value(reading):
+    refused = reading.refused
+    return {"as": reading.form, "words": len(reading.words) if reading.words else None, "refusal": {
+        "number": refused.number, "record": refused.index, "places": [place_value(place) for place in getattr(refused, "places", ())],
+        "why": refused.why} if refused else None}
+
+
+def place_value(place):
+    return {"part": place.part, "number": place.number, "word": place.first, "words": list(place.words)}

@@ -2,6 +2,7 @@
 refused."""
 from . import decode, encode, inputs, printing, state, words
 from .files import Unfit
+from .flat import LOOKS_FLAT, looks_flat
 from .model import MOST_NODES, MOST_RECORDS, Refused
 
 SLOT = 4 * MOST_RECORDS
@@ -15,8 +16,12 @@ def text_of(kind, data, settings=None):
         return READERS[kind](data, settings)
     except Refused as refused:
         other = [name for name in READERS if name != kind and fits(name, data)]
-        hint = "; it looks like %s: --as %s" % (NAMES[other[0]], other[0]) if other else ""
+        hint = "; it looks like %s: --as %s" % (NAMES[other[0]], other[0]) if other else flat_hint(data)
         raise Unfit("this is not %s: %s%s" % (NAMES[kind], refused.why, hint)) from None
+
+
+def flat_hint(data):
+    return "; it " + LOOKS_FLAT if len(data) % 4 == 0 and looks_flat(words.from_bytes(data)) else ""
 
 
 def fits(kind, data):

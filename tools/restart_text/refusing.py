@@ -1,5 +1,6 @@
 """A refusal in words: when its number is given, what is wrong in the block at fault, and what to do."""
 from .answers import Number
+from .flat import LOOKS_FLAT, looks_flat
 
 # In the order in which they are checked.
 TABLE = {
@@ -7,6 +8,9 @@ TABLE = {
     2: "settings",
     3: "state unsound",
     4: "event not in its phase",
+    19: "flat report whose counts do not explain its length, or with a termination word above 1",
+    20: "flat report with a triple of count 0",
+    21: "flat report of over 128 records",
     5: "words 0, over 512, not a multiple of 4",
     6: "node not below N",
     7: "view outside its limits, mask with a bit from N up or without the head's node",
@@ -21,6 +25,7 @@ TABLE = {
     13: "kept view's termination differs",
     14: "node not held; in fetched or prepared, marked already",
 }
+BETWEEN_REPORTS = (18, 12, 13)  # given for a report that is one by itself
 OTHER_GROUP = "Check that this report belongs to this group and that the settings are those the group ran with."
 DAMAGED = "The report is damaged or cut. Have the machine write it again, or copy it again from its disk."
 CUT_OFF = ("The report's end is missing, as of a file that was cut off. Copy it again from the machine's disk, whole; if it is the same"
@@ -66,11 +71,17 @@ def refusal_lines(answer, fault, given, gathered):
 
 
 def to_do(answer, fault, given):
-    """What to do about a refusal. A next index past the message's end is that of a cut file."""
-    if answer.number == 8 and fault is not None:
-        block = given.blocks[fault]
-        if block[4 * answer.index + 3 : 4 * answer.index + 4] >= [len(block) // 4]:
-            return CUT_OFF
+    """What to do about a refusal. A flat report is told as such, alone in a file or as a block."""
+    block = given.blocks[fault] if fault else []
+    if looks_flat(block) and answer.number not in BETWEEN_REPORTS or given.flat and answer.number == 2:
+        return "This %s." % LOOKS_FLAT
+    return message_to_do(answer, block)
+
+
+def message_to_do(answer, block):
+    """A next index past the message's end is that of a cut file."""
+    if answer.number == 8 and block[4 * answer.index + 3 : 4 * answer.index + 4] >= [len(block) // 4]:
+        return CUT_OFF
     return ADVICE[answer.number]
 
 

@@ -2,7 +2,7 @@
 import os
 
 from . import words
-from .files import Trouble, write
+from .files import make_folder, write
 
 
 def split(given, folder):
@@ -12,10 +12,7 @@ def split(given, folder):
         node = block[0] if block else 0
         counts[node] = counts.get(node, 0) + 1
         made.append(os.path.join(folder, "reports", "%d-machine-%d.bin" % (counts[node], node)))
-    try:
-        os.makedirs(os.path.join(folder, "reports"), exist_ok=True)
-    except OSError as error:
-        raise Trouble("cannot make %s: %s" % (os.path.join(folder, "reports"), error.strerror)) from None
+    make_folder(os.path.join(folder, "reports"))
     for path, block in zip(made, given.blocks):
         write(path, words.to_bytes(block))
     return made

@@ -16,14 +16,24 @@ SETTINGS = ("settings.txt", "settings.bin")
 def files_in(folder):
     """The settings and the reports of the folder, these in the order in which they were written, each with time and size. Reports
     stand in its folder reports, or where it has none, in itself."""
-    settings = [one for one in (stamped(os.path.join(folder, name)) for name in SETTINGS) if one]
-    place = os.path.join(folder, "reports") if os.path.isdir(os.path.join(folder, "reports")) else folder
+    settings = [one for one in (stamped(path) for path in settings_paths(folder)) if one]
+    place = place_of(folder)
     try:
         names = [name for name in os.listdir(place) if name.endswith(".bin") and not name.startswith(".") and name not in SETTINGS]
     except OSError:
         names = []
     reports = [one for one in (stamped(os.path.join(place, name)) for name in names) if one]
     return tuple(settings[:1] + sorted(reports, key=lambda one: (one[1], one[0])))
+
+
+def settings_paths(folder):
+    return [os.path.join(folder, name) for name in SETTINGS]
+
+
+def place_of(folder):
+    """Where a folder's reports stand."""
+    inner = os.path.join(folder, "reports")
+    return inner if os.path.isdir(inner) else folder
 
 
 def stamped(path):

@@ -1,5 +1,5 @@
-"""Run the tests of restart-text: python3 tools/tests/run.py [RESTART [MONDAYS]], with the programs restart and mondays to test with;
-without one, the first that has been built. Closes with one line `N passed, M failed`."""
+"""Run the tests of restart-text: python3 tools/tests/run.py [RESTART [MONDAYS [LIBRARY]]], with the programs restart and mondays and the
+library to test with; without one, the first that has been built. Closes with one line `N passed, M failed`."""
 import os
 import sys
 import unittest
@@ -8,13 +8,13 @@ HERE = os.path.dirname(os.path.abspath(__file__))
 
 
 def main():
-    for name, path in zip(("RESTART", "MONDAYS"), sys.argv[1:]):
-        os.environ[name + "_PROGRAM"] = os.path.abspath(path)
+    for name, path in zip(("RESTART_PROGRAM", "MONDAYS_PROGRAM", "RESTART_LIBRARY"), sys.argv[1:]):
+        os.environ[name] = os.path.abspath(path)
     sys.path.insert(0, HERE)
     import support
 
-    for name in ("restart", "mondays"):
-        print("program under test: %s" % os.path.relpath(support.program(name), support.ROOT), flush=True)
+    for path in (support.program("restart"), support.program("mondays"), support.library()):
+        print("under test: %s" % os.path.relpath(path, support.ROOT), flush=True)
     result = unittest.TextTestRunner(stream=sys.stdout, verbosity=0).run(unittest.defaultTestLoader.discover(HERE))
     failed = len({getattr(test, "test_case", test).id() for test, _ in result.failures + result.errors})
     passed = result.testsRun - failed

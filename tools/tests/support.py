@@ -1,4 +1,4 @@
-"""What the tests share: the program under test, the files of the repository, and case A word by word."""
+"""What the tests share: the programs and the library under test, the files of the repository, and case A word by word."""
 import contextlib
 import io
 import os
@@ -22,6 +22,14 @@ def program(name="restart"):
     if not found:
         sys.exit("no program to test: name both, as in tools/tests/run.py target/bin/restart target/bin/mondays")
     return os.path.abspath(found[0])
+
+
+def library():
+    """The library under test: named by RESTART_LIBRARY, else the one that has been built."""
+    found = os.environ.get("RESTART_LIBRARY") or os.path.join(ROOT, "target", "librestart.so.0")
+    if not os.path.exists(found):
+        sys.exit("no library to test: make lib, or name it after the programs, as in tools/tests/run.py RESTART MONDAYS LIBRARY")
+    return os.path.abspath(found)
 
 
 def command(*arguments, data=b""):

@@ -84,9 +84,9 @@ class Readme(unittest.TestCase):
         with tempfile.TemporaryDirectory() as folder:
             for name in ("tools", "examples"):
                 os.symlink(os.path.join(support.ROOT, name), os.path.join(folder, name))
+            paths = dict(os.environ, RESTART=support.program(), MONDAYS=support.program("mondays"), LIBRARY=support.library())
             for line, printed in shown:
-                done = subprocess.run(["bash", "-c", line], cwd=folder, env=dict(os.environ, RESTART=support.program(), MONDAYS=support.program("mondays")),
-                                      capture_output=True, text=True, check=False)
+                done = subprocess.run(["bash", "-c", line], cwd=folder, env=paths, capture_output=True, text=True, check=False)
                 self.assertEqual((done.returncode, done.stderr), (0, ""), line)
                 self.assertEqual(done.stdout, re.sub("^    ", "", printed, flags=re.M), line)
 

@@ -24,12 +24,12 @@ def is_type(value, name):
     return isinstance(value, TYPES[name]) and (name != "integer" or not isinstance(value, bool))
 
 
-def faults(value, schema, at="it"):
-    """Where the value does not fit the schema; of JSON Schema only what ours uses."""
+def faults(value, schema, at="it", root=SCHEMA):
+    """Where the value does not fit the schema, which stands in `root`; of JSON Schema only what ours uses."""
     unknown = set(schema) - KNOWN
     if unknown:
         return ["the schema uses %s, which this test does not know" % unknown]
-    found = faults(value, SCHEMA["$defs"][schema["$ref"].rsplit("/", 1)[1]], at) if "$ref" in schema else []
+    found = faults(value, root["$defs"][schema["$ref"].rsplit("/", 1)[1]], at, root) if "$ref" in schema else []
     types = schema.get("type", [])
     if types and not any(is_type(value, name) for name in ([types] if isinstance(types, str) else types)):
         return found + ["%s is no %s" % (at, types)]
@@ -37,15 +37,15 @@ def faults(value, schema, at="it"):
         found.append("%s is not %r" % (at, schema["const"]))
     if "minimum" in schema and value < schema["minimum"] or "maximum" in schema and value > schema["maximum"]:
         found.append("%s is out of its limits" % at)
-    if "oneOf" in schema and sum(not faults(value, one, at) for one in schema["oneOf"]) != 1:
+    if "oneOf" in schema and sum(not faults(value, one, at, root) for one in schema["oneOf"]) != 1:
         found.append("%s fits none or several" % at)
     for number, item in enumerate(value if "items" in schema else ()):
-        found += faults(item, schema["items"], "%s[%d]" % (at, number))
+        found += faults(item, schema["items"], "%s[%d]" % (at, number), root)
     if isinstance(value, dict):
         found += ["%s lacks %s" % (at, key) for key in schema.get("required", ()) if key not in value]
         for key, item in value.items():
             if key in schema.get("properties", ()):
-                found += faults(item, schema["properties"][key], "%s.%s" % (at, key))
+                found += faults(item, schema["properties"][key], "%s.%s" % (at, key), root)
             elif schema.get("additionalProperties") is False:
                 found.append("%s has %s" % (at, key))
     return found

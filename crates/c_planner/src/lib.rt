@@ -4,6 +4,7 @@ use c_events::Event;
 use message_format::Form;
 ghost use mathlib.Core.Path.{_≡_};
 ghost use Rattle.c_messages.specs.Answers.{checkAnswer, readAnswer, readLeaves, writeAnswer, writeLeaves};
+ghost use Rattle.c_flat.specs.FlatCalls.{fromFlatAnswer, fromFlatLeaves, toFlatAnswer, toFlatLeaves};
 ghost use Rattle.c_events.specs.Events.{freshAnswer, freshLeaves, checkStateAnswer, takeAnswer, takeLeaves};
 ghost use Rattle.c_report.specs.ReportCalls.{reportAnswer, reportLeaves, reportDesk};
 ghost use Rattle.c_decide.specs.Decisions.{DecideCall};
@@ -52,6 +53,24 @@ pub extern "C" fn restart_write_order(settings: &[u8], contents: &[u8], buffer: 
     ensures bytes { λ r. ⌜ now (buffer .exit) ≡ writeLeaves Form.Order (now (settings .entry)) (now (contents .entry)) (now (buffer .entry)) ⌝ }
 {
     c_messages::write_into(Form::Order, settings, contents, buffer)
+}
+
+// Turns a flat report of the former seller into a report: rows 1 (the buffer is not 2048 bytes), 2, 19, 20, 21, 6, 7, 16, 17, 10 and 11.
+#[no_mangle]
+pub extern "C" fn restart_from_flat(settings: &[u8], flat: &[u8], buffer: &mut [u8]) -> u32
+    ensures answer { λ r. ⌜ r ≡ fromFlatAnswer (now (settings .entry)) (now (flat .entry)) (now (buffer .entry)) ⌝ }
+    ensures bytes { λ r. ⌜ now (buffer .exit) ≡ fromFlatLeaves (now (settings .entry)) (now (flat .entry)) (now (buffer .entry)) ⌝ }
+{
+    c_flat::from_flat(settings, flat, buffer)
+}
+
+// Turns a report into a flat one: rows 1 (the buffer is not 2048 bytes), 2 and 5 to 11.
+#[no_mangle]
+pub extern "C" fn restart_to_flat(settings: &[u8], message: &[u8], buffer: &mut [u8]) -> u32
+    ensures answer { λ r. ⌜ r ≡ toFlatAnswer (now (settings .entry)) (now (message .entry)) (now (buffer .entry)) ⌝ }
+    ensures bytes { λ r. ⌜ now (buffer .exit) ≡ toFlatLeaves (now (settings .entry)) (now (message .entry)) (now (buffer .entry)) ⌝ }
+{
+    c_flat::to_flat(settings, message, buffer)
 }
 
 // Whether an open view counts, by the masks of those who sent something of it. It never refuses.

@@ -5,14 +5,14 @@ use native.Mathlib.Nat.{zero-div}
 use mathlib.Core.Bool.{Bool, true, false, cond, _&&_}
 use mathlib.Core.List.{List}
 use mathlib.Core.Logic.{⊎-elim}
-use mathlib.Core.Path.{_≡_, refl, sym, ap, ap₂, _∙_}
+use mathlib.Core.Path.{_≡_, refl, sym, ap, _∙_}
 use lib.Dec.{eqb, leb, ltb}
 use lib.ListN.{length, getD, take, length-take, List·getD-eq-default}
 use lib.Seq.{getD-take}
 use borrow.Author.Tests.{lt-ltb, le-ltb, eq-eqb, eqb-true, leb-true, le-leb}
 use Rattle.base_laws.specs.Bools.{either, and-left, and-right, lt-or-le}
-use Rattle.base_laws.specs.Tables.{tabulate, tabulate-ext, length-tabulate, getD-tabulate, getD-tabulate-past, tabulate-cong, padded, padded-ext, getD-padded, getD-padded-all, length-padded}
-use Rattle.base_bytes.specs.Words.{wordAt, wordsOf, byteAt, bytesOf, byte-lt, length-words, length-bytes, getD-words, getD-bytes, word-lt, words-bytes, bytes-words}
+use Rattle.base_laws.specs.Tables.{tabulate, tabulate-ext, length-tabulate, getD-tabulate, getD-tabulate-past, tabulate-cong, padded, padded-ext, getD-padded-all, length-padded}
+use Rattle.base_bytes.specs.Words.{wordsOf, byteAt, bytesOf, byte-lt, length-words, length-bytes, getD-words, getD-bytes, word-lt, words-bytes, bytes-words}
 use Rattle.base_lent.specs.Lent.{wordCount, wordsIn, count-whole}
 use Rattle.message_format.specs.declared.Contents.{Contents}
 use Rattle.message_format.specs.Chain.{place, following, following-le}
@@ -62,6 +62,18 @@ bytes-taken w n l =
     let few : k < 4 * n = omega (arith, length-take n w) in
     let word : getD (take n w) (k / 4) 0 ≡ getD w (k / 4) 0 = getD-take n w (k / 4) 0 (omega arith) in
     getD-take (4 * n) (bytesOf w) k 0 few ∙ getD-bytes w k (omega arith) ∙ rw word)
+
+-- bytes that have words are whole words
+pub bytes-whole : (b : List ℕ) → Bytes b → 0 < length (wordsIn b) → (bytesOf (wordsIn b) ≡ b) × (length b ≡ 4 * length (wordsIn b))
+unfolding wordsIn wordCount
+bytes-whole b bytes some =
+    ⊎-elim
+    (λ e.
+    let four : length b ≡ 4 * (length b / 4) = omega (arith, eqb-true (length b % 4) 0 e) in
+    let many : length (wordsIn b) ≡ length b / 4 = length-words b (wordCount (length b)) ∙ rw e in
+    (rw e (bytes-words b (length b / 4) four bytes), omega (arith, four, many)))
+    (λ e. let none : length (wordsIn b) ≡ 0 = length-words b (wordCount (length b)) ∙ rw e in absurd (omega (arith, some, none)))
+    (either (eqb (length b % 4) 0))
 
 -- zeros after words are zeros after their bytes
 pub bytes-padded : (w : List ℕ) → length w ≤ 512 → bytesOf (padded 512 w) ≡ padded 2048 (bytesOf w)
@@ -133,14 +145,7 @@ module _ (b : List ℕ) (few : contentsLent b .len ≤ 127) where
 
   -- the bytes are those of the words
   pub lent-whole : Bytes b → bytesOf w ≡ b
-  unfolding wordsIn wordCount
-  lent-whole bytes =
-      ⊎-elim (λ e. rw e (bytes-words b (length b / 4) (omega (arith, eqb-true (length b % 4) 0 e)) bytes))
-      (λ e. absurd (omega (arith, lent-length, none e)))
-      (either (eqb (length b % 4) 0))
-    where
-      none : eqb (length b % 4) 0 ≡ false → length w ≡ 0
-      none e = length-words b (wordCount (length b)) ∙ rw e
+  lent-whole bytes = bytes-whole b bytes (omega (arith, lent-length)) .0
 
   -- and so what they say, as bytes, is what was lent, with zeros after it
   pub lent-back : Bytes b → bytesOf (contentsWords (tidy (contentsLent b))) ≡ padded 2048 b
@@ -156,16 +161,26 @@ pub record WordContents (c : Contents) : Type 0 where
   pub members-word : c .members < 2 ^ 32
   pub body-words : Words (c .body)
 
-cond-lt : (b : Bool) (x y n : ℕ) → x < n → y < n → cond b x y < n
+-- what a test chooses is below what both are
+pub cond-lt : (b : Bool) (x y n : ℕ) → x < n → y < n → cond b x y < n
 cond-lt true x y n h g = h
 cond-lt false x y n h g = g
 
 zero-word : 0 < 2 ^ 32
 zero-word = omega arith
 
-table-words : (n : ℕ) (f : ℕ → ℕ) → ((k : ℕ) → k < n → f k < 2 ^ 32) → Words (tabulate n f)
+-- a table of words, and the first words of words
+pub table-words : (n : ℕ) (f : ℕ → ℕ) → ((k : ℕ) → k < n → f k < 2 ^ 32) → Words (tabulate n f)
 table-words n f h k =
     ⊎-elim (λ l. rw (getD-tabulate n f k 0 l) (h k l)) (λ l. rw (getD-tabulate-past n f k 0 l) zero-word) (lt-or-le k n)
+
+pub words-taken : (l : List ℕ) (n : ℕ) → Words l → Words (take n l)
+words-taken l n h k =
+    ⊎-elim (λ m. rw (getD-take n l k 0 m) (h k))
+    (λ (m : n ≤ k).
+    let past : getD (take n l) k 0 ≡ 0 = List·getD-eq-default (take n l) 0 {n = k} (omega (arith, length-take n l)) in
+    rw past zero-word)
+    (lt-or-le k n)
 
 module _ (c : Contents) (small : WordContents c) where
   head-word : (p : ℕ) → headWord c p < 2 ^ 32

@@ -1,16 +1,13 @@
 -- The calls that write and read messages are inverse: what a call wrote is taken by the reading call and gives the contents that were
 -- lent, byte for byte; and what a call read is taken by the writing call, and what that writes reads the same.
-use Prim.Native.Nat.{ℕ, _*_, _<_, _≤_}
+use Prim.Native.Nat.{ℕ, _*_, _≤_}
 use native.Mathlib.Omega.{arith}
 use mathlib.Core.Bool.{true}
 use mathlib.Core.List.{List}
 use mathlib.Core.Path.{_≡_, sym, ap, _∙_}
-use mathlib.Core.Logic.{⊎-elim}
 use lib.Dec.{eqb}
-use lib.ListN.{length, getD, take, length-take, List·getD-eq-default}
-use lib.Seq.{getD-take}
+use lib.ListN.{length, take}
 use borrow.Author.Tests.{eq-eqb, eqb-true}
-use Rattle.base_laws.specs.Bools.{lt-or-le}
 use Rattle.base_laws.specs.Tables.{padded, length-tabulate}
 use Rattle.base_bytes.specs.Words.{bytesOf}
 use Rattle.base_lent.specs.Lent.{wordsIn}
@@ -23,7 +20,7 @@ use Rattle.message_format.specs.Messages.{contentsOf, messageRefusal, readRefus
 use Rattle.message_format.specs.Passed.{contents-few}
 use Rattle.message_inverse.specs.RoundTrip.{ReadsAs, buffer-reads, read-writes, read-tidy}
 use Rattle.c_messages.specs.Answers.{contentsWord, contentsWords, contentsLength, readRefused, readAnswer, readLeaves, contentsLent, writeRefused, writeLeaves}
-use Rattle.c_round_trips.specs.Lents.{Bytes, Words, words-lent, lent-words, bytes-taken, made-bytes, lent-length, lent-back, message-words, contents-words, lent-small, read-small, read-few, read-lent}
+use Rattle.c_round_trips.specs.Lents.{Bytes, Words, words-lent, lent-words, bytes-taken, made-bytes, lent-length, lent-back, message-words, contents-words, words-taken, lent-small, read-small, read-few, read-lent}
 
 -- ---- what was written is read
 
@@ -108,14 +105,7 @@ module _ (form : Form) (settings message room : List ℕ) (bytes : Bytes message
       ∙ bytes-taken (contentsWords found) (contentsLength found) (omega (arith, read-few (wordsIn message), length-tabulate 512 (contentsWord found)))
 
   taken-words : Words (take (contentsLength found) (contentsWords found))
-  taken-words k =
-      let all = contents-words found (read-small (wordsIn message) (lent-words message bytes)) in
-      ⊎-elim (λ i. rw (getD-take (contentsLength found) (contentsWords found) k 0 i) (all k))
-      (λ i.
-      let past : getD (take (contentsLength found) (contentsWords found)) k 0 ≡ 0 =
-      List·getD-eq-default (take (contentsLength found) (contentsWords found)) 0 {n = k} (omega (arith, length-take (contentsLength found) (contentsWords found))) in
-      rw past (omega arith))
-      (lt-or-le k (contentsLength found))
+  taken-words = words-taken (contentsWords found) (contentsLength found) (contents-words found (read-small (wordsIn message) (lent-words message bytes)))
 
   again-says : contentsLent lentAgain ≡ found
   again-says =

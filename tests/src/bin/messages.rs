@@ -69,7 +69,7 @@ fn main() -> ExitCode {
     lent::watch_ends();
 
     let library = library::tested();
-    match stored::play_all(&library) {
+    match stored::play_all(&library, "messages") {
         Ok(calls) => println!("messages: {calls} stored calls, 0 differ"),
         Err(what) => {
             println!("messages: {what}");
@@ -147,14 +147,14 @@ fn class(answer: u32) -> u32 {
 /// The causes and places of a record that a call hardly came to.
 fn rare_records(records: &Records, count: u64) -> Vec<String> {
     let names = |call| match call {
-        Call::CheckSettings => vec![],
+        Call::CheckSettings | Call::FromFlat | Call::ToFlat => vec![],
         Call::ReadReport => READ.to_vec(),
         Call::ReadOrder => [&READ[..], &ORDERS].concat(),
         Call::WriteReport => WRITTEN.to_vec(),
         Call::WriteOrder => [&WRITTEN[..], &ORDERS[..2]].concat(),
     };
     let mut rare = Vec::new();
-    for call in Call::ALL {
+    for call in Call::MESSAGES {
         for name in names(call) {
             let times = records.get(&(call, name.to_string()));
             if times.copied().unwrap_or(0) * RECORD_IN < count {
@@ -202,7 +202,7 @@ fn rare_answers(answers: &Answers, count: u64) -> Vec<String> {
             rare.push(format!("number {number}"));
         }
     }
-    for call in Call::ALL {
+    for call in Call::MESSAGES {
         if times(&|other, class| other == call && class == TAKEN) * 100 < count {
             rare.push(format!("{call:?} accepted"));
         }

@@ -21,6 +21,11 @@ def program_argument(parser):
                         help="the program restart; without it the one built in this checkout, or installed")
 
 
+def library_argument(parser):
+    parser.add_argument("--library", metavar="PATH",
+                        help="the library librestart.so.0; without it the one built in this checkout, or installed")
+
+
 def names_argument(parser):
     parser.add_argument("--names", metavar="FILE", help="a text whose settings have the machines' names")
 

@@ -1,0 +1,1 @@
+// Worked rows of flat reports, computed from the definitions. No code.
