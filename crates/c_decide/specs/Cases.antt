@@ -15,7 +15,7 @@ use lib.ListN.{length}
 use borrow.Author.Tests.{eqb-true, eq-eqb, ltb-true}
 use Rattle.base_laws.specs.Bools.{either, clash}
 use Rattle.base_laws.specs.Masks.{count}
-use Rattle.word_lent.specs.Lent.{wordsIn, wordsWithin}
+use Rattle.base_lent.specs.Lent.{wordsIn, wordsWithin}
 use Rattle.base_ids.specs.declared.Refusal.{Refusal}
 use Rattle.base_ids.specs.Refusals.{accepted}
 use Rattle.settings_values.specs.Settings.{settingsOk, shards, least}

@@ -3,9 +3,9 @@ use Prim.Native.Nat.{ℕ}
 use mathlib.Core.Bool.{true, false}
 use mathlib.Core.List.{List}
 use mathlib.Core.Path.{_≡_}
-use Rattle.word_bytes.specs.Words.{bytesOf}
-use Rattle.word_lent.specs.Lent.{wordsIn}
-use Rattle.word_lent.specs.Answers.{plannedWord, waitWord}
+use Rattle.base_bytes.specs.Words.{bytesOf}
+use Rattle.base_lent.specs.Lent.{wordsIn}
+use Rattle.base_lent.specs.Answers.{plannedWord, waitWord}
 use Rattle.base_ids.specs.declared.Refusal.{Refusal}
 use Rattle.base_ids.specs.Refusals.{accepted}
 use Rattle.report_views.specs.Quorums.{numberOf, valueOf}
@@ -15,7 +15,7 @@ use Rattle.state_planner.specs.declared.Decision.the-variants.{Planned, Wait, R
 use Rattle.state_planner.specs.declared.Decided.{Decided}
 use Rattle.state_planner.specs.Refusing.{deskOk}
 use Rattle.state_planner.specs.Decide.{Decides}
-use Rattle.word_state.specs.StateWords.{stateWords, isState}
+use Rattle.c_state_words.specs.StateWords.{stateWords, isState}
 use Rattle.c_state.specs.Calls.{stateLent, entryRefused}
 
 -- the answer to a decision

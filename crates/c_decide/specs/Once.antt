@@ -6,7 +6,7 @@ use mathlib.Core.List.{List}
 use mathlib.Core.Logic.{⊎-elim}
 use mathlib.Core.Path.{_≡_, sym, ap, _∙_}
 use Rattle.base_laws.specs.Bools.{either}
-use Rattle.word_lent.specs.Lent.{wordsIn}
+use Rattle.base_lent.specs.Lent.{wordsIn}
 use Rattle.base_ids.specs.Refusals.{accepted}
 use Rattle.report_views.specs.Agreeing.{SameReports}
 use Rattle.state_planner.specs.declared.Decided.{Decided}

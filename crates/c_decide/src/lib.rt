@@ -6,8 +6,8 @@ use state_planner::State;
 ghost use mathlib.Core.Path.{_≡_};
 ghost use Prim.Native.Nat.{_≤_};
 ghost use lib.ListN.{length};
-ghost use Rattle.word_lent.specs.Lent.{wordsIn};
-ghost use Rattle.word_lent.specs.Answers.{waitWord};
+ghost use Rattle.base_lent.specs.Lent.{wordsIn};
+ghost use Rattle.base_lent.specs.Answers.{waitWord};
 ghost use Rattle.settings_values.specs.Settings.{Settings};
 ghost use Rattle.report_views.specs.Quorums.{numberOf, valueOf};
 ghost use Rattle.state_planner.specs.Decide.{Decides};
@@ -41,7 +41,7 @@ fn decided(x: State, settings: &[u32], desk: &[u8]) -> Decided
     requires { ⌜ length (now desk) ≡ 65536 ⌝ }
     ensures { λ r. ⌜ Decides (now (settings .entry)) x (wordsIn (now (desk .entry))) r ⌝ }
 {
-    let seen = word_desk::see(settings, x.kept, x.termination, x.held, desk);
+    let seen = plan_seen::see(settings, x.kept, x.termination, x.held, desk);
     x.decide_seen(settings, seen)
 }
 

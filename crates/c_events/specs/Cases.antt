@@ -10,9 +10,9 @@ use Prim.Native.Nat.{ℕ}
 use lib.Dec.{eqb}
 use lib.ListN.{length}
 use borrow.Author.Tests.{eq-eqb, ne-eqb}
-use Rattle.word_bytes.specs.Words.{bytesOf}
-use Rattle.word_lent.specs.Lent.{wordsIn, wordsWithin}
-use Rattle.word_lent.specs.Answers.{Told, told-refused, told-accepted}
+use Rattle.base_bytes.specs.Words.{bytesOf}
+use Rattle.base_lent.specs.Lent.{wordsIn, wordsWithin}
+use Rattle.base_lent.specs.Answers.{Told, told-refused, told-accepted}
 use Rattle.base_ids.specs.declared.Refusal.{Refusal}
 use Rattle.base_ids.specs.Refusals.{none, refused, accepted, unless-true, unless-false, first-refused}
 use Rattle.settings_values.specs.Settings.{settingsOk}
@@ -20,7 +20,7 @@ use Rattle.state_planner.specs.declared.State.{State}
 use Rattle.state_planner.specs.declared.Outcome.{Outcome}
 use Rattle.state_planner.specs.States as States
 use Rattle.state_planner.specs.Refusing.{deskOk, checkRefusal}
-use Rattle.word_state.specs.StateWords.{stateWords, isState}
+use Rattle.c_state_words.specs.StateWords.{stateWords, isState}
 use Rattle.c_state.specs.declared.Entry.{Entry}
 use Rattle.c_state.specs.Calls.{stateLent, entryRefused, called, entry, refusalOf}
 use Rattle.c_state.specs.CallLaws.{settings-whole, desk-entry, desk-passes, event-refused, event-done}

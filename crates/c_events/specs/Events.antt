@@ -3,9 +3,9 @@ use Prim.Native.Nat.{ℕ}
 use mathlib.Core.List.{List}
 use lib.Dec.{eqb}
 use lib.ListN.{length}
-use Rattle.word_bytes.specs.Words.{bytesOf}
-use Rattle.word_lent.specs.Lent.{wordsIn}
-use Rattle.word_lent.specs.Answers.{answerWord, bytesLeft}
+use Rattle.base_bytes.specs.Words.{bytesOf}
+use Rattle.base_lent.specs.Lent.{wordsIn}
+use Rattle.base_lent.specs.Answers.{answerWord, bytesLeft}
 use Rattle.base_ids.specs.declared.Refusal.{Refusal}
 use Rattle.base_ids.specs.Refusals.{none, unless}
 use Rattle.state_planner.specs.declared.State.{State}
@@ -13,7 +13,7 @@ use Rattle.state_planner.specs.declared.Outcome.{Outcome}
 use Rattle.state_planner.specs.States as States
 use Rattle.state_planner.specs.Refusing.{deskOk, checkRefusal}
 use Rattle.state_planner.specs.Events.{dropped, fetchedOf, preparedOf}
-use Rattle.word_state.specs.StateWords.{stateWords}
+use Rattle.c_state_words.specs.StateWords.{stateWords}
 use Rattle.c_state.specs.Calls.{stateLent, called, eventAnswer, eventLeaves}
 use Rattle.c_events.specs.declared.Event.{Event}
 use Rattle.c_events.specs.declared.Event.the-variants.{Drop, Fetched, Prepared}

@@ -8,7 +8,7 @@ ghost use mathlib.Core.List.{List};
 ghost use mathlib.Core.Path.{_≡_};
 ghost use Prim.Native.Nat.{ℕ};
 ghost use lib.ListN.{length};
-ghost use Rattle.word_lent.specs.Lent.{wordsIn};
+ghost use Rattle.base_lent.specs.Lent.{wordsIn};
 ghost use Rattle.settings_values.specs.Settings.{Settings};
 ghost use Rattle.plan_seen.specs.Sight.{seenOf};
 ghost use Rattle.state_planner.specs.Refusing.{checkRefusal};
@@ -51,7 +51,7 @@ fn outcome_lent(event: Event, x: State, settings: &[u32], desk: &[u8], node: u32
     requires { ⌜ length (now desk) ≡ 65536 ⌝ }
     ensures { λ r. ⌜ r ≡ Events.happened event (now (settings .entry)) x (wordsIn (now (desk .entry))) node ⌝ }
 {
-    let seen = word_desk::see(settings, x.kept, x.termination, x.held, desk);
+    let seen = plan_seen::see(settings, x.kept, x.termination, x.held, desk);
     outcome(event, x, settings, seen, node)
 }
 
@@ -77,7 +77,7 @@ fn check_lent(x: State, settings: &[u32], desk: &[u8]) -> Refusal
     requires { ⌜ length (now desk) ≡ 65536 ⌝ }
     ensures { λ r. ⌜ r ≡ checkRefusal (now (settings .entry)) x (wordsIn (now (desk .entry))) ⌝ }
 {
-    let seen = word_desk::see(settings, x.kept, x.termination, x.held, desk);
+    let seen = plan_seen::see(settings, x.kept, x.termination, x.held, desk);
     x.check_seen(settings, seen)
 }
 

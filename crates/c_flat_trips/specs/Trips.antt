@@ -11,9 +11,9 @@ use lib.ListN.{length, take, length-take, length-replicate}
 use borrow.Author.Tests.{eq-eqb, eqb-true}
 use Rattle.base_laws.specs.Bools.{either, and-right}
 use Rattle.base_laws.specs.Tables.{zeros, length-tabulate}
-use Rattle.word_bytes.specs.Words.{bytesOf}
-use Rattle.word_lent.specs.Lent.{wordsIn}
-use Rattle.word_lent.specs.Answers.{answerWord, withLength, bytesLeft}
+use Rattle.base_bytes.specs.Words.{bytesOf}
+use Rattle.base_lent.specs.Lent.{wordsIn}
+use Rattle.base_lent.specs.Answers.{answerWord, withLength, bytesLeft}
 use Rattle.base_ids.specs.Refusals.{none, unless-ok, unless-rest, unless-none, first-left}
 use Rattle.settings_values.specs.Settings.{shards, settingsOk}
 use Rattle.settings_values.specs.Laws.{settings-give}

@@ -5,9 +5,9 @@ use mathlib.Core.List.{List}
 use lib.Dec.{eqb, leb, ltb}
 use lib.ListN.{length, getD}
 use Rattle.base_laws.specs.Tables.{tabulate}
-use Rattle.word_bytes.specs.Words.{bytesOf}
-use Rattle.word_lent.specs.Lent.{wordsIn}
-use Rattle.word_lent.specs.Answers.{answerWord, withLength, bytesLeft}
+use Rattle.base_bytes.specs.Words.{bytesOf}
+use Rattle.base_lent.specs.Lent.{wordsIn}
+use Rattle.base_lent.specs.Answers.{answerWord, withLength, bytesLeft}
 use Rattle.base_ids.specs.declared.Refusal.{Refusal}
 use Rattle.base_ids.specs.Refusals.{none, unless}
 use Rattle.settings_values.specs.Settings.{settingsOk}

@@ -9,7 +9,7 @@ use lib.Dec.{eqb, leb}
 use lib.ListN.{length}
 use borrow.Author.Tests.{lt-leb}
 use Rattle.base_laws.specs.Bools.{either, no-true, and-fails-left, and-fails-right}
-use Rattle.word_lent.specs.Lent.{wordsIn, wordsWithin, within-cases}
+use Rattle.base_lent.specs.Lent.{wordsIn, wordsWithin, within-cases}
 use Rattle.base_ids.specs.declared.Refusal.{Refusal}
 use Rattle.base_ids.specs.Refusals.{refused, accepted, unless, unless-true, unless-false}
 use Rattle.settings_values.specs.Settings.{settingsOk}
@@ -18,7 +18,7 @@ use Rattle.message_format.specs.declared.Form.{Form}
 use Rattle.message_format.specs.declared.Contents.{Contents}
 use Rattle.message_format.specs.Chain.{row5}
 use Rattle.message_format.specs.Messages.{blank, messageRefusal, readRefusal, readingOf, writeRefusal, writingOf, bufferAfter}
-use Rattle.word_lent.specs.Answers.{answerWord}
+use Rattle.base_lent.specs.Answers.{answerWord}
 use Rattle.c_messages.specs.Answers.{checkAnswer}
 
 -- right settings have 4 to 52 words

@@ -9,9 +9,9 @@ use lib.Dec.{eqb}
 use lib.ListN.{length}
 use borrow.Author.Tests.{eq-eqb, ne-eqb}
 use Rattle.base_laws.specs.Below.{lowest-le}
-use Rattle.word_bytes.specs.Words.{bytesOf}
-use Rattle.word_lent.specs.Lent.{wordsIn}
-use Rattle.word_lent.specs.Answers.{withLength, Told, told-refused, told-accepted}
+use Rattle.base_bytes.specs.Words.{bytesOf}
+use Rattle.base_lent.specs.Lent.{wordsIn}
+use Rattle.base_lent.specs.Answers.{withLength, Told, told-refused, told-accepted}
 use Rattle.base_ids.specs.Refusals.{refused, accepted, unless-true, unless-false}
 use Rattle.message_format.specs.declared.Form.{Form}
 use Rattle.message_format.specs.declared.Contents.{Contents}

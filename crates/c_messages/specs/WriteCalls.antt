@@ -11,9 +11,9 @@ use lib.ListN.{length, getD}
 use borrow.Author.Tests.{eq-eqb, ne-eqb, lt-leb, leb-true, eqb-true}
 use Rattle.base_laws.specs.Bools.{either, and-right}
 use Rattle.base_laws.specs.Tables.{tabulate, tabulate-cong, padded, getD-padded-all}
-use Rattle.word_bytes.specs.Words.{bytesOf}
-use Rattle.word_lent.specs.Lent.{wordsIn, wordsWithin, within-cases, HoldsWords}
-use Rattle.word_lent.specs.Answers.{withLength, Told, told-refused, told-accepted}
+use Rattle.base_bytes.specs.Words.{bytesOf}
+use Rattle.base_lent.specs.Lent.{wordsIn, wordsWithin, within-cases, HoldsWords}
+use Rattle.base_lent.specs.Answers.{withLength, Told, told-refused, told-accepted}
 use Rattle.base_ids.specs.declared.Refusal.{Refusal}
 use Rattle.base_ids.specs.Refusals.{refused, none, unless, unless-ok, unless-rest, unless-true, unless-false}
 use Rattle.settings_values.specs.Settings.{settingsOk}

@@ -8,10 +8,10 @@ use message_format::Writing;
 ghost use mathlib.Core.Path.{_≡_};
 ghost use Prim.Native.Nat.{_+_, _*_, _≤_};
 ghost use lib.ListN.{length};
-ghost use Rattle.word_bytes.specs.Words.{bytesOf};
-ghost use Rattle.word_lent.specs.Lent.{wordsIn};
+ghost use Rattle.base_bytes.specs.Words.{bytesOf};
+ghost use Rattle.base_lent.specs.Lent.{wordsIn};
 ghost use Rattle.message_format.specs.Messages.{readingOf, writingOf, bufferAfter};
-ghost use Rattle.word_lent.specs.Answers.{withLength};
+ghost use Rattle.base_lent.specs.Answers.{withLength};
 ghost use Rattle.c_messages.specs.Answers.{checkAnswer, contentsWords, contentsLength, readAnswer, readLeaves, recordCount, contentsIn, writeAnswer, writeLeaves};
 ghost use Rattle.c_messages.specs.WriteCalls.{contentsWithin};
 
@@ -19,7 +19,7 @@ ghost use Rattle.c_messages.specs.WriteCalls.{contentsWithin};
 pub fn check_settings(settings: &[u8]) -> u32
     ensures { λ r. ⌜ r ≡ checkAnswer (now (settings .entry)) ⌝ }
 {
-    let s = word_lent::settings_of(settings);
+    let s = base_lent::settings_of(settings);
     let n = s.len;
     let words = s.table;
     if !settings_check::check(&words[0..n]) {
@@ -32,10 +32,10 @@ pub fn check_settings(settings: &[u8]) -> u32
 fn read_lent(form: Form, settings: &[u8], message: &[u8]) -> Reading
     ensures { λ r. ⌜ r ≡ readingOf form (wordsIn (now (settings .entry))) (wordsIn (now (message .entry))) ⌝ }
 {
-    let s = word_lent::settings_of(settings);
+    let s = base_lent::settings_of(settings);
     let n = s.len;
     let own = s.table;
-    let m = word_lent::words_of(512, message);
+    let m = base_lent::words_of(512, message);
     let len = m.len;
     let words = m.table;
     message_reader::read(form, &own[0..n], &words[0..len])
@@ -64,8 +64,8 @@ fn give(c: Contents, bytes: &mut [u8]) -> u32
     ensures { λ r. ⌜ (r ≡ withLength (contentsLength c)) × (now (bytes .exit) ≡ bytesOf (contentsWords c)) ⌝ }
 {
     let words = lay_out(c);
-    word_bytes::encode(&words, bytes);
-    word_lent::with_length(3 + 3 * c.len)
+    base_bytes::encode(&words, bytes);
+    base_lent::with_length(3 + 3 * c.len)
 }
 
 // Reads a message into lent contents: rows 1 (the contents are not 2048 bytes), 2 and 5 to 11.
@@ -120,7 +120,7 @@ fn contents_in(table: &[u32; 512], n: usize) -> Contents
 fn contents_lent(bytes: &[u8]) -> Contents
     ensures { λ r. ⌜ r ≡ contentsWithin (now (bytes .entry)) ⌝ }
 {
-    let l = word_lent::words_of(384, bytes);
+    let l = base_lent::words_of(384, bytes);
     let n = l.len;
     contents_in(&l.table, n)
 }
@@ -130,7 +130,7 @@ fn write_under(form: Form, settings: &[u8], c: Contents, words: &mut [u32]) -> W
     ensures answer { λ r. ⌜ r ≡ writingOf form (wordsIn (now (settings .entry))) c (now (words .entry)) ⌝ }
     ensures words { λ r. ⌜ now (words .exit) ≡ bufferAfter form (wordsIn (now (settings .entry))) c (now (words .entry)) ⌝ }
 {
-    let s = word_lent::settings_of(settings);
+    let s = base_lent::settings_of(settings);
     let n = s.len;
     let own = s.table;
     message_writer::write(form, &own[0..n], c, words)
@@ -152,6 +152,6 @@ pub fn write_into(form: Form, settings: &[u8], contents: &[u8], buffer: &mut [u8
     if refusal.code != 0 {
         return refusal.code;
     }
-    word_bytes::encode(&words, buffer);
-    word_lent::with_length(writing.length)
+    base_bytes::encode(&words, buffer);
+    base_lent::with_length(writing.length)
 }

@@ -12,9 +12,9 @@ use lib.Dec.{eqb, leb}
 use lib.ListN.{length}
 use borrow.Author.Tests.{eqb-true, eq-eqb, ne-eqb, leb-true}
 use Rattle.base_laws.specs.Bools.{and-left, and-right}
-use Rattle.word_bytes.specs.Words.{bytesOf}
-use Rattle.word_lent.specs.Lent.{wordsIn, wordsWithin}
-use Rattle.word_lent.specs.Answers.{withLength, Told, told-refused, told-accepted}
+use Rattle.base_bytes.specs.Words.{bytesOf}
+use Rattle.base_lent.specs.Lent.{wordsIn, wordsWithin, bytes-of-words, length-test}
+use Rattle.base_lent.specs.Answers.{withLength, Told, told-refused, told-accepted}
 use Rattle.base_ids.specs.Refusals.{none, accepted-none, unless-ok, unless-rest}
 use Rattle.settings_values.specs.Settings.{settingsOk}
 use Rattle.message_format.specs.declared.Form.the-variants.{Order}
@@ -27,7 +27,7 @@ use Rattle.state_order.specs.Orders.{ordered, orderBuffer}
 use Rattle.state_order.specs.Taken.{writer-takes}
 use Rattle.c_state.specs.declared.Entry.{Entry}
 use Rattle.c_state.specs.Calls.{stateLent, entry}
-use Rattle.c_state.specs.CallLaws.{settings-whole, bytes-of-words, length-test, CallEntered, entry-refuses, entry-passes}
+use Rattle.c_state.specs.CallLaws.{settings-whole, CallEntered, entry-refuses, entry-passes}
 use Rattle.c_order.specs.OrderCalls.{lengthsOk, orderRefused, orderAnswer, orderLeaves}
 
 module _ (σ : List ℕ) (x : State) (d : List ℕ) (n : ℕ) (b z : List ℕ) (same : length b ≡ length z) where

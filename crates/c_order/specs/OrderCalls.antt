@@ -4,9 +4,9 @@ use mathlib.Core.Bool.{Bool, _&&_}
 use mathlib.Core.List.{List}
 use lib.Dec.{eqb}
 use lib.ListN.{length}
-use Rattle.word_bytes.specs.Words.{bytesOf}
-use Rattle.word_lent.specs.Lent.{wordsIn}
-use Rattle.word_lent.specs.Answers.{answerWord, withLength, bytesLeft}
+use Rattle.base_bytes.specs.Words.{bytesOf}
+use Rattle.base_lent.specs.Lent.{wordsIn}
+use Rattle.base_lent.specs.Answers.{answerWord, withLength, bytesLeft}
 use Rattle.base_ids.specs.declared.Refusal.{Refusal}
 use Rattle.state_planner.specs.Refusing.{deskOk, orderRefusal}
 use Rattle.state_order.specs.Orders.{ordered, orderBuffer}

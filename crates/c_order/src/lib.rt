@@ -6,7 +6,7 @@ ghost use mathlib.Core.Bool.{_&&_};
 ghost use mathlib.Core.Path.{_≡_};
 ghost use lib.Dec.{eqb};
 ghost use lib.ListN.{length};
-ghost use Rattle.word_lent.specs.Lent.{wordsIn};
+ghost use Rattle.base_lent.specs.Lent.{wordsIn};
 ghost use Rattle.settings_values.specs.Settings.{Settings};
 ghost use Rattle.state_order.specs.Orders.{ordered, orderBuffer};
 ghost use Rattle.c_order.specs.OrderCalls.{orderAnswer, orderLeaves};
@@ -28,12 +28,12 @@ fn order_words(x: State, settings: &[u32], desk: &[u8], node: u32, words: &mut [
     ensures answer { λ r. ⌜ r ≡ ordered (now (settings .entry)) x (wordsIn (now (desk .entry))) node (now (words .entry)) ⌝ }
     ensures words { λ r. ⌜ now (words .exit) ≡ orderBuffer (now (settings .entry)) x (wordsIn (now (desk .entry))) node (now (words .entry)) ⌝ }
 {
-    let seen = word_desk::see(settings, x.kept, x.termination, x.held, desk);
+    let seen = plan_seen::see(settings, x.kept, x.termination, x.held, desk);
     let refusal = state_order::order_refusal_seen(settings, x, seen, Node(node), words);
     if refusal.code != 0 {
         return Writing { refusal, length: 0 };
     }
-    let cuts = word_desk::cuts(settings, x.plan, desk, Node(node));
+    let cuts = plan_order::cuts_of(settings, x.plan, desk, Node(node));
     state_order::write_order(settings, x, &cuts, Node(node), words)
 }
 
@@ -56,6 +56,6 @@ pub fn order(settings: &[u8], state: &[u8], desk: &[u8], node: u32, buffer: &mut
     if refusal.code != 0 {
         return refusal.code;
     }
-    word_bytes::encode(&words, buffer);
-    word_lent::with_length(written.length)
+    base_bytes::encode(&words, buffer);
+    base_lent::with_length(written.length)
 }

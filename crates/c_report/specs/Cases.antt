@@ -3,22 +3,19 @@
 -- ---- the words that are looked at
 -- a list that ends with a row that fails refuses
 -- ---- the cases
-use Prim.Native.Nat.{ℕ, _%_, _<_, _≤_}
-use mathlib.Core.Bool.{Bool, true, false, cond, _&&_}
+use Prim.Native.Nat.{ℕ}
+use mathlib.Core.Bool.{Bool, false, cond}
 use mathlib.Core.List.{List}
 use mathlib.Core.Logic.{⊎-elim}
-use mathlib.Core.Path.{_≡_, sym, ap, ap₂, _∙_}
-use lib.Dec.{eqb, leb}
-use lib.ListN.{length, getD}
-use native.Mathlib.Omega.{arith}
-use borrow.Author.Tests.{eq-eqb, ne-eqb, leb-true}
-use Rattle.base_laws.specs.Bools.{either, clash, and-left, and-right}
-use Rattle.word_bytes.specs.Words.{wordAt, bytesOf, getD-words}
-use Rattle.word_lent.specs.Lent.{wordsIn, wordsWithin}
-use Rattle.word_lent.specs.Answers.{bytesLeft, told-refused, told-accepted}
+use mathlib.Core.Path.{_≡_, sym, ap, _∙_, subst}
+use lib.Dec.{eqb}
+use lib.ListN.{length}
+use Rattle.base_laws.specs.Bools.{either}
+use Rattle.base_bytes.specs.Words.{bytesOf}
+use Rattle.base_lent.specs.Lent.{wordsIn, wordsWithin}
+use Rattle.base_lent.specs.Answers.{bytesLeft, Told}
 use Rattle.base_ids.specs.declared.Refusal.{Refusal}
 use Rattle.base_ids.specs.Refusals.{refused, accepted, unless-false, firstOf, first-refused}
-use Rattle.settings_values.specs.Settings.{Settings}
 use Rattle.message_format.specs.declared.Form.the-variants.{Report}
 use Rattle.message_format.specs.Chain.{row5}
 use Rattle.message_format.specs.Messages.{messageRefusal, contentsOf}
@@ -28,12 +25,9 @@ use Rattle.state_planner.specs.declared.State.{State}
 use Rattle.state_planner.specs.declared.Outcome.{Outcome}
 use Rattle.state_planner.specs.declared.Answer.{Answer}
 use Rattle.state_planner.specs.Refusing.{isGathering, deskOk, entryRefusal, reportRefusal}
-use Rattle.state_planner.specs.Events.{afterReport, outcome, isAccepted, reported, deskAfter}
-use Rattle.state_planner.specs.EventLaws.{outcome-refused, answer-accepts}
-use Rattle.state_planner.specs.ReportLaws.{reporter-named, stored-desk}
-use Rattle.report_desk.specs.Desk.{deskWith}
-use Rattle.word_desk.specs.ByteDesk.{words-whole, whole-bytes}
-use Rattle.word_state.specs.StateWords.{stateWords}
+use Rattle.state_planner.specs.Events.{afterReport, outcome, reported, deskAfter, deskLeft}
+use Rattle.state_planner.specs.EventLaws.{outcome-accepted, outcome-refused}
+use Rattle.c_state_words.specs.StateWords.{stateWords}
 use Rattle.c_state.specs.declared.Entry.{Entry}
 use Rattle.c_state.specs.Calls.{stateLent, entry, refusalOf, eventRefused}
 use Rattle.c_state.specs.CallLaws.{desk-entry, desk-passes, entry-refuses, ToldEvent, event-refused, event-done}
@@ -72,57 +66,27 @@ module _ (σ : List ℕ) (x : State) (d : List ℕ) where
 pub report-whole : (σ : List ℕ) (x : State) (d message w : List ℕ) → w ≡ wordsWithin 512 message → reported σ x d w ≡ reported σ x d (wordsIn message)
 report-whole σ x d message w f = ap (reported σ x d) f ∙ report-within σ x d message
 
--- an outcome that holds no refusal was accepted
-outcome-passes : (r : Refusal) (x next : State) (o : Outcome) → o ≡ outcome r x next → refusalOf (o .answer) .code ≡ 0 → accepted r ≡ true
-outcome-passes r x next o e h =
-    ⊎-elim (λ t. t)
-    (λ z. clash (eq-eqb (r .code) 0 (sym (ap (λ (k : Outcome). refusalOf (k .answer) .code) (e ∙ outcome-refused r x next z)) ∙ h)) z)
+-- the desk's bytes after it
+module _ (σ : List ℕ) (x : State) (b : List ℕ) where
+  left-short : (w : List ℕ) → row5 w ≡ false → deskLeft σ x b w ≡ b
+  unfolding deskLeft
+  left-short w h =
+      ap (λ (q : Bool). cond q (bytesOf (deskAfter σ x (wordsIn b) w)) b)
+      (ap accepted (length-refused σ x (wordsIn b) w h) ∙ list-refuses (entryRefusal (deskOk (wordsIn b)) σ x (wordsIn b) (isGathering (x .phase))))
+
+  pub left-whole : (message w : List ℕ) → w ≡ wordsWithin 512 message → deskLeft σ x b w ≡ deskLeft σ x b (wordsIn message)
+  left-whole message w f =
+      ap (deskLeft σ x b) f
+      ∙ ⊎-elim (λ e. ap (deskLeft σ x b) e)
+      (λ c. left-short (wordsWithin 512 message) (c .0) ∙ sym (left-short (wordsIn message) (c .1)))
+      (message-within message)
+
+-- the refusal that an outcome holds
+answer-passes : (r : Refusal) (x next : State) → accepted (refusalOf (outcome r x next .answer)) ≡ accepted r
+answer-passes r x next =
+    ⊎-elim (λ h. ap (λ (o : Outcome). accepted (refusalOf (o .answer))) (outcome-accepted r x next h) ∙ sym h)
+    (λ h. ap (λ (o : Outcome). accepted (refusalOf (o .answer))) (outcome-refused r x next h))
     (either (accepted r))
-
--- what a message that was taken is: whole words, few of them, and the first is the node's number
-pub record MessageTaken (message : List ℕ) : Type 0 where
-  pub some : 4 ≤ length message
-  pub whole : length message % 4 ≡ 0
-  pub few : length message ≤ 2048
-  pub first : wordAt message 0 ≡ getD (wordsIn message) 0 0
-
-module _ (σ : List ℕ) (x : State) (d message : List ℕ) (o : Outcome) (f : o ≡ reported σ x d (wordsIn message)) (h : refusalOf (o .answer) .code ≡ 0) where
-  abbrev sent : List ℕ
-  sent = wordsIn message
-
-  taken-accepted : accepted (reportRefusal σ x d sent) ≡ true
-  unfolding reported
-  taken-accepted = outcome-passes (reportRefusal σ x d sent) x (afterReport σ x (contentsOf sent)) o f h
-
-  taken-row5 : row5 sent ≡ true
-  taken-row5 =
-      ⊎-elim (λ t. t)
-      (λ z. clash (sym (ap accepted (length-refused σ x d sent z)) ∙ taken-accepted) (list-refuses (entryRefusal (deskOk d) σ x d (isGathering (x .phase)))))
-      (either (row5 sent))
-
-  answer-accepted : isAccepted (o .answer) ≡ true
-  unfolding reported
-  answer-accepted = answer-accepts (reportRefusal σ x d sent) x (afterReport σ x (contentsOf sent)) f ∙ taken-accepted
-
-  pub message-taken : MessageTaken message
-  unfolding row5
-  message-taken =
-      let both : (leb 1 (length sent) && leb (length sent) 512) ≡ true = and-left (leb 1 (length sent) && leb (length sent) 512) (eqb (length sent % 4) 0) taken-row5 in
-      let n : 1 ≤ length sent = leb-true 1 (length sent) (and-left (leb 1 (length sent)) (leb (length sent) 512) both) in
-      let m : length sent ≤ 512 = leb-true (length sent) 512 (and-right (leb 1 (length sent)) (leb (length sent) 512) both) in
-      let l = whole-bytes message n in
-      record {
-        some = omega arith;
-        whole = omega arith;
-        few = omega arith;
-        first = sym (ap (λ (k : List ℕ). getD k 0 0) (words-whole message (length sent) l) ∙ getD-words message (length sent) 0 n);
-      }
-
-  pub node-named : Settings σ → wordAt message 0 < 32
-  node-named right = let t = reporter-named σ x d sent o f answer-accepted right in rw (message-taken .first) t
-
-  pub desk-placed : deskWith d (wordAt message 0) sent ≡ deskAfter σ x d sent
-  desk-placed = stored-desk σ x d sent o f answer-accepted _ (ap (λ (n : ℕ). deskWith d n sent) (message-taken .first))
 
 module _ (settings state desk message : List ℕ) where
   abbrev pub ToldReport : ℕ → List ℕ → List ℕ → Type 0
@@ -149,42 +113,34 @@ module _ (settings state desk message : List ℕ) where
         (entry-refuses (deskOk (wordsIn desk)) settings state e (desk-entry settings state desk e given) h
         (refusalOf (reportTaken settings state desk message .answer)) 0 made desk .leaves)
 
-    module _ (h : e .refusal .code ≡ 0) (o : Outcome) (d : List ℕ) (words : d ≡ wordsIn desk)
-        (f : o ≡ reported (wordsIn settings) (e .state) d (wordsIn message)) (r : Refusal) (g : r ≡ refusalOf (o .answer)) where
+    module _ (h : e .refusal .code ≡ 0) (w : List ℕ) (looked : w ≡ wordsWithin 512 message) (o : Outcome)
+        (f : o ≡ reported (wordsIn settings) (e .state) (wordsIn desk) w) where
       outcome-is : o ≡ reportTaken settings state desk message
       unfolding reportTaken
       outcome-is =
-          f ∙ ap₂ (λ (x : State) (b : List ℕ). reported (wordsIn settings) x b (wordsIn message))
-          (desk-passes settings state desk e given h .state-is) words
+          f ∙ report-whole (wordsIn settings) (e .state) (wordsIn desk) message w looked
+          ∙ ap (λ (x : State). reported (wordsIn settings) x (wordsIn desk) (wordsIn message)) (desk-passes settings state desk e given h .state-is)
 
       -- the call's refusal is the event's
-      refusal-is : eventRefused settings state desk (reportTaken settings state desk message) ≡ r
-      unfolding eventRefused
-      refusal-is =
-          desk-passes settings state desk e given h .event _ ∙ sym (g ∙ ap (λ (y : Outcome). refusalOf (y .answer)) outcome-is)
+      refused-is : accepted (eventRefused settings state desk (reportTaken settings state desk message))
+          ≡ accepted (reportRefusal (wordsIn settings) (stateLent state) (wordsIn desk) (wordsIn message))
+      unfolding eventRefused reportTaken reported
+      refused-is =
+          ap accepted (desk-passes settings state desk e given h .event _)
+          ∙ answer-passes (reportRefusal (wordsIn settings) (stateLent state) (wordsIn desk) (wordsIn message)) (stateLent state) (afterReport (wordsIn settings) (stateLent state) (contentsOf (wordsIn message)))
 
-      answer-is : refusalOf (reportTaken settings state desk message .answer) ≡ r
-      answer-is = sym (g ∙ ap (λ (y : Outcome). refusalOf (y .answer)) outcome-is)
+      left-is : deskLeft (wordsIn settings) (stateLent state) desk (wordsIn message)
+          ≡ bytesLeft (eventRefused settings state desk (reportTaken settings state desk message)) made desk
+      unfolding deskLeft bytesLeft made
+      left-is =
+          ap (λ (q : Bool). cond q (bytesOf (deskAfter (wordsIn settings) (stateLent state) (wordsIn desk) (wordsIn message))) desk) (sym refused-is)
 
-      pub report-refused : (r .code ≡ 0 → ⊥) → ToldReport (r .code) state desk
-      report-refused n =
-          let no : accepted r ≡ false = ne-eqb (r .code) 0 n in
-          told
-          (event-done settings state desk (reportTaken settings state desk message) e given h (told-refused r _ answer-is 0 _ state no))
-          (told-refused r _ refusal-is 0 made desk no .leaves)
-
-      pub report-taken : r .code ≡ 0 → (left placed out : List ℕ) → left ≡ bytesOf (stateWords (o .state)) → placed ≡ bytesOf out
-          → out ≡ deskAfter (wordsIn settings) (e .state) d (wordsIn message) → ToldReport 0 left placed
-      unfolding made
-      report-taken n left placed out a b k =
-          let yes : accepted r ≡ true = eq-eqb (r .code) 0 n in
-          let t = told-accepted r _ answer-is 0 (bytesOf (stateWords (reportTaken settings state desk message .state))) state yes in
+      pub report-done : {answer : ℕ} {left placed : List ℕ} → Told (refusalOf (o .answer)) 0 (bytesOf (stateWords (o .state))) state answer left
+          → placed ≡ deskLeft (wordsIn settings) (e .state) desk w → ToldReport answer left placed
+      report-done {answer} {left} t p =
           told
           (event-done settings state desk (reportTaken settings state desk message) e given h
-          (record {
-            answers = t .answers;
-            leaves = a ∙ ap (λ (y : Outcome). bytesOf (stateWords (y .state))) outcome-is ∙ t .leaves;
-          }))
-          (b ∙ ap bytesOf (k ∙ ap₂ (λ (x : State) (c : List ℕ). deskAfter (wordsIn settings) x c (wordsIn message))
-          (desk-passes settings state desk e given h .state-is) words)
-          ∙ told-accepted r _ refusal-is 0 made desk yes .leaves)
+          (subst (λ (q : Outcome). Told (refusalOf (q .answer)) 0 (bytesOf (stateWords (q .state))) state answer left) outcome-is t))
+          (p ∙ left-whole (wordsIn settings) (e .state) desk message w looked
+          ∙ ap (λ (x : State). deskLeft (wordsIn settings) x desk (wordsIn message)) (desk-passes settings state desk e given h .state-is)
+          ∙ left-is)

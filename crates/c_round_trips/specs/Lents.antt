@@ -12,8 +12,8 @@ use lib.Seq.{getD-take}
 use borrow.Author.Tests.{lt-ltb, le-ltb, eq-eqb, eqb-true, leb-true, le-leb}
 use Rattle.base_laws.specs.Bools.{either, and-left, and-right, lt-or-le}
 use Rattle.base_laws.specs.Tables.{tabulate, tabulate-ext, length-tabulate, getD-tabulate, getD-tabulate-past, tabulate-cong, padded, padded-ext, getD-padded-all, length-padded}
-use Rattle.word_bytes.specs.Words.{wordsOf, byteAt, bytesOf, byte-lt, length-words, length-bytes, getD-words, getD-bytes, word-lt, words-bytes, bytes-words}
-use Rattle.word_lent.specs.Lent.{wordCount, wordsIn, count-whole}
+use Rattle.base_bytes.specs.Words.{wordsOf, byteAt, bytesOf, byte-lt, length-words, length-bytes, getD-words, getD-bytes, word-lt, words-bytes, bytes-words}
+use Rattle.base_lent.specs.Lent.{wordCount, wordsIn, count-whole}
 use Rattle.message_format.specs.declared.Contents.{Contents}
 use Rattle.message_format.specs.Chain.{place, following, following-le}
 use Rattle.message_format.specs.Messages.{bodyWord, bodyOf, contentsOf, headWord, recordWord, messageWord, messageOf, tidy}

@@ -9,9 +9,9 @@ use lib.Dec.{eqb}
 use lib.ListN.{length, take}
 use borrow.Author.Tests.{eq-eqb, eqb-true}
 use Rattle.base_laws.specs.Tables.{padded, length-tabulate}
-use Rattle.word_bytes.specs.Words.{bytesOf}
-use Rattle.word_lent.specs.Lent.{wordsIn}
-use Rattle.word_lent.specs.Answers.{answerWord, withLength, bytesLeft}
+use Rattle.base_bytes.specs.Words.{bytesOf}
+use Rattle.base_lent.specs.Lent.{wordsIn}
+use Rattle.base_lent.specs.Answers.{answerWord, withLength, bytesLeft}
 use Rattle.base_ids.specs.Refusals.{none, unless-ok, unless-rest, unless-none}
 use Rattle.settings_values.specs.Settings.{settingsOk}
 use Rattle.message_format.specs.declared.Form.{Form}

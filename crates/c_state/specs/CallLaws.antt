@@ -4,10 +4,6 @@
 -- whether words are a state
 -- ---- the settings
 -- right settings are looked at whole
--- ---- lengths
--- so many whole words are four times as many bytes
--- a length in bytes is tested as one in words
--- so many words of the bytes are all of them
 -- ---- before the event, and after it
 -- an entry by its parts
 -- the entry of a call that is lent a desk
@@ -16,16 +12,16 @@ use mathlib.Core.Path.{_≡_, sym, ap, _∙_}
 use mathlib.Core.Logic.{⊎-elim}
 use mathlib.Core.Bool.{Bool, true, false}
 use mathlib.Core.List.{List}
-use Prim.Native.Nat.{ℕ, suc, _*_, _-_, _/_, _%_, _≤_}
+use Prim.Native.Nat.{ℕ, _-_, _≤_}
 use native.Mathlib.Omega.{arith}
 use lib.Dec.{eqb}
 use lib.ListN.{length, take, drop}
 use borrow.Author.Tests.{eqb-true, eq-eqb, ne-eqb}
-use Rattle.base_laws.specs.Bools.{either, same, no-true}
+use Rattle.base_laws.specs.Bools.{either, no-true}
 use Rattle.base_laws.specs.Tables.{length-padded, front-padded}
-use Rattle.word_bytes.specs.Words.{wordsOf, bytesOf, length-words}
-use Rattle.word_lent.specs.Lent.{wordCount, countWithin, wordsIn, wordsWithin, within-le, count-whole, HoldsSettings}
-use Rattle.word_lent.specs.Answers.{Told, told-refused}
+use Rattle.base_bytes.specs.Words.{bytesOf, length-words}
+use Rattle.base_lent.specs.Lent.{countWithin, wordsIn, wordsWithin, within-le, bytes-of-words, length-test, HoldsSettings}
+use Rattle.base_lent.specs.Answers.{Told, told-refused}
 use Rattle.base_ids.specs.declared.Refusal.{Refusal}
 use Rattle.base_ids.specs.Refusals.{none, accepted, accepted-none, unless, unless-ok, unless-rest, first-none, first-refused}
 use Rattle.settings_values.specs.Settings.{settingsOk}
@@ -34,9 +30,9 @@ use Rattle.state_planner.specs.declared.State.{State}
 use Rattle.state_planner.specs.declared.Outcome.{Outcome}
 use Rattle.state_planner.specs.States.{fresh}
 use Rattle.state_planner.specs.Refusing.{deskOk}
-use Rattle.word_state.specs.StateWords.{stateWords, isState, decoded}
-use Rattle.word_state.specs.Laws.{stated}
-use Rattle.word_state.specs.declared.Decoded.{Decoded}
+use Rattle.c_state_words.specs.StateWords.{stateWords, isState, decoded}
+use Rattle.c_state_words.specs.Laws.{stated}
+use Rattle.c_state_words.specs.declared.Decoded.{Decoded}
 use Rattle.c_state.specs.declared.Entry.{Entry}
 use Rattle.c_state.specs.Calls.{stateLent, entryRefused, called, entry, refusalOf, eventRefused, eventAnswer, eventLeaves}
 
@@ -51,38 +47,10 @@ pub settings-whole : (s : List ℕ) → settingsOk (wordsIn s) ≡ true → word
 settings-whole s h =
     ⊎-elim (λ e. e) (λ c. absurd (let z : true ≡ false = sym h ∙ c .1 in let n : _≡_ {A = ℕ} 0 1 = cc in omega arith)) (settings-within s)
 
-pub length-lent : (b : List ℕ) → length (wordsIn b) ≡ wordCount (length b)
-unfolding wordsIn
-length-lent b = length-words b (wordCount (length b))
-
-pub bytes-of-words : (b : List ℕ) (k : ℕ) → length (wordsIn b) ≡ suc k → length b ≡ 4 * suc k
-unfolding wordCount
-bytes-of-words b k e =
-    ⊎-elim
-    (λ h. let n : length b % 4 ≡ 0 = eqb-true (length b % 4) 0 h in let q : length b / 4 ≡ suc k = rw h at counted in omega arith)
-    (λ h. absurd (let q : 0 ≡ suc k = rw h at counted in omega arith))
-    (either (eqb (length b % 4) 0))
-  where
-    counted : wordCount (length b) ≡ suc k
-    counted = sym (length-lent b) ∙ e
-
 -- bytes of another length are no state
 pub decoded-other : (b : List ℕ) → (length b ≡ 640 → ⊥) → decoded (wordsIn b) ≡ record { ok = false; state = fresh }
 unfolding decoded
 decoded-other b h = rw (not-state (wordsIn b) (λ e. h (bytes-of-words b 159 e)))
-
-pub words-of-bytes : (b : List ℕ) (k : ℕ) → length b ≡ 4 * k → length (wordsIn b) ≡ k
-words-of-bytes b k e = length-lent b ∙ count-whole (length b) k e
-
-pub length-test : (b : List ℕ) (k : ℕ) → eqb (length b) (4 * suc k) ≡ eqb (length (wordsIn b)) (suc k)
-length-test b k =
-    same (eqb (length b) (4 * suc k)) (eqb (length (wordsIn b)) (suc k))
-    (λ h. eq-eqb (length (wordsIn b)) (suc k) (words-of-bytes b (suc k) (eqb-true (length b) (4 * suc k) h)))
-    (λ h. eq-eqb (length b) (4 * suc k) (bytes-of-words b k (eqb-true (length (wordsIn b)) (suc k) h)))
-
-pub all-words : (b : List ℕ) (k : ℕ) → length b ≡ 4 * k → wordsOf b k ≡ wordsIn b
-unfolding wordsIn
-all-words b k e = ap (wordsOf b) (sym (count-whole (length b) k e))
 
 pub entry-of : (lengths : Bool) (settings state : List ℕ) (d : Decoded) → d ≡ decoded (wordsIn state)
     → (table : List ℕ) (n : ℕ) → HoldsSettings table n settings

@@ -5,9 +5,9 @@ use mathlib.Core.Bool.{Bool}
 use mathlib.Core.List.{List}
 use lib.ListN.{length}
 use Rattle.base_laws.specs.Tables.{padded}
-use Rattle.word_bytes.specs.Words.{bytesOf}
-use Rattle.word_lent.specs.Lent.{wordsIn, wordsWithin}
-use Rattle.word_lent.specs.Answers.{answerWord, bytesLeft}
+use Rattle.base_bytes.specs.Words.{bytesOf}
+use Rattle.base_lent.specs.Lent.{wordsIn, wordsWithin}
+use Rattle.base_lent.specs.Answers.{answerWord, bytesLeft}
 use Rattle.base_ids.specs.declared.Refusal.{Refusal}
 use Rattle.base_ids.specs.Refusals.{none, unless, firstOf}
 use Rattle.settings_values.specs.Settings.{settingsOk}
@@ -16,7 +16,7 @@ use Rattle.state_planner.specs.declared.Answer.{Answer}
 use Rattle.state_planner.specs.declared.Answer.the-variants.{Accepted, Refused}
 use Rattle.state_planner.specs.declared.Outcome.{Outcome}
 use Rattle.state_planner.specs.Refusing.{deskOk}
-use Rattle.word_state.specs.StateWords.{stateWords, stateIn, isState, decoded}
+use Rattle.c_state_words.specs.StateWords.{stateWords, stateIn, isState, decoded}
 use Rattle.c_state.specs.declared.Entry.{Entry}
 
 -- the state that lent bytes say

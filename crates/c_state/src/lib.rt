@@ -1,15 +1,15 @@
 // The planner's state lent as bytes: what every C call over it does first and last.
 use base_ids::Refusal;
+use c_state_words::Decoded;
 use state_planner::Answer;
 use state_planner::Outcome;
 use state_planner::State;
-use word_state::Decoded;
 ghost use mathlib.Core.Path.{_≡_};
 ghost use lib.ListN.{length};
-ghost use Rattle.word_bytes.specs.Words.{bytesOf};
-ghost use Rattle.word_lent.specs.Lent.{wordsIn};
-ghost use Rattle.word_lent.specs.Answers.{Told};
-ghost use Rattle.word_state.specs.StateWords.{stateWords, decoded};
+ghost use Rattle.base_bytes.specs.Words.{bytesOf};
+ghost use Rattle.base_lent.specs.Lent.{wordsIn};
+ghost use Rattle.base_lent.specs.Answers.{Told};
+ghost use Rattle.c_state_words.specs.StateWords.{stateWords, decoded};
 ghost use Rattle.base_ids.specs.Refusals.{none, unless};
 ghost use Rattle.c_state.specs.Calls.{entry, refusalOf};
 
@@ -32,8 +32,8 @@ fn decode_state(bytes: &[u8]) -> Decoded
         };
     }
     let mut words = [0u32; 160];
-    word_bytes::decode(bytes, &mut words);
-    word_state::decode(&words)
+    base_bytes::decode(bytes, &mut words);
+    c_state_words::decode(&words)
 }
 
 // Row 1 by the lengths, row 2 by the settings, and row 3 where the bytes are no state.
@@ -56,7 +56,7 @@ fn entry_refusal(lengths: bool, right: bool, ok: bool) -> Refusal
 pub fn enter(lengths: bool, settings: &[u8], state: &[u8]) -> Entry
     ensures { λ r. ⌜ r ≡ entry lengths (now (settings .entry)) (now (state .entry)) ⌝ }
 {
-    let own = word_lent::settings_of(settings);
+    let own = base_lent::settings_of(settings);
     let words = own.len;
     let table = own.table;
     let right = settings_check::check(&table[0..words]);
@@ -76,8 +76,8 @@ pub fn store(x: State, state: &mut [u8])
     requires { ⌜ length (now state) ≡ 640 ⌝ }
     ensures { λ _. ⌜ now (state .exit) ≡ bytesOf (stateWords x) ⌝ }
 {
-    let words = word_state::encode(x);
-    word_bytes::encode(&words, state);
+    let words = c_state_words::encode(x);
+    base_bytes::encode(&words, state);
 }
 
 // The refusal that an answer holds.

@@ -14,6 +14,7 @@ ghost use Prim.Native.Nat.{ℕ, _+_, _*_, _<_, _≤_};
 ghost use Rattle.base_laws.specs.Below.{countBelow};
 ghost use Rattle.base_laws.specs.Loops.{turns};
 ghost use Rattle.base_laws.specs.Masks.{has};
+ghost use Rattle.base_lent.specs.Lent.{wordsIn};
 ghost use Rattle.settings_values.specs.Settings.{Sizes, shards};
 ghost use Rattle.report_views.specs.Logs.{start};
 ghost use Rattle.plan_order.specs.Orders.{isMember, carriedBelow, cutBeside, cutsOf, orderContents};
@@ -130,14 +131,14 @@ fn cut_for(
     node: Node,
     body: &[u32; 381],
     len: usize,
-    desk: &[u32],
+    desk: &[u8],
     shard: Shard,
     holder: Node,
     target: Position,
 ) -> Position
     requires { ⌜ len ≤ 127 ⌝ }
-    requires { ⌜ ReadableSlot (now desk) (holder .0) ⌝ }
-    ensures { λ r. ⌜ r ≡ cond (has mask (node .0)) (cutBeside (now (desk .entry)) (now (body .entry)) len (shard .0) (holder .0) target) start ⌝ }
+    requires { ⌜ ReadableSlot (wordsIn (now desk)) (holder .0) ⌝ }
+    ensures { λ r. ⌜ r ≡ cond (has mask (node .0)) (cutBeside (wordsIn (now (desk .entry))) (now (body .entry)) len (shard .0) (holder .0) target) start ⌝ }
 {
     if !base_masks::has(mask, node.0 as usize) {
         return Position {
@@ -151,11 +152,11 @@ fn cut_for(
 }
 
 // The cuts of a node under a plan: two words for each shard, zeros for those that it does not carry.
-pub fn cuts_of(settings: &[u32], plan: Plan, desk: &[u32], node: Node) -> [u32; 32]
+pub fn cuts_of(settings: &[u32], plan: Plan, desk: &[u8], node: Node) -> [u32; 32]
     requires { ⌜ Sizes (now settings) ⌝ }
-    requires { ⌜ ReadableSlot (now desk) (node .0) ⌝ }
-    requires { ⌜ Holders (shards (now settings)) plan (now desk) ⌝ }
-    ensures { λ r. ⌜ r ≡ cutsOf (now (settings .entry)) plan (now (desk .entry)) (node .0) ⌝ }
+    requires { ⌜ ReadableSlot (wordsIn (now desk)) (node .0) ⌝ }
+    requires { ⌜ Holders (shards (now settings)) plan (wordsIn (now desk)) ⌝ }
+    ensures { λ r. ⌜ r ≡ cutsOf (now (settings .entry)) plan (wordsIn (now (desk .entry))) (node .0) ⌝ }
 {
     let count = base_ids::wide(settings[3]);
     let layout = plan.layout;

@@ -6,3 +6,4 @@ pub mod Fold
 pub mod Steps
 pub mod Quick
 pub mod Turns
+pub mod Bytes

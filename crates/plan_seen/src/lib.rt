@@ -14,6 +14,7 @@ ghost use Prim.Native.Nat.{ℕ, _<_, _≤_, _+_, _*_, _/_, _%_};
 ghost use lib.Dec.{eqb, ltb};
 ghost use lib.ListN.{length, getD, replicate};
 ghost use Rattle.base_laws.specs.Tables.{tabulate};
+ghost use Rattle.base_lent.specs.Lent.{wordsIn};
 ghost use Rattle.base_ids.specs.Refusals.{accepted};
 ghost use Rattle.base_ids.specs.declared.Position as Positions;
 ghost use Rattle.settings_values.specs.Settings.{Settings, shards};
@@ -27,7 +28,6 @@ ghost use Rattle.report_views.specs.declared.Layout as Layouts;
 ghost use Rattle.report_views.specs.declared.Termination as Terminations;
 ghost use Rattle.report_quick.specs.Accepts.{WordsFit};
 ghost use Rattle.plan_seen.specs.Numbers.{asNumber, fromNumber};
-ghost use Rattle.report_walk.specs.Pairs.{pairsOf};
 ghost use Rattle.plan_seen.specs.Nodes.{wordOfPairs, wordsOfPairs, RenewedAt, RenewedBelow, NumbersOf, SlotIs, EndsTold, EndTells, eligible};
 ghost use Rattle.plan_seen.specs.Fold.{SoFar, Stepped, holdersFrom, targetFrom, targetsFrom};
 ghost use Rattle.plan_seen.specs.Quick.{TablesOf, EndIs, QuickStep};
@@ -42,7 +42,7 @@ pub struct Seen {
 }
 
 // Nothing is told: a held node's slot is not sound.
-pub fn none_seen() -> Seen
+fn none_seen() -> Seen
     ensures { λ r. ⌜ r ≡ noneSeen ⌝ }
 {
     let nobody = Node(0);
@@ -55,15 +55,15 @@ pub fn none_seen() -> Seen
 }
 
 // The view that a held node reported; 0 of a node that is not held.
-fn view_seen(held: u32, desk: &[u32], node: Node) -> u32
-    requires { ⌜ (length (now desk) ≡ 16384) × (node .0 < 32) ⌝ }
-    ensures { λ r. ⌜ r ≡ viewSeen held (now (desk .entry)) (node .0) ⌝ }
+fn view_seen(held: u32, desk: &[u8], node: Node) -> u32
+    requires { ⌜ (length (now desk) ≡ 65536) × (node .0 < 32) ⌝ }
+    ensures { λ r. ⌜ r ≡ viewSeen held (wordsIn (now (desk .entry))) (node .0) ⌝ }
 {
     let n = node.0 as usize;
     if !base_masks::has(held, n) {
         return 0;
     }
-    desk[512 * n + 1]
+    base_bytes::word_at(desk, 512 * n + 1)
 }
 
 // Two words as one number.
@@ -71,18 +71,6 @@ fn joined(low: u32, high: u32) -> u64
     ensures { λ r. ⌜ r ≡ low + 4294967296 * high ⌝ }
 {
     low as u64 + 4294967296 * (high as u64)
-}
-
-// A slot's words as pairs.
-pub fn pairs_of(w: &[u32], b: &mut [u64; 256])
-    requires { ⌜ (length (now w) ≡ 512) × (length (now b) ≡ 256) ⌝ }
-    ensures { λ r. ⌜ now (b .exit) ≡ pairsOf (now (w .entry)) ⌝ }
-{
-    let mut i: usize = 0;
-    while i < 256 {
-        b[i] = joined(w[2 * i], w[2 * i + 1]);
-        i += 1;
-    }
 }
 
 // The first word of a pair.
@@ -142,7 +130,7 @@ fn position_of(x: u64) -> Position
 }
 
 // The numbers of positions.
-pub fn numbers_of(positions: [Position; 16]) -> [u64; 16]
+fn numbers_of(positions: [Position; 16]) -> [u64; 16]
     ensures { λ r. ⌜ NumbersOf positions r ⌝ }
 {
     let mut list = [0u64; 16];
@@ -414,7 +402,7 @@ fn read_step(
 }
 
 // The holders of the first count shards, then zeros.
-pub fn holders_seen(list: &[u32; 16], count: usize) -> [Node; 16]
+fn holders_seen(list: &[u32; 16], count: usize) -> [Node; 16]
     requires { ⌜ count ≤ 16 ⌝ }
     ensures { λ r. ⌜ r ≡ holdersFrom (now (list .entry)) count ⌝ }
 {
@@ -439,7 +427,7 @@ fn target_of(made: bool, kept: Position, top: u64) -> Position
 }
 
 // The targets of the first count shards, then (0, 0).
-pub fn targets_seen(t: Termination, tops: &[u64; 16], count: usize) -> [Position; 16]
+fn targets_seen(t: Termination, tops: &[u64; 16], count: usize) -> [Position; 16]
     requires { ⌜ count ≤ 16 ⌝ }
     ensures { λ r. ⌜ r ≡ targetsFrom t (now (tops .entry)) count ⌝ }
 {
@@ -543,7 +531,7 @@ fn quick_step(
 
 // One held node's slot, given as pairs: false if it is not sound, and else the node is noted. ready, records, positions and goals
 // are made once of the kept view and its termination.
-pub fn step(
+fn step(
     settings: &[u32],
     v: Layout,
     t: Termination,
@@ -594,15 +582,15 @@ fn walk_nodes(
     v: Layout,
     t: Termination,
     held: u32,
-    desk: &[u32],
+    desk: &[u8],
     holders: &mut [u32; 16],
     tops: &mut [u64; 16],
 ) -> bool
     requires { ⌜ Settings (now settings) ⌝ }
-    requires { ⌜ length (now desk) ≡ 16384 ⌝ }
+    requires { ⌜ length (now desk) ≡ 65536 ⌝ }
     requires { ⌜ (now holders ≡ replicate 16 32) × (now tops ≡ replicate 16 0) ⌝ }
-    ensures { λ r. ⌜ r ≡ slotsOk (now (settings .entry)) v t held (now (desk .entry)) ⌝ }
-    ensures { λ r. ⌜ (r ≡ true → SoFar v t held (now (desk .entry)) (shards (now (settings .entry))) 32 (now (holders .exit)) (now (tops .exit))) ⌝ }
+    ensures { λ r. ⌜ r ≡ slotsOk (now (settings .entry)) v t held (wordsIn (now (desk .entry))) ⌝ }
+    ensures { λ r. ⌜ (r ≡ true → SoFar v t held (wordsIn (now (desk .entry))) (shards (now (settings .entry))) 32 (now (holders .exit)) (now (tops .exit))) ⌝ }
 {
     let count = base_ids::wide(settings_values::shards(settings));
     let ready = report_walk::ready(settings, v, t);
@@ -614,8 +602,8 @@ fn walk_nodes(
     let mut n: usize = 0;
     while n < 32 {
         if base_masks::has(held, n) {
-            let at = 512 * n;
-            pairs_of(&desk[at..at + 512], &mut b);
+            let at = 2048 * n;
+            base_bytes::pairs(&desk[at..at + 2048], &mut b);
             if !step(
                 settings,
                 v,
@@ -639,9 +627,9 @@ fn walk_nodes(
 }
 
 // The views that the held nodes reported.
-fn views_seen(held: u32, desk: &[u32]) -> [u32; 32]
-    requires { ⌜ length (now desk) ≡ 16384 ⌝ }
-    ensures { λ r. ⌜ r ≡ viewsSeen held (now (desk .entry)) ⌝ }
+fn views_seen(held: u32, desk: &[u8]) -> [u32; 32]
+    requires { ⌜ length (now desk) ≡ 65536 ⌝ }
+    ensures { λ r. ⌜ r ≡ viewsSeen held (wordsIn (now (desk .entry))) ⌝ }
 {
     let mut views = [0u32; 32];
     let mut n: usize = 0;
@@ -652,11 +640,11 @@ fn views_seen(held: u32, desk: &[u32]) -> [u32; 32]
     views
 }
 
-// What a desk of words tells.
-pub fn see(settings: &[u32], v: Layout, t: Termination, held: u32, desk: &[u32]) -> Seen
+// What the desk tells of the held nodes.
+pub fn see(settings: &[u32], v: Layout, t: Termination, held: u32, desk: &[u8]) -> Seen
     requires { ⌜ Settings (now settings) ⌝ }
-    requires { ⌜ length (now desk) ≡ 16384 ⌝ }
-    ensures { λ r. ⌜ r ≡ seenOf (now (settings .entry)) v t held (now (desk .entry)) ⌝ }
+    requires { ⌜ length (now desk) ≡ 65536 ⌝ }
+    ensures { λ r. ⌜ r ≡ seenOf (now (settings .entry)) v t held (wordsIn (now (desk .entry))) ⌝ }
 {
     let mut best = [32u32; 16];
     let mut tops = [0u64; 16];

@@ -11,7 +11,7 @@ use lib.ListN.{length, take, drop, length-append, length-take, length-drop, drop
 use lib.Seq.{take-all, take-at, drop-at, drop-append-le}
 use borrow.Author.Tests.{lt-ltb, le-ltb}
 use Rattle.base_laws.specs.Bools.{lt-or-le}
-use Rattle.word_bytes.specs.Words.{wordAt, wordsOf, length-words}
+use Rattle.base_bytes.specs.Words.{wordAt, wordsOf, length-words}
 
 -- the word that an input starts with, the word count of its first block
 abbrev pub blockCount : List ℕ → ℕ

@@ -5,7 +5,7 @@ use mathlib.Core.Path.{_≡_, sym, ap, ap₂, _∙_}
 use native.Mathlib.Omega.{arith}
 use lib.ListN.{length, take, drop, length-take, length-replicate}
 use Rattle.base_laws.specs.Tables.{padded, padded-append, zeros, zeros-left}
-use Rattle.word_bytes.specs.Words.{wordsOf}
+use Rattle.base_bytes.specs.Words.{wordsOf}
 use Rattle.program_blocks.specs.declared.Block.{Block}
 use Rattle.program_blocks.specs.Blocks.{wholeWords, length-whole}
 

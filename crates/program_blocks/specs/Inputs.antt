@@ -13,7 +13,7 @@ use borrow.Author.Tests.{ltb-true}
 use Rattle.base_laws.specs.Bools.{lt-or-le, and-left, and-right}
 use Rattle.base_laws.specs.Below.{allBelow, all-at}
 use Rattle.base_laws.specs.Tables.{tabulate, tabulate-add, tabulate-cong, length-tabulate}
-use Rattle.word_bytes.specs.Words.{wordsOf, byteAt, bytesOf, length-bytes, getD-words, words-bytes}
+use Rattle.base_bytes.specs.Words.{wordsOf, byteAt, bytesOf, length-bytes, getD-words, words-bytes}
 use Rattle.program_blocks.specs.Blocks.{blockCount, blocks, wholeWords, blocks-none, blocks-whole}
 
 -- the blocks, each preceded by its word count, as bytes

@@ -18,7 +18,7 @@ pub fn needed(bytes: &[u8]) -> usize
     if bytes.len() < 4 {
         return 4;
     }
-    let count = word_bytes::word_at(bytes, 0);
+    let count = base_bytes::word_at(bytes, 0);
     if count < 513 {
         return 4 + 4 * base_ids::wide(count);
     }
@@ -32,6 +32,6 @@ pub fn words_of(bytes: &[u8]) -> Block
 {
     let len = bytes.len() / 4;
     let mut table = [0u32; 513];
-    word_bytes::decode(bytes, &mut table[0..len]);
+    base_bytes::decode(bytes, &mut table[0..len]);
     Block { len, table }
 }

@@ -7,7 +7,7 @@ use lib.ListN.{length}
 use Rattle.base_ids.specs.declared.Refusal.{Refusal}
 use Rattle.base_ids.specs.Refusals.{none, accepted, unless, firstOf}
 use Rattle.base_laws.specs.Tables.{tabulate}
-use Rattle.word_bytes.specs.Words.{wordAt}
+use Rattle.base_bytes.specs.Words.{wordAt}
 use Rattle.program_text.specs.Text.{numberLine}
 use Rattle.program_windows.specs.Windows.{allWindows}
 

@@ -14,7 +14,7 @@ use Rattle.base_laws.specs.Bools.{cond-of, lt-or-le}
 use Rattle.base_laws.specs.Tables.{tabulate, padded, length-tabulate, getD-tabulate, tabulate-step}
 use Rattle.base_ids.specs.declared.Refusal.{Refusal}
 use Rattle.base_ids.specs.Refusals.{refused, none, accepted, unless, firstOf, unless-ok, unless-rest, unless-true, unless-false, first-none, first-refused}
-use Rattle.word_bytes.specs.Words.{wordAt}
+use Rattle.base_bytes.specs.Words.{wordAt}
 use Rattle.program_text.specs.Puts.{Puts, puts-as, puts-none, puts-first, then-puts}
 use Rattle.program_text.specs.Text.{numberLine}
 use Rattle.program_windows.specs.Windows.{allWindows, lastMoves}

@@ -74,8 +74,8 @@ fn gather(bytes: &[u8], least: u64, moves: &mut [u8], at: usize) -> Gathered
     let mut place = at;
     let mut i = 0;
     while i < count {
-        let number = word_bytes::word_at(bytes, 2 * i);
-        let many = word_bytes::word_at(bytes, 2 * i + 1);
+        let number = base_bytes::word_at(bytes, 2 * i);
+        let many = base_bytes::word_at(bytes, 2 * i + 1);
         let refusal = line_refusal(next, number, many);
         if refusal.code != 0 {
             return Gathered {

@@ -15,7 +15,7 @@ use Rattle.base_laws.specs.Bools.{either, clash, and-left, and-right, cond-of}
 use Rattle.base_laws.specs.Tables.{tabulate, padded, tabulate-add, tabulate-cong, front-padded}
 use Rattle.base_ids.specs.declared.Refusal.{Refusal}
 use Rattle.base_ids.specs.Refusals.{none, accepted, unless, firstOf, accepted-none, unless-true, first-none, first-refused, first-left}
-use Rattle.word_bytes.specs.Words.{wordAt}
+use Rattle.base_bytes.specs.Words.{wordAt}
 use Rattle.program_text.specs.Text.{numberLine, number-line-length}
 use Rattle.program_windows.specs.Windows.{windowOf, windowLine, windowLines, allWindows, lastMoves}
 use Rattle.program_windows.specs.Sliding.{windows-more, last-more, windows-length}

@@ -7,6 +7,7 @@ ghost use mathlib.Core.List.{[]};
 ghost use mathlib.Core.Path.{_≡_};
 ghost use Prim.Native.Nat.{_≤_, _-_};
 ghost use lib.ListN.{length, take, drop};
+ghost use Rattle.base_lent.specs.Lent.{wordsIn};
 ghost use Rattle.program_blocks.specs.Blocks.{wholeWords};
 ghost use Rattle.program_run.specs.Machine as Machine;
 
@@ -58,9 +59,9 @@ fn begin(run: Run, block: &[u32]) -> Run
 }
 
 // A later block: a report.
-fn report(run: Run, desk: &mut [u32], block: &[u32]) -> Run
+fn report(run: Run, desk: &mut [u8], block: &[u32]) -> Run
     requires { ⌜ (run .stage ≡ Stage.Open) × (run .words ≤ length (run .settings)) ⌝ }
-    ensures { λ r. ⌜ Machine.Takes run (now (desk .entry)) (now (block .entry)) r (now (desk .exit)) ⌝ }
+    ensures { λ r. ⌜ Machine.Takes run (wordsIn (now (desk .entry))) (now (block .entry)) r (wordsIn (now (desk .exit))) ⌝ }
 {
     let n = run.words;
     let settings = run.settings;
@@ -75,9 +76,9 @@ fn report(run: Run, desk: &mut [u32], block: &[u32]) -> Run
 }
 
 // A block of words.
-fn take_block(run: Run, desk: &mut [u32], block: &[u32]) -> Run
+fn take_block(run: Run, desk: &mut [u8], block: &[u32]) -> Run
     requires { ⌜ run .words ≤ length (run .settings) ⌝ }
-    ensures { λ r. ⌜ Machine.Takes run (now (desk .entry)) (now (block .entry)) r (now (desk .exit)) ⌝ }
+    ensures { λ r. ⌜ Machine.Takes run (wordsIn (now (desk .entry))) (now (block .entry)) r (wordsIn (now (desk .exit))) ⌝ }
 {
     let stage = run.stage;
     match stage {
@@ -88,9 +89,9 @@ fn take_block(run: Run, desk: &mut [u32], block: &[u32]) -> Run
 }
 
 // The block whose bytes below `end` have come in, cut short or not.
-fn take_bytes(run: Run, desk: &mut [u32], bytes: &[u8], end: usize) -> Run
+fn take_bytes(run: Run, desk: &mut [u8], bytes: &[u8], end: usize) -> Run
     requires { ⌜ Machine.Comes run (now bytes) end ⌝ }
-    ensures { λ r. ⌜ Machine.Takes (Machine.pendingBytes run 0) (now (desk .entry)) (wholeWords (take (end - 4) (drop 4 (now (bytes .entry))))) r (now (desk .exit)) ⌝ }
+    ensures { λ r. ⌜ Machine.Takes (Machine.pendingBytes run 0) (wordsIn (now (desk .entry))) (wholeWords (take (end - 4) (drop 4 (now (bytes .entry))))) r (wordsIn (now (desk .exit))) ⌝ }
 {
     let block = program_intake::block_of(bytes, end);
     let len = block.len;
@@ -101,9 +102,9 @@ fn take_bytes(run: Run, desk: &mut [u32], bytes: &[u8], end: usize) -> Run
 }
 
 // The block whose bytes below `end` are there: it is taken where it is whole.
-fn settle(run: Run, desk: &mut [u32], bytes: &[u8], end: usize) -> Run
+fn settle(run: Run, desk: &mut [u8], bytes: &[u8], end: usize) -> Run
     requires { ⌜ Machine.BytesGathered run (now bytes) end ⌝ }
-    ensures { λ r. ⌜ Machine.Feeds (Machine.pendingBytes run end) (now (desk .entry)) (now (bytes .entry)) [] r (now (desk .exit)) (now (bytes .entry)) ⌝ }
+    ensures { λ r. ⌜ Machine.Feeds (Machine.pendingBytes run end) (wordsIn (now (desk .entry))) (now (bytes .entry)) [] r (wordsIn (now (desk .exit))) (now (bytes .entry)) ⌝ }
 {
     if end < program_blocks::needed(&bytes[0..end]) {
         let mut waiting = run;
@@ -114,9 +115,9 @@ fn settle(run: Run, desk: &mut [u32], bytes: &[u8], end: usize) -> Run
 }
 
 // What the decision prints.
-fn print_decision(run: Run, desk: &[u32], out: &mut [u8]) -> usize
+fn print_decision(run: Run, desk: &[u8], out: &mut [u8]) -> usize
     requires { ⌜ (run .stage ≡ Stage.Open) × (run .words ≤ length (run .settings)) ⌝ }
-    ensures { λ r. ⌜ Machine.Writes (Machine.progress run (now (desk .entry))) (now (out .entry)) (now (out .exit)) r ⌝ }
+    ensures { λ r. ⌜ Machine.Writes (Machine.progress run (wordsIn (now (desk .entry)))) (now (out .entry)) (now (out .exit)) r ⌝ }
 {
     let n = run.words;
     let settings = run.settings;
@@ -154,9 +155,9 @@ impl Run {
     }
 
     // Bytes of the input.
-    pub fn feed(self, desk: &mut [u32], bytes: &mut [u8], fed: &[u8]) -> Run
+    pub fn feed(self, desk: &mut [u8], bytes: &mut [u8], fed: &[u8]) -> Run
         requires { ⌜ Machine.ReadyRun self (now bytes) ⌝ }
-        ensures { λ r. ⌜ Machine.Feeds self (now (desk .entry)) (now (bytes .entry)) (now (fed .entry)) r (now (desk .exit)) (now (bytes .exit)) ⌝ }
+        ensures { λ r. ⌜ Machine.Feeds self (wordsIn (now (desk .entry))) (now (bytes .entry)) (now (fed .entry)) r (wordsIn (now (desk .exit))) (now (bytes .exit)) ⌝ }
     {
         let mut run = self;
         let mut i = 0;
@@ -170,9 +171,9 @@ impl Run {
     }
 
     // The end of the input: a block cut short is its whole words.
-    pub fn close(self, desk: &mut [u32], bytes: &[u8]) -> Run
+    pub fn close(self, desk: &mut [u8], bytes: &[u8]) -> Run
         requires { ⌜ Machine.ReadyRun self (now bytes) ⌝ }
-        ensures { λ r. ⌜ Machine.Closes self (now (desk .entry)) (now (bytes .entry)) r (now (desk .exit)) ⌝ }
+        ensures { λ r. ⌜ Machine.Closes self (wordsIn (now (desk .entry))) (now (bytes .entry)) r (wordsIn (now (desk .exit))) ⌝ }
     {
         let end = self.pending;
         if end < 4 {
@@ -182,9 +183,9 @@ impl Run {
     }
 
     // What the run prints after the last block.
-    pub fn print(self, desk: &[u32], out: &mut [u8]) -> usize
+    pub fn print(self, desk: &[u8], out: &mut [u8]) -> usize
         requires { ⌜ self .words ≤ length (self .settings) ⌝ }
-        ensures { λ r. ⌜ Machine.Writes (Machine.progress self (now (desk .entry))) (now (out .entry)) (now (out .exit)) r ⌝ }
+        ensures { λ r. ⌜ Machine.Writes (Machine.progress self (wordsIn (now (desk .entry)))) (now (out .entry)) (now (out .exit)) r ⌝ }
     {
         let stage = self.stage;
         match stage {

@@ -1,11 +1,9 @@
 -- The desk with a message in a node's slot.
-use Prim.Native.Nat.{ℕ, _+_, _*_, _-_}
+use Prim.Native.Nat.{ℕ, _+_, _*_}
 use mathlib.Core.List.{List, _++_, append-assoc}
 use mathlib.Core.Path.{_≡_, sym, ap, _∙_}
-use native.Mathlib.Omega.{arith}
 use lib.ListN.{take, drop}
-use borrow.Rule.Slice.PartMut.{putMid}
-use Rattle.base_laws.specs.Tables.{padded, length-padded, replaced, put-replaced}
+use Rattle.base_laws.specs.Tables.{padded, length-padded, replaced}
 
 -- the desk with a message, then zeros, in node n's slot
 unfoldable pub deskWith : List ℕ → ℕ → List ℕ → List ℕ
@@ -16,10 +14,3 @@ unfolding deskWith replaced
 desk-replaced d n w =
     append-assoc (take (512 * n) d) (padded 512 w) (drop (512 * n + 512) d)
     ∙ ap (λ (k : ℕ). take (512 * n) d ++ (padded 512 w ++ drop (512 * n + k) d)) (sym (length-padded 512 w))
-
--- what the loan of node n's slot leaves in the desk
-pub desk-put : (d : List ℕ) (n : ℕ) (w s : List ℕ) → s ≡ padded 512 w → putMid (512 * n) (512 * n + 512 - 512 * n) d s ≡ deskWith d n w
-desk-put d n w s e =
-    ap (putMid (512 * n) (512 * n + 512 - 512 * n) d) e
-    ∙ put-replaced (512 * n) (512 * n + 512 - 512 * n) d (padded 512 w) (omega (arith, length-padded 512 w))
-    ∙ sym (desk-replaced d n w)

@@ -1,35 +1,45 @@
-// The desk: a message stored in a node's slot.
+// The desk as 65536 lent bytes, 2048 for each node: a slot is read as words, and a message is stored in it.
 use base_ids::Node;
 ghost use mathlib.Core.Path.{_≡_};
-ghost use Prim.Native.Nat.{_<_};
-ghost use lib.ListN.{length, getD};
+ghost use Prim.Native.Nat.{_<_, _≤_};
+ghost use lib.ListN.{length};
 ghost use Rattle.base_laws.specs.Tables.{padded};
+ghost use Rattle.base_bytes.specs.Words.{bytesOf};
+ghost use Rattle.base_lent.specs.Lent.{wordsIn};
+ghost use Rattle.report_views.specs.Reports.{slot};
 ghost use Rattle.report_desk.specs.Desk.{deskWith};
 
-// Word k of the message, and 0 past its end.
-fn word(message: &[u32], k: usize) -> u32
-    ensures { λ r. ⌜ r ≡ getD (now (message .entry)) k 0 ⌝ }
+// The words of a node's slot.
+pub fn slot_words(desk: &[u8], node: Node) -> [u32; 512]
+    requires { ⌜ (length (now desk) ≡ 65536) × (node .0 < 32) ⌝ }
+    ensures { λ r. ⌜ r ≡ slot (wordsIn (now (desk .entry))) (node .0) ⌝ }
 {
-    if k < message.len() { message[k] } else { 0 }
+    let at = 2048 * (node.0 as usize);
+    let mut words = [0u32; 512];
+    base_bytes::decode(&desk[at..at + 2048], &mut words);
+    words
 }
 
-// Copies the message to a slot, and zeros after it.
-fn copy(slot: &mut [u32], message: &[u32])
-    requires { ⌜ length (now slot) ≡ 512 ⌝ }
-    ensures { λ r. ⌜ now (slot .exit) ≡ padded 512 (now (message .entry)) ⌝ }
+// Copies the message's bytes to a slot, and zeros after them.
+fn copy(slot: &mut [u8], message: &[u32])
+    requires { ⌜ (length (now slot) ≡ 2048) × (length (now message) ≤ 512) ⌝ }
+    ensures { λ r. ⌜ now (slot .exit) ≡ padded 2048 (bytesOf (now (message .entry))) ⌝ }
 {
-    let mut k: usize = 0;
-    while k < 512 {
-        slot[k] = word(message, k);
+    let mut k = 4 * message.len();
+    base_bytes::encode(message, &mut slot[0..k]);
+    while k < 2048 {
+        slot[k] = 0;
         k += 1;
     }
 }
 
-// Copies the message to a node's slot of the desk.
-pub fn store(desk: &mut [u32], node: Node, message: &[u32])
-    requires { ⌜ (length (now desk) ≡ 16384) × (node .0 < 32) ⌝ }
-    ensures { λ r. ⌜ now (desk .exit) ≡ deskWith (now (desk .entry)) (node .0) (now (message .entry)) ⌝ }
+// Copies a message to a node's slot of the desk. No other byte is written.
+pub fn store(desk: &mut [u8], node: Node, message: &[u32])
+    requires { ⌜ (length (now desk) ≡ 65536) × (node .0 < 32) ⌝ }
+    requires { ⌜ length (now message) ≤ 512 ⌝ }
+    ensures words { λ r. ⌜ wordsIn (now (desk .exit)) ≡ deskWith (wordsIn (now (desk .entry))) (node .0) (now (message .entry)) ⌝ }
+    ensures bytes { λ r. ⌜ now (desk .exit) ≡ bytesOf (deskWith (wordsIn (now (desk .entry))) (node .0) (now (message .entry))) ⌝ }
 {
-    let at = 512 * (node.0 as usize);
-    copy(&mut desk[at..at + 512], message);
+    let from = 2048 * (node.0 as usize);
+    copy(&mut desk[from..from + 2048], message);
 }

@@ -1,14 +1,15 @@
 -- The functions' answers as the definitions: a view and a termination from the words of the body, what is kept case by
 -- case, and what acceptance gives of a report.
-use Prim.Native.Nat.{ℕ, _-_, _<_, _≤_}
-use mathlib.Core.Bool.{Bool, true, false, cond}
+use Prim.Native.Nat.{ℕ, _-_, _%_, _<_, _≤_}
+use mathlib.Core.Bool.{Bool, true, false, cond, _&&_}
 use mathlib.Core.List.{List}
 use mathlib.Core.Logic.{⊎-elim}
 use mathlib.Core.Path.{_≡_, refl, sym, ap, _∙_}
 use native.Mathlib.Omega.{arith}
+use lib.Dec.{eqb, leb}
 use lib.ListN.{length, getD, replicate}
 use borrow.Author.Tests.{eq-eqb, ne-eqb, lt-ltb, le-ltb, ltb-true, leb-true}
-use Rattle.base_laws.specs.Bools.{either, and-left}
+use Rattle.base_laws.specs.Bools.{either, and-left, and-right}
 use Rattle.base_laws.specs.Tables.{tabulate-same}
 use Rattle.settings_values.specs.Settings.{nodes, shards, Settings}
 use Rattle.base_ids.specs.declared.Position.{Position}
@@ -87,6 +88,14 @@ module _ (σ : List ℕ) (v : Layout) (t : Termination) (m : Latest) (w : List �
   pub taken-words : 1 ≤ length w
   unfolding row5
   taken-words = leb-true 1 (length w) (and-left _ _ (and-left _ _ (message-given Report σ w taken-message .words-pass)))
+
+  -- it has at most 512 words
+  pub taken-few : length w ≤ 512
+  unfolding row5
+  taken-few =
+      leb-true (length w) 512
+      (and-right (leb 1 (length w)) (leb (length w) 512)
+      (and-left (leb 1 (length w) && leb (length w) 512) (eqb (length w % 4) 0) (message-given Report σ w taken-message .words-pass)))
 
 -- ---- the view and the termination
 

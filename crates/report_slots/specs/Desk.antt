@@ -13,6 +13,7 @@ use Rattle.base_ids.specs.Refusals.{accepted}
 use Rattle.message_format.specs.declared.Form.the-variants.{Report}
 use Rattle.message_format.specs.declared.Contents.{Contents}
 use Rattle.message_format.specs.declared.Reading.{Reading}
+use Rattle.message_format.specs.Chain.{row8}
 use Rattle.message_format.specs.Messages.{contentsOf, messageRefusal}
 use Rattle.message_reader.specs.Walks.{SizedMessage}
 use Rattle.message_reader.specs.Readings.{readingUnder}
@@ -31,6 +32,10 @@ reportFits σ v t c n =
 module _ (d : List ℕ) (n : ℕ) (whole : length d ≡ 16384) (below : n < 32) where
   pub slot-sized : SizedMessage (slot d n)
   slot-sized = record { some = omega (arith, length-slot d n whole below); few = omega (arith, length-slot d n whole below); whole = omega (arith, length-slot d n whole below) }
+
+  -- words that are the slot's can be read where its chain is that of a message
+  pub slot-as : {w : List ℕ} → row8 (slot d n) ≡ true → w ≡ slot d n → SizedMessage w × (row8 w ≡ true)
+  slot-as h e = rw e (slot-sized, h)
 
   pub getD-slot : (k : ℕ) → k < 512 → getD (slot d n) k 0 ≡ getD d (512 * n + k) 0
   unfolding slot

@@ -5,21 +5,22 @@ use report_views::Layout;
 use report_views::Termination;
 ghost use mathlib.Core.Bool.{true};
 ghost use mathlib.Core.Path.{_≡_};
-ghost use Prim.Native.Nat.{_<_, _+_, _*_};
+ghost use Prim.Native.Nat.{_<_};
 ghost use lib.ListN.{length};
+ghost use Rattle.base_lent.specs.Lent.{wordsIn};
 ghost use Rattle.settings_values.specs.Settings.{Settings};
 ghost use Rattle.message_format.specs.Chain.{row8};
 ghost use Rattle.report_views.specs.Reports as Reports;
 ghost use Rattle.report_slots.specs.Desk.{reportFits};
 
 // A node's report.
-pub fn report_at(desk: &[u32], node: Node) -> Contents
-    requires { ⌜ (length (now desk) ≡ 16384) × (node .0 < 32) ⌝ }
-    requires { ⌜ row8 (Reports.slot (now desk) (node .0)) ≡ true ⌝ }
-    ensures { λ r. ⌜ r ≡ Reports.reportOf (now (desk .entry)) (node .0) ⌝ }
+pub fn report_at(desk: &[u8], node: Node) -> Contents
+    requires { ⌜ (length (now desk) ≡ 65536) × (node .0 < 32) ⌝ }
+    requires { ⌜ row8 (Reports.slot (wordsIn (now desk)) (node .0)) ≡ true ⌝ }
+    ensures { λ r. ⌜ r ≡ Reports.reportOf (wordsIn (now (desk .entry))) (node .0) ⌝ }
 {
-    let at = 512 * (node.0 as usize);
-    message_reader::contents_of(&desk[at..at + 512])
+    let words = report_desk::slot_words(desk, node);
+    message_reader::contents_of(&words)
 }
 
 // A report fits what is kept as a node's: the node's own, of no later view, and under rows 12 and 13.

@@ -1,10 +1,13 @@
 -- What the program promises. No contract can say which bytes a read gives: the promise is of the bytes that came, whatever they are.
-use Prim.Native.Nat.{ℕ, _≤_, _-_}
+use Prim.Native.Nat.{ℕ, _+_, _*_, _≤_, _<_, _-_}
 use mathlib.Core.Bool.{Bool, true, false, cond, true≢false}
 use mathlib.Core.List.{List, [], _++_}
 use mathlib.Core.Path.{_≡_, refl, sym, ap, ap₂, _∙_, subst}
 use native.Mathlib.Omega.{arith}
-use lib.ListN.{length, take, replicate, length-append, length-take}
+use lib.ListN.{length, getD, take, replicate, length-append, length-take, length-replicate, getD-replicate}
+use Rattle.base_laws.specs.Tables.{tabulate-same, zeros}
+use Rattle.base_bytes.specs.Words.{wordAt, wordsOf}
+use Rattle.base_lent.specs.Lent.{wordsIn, all-words}
 use Rattle.program_input.specs.declared.Source.{Source}
 use Rattle.program_input.specs.declared.Source.the-variants.{Open, Over, Failed, Endless}
 use Rattle.program_input.specs.declared.Input.{Input}
@@ -119,9 +122,28 @@ answers-none {d} {bytes} {r} {e} {b} out p l h =
       within = omega arith;
     }
 
+-- a desk of zeros
+zero-byte : (n k : ℕ) → k < n → getD (zeros n) k 0 ≡ 0
+zero-byte n k l = getD-replicate {A = ℕ} n k 0 0 l
+
+zero-words : (n : ℕ) → zeros n ≡ wordsIn (zeros (4 * n))
+unfolding wordsOf wordAt
+zero-words n =
+    tabulate-same n 0 (wordAt (zeros (4 * n))) (λ k l.
+    rw (
+      zero-byte (4 * n) (4 * k) (omega arith),
+      zero-byte (4 * n) (4 * k + 1) (omega arith),
+      zero-byte (4 * n) (4 * k + 2) (omega arith),
+      zero-byte (4 * n) (4 * k + 3) (omega arith),
+    ))
+    ∙ all-words (zeros (4 * n)) n (length-replicate {A = ℕ} (4 * n) 0)
+
+pub empty-desk : wordsIn (replicate 65536 0) ≡ replicate 16384 0
+empty-desk = sym (zero-words 16384)
+
 -- the input is at its end, or the run is closed
-module _ {bytes : List ℕ} {r : Intake} {e b : List ℕ} {last : Run} {f out after : List ℕ} {n : ℕ} (p : ReadsAll (replicate 16384 0) bytes r e b)
-    (q : Closes (r .run) e b last f) (w : Writes (progress last f) out after n) (l : length bytes ≡ 2056) (h : length out ≡ 8192) where
+module _ {d bytes : List ℕ} {r : Intake} {e b : List ℕ} {last : Run} {f out after : List ℕ} {n : ℕ} (empty : d ≡ replicate 16384 0)
+    (p : ReadsAll d bytes r e b) (q : Closes (r .run) e b last f) (w : Writes (progress last f) out after n) (l : length bytes ≡ 2056) (h : length out ≡ 8192) where
   -- what may follow changes nothing
   ends-same : (s : Source) → goesOn s (r .run .stage) ≡ false → isCut s ≡ false → (rest : List ℕ) → MayFollow s rest
       → ahead (r .run) e b rest ≡ ahead (r .run) e b []
@@ -132,13 +154,15 @@ module _ {bytes : List ℕ} {r : Intake} {e b : List ℕ} {last : Run} {f out af
 
   pub answers-print : isCut (r .input .source) ≡ false → Answers after (record { len = n; input = r .input })
   answers-print c =
-      let k : Came (replicate 16384 0) bytes r e b = reads-came (replicate 16384 0) bytes r e b l (p .reads) in
+      let k : Came d bytes r e b = reads-came d bytes r e b l (p .reads) in
+      let fed : Feeds started (replicate 16384 0) bytes (k .came) (r .run) e b =
+      subst (λ (x : List ℕ). Feeds started x bytes (k .came) (r .run) e b) empty (k .feeds) in
       record {
         came = k .came;
         whole = k .whole;
         printed =
             λ g rest m.
-            run-prints-with (k .came) bytes (r .run) e b last f out after n (k .feeds) q w (omega arith) rest
+            run-prints-with (k .came) bytes (r .run) e b last f out after n fed q w (omega arith) rest
             (ends-same (r .input .source) (p .ended) g rest m);
         silent = λ g. absurd (true≢false (sym g ∙ c));
         within = w .puts .within;

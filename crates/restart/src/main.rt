@@ -6,6 +6,7 @@ use program_run::Run;
 ghost use mathlib.Core.Path.{_≡_};
 ghost use Prim.Native.Nat.{_≤_};
 ghost use lib.ListN.{length, take};
+ghost use Rattle.base_lent.specs.Lent.{wordsIn};
 ghost use Rattle.restart.specs.Program.{goesOn, Turns, ReadsAll, Answers};
 ghost use Rattle.program_run.specs.Machine.{ReadyRun, Feeds};
 
@@ -34,17 +35,17 @@ fn is_going_on(intake: Intake) -> bool
 }
 
 // The run, fed with the first n bytes of a buffer.
-fn fed(run: Run, desk: &mut [u32], bytes: &mut [u8], buffer: &[u8], n: usize) -> Run
+fn fed(run: Run, desk: &mut [u8], bytes: &mut [u8], buffer: &[u8], n: usize) -> Run
     requires { ⌜ ReadyRun run (now bytes) × (n ≤ length (now buffer)) ⌝ }
-    ensures { λ r. ⌜ Feeds run (now (desk .entry)) (now (bytes .entry)) (take n (now (buffer .entry))) r (now (desk .exit)) (now (bytes .exit)) ⌝ }
+    ensures { λ r. ⌜ Feeds run (wordsIn (now (desk .entry))) (now (bytes .entry)) (take n (now (buffer .entry))) r (wordsIn (now (desk .exit))) (now (bytes .exit)) ⌝ }
 {
     run.feed(desk, bytes, &buffer[0..n])
 }
 
 // One read more, and what it put into the buffer is fed to the run.
-fn turn(intake: Intake, desk: &mut [u32], bytes: &mut [u8], buffer: &mut [u8; 4096]) -> Intake
+fn turn(intake: Intake, desk: &mut [u8], bytes: &mut [u8], buffer: &mut [u8; 4096]) -> Intake
     requires { ⌜ ReadyRun (intake .run) (now bytes) ⌝ }
-    ensures { λ r. ⌜ Turns intake (now (desk .entry)) (now (bytes .entry)) (now (buffer .exit)) r (now (desk .exit)) (now (bytes .exit)) ⌝ }
+    ensures { λ r. ⌜ Turns intake (wordsIn (now (desk .entry))) (now (bytes .entry)) (now (buffer .exit)) r (wordsIn (now (desk .exit))) (now (bytes .exit)) ⌝ }
 {
     let input = intake.input;
     let next = input.read(buffer);
@@ -57,9 +58,9 @@ fn turn(intake: Intake, desk: &mut [u32], bytes: &mut [u8], buffer: &mut [u8; 40
 }
 
 // Feeds a run with the input: to its end, to a read that fails, or until the run is closed.
-fn read_all(desk: &mut [u32], bytes: &mut [u8]) -> Intake
+fn read_all(desk: &mut [u8], bytes: &mut [u8]) -> Intake
     requires { ⌜ length (now bytes) ≡ 2056 ⌝ }
-    ensures { λ r. ⌜ ReadsAll (now (desk .entry)) (now (bytes .entry)) r (now (desk .exit)) (now (bytes .exit)) ⌝ }
+    ensures { λ r. ⌜ ReadsAll (wordsIn (now (desk .entry))) (now (bytes .entry)) r (wordsIn (now (desk .exit))) (now (bytes .exit)) ⌝ }
 {
     let mut intake = Intake {
         run: Run::start(),
@@ -76,7 +77,7 @@ fn read_all(desk: &mut [u32], bytes: &mut [u8]) -> Intake
 fn answer(out: &mut [u8; 8192]) -> Reply
     ensures { λ r. ⌜ Answers (now (out .exit)) r ⌝ }
 {
-    let mut desk = [0u32; 16384];
+    let mut desk = [0u8; 65536];
     let mut bytes = [0u8; 2056];
     let intake = read_all(&mut desk, &mut bytes);
     let input = intake.input;

@@ -11,6 +11,7 @@ ghost use mathlib.Core.List.{List};
 ghost use mathlib.Core.Path.{_≡_};
 ghost use Prim.Native.Nat.{ℕ};
 ghost use lib.ListN.{length};
+ghost use Rattle.base_lent.specs.Lent.{wordsIn};
 ghost use Rattle.settings_values.specs.Settings.{Sizes, Settings};
 ghost use Rattle.plan_seen.specs.Sight.{seenOf};
 ghost use Rattle.state_planner.specs.Refusing.{orderRefusal};
@@ -37,13 +38,13 @@ pub fn order_refusal_seen(
 }
 
 // Rows 1 to 4, 6 and 14. The buffer's length and the desk's make row 1.
-fn order_refusal(settings: &[u32], x: State, desk: &[u32], node: Node, buffer: &[u32]) -> Refusal
-    ensures { λ r. ⌜ r ≡ orderRefusal (now (settings .entry)) x (now (desk .entry)) (node .0) (now (buffer .entry)) ⌝ }
+fn order_refusal(settings: &[u32], x: State, desk: &[u8], node: Node, buffer: &[u32]) -> Refusal
+    ensures { λ r. ⌜ r ≡ orderRefusal (now (settings .entry)) x (wordsIn (now (desk .entry))) (node .0) (now (buffer .entry)) ⌝ }
 {
     if buffer.len() != 512 {
         return Refusal { code: 1 };
     }
-    if desk.len() != 16384 {
+    if desk.len() != 65536 {
         return Refusal { code: 1 };
     }
     if !settings_check::check(settings) {
@@ -69,9 +70,9 @@ pub fn write_order(
 }
 
 // Writes the node's order into 512 lent words, and answers its length; a refusal leaves the words as they were.
-pub fn order(settings: &[u32], x: State, desk: &[u32], node: Node, buffer: &mut [u32]) -> Writing
-    ensures answer { λ r. ⌜ r ≡ ordered (now (settings .entry)) x (now (desk .entry)) (node .0) (now (buffer .entry)) ⌝ }
-    ensures words { λ r. ⌜ now (buffer .exit) ≡ orderBuffer (now (settings .entry)) x (now (desk .entry)) (node .0) (now (buffer .entry)) ⌝ }
+pub fn order(settings: &[u32], x: State, desk: &[u8], node: Node, buffer: &mut [u32]) -> Writing
+    ensures answer { λ r. ⌜ r ≡ ordered (now (settings .entry)) x (wordsIn (now (desk .entry))) (node .0) (now (buffer .entry)) ⌝ }
+    ensures words { λ r. ⌜ now (buffer .exit) ≡ orderBuffer (now (settings .entry)) x (wordsIn (now (desk .entry))) (node .0) (now (buffer .entry)) ⌝ }
 {
     let refusal = order_refusal(settings, x, desk, node, buffer);
     if refusal.code != 0 {

@@ -5,6 +5,8 @@ use mathlib.Core.List.{List}
 use lib.Dec.{eqb}
 use lib.ListN.{getD}
 use Rattle.base_laws.specs.Masks.{with, without}
+use Rattle.base_bytes.specs.Words.{bytesOf}
+use Rattle.base_lent.specs.Lent.{wordsIn}
 use Rattle.base_ids.specs.declared.Refusal.{Refusal}
 use Rattle.base_ids.specs.Refusals.{accepted}
 use Rattle.message_format.specs.declared.Contents.{Contents}
@@ -68,6 +70,10 @@ reported σ x d w = outcome (reportRefusal σ x d w) x (afterReport σ x (conten
 -- the desk after a report
 unfoldable pub deskAfter : List ℕ → State → List ℕ → List ℕ → List ℕ
 deskAfter σ x d w = cond (accepted (reportRefusal σ x d w)) (deskWith d (getD w 0 0) w) d
+
+-- its bytes, where they are b before
+unfoldable pub deskLeft : List ℕ → State → List ℕ → List ℕ → List ℕ
+deskLeft σ x b w = cond (accepted (reportRefusal σ x (wordsIn b) w)) (bytesOf (deskAfter σ x (wordsIn b) w)) b
 
 unfoldable pub dropped : List ℕ → State → List ℕ → ℕ → Outcome
 dropped σ x d n = outcome (dropRefusal σ x d n) x (afterDrop x n)

@@ -7,6 +7,8 @@ use mathlib.Core.Path.{_≡_, sym, ap, _∙_}
 use lib.ListN.{length, getD}
 use borrow.Author.Tests.{eq-eqb, ne-eqb}
 use Rattle.base_laws.specs.Masks.{with}
+use Rattle.base_bytes.specs.Words.{bytesOf}
+use Rattle.base_lent.specs.Lent.{wordsIn}
 use Rattle.settings_values.specs.Settings.{Settings}
 use Rattle.base_ids.specs.declared.Refusal.{Refusal}
 use Rattle.base_ids.specs.Refusals.{accepted, accepted-none, first-right, rows-refused, rows-followed}
@@ -14,13 +16,13 @@ use Rattle.message_format.specs.Messages.{contentsOf}
 use Rattle.report_latest.specs.Remembered.{noted}
 use Rattle.report_kept.specs.declared.Received.{Received}
 use Rattle.report_kept.specs.Reports.{refusalBeside, renewed, takesIn, takenIn}
-use Rattle.report_kept.specs.Laws.{in-refusal, in-taken, taken-node, taken-words}
+use Rattle.report_kept.specs.Laws.{in-refusal, in-taken, taken-node, taken-words, taken-few}
 use Rattle.report_desk.specs.Desk.{deskWith}
 use Rattle.state_planner.specs.declared.State.{State}
 use Rattle.state_planner.specs.declared.Outcome.{Outcome}
 use Rattle.state_planner.specs.States.{keeping}
 use Rattle.state_planner.specs.Refusing.{isGathering, deskOk, entryRefusal, reportRefusal}
-use Rattle.state_planner.specs.Events.{refusing, accepting, outcome, isAccepted, afterReport, reported, deskAfter}
+use Rattle.state_planner.specs.Events.{refusing, accepting, outcome, isAccepted, afterReport, reported, deskAfter, deskLeft}
 use Rattle.state_planner.specs.EventLaws.{settles-refused, settles-accepted, answer-accepts}
 
 -- r: the report beside what is kept and remembered
@@ -77,37 +79,45 @@ module _ (σ : List ℕ) (x : State) (d w : List ℕ) (g : Bool) (phase : g ≡ 
 
 -- ---- the desk
 
--- a refused report leaves the desk
-module _ (σ : List ℕ) (x : State) (d w : List ℕ) where
-  leaves-desk : accepted (reportRefusal σ x d w) ≡ false → d ≡ deskAfter σ x d w
-  unfolding deskAfter
-  leaves-desk h = rw h
+module _ (σ : List ℕ) (x : State) (b w : List ℕ) where
+  -- what a report leaves: the desk's words, and its bytes
+  abbrev pub ToldDesk : List ℕ → Type 0
+  ToldDesk c = (wordsIn c ≡ deskAfter σ x (wordsIn b) w) × (c ≡ deskLeft σ x b w)
 
-  pub refusal-leaves : (r : Refusal) → r ≡ entryRefusal (deskOk d) σ x d (isGathering (x .phase)) → (r .code ≡ 0 → ⊥) → d ≡ deskAfter σ x d w
+  -- a refused report leaves the desk
+  leaves-desk : accepted (reportRefusal σ x (wordsIn b) w) ≡ false → ToldDesk b
+  unfolding deskAfter deskLeft
+  leaves-desk h = (rw h, rw h)
+
+  pub refusal-leaves : (r : Refusal) → r ≡ entryRefusal (deskOk (wordsIn b)) σ x (wordsIn b) (isGathering (x .phase)) → (r .code ≡ 0 → ⊥) → ToldDesk b
   unfolding reportRefusal
   refusal-leaves r e h =
       leaves-desk (sym (ap accepted (rows-refused e (refusalBeside σ (x .kept) (x .termination) (x .latest) w) (ne-eqb (r .code) 0 h))) ∙ ne-eqb (r .code) 0 h)
 
   -- o: what the event hands back
-  module _ (o : Outcome) (e : o ≡ reported σ x d w) where
-    answer-is : isAccepted (o .answer) ≡ accepted (reportRefusal σ x d w)
+  module _ (o : Outcome) (e : o ≡ reported σ x (wordsIn b) w) where
+    answer-is : isAccepted (o .answer) ≡ accepted (reportRefusal σ x (wordsIn b) w)
     unfolding reported
-    answer-is = answer-accepts (reportRefusal σ x d w) x (afterReport σ x (contentsOf w)) e
+    answer-is = answer-accepts (reportRefusal σ x (wordsIn b) w) x (afterReport σ x (contentsOf w)) e
 
-    pub answer-leaves : isAccepted (o .answer) ≡ false → d ≡ deskAfter σ x d w
+    pub answer-leaves : isAccepted (o .answer) ≡ false → ToldDesk b
     answer-leaves h = leaves-desk (sym answer-is ∙ h)
 
     module _ (h : isAccepted (o .answer) ≡ true) where
       passes : accepted (refusalBeside σ (x .kept) (x .termination) (x .latest) w) ≡ true
       unfolding reportRefusal
-      passes = ap accepted (first-right _ _ (accepted-none (reportRefusal σ x d w) (sym answer-is ∙ h)))
+      passes = ap accepted (first-right _ _ (accepted-none (reportRefusal σ x (wordsIn b) w) (sym answer-is ∙ h)))
 
       pub reporter-told : 1 ≤ length w
       reporter-told = taken-words σ (x .kept) (x .termination) (x .latest) w passes
 
+      pub report-small : length w ≤ 512
+      report-small = taken-few σ (x .kept) (x .termination) (x .latest) w passes
+
       pub reporter-named : Settings σ → getD w 0 0 < 32
       reporter-named = taken-node σ (x .kept) (x .termination) (x .latest) w passes
 
-      pub stored-desk : (b : List ℕ) → b ≡ deskWith d (getD w 0 0) w → b ≡ deskAfter σ x d w
-      unfolding deskAfter
-      stored-desk b f = f ∙ rw (sym answer-is, h)
+      pub stored-desk : (c : List ℕ)
+          → (wordsIn c ≡ deskWith (wordsIn b) (getD w 0 0) w) × (c ≡ bytesOf (deskWith (wordsIn b) (getD w 0 0) w)) → ToldDesk c
+      unfolding deskAfter deskLeft
+      stored-desk c f = (f .0 ∙ rw (sym answer-is, h), f .1 ∙ rw (sym answer-is, h))

@@ -19,6 +19,7 @@ ghost use mathlib.Core.Path.{_≡_};
 ghost use Prim.Native.Nat.{ℕ, _<_};
 ghost use lib.ListN.{length};
 ghost use Rattle.base_laws.specs.Masks.{with};
+ghost use Rattle.base_lent.specs.Lent.{wordsIn};
 ghost use Rattle.settings_values.specs.Settings.{Settings};
 ghost use Rattle.report_views.specs.Soundness.{keptSound};
 ghost use Rattle.report_latest.specs.Remembered.{noted};
@@ -67,10 +68,10 @@ pub struct Decided {
 }
 
 // Rows 1 and 2.
-fn call_refusal(settings: &[u32], desk: &[u32]) -> Refusal
-    ensures { λ r. ⌜ r ≡ Refusing.callRefusal (now (settings .entry)) (now (desk .entry)) ⌝ }
+fn call_refusal(settings: &[u32], desk: &[u8]) -> Refusal
+    ensures { λ r. ⌜ r ≡ Refusing.callRefusal (now (settings .entry)) (wordsIn (now (desk .entry))) ⌝ }
 {
-    if desk.len() != 16384 {
+    if desk.len() != 65536 {
         return Refusal { code: 1 };
     }
     if !settings_check::check(settings) {
@@ -129,25 +130,6 @@ pub fn event_refusal_seen(
         x.plan,
         x.latest,
     )
-}
-
-// The refusal of an event that names a node.
-pub fn event_refusal(
-    settings: &[u32],
-    x: State,
-    desk: &[u32],
-    in_phase: bool,
-    node: Node,
-    ok: bool,
-) -> Refusal
-    ensures { λ r. ⌜ r ≡ Refusing.eventRefusal (Refusing.deskOk (now (desk .entry))) (now (settings .entry)) x (now (desk .entry)) in_phase (node .0) ok ⌝ }
-{
-    let refusal = call_refusal(settings, desk);
-    if refusal.code != 0 {
-        return refusal;
-    }
-    let seen = plan_seen::see(settings, x.kept, x.termination, x.held, desk);
-    event_refusal_seen(settings, x, seen, in_phase, node, ok)
 }
 
 // The state as it was, beside a refusal.
@@ -311,7 +293,7 @@ impl State {
     }
 
     // A node reports, beside what the desk tells; the desk is left to the caller.
-    pub fn report_seen(self, settings: &[u32], seen: Seen, message: &[u32]) -> Outcome
+    fn report_seen(self, settings: &[u32], seen: Seen, message: &[u32]) -> Outcome
         requires { ⌜ Settings (now settings) ⌝ }
         ensures { λ r. ⌜ ((d : List ℕ) → length d ≡ 16384 → seen ≡ seenOf (now (settings .entry)) (self .kept) (self .termination) (self .held) d → r ≡ Events.reported (now (settings .entry)) self d (now (message .entry))) ⌝ }
     {
@@ -335,15 +317,14 @@ impl State {
         accept(after_report(self, taken))
     }
 
-    // A node reports: its message is copied to its slot of the desk, and the node is held.
-    pub fn report(self, settings: &[u32], desk: &mut [u32], message: &[u32]) -> Outcome
-        ensures outcome { λ r. ⌜ r ≡ Events.reported (now (settings .entry)) self (now (desk .entry)) (now (message .entry)) ⌝ }
-        ensures desk { λ r. ⌜ now (desk .exit) ≡ Events.deskAfter (now (settings .entry)) self (now (desk .entry)) (now (message .entry)) ⌝ }
+    // A node reports, where rows 1 and 2 do not refuse.
+    pub fn report_under(self, settings: &[u32], desk: &mut [u8], message: &[u32]) -> Outcome
+        requires { ⌜ Settings (now settings) ⌝ }
+        requires { ⌜ length (now desk) ≡ 65536 ⌝ }
+        ensures outcome { λ r. ⌜ r ≡ Events.reported (now (settings .entry)) self (wordsIn (now (desk .entry))) (now (message .entry)) ⌝ }
+        ensures words { λ r. ⌜ wordsIn (now (desk .exit)) ≡ Events.deskAfter (now (settings .entry)) self (wordsIn (now (desk .entry))) (now (message .entry)) ⌝ }
+        ensures bytes { λ r. ⌜ now (desk .exit) ≡ Events.deskLeft (now (settings .entry)) self (now (desk .entry)) (now (message .entry)) ⌝ }
     {
-        let refusal = call_refusal(settings, desk);
-        if refusal.code != 0 {
-            return refuse(self, refusal);
-        }
         let seen = plan_seen::see(settings, self.kept, self.termination, self.held, desk);
         let outcome = State::report_seen(self, settings, seen, message);
         let answer = outcome.answer;
@@ -352,6 +333,19 @@ impl State {
         }
         report_desk::store(desk, Node(message[0]), message);
         outcome
+    }
+
+    // A node reports: its message is copied to its slot of the desk, and the node is held.
+    pub fn report(self, settings: &[u32], desk: &mut [u8], message: &[u32]) -> Outcome
+        ensures outcome { λ r. ⌜ r ≡ Events.reported (now (settings .entry)) self (wordsIn (now (desk .entry))) (now (message .entry)) ⌝ }
+        ensures words { λ r. ⌜ wordsIn (now (desk .exit)) ≡ Events.deskAfter (now (settings .entry)) self (wordsIn (now (desk .entry))) (now (message .entry)) ⌝ }
+        ensures bytes { λ r. ⌜ now (desk .exit) ≡ Events.deskLeft (now (settings .entry)) self (now (desk .entry)) (now (message .entry)) ⌝ }
+    {
+        let refusal = call_refusal(settings, desk);
+        if refusal.code != 0 {
+            return refuse(self, refusal);
+        }
+        State::report_under(self, settings, desk, message)
     }
 
     // A node is no longer there, beside what the desk tells.
@@ -370,8 +364,8 @@ impl State {
     }
 
     // A node is no longer there.
-    pub fn drop(self, settings: &[u32], desk: &[u32], node: Node) -> Outcome
-        ensures { λ r. ⌜ r ≡ Events.dropped (now (settings .entry)) self (now (desk .entry)) (node .0) ⌝ }
+    pub fn drop(self, settings: &[u32], desk: &[u8], node: Node) -> Outcome
+        ensures { λ r. ⌜ r ≡ Events.dropped (now (settings .entry)) self (wordsIn (now (desk .entry))) (node .0) ⌝ }
     {
         let refusal = call_refusal(settings, desk);
         if refusal.code != 0 {
@@ -397,8 +391,8 @@ impl State {
     }
 
     // A node has fetched what it lacked.
-    pub fn fetched(self, settings: &[u32], desk: &[u32], node: Node) -> Outcome
-        ensures { λ r. ⌜ r ≡ Events.fetchedOf (now (settings .entry)) self (now (desk .entry)) (node .0) ⌝ }
+    pub fn fetched(self, settings: &[u32], desk: &[u8], node: Node) -> Outcome
+        ensures { λ r. ⌜ r ≡ Events.fetchedOf (now (settings .entry)) self (wordsIn (now (desk .entry))) (node .0) ⌝ }
     {
         let refusal = call_refusal(settings, desk);
         if refusal.code != 0 {
@@ -424,8 +418,8 @@ impl State {
     }
 
     // A node has prepared the new view.
-    pub fn prepared(self, settings: &[u32], desk: &[u32], node: Node) -> Outcome
-        ensures { λ r. ⌜ r ≡ Events.preparedOf (now (settings .entry)) self (now (desk .entry)) (node .0) ⌝ }
+    pub fn prepared(self, settings: &[u32], desk: &[u8], node: Node) -> Outcome
+        ensures { λ r. ⌜ r ≡ Events.preparedOf (now (settings .entry)) self (wordsIn (now (desk .entry))) (node .0) ⌝ }
     {
         let refusal = call_refusal(settings, desk);
         if refusal.code != 0 {
@@ -454,8 +448,8 @@ impl State {
     }
 
     // A plan for the held nodes, or the first reason to wait.
-    pub fn decide(self, settings: &[u32], desk: &[u32]) -> Decided
-        ensures { λ r. ⌜ Decide.Decides (now (settings .entry)) self (now (desk .entry)) r ⌝ }
+    pub fn decide(self, settings: &[u32], desk: &[u8]) -> Decided
+        ensures { λ r. ⌜ Decide.Decides (now (settings .entry)) self (wordsIn (now (desk .entry))) r ⌝ }
     {
         let refusal = call_refusal(settings, desk);
         if refusal.code != 0 {
@@ -477,8 +471,8 @@ impl State {
     }
 
     // Whether the state is sound beside these settings and this desk, in whatever phase it is: rows 1 to 3.
-    pub fn check(self, settings: &[u32], desk: &[u32]) -> Refusal
-        ensures { λ r. ⌜ r ≡ Refusing.checkRefusal (now (settings .entry)) self (now (desk .entry)) ⌝ }
+    pub fn check(self, settings: &[u32], desk: &[u8]) -> Refusal
+        ensures { λ r. ⌜ r ≡ Refusing.checkRefusal (now (settings .entry)) self (wordsIn (now (desk .entry))) ⌝ }
     {
         let refusal = call_refusal(settings, desk);
         if refusal.code != 0 {

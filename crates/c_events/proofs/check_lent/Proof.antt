@@ -1,6 +1,6 @@
 -- The desk's words tell what the walk over its bytes tells.
 use borrow.Author.Needs.{needs}
-use Rattle.word_desk.specs.ByteDesk.{desk-length}
+use Rattle.report_desk.specs.Bytes.{desk-length}
 use Rattle.c_events.proofs.check_lent.Statement.{statement}
 use Rattle.c_events.proofs.check_lent.Tie as tie
 

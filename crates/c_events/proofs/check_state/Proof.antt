@@ -5,7 +5,7 @@ use Prim.Native.Nat.{ℕ}
 use Rattle.settings_values.specs.Settings.{Settings}
 use Rattle.settings_values.specs.Laws.{settings-give}
 use Rattle.state_planner.specs.Refusing.{checkRefusal}
-use Rattle.word_lent.specs.Lent.{wordsIn}
+use Rattle.base_lent.specs.Lent.{wordsIn}
 use Rattle.c_state.specs.CallLaws.{desk-passes, desk-long, settings-few, settings-long, settings-front}
 use Rattle.c_events.specs.Cases.{check-refused, check-done}
 use native.Mathlib.Omega.{arith}

@@ -6,7 +6,7 @@ use lib.ListN.{replicate}
 use Rattle.settings_values.specs.Settings.{Settings}
 use Rattle.settings_values.specs.Laws.{settings-give}
 use Rattle.state_order.specs.Orders.{ordered, orderBuffer}
-use Rattle.word_lent.specs.Lent.{wordsIn}
+use Rattle.base_lent.specs.Lent.{wordsIn}
 use Rattle.c_state.specs.CallLaws.{settings-few, settings-long, settings-front}
 use Rattle.c_order.specs.Cases.{order-not-entered, order-passes, desk-long, buffer-long, order-refused, order-few, order-written}
 use native.Mathlib.Omega.{arith}

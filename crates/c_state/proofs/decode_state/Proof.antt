@@ -2,8 +2,9 @@
 use mathlib.Core.Path.{sym, ap, _∙_}
 use mathlib.Core.Bool.{false}
 use Rattle.state_planner.specs.declared.State.{State}
-use Rattle.word_state.specs.StateWords.{decoded}
-use Rattle.c_state.specs.CallLaws.{decoded-other, all-words}
+use Rattle.c_state_words.specs.StateWords.{decoded}
+use Rattle.base_lent.specs.Lent.{all-words}
+use Rattle.c_state.specs.CallLaws.{decoded-other}
 use borrow.Author.Needs.{needs}
 use Rattle.c_state.proofs.decode_state.Statement.{statement}
 use Rattle.c_state.proofs.decode_state.Tie as tie

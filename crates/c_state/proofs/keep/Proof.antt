@@ -1,7 +1,7 @@
 -- The event was refused, or the next state is stored.
 use mathlib.Core.Path.{sym, _∙_}
 use borrow.Author.Tests.{eq-eqb, ne-eqb}
-use Rattle.word_lent.specs.Answers.{told-refused, told-accepted}
+use Rattle.base_lent.specs.Answers.{told-refused, told-accepted}
 use borrow.Author.Needs.{needs}
 use Rattle.c_state.proofs.keep.Statement.{statement}
 use Rattle.c_state.proofs.keep.Tie as tie

@@ -2,6 +2,7 @@
 use mathlib.Core.Path.{sym, _∙_}
 use borrow.Author.Needs.{needs}
 use borrow.Author.Tests.{not-true, not-false}
+use Rattle.report_desk.specs.Bytes.{desk-bytes}
 use Rattle.plan_order.specs.Readable.{read-few, cut-read, cut-taken, cut-left}
 use Rattle.plan_order.proofs.cut_for.Statement.{statement}
 use Rattle.plan_order.proofs.cut_for.Tie as tie
@@ -13,8 +14,9 @@ returns c =
 
 report-at-requires : tie.Need-report-at-requires
 report-at-requires c κs =
-    let r = c .before .before .before .before .pre .1 in
-    ((r .words, r .below), r .chained)
+    let s = c .before .before .before .before in
+    let r = s .pre .1 in
+    ((desk-bytes (s .args .desk .now) (r .words), r .below), r .chained)
 
 cut-requires : tie.Need-cut-requires
 cut-requires c κs =

@@ -1,5 +1,9 @@
 -- `plan_seen::view_seen` meets its contract: the view that a node reported is word 1 of its slot.
 use mathlib.Core.Path.{sym, _∙_}
+use Rattle.base_lent.specs.Lent.{wordsIn}
+use Rattle.report_desk.specs.Bytes.{desk-length, desk-word}
+use native.Mathlib.Omega.{arith}
+use Prim.Native.Nat.{_+_, _*_}
 use borrow.Author.Needs.{needs}
 use borrow.Author.Tests.{not-true, not-false}
 use Rattle.report_ends.specs.Ends.{view-at}
@@ -10,14 +14,16 @@ use Rattle.plan_seen.proofs.view_seen.Tie as tie
 returns : tie.Need-returns
 returns c = let a = c .before .before .before .before .args in
     let h = c .before .has in
-    view-unheld (a .held) (a .desk .now) (a .node .0) (sym (h .ensures) ∙ not-true (h .result) (c .if1 .taken))
+    view-unheld (a .held) (wordsIn (a .desk .now)) (a .node .0) (sym (h .ensures) ∙ not-true (h .result) (c .if1 .taken))
 
 returns-2 : tie.Need-returns-2
 returns-2 c = let s = c .before .before .before .before .before in
     let a = s .args in
     let h = c .before .before .has in
-    view-at (a .desk .now) (a .node .0) (s .pre .0) (s .pre .1)
-    ∙ view-held (a .held) (a .desk .now) (a .node .0) (sym (h .ensures) ∙ not-false (h .result) (c .before .if1 .left))
+    c .word-at .ensures
+    ∙ sym (desk-word (a .desk .now) (s .pre .0) (512 * a .node .0 + 1) (omega (arith, s .pre .1)))
+    ∙ view-at (wordsIn (a .desk .now)) (a .node .0) (desk-length (a .desk .now) (s .pre .0)) (s .pre .1)
+    ∙ view-held (a .held) (wordsIn (a .desk .now)) (a .node .0) (sym (h .ensures) ∙ not-false (h .result) (c .before .if1 .left))
 
 pub view-seen-spec : {M : Type 1} → statement M
-view-seen-spec = tie.close (tie.spec (λ c. search needs) (λ c κs. search needs) returns (λ c. search needs) (λ c. search needs) (λ c. search needs) (λ c. search needs) returns-2)
+view-seen-spec = tie.close (tie.spec (λ c. search needs) (λ c κs. search needs) returns (λ c. search needs) (λ c. search needs) (λ c κs. search needs) returns-2)

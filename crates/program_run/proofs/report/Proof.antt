@@ -11,10 +11,10 @@ enum-told : tie.Need-enum-told
 enum-told c = search needs
 
 returns : tie.Need-returns
-returns c = report-accepted (c .before .before .before .before .before .before .before .before .before .before .before .before .before .before .args .run) _ _ (c .before .before .before .before .before .before .report .result) _ (c .before .before .before .before .before .before .before .before .before .before .before .before .before .before .pre .0) (c .before .before .before .before .before .before .before .before .before .before .before .before .before .before .pre .1) (c .before .before .before .before .before .before .report .ensures .0) (c .before .before .before .before .before .before .report .ensures .1) (c .before .enum-told .given .1)
+returns c = report-accepted (c .before .before .before .before .before .before .before .before .before .before .before .before .before .before .args .run) _ _ (c .before .before .before .before .before .before .report .result) _ (c .before .before .before .before .before .before .before .before .before .before .before .before .before .before .pre .0) (c .before .before .before .before .before .before .before .before .before .before .before .before .before .before .pre .1) (c .before .before .before .before .before .before .report .ensures .0) (c .before .before .before .before .before .before .report .ensures .1 .0) (c .before .enum-told .given .1)
 
 returns-2 : tie.Need-returns-2
-returns-2 c = report-refused (c .before .before .before .before .before .before .before .before .before .before .before .before .before .before .before .args .run) _ _ (c .before .before .before .before .before .before .before .report .result) _ (c .before .before .before .before .before .before .before .before .before .before .before .before .before .before .before .pre .0) (c .before .before .before .before .before .before .before .before .before .before .before .before .before .before .before .pre .1) (c .before .before .before .before .before .before .before .report .ensures .0) (c .before .before .before .before .before .before .before .report .ensures .1) _ _ (c .before .before .answer .given .1) (c .closed .ensures)
+returns-2 c = report-refused (c .before .before .before .before .before .before .before .before .before .before .before .before .before .before .before .args .run) _ _ (c .before .before .before .before .before .before .before .report .result) _ (c .before .before .before .before .before .before .before .before .before .before .before .before .before .before .before .pre .0) (c .before .before .before .before .before .before .before .before .before .before .before .before .before .before .before .pre .1) (c .before .before .before .before .before .before .before .report .ensures .0) (c .before .before .before .before .before .before .before .report .ensures .1 .0) _ _ (c .before .before .answer .given .1) (c .closed .ensures)
 
 pub report-spec : {M : Type 1} → statement M
 report-spec =

@@ -1,46 +1,52 @@
--- `report_desk::copy` meets its contract. The invariant: the first k words of the slot are the message's with zeros after it, the
--- others as they were. Assumes nothing.
-use Prim.Native.Nat.{ℕ, _≤_, _-_}
+-- `report_desk::copy` meets its contract. The invariant: the first k bytes are the message's, with zeros after it.
+use Prim.Native.Nat.{_≤_, _*_, _-_}
 use native.Mathlib.Omega.{arith}
-use mathlib.Core.List.{List}
-use mathlib.Core.Path.{_≡_, sym, ap, _∙_}
-use lib.ListN.{length, getD}
+use mathlib.Core.Path.{sym, _∙_}
+use lib.ListN.{length, length-take}
 use borrow.Author.Needs.{needs}
-use Rattle.base_laws.specs.Tables.{filled, filled-none, filled-turn, length-filled, padded, filled-end}
+use Rattle.base_bytes.specs.Words.{bytesOf, length-bytes}
+use Rattle.report_desk.specs.Bytes.{Copied, copied-front, copied-zero, copied-all}
 use Rattle.report_desk.proofs.copy.Statement.{statement}
 use Rattle.report_desk.proofs.copy.Tie as tie
 
-abbrev wordOf : List ℕ → ℕ → ℕ
-wordOf w k = getD w k 0
-
 abbrev Inv-loop : tie.InvT-loop
-Inv-loop slot₀ message k₀ slot k = (k ≤ 512) × (slot ≡ filled k (wordOf message) slot₀)
+Inv-loop slot₀ message k₀ slot k = (4 * length message ≤ k) × (k ≤ 2048) × Copied (bytesOf message) slot k
 
 abbrev μ-loop : tie.MeasureT-loop
-μ-loop slot₀ message k₀ slot k = 512 - k
+μ-loop slot₀ message k₀ slot k = 2048 - k
 
-kept-length : (k : ℕ) (f : ℕ → ℕ) (l m : List ℕ) → k ≤ length l → m ≡ filled k f l → length m ≡ length l
-kept-length k f l m h e = ap length e ∙ length-filled k f l h
+part-encode-end : tie.Need-part-encode-end Inv-loop μ-loop
+part-encode-end c = let s = c .before .before in omega (arith, s .pre .0, s .pre .1)
+
+encode-requires : tie.Need-encode-requires Inv-loop μ-loop
+encode-requires c κs =
+    let s = c .before .before .before in
+    omega (arith, s .pre .0, s .pre .1, length-take (4 * length (s .args .message .now) - 0) (s .args .slot .now))
 
 loop-holds : tie.Need-loop-holds Inv-loop μ-loop
-loop-holds c = (omega arith, sym (filled-none _ _))
+loop-holds c =
+    let s = c .before .before .before .before .before .before in
+    let long = length-bytes (s .args .message .now) in (
+      omega arith,
+      omega (arith, s .pre .1),
+      copied-front (bytesOf (s .args .message .now)) (s .args .slot .now) _ (4 * length (s .args .message .now)) (omega (arith, long, s .pre .1)) (s .pre .0) (sym long) (c .before .before .encode .ensures),
+    )
 
 slice-write-slot : tie.Need-slice-write-slot Inv-loop μ-loop
-slice-write-slot c = omega (arith, kept-length _ _ _ _ (omega arith) (c .before .before .loop .inv .1))
+slice-write-slot c = omega (arith, c .before .loop .inv .2 .room)
 
 loop-again : tie.Need-loop-again Inv-loop μ-loop
 loop-again c =
-    (omega arith, filled-turn _ _ _ _ _ (omega arith) (c .before .before .loop .inv .1) (c .word .ensures))
+    let i = c .before .loop .inv in
+    (omega (arith, i .0), omega arith, copied-zero (i .2) (c .loop-test .taken) (omega (arith, i .0, length-bytes (c .before .before .before .before .before .before .before .before .args .message .now))))
 
 same-length : tie.Need-same-length Inv-loop μ-loop
-same-length c = kept-length _ _ _ _ (omega arith) (c .before .loop .inv .1)
+same-length c = c .before .loop .inv .2 .room ∙ sym (c .before .before .before .before .before .before .before .before .pre .0)
 
 returns : tie.Need-returns Inv-loop μ-loop
-unfolding padded
-returns c = filled-end 512 _ _ _ _ (c .before .before .before .before .pre) (omega arith) (omega arith) (c .before .loop .inv .1)
+returns c = copied-all (c .before .loop .inv .2) (c .loop-test .left)
 
 pub copy-spec : {M : Type 1} → statement M
 copy-spec =
     tie.close
-    (tie.spec Inv-loop μ-loop loop-holds (λ c κs. search needs) (λ c. search needs) slice-write-slot (λ c. search needs) (λ c. search needs)
-    loop-again same-length returns)
+    (tie.spec Inv-loop μ-loop (λ c. search needs) (λ c. search needs) (λ c. search needs) part-encode-end encode-requires loop-holds slice-write-slot (λ c. search needs) (λ c. search needs) loop-again same-length returns)

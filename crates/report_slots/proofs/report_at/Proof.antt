@@ -1,20 +1,22 @@
--- `report_slots::report_at` meets its contract: the part that is lent is the slot.
+-- `report_slots::report_at` meets its contract: the words are the slot's, and can be read.
+use mathlib.Core.Path.{ap, _∙_}
 use borrow.Author.Needs.{needs}
-use Rattle.report_views.specs.Reports.{slot, reportOf}
-use Rattle.report_slots.specs.Desk.{slot-sized}
+use Rattle.base_lent.specs.Lent.{wordsIn}
+use Rattle.message_format.specs.Messages.{contentsOf}
+use Rattle.report_views.specs.Reports.{reportOf}
+use Rattle.report_desk.specs.Bytes.{desk-length}
+use Rattle.report_slots.specs.Desk.{slot-as}
 use Rattle.report_slots.proofs.report_at.Statement.{statement}
 use Rattle.report_slots.proofs.report_at.Tie as tie
 
 contents-of-requires : tie.Need-contents-of-requires
-unfolding slot
-contents-of-requires c κs = let s = c .before .before .before in
-    (slot-sized (s .args .desk .now) (s .args .node .0) (s .pre .0 .0) (s .pre .0 .1), s .pre .1)
+contents-of-requires c κs =
+    let s = c .before .before .before in
+    slot-as (wordsIn (s .args .desk .now)) (s .args .node .0) (desk-length (s .args .desk .now) (s .pre .0 .0)) (s .pre .0 .1) (s .pre .1) (c .before .slot-words .ensures)
 
 returns : tie.Need-returns
-unfolding slot reportOf
-returns c = c .contents-of .ensures
+unfolding reportOf
+returns c = c .contents-of .ensures ∙ ap contentsOf (c .before .before .slot-words .ensures)
 
 pub report-at-spec : {M : Type 1} → statement M
-report-at-spec =
-    tie.close
-    (tie.spec (λ c. search needs) (λ c. search needs) (λ c. search needs) (λ c. search needs) (λ c. search needs) (λ c. search needs) (λ c. search needs) contents-of-requires returns)
+report-at-spec = tie.close (tie.spec (λ c κs. search needs) (λ c. search needs) contents-of-requires returns)

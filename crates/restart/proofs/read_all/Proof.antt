@@ -2,6 +2,7 @@
 use mathlib.Core.Path.{_≡_, refl, sym, _∙_}
 use lib.ListN.{length}
 use borrow.Author.Needs.{needs}
+use Rattle.base_lent.specs.Lent.{wordsIn}
 use Rattle.program_input.specs.Inputs.{mayCome, readsLeft, reads-fall}
 use Rattle.program_run.specs.Machine.{closedAt}
 use Rattle.restart.specs.Program.{Reads, one-more, reads-first, reads-came, going-open}
@@ -9,7 +10,7 @@ use Rattle.restart.proofs.read_all.Statement.{statement}
 use Rattle.restart.proofs.read_all.Tie as tie
 
 abbrev Inv-loop : tie.InvT-loop
-Inv-loop desk₀ bytes₀ intake₀ buffer₀ desk bytes intake buffer = Reads desk₀ bytes₀ intake desk bytes × (length desk ≡ length desk₀)
+Inv-loop desk₀ bytes₀ intake₀ buffer₀ desk bytes intake buffer = Reads (wordsIn desk₀) bytes₀ intake (wordsIn desk) bytes × (length desk ≡ length desk₀)
 
 abbrev μ-loop : tie.MeasureT-loop
 μ-loop desk₀ bytes₀ intake₀ buffer₀ desk bytes intake buffer = readsLeft (intake .input)

@@ -4,13 +4,14 @@ use mathlib.Core.Path.{sym, _∙_, _≡_}
 use native.Mathlib.Omega.{arith}
 use lib.ListN.{length, take}
 use borrow.Author.Needs.{needs}
+use Rattle.base_lent.specs.Lent.{wordsIn}
 use Rattle.program_run.specs.Machine.{Feeds}
 use Rattle.program_run.specs.Steps.{ready-lacks, gathers-gathered, gathers-on, gathers-feed, feeds-none, feeds-more, feeds-all}
 use Rattle.program_run.proofs.Run.feed.Statement.{statement}
 use Rattle.program_run.proofs.Run.feed.Tie as tie
 
 abbrev Inv-loop : tie.InvT-loop
-Inv-loop desk₀ bytes₀ fed run₀ i₀ desk bytes run i = (i ≤ length fed) × (Feeds run₀ desk₀ bytes₀ (take i fed) run desk bytes × (length desk ≡ length desk₀))
+Inv-loop desk₀ bytes₀ fed run₀ i₀ desk bytes run i = (i ≤ length fed) × (Feeds run₀ (wordsIn desk₀) bytes₀ (take i fed) run (wordsIn desk) bytes × (length desk ≡ length desk₀))
 
 abbrev μ-loop : tie.MeasureT-loop
 μ-loop desk₀ bytes₀ fed run₀ i₀ desk bytes run i = length fed - i

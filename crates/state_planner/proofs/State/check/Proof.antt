@@ -2,6 +2,8 @@
 use mathlib.Core.Bool.{true}
 use Rattle.state_planner.specs.Refusing.{checkRefusal}
 use Rattle.state_planner.specs.CallLaws.{called-settings, called-desk, call-entry}
+use Rattle.base_lent.specs.Lent.{wordsIn}
+use Rattle.report_desk.specs.Bytes.{desk-bytes}
 use borrow.Author.Needs.{needs}
 use Rattle.state_planner.proofs.State.check.Statement.{statement}
 use Rattle.state_planner.proofs.State.check.Tie as tie
@@ -11,21 +13,21 @@ unfolding checkRefusal
 returns c =
     let a = c .before .before .before .before .before .args in
     let r = c .before .before .call-refusal in
-    call-entry (a .settings .now) (a .desk .now) (r .result) (r .ensures) (c .if1 .taken) (a .self) true
+    call-entry (a .settings .now) (wordsIn (a .desk .now)) (r .result) (r .ensures) (c .if1 .taken) (a .self) true
 
 see-requires : tie.Need-see-requires
 see-requires c κs = (
-  called-settings (c .before .before .before .before .before .args .settings .now) (c .before .before .before .before .before .args .desk .now) (c .before .before .call-refusal .result) (c .before .before .call-refusal .ensures) (c .if1 .left),
-  called-desk (c .before .before .before .before .before .args .settings .now) (c .before .before .before .before .before .args .desk .now) (c .before .before .call-refusal .result) (c .before .before .call-refusal .ensures) (c .if1 .left),
+  called-settings (c .before .before .before .before .before .args .settings .now) (wordsIn (c .before .before .before .before .before .args .desk .now)) (c .before .before .call-refusal .result) (c .before .before .call-refusal .ensures) (c .if1 .left),
+  desk-bytes (c .before .before .before .before .before .args .desk .now) (called-desk (c .before .before .before .before .before .args .settings .now) (wordsIn (c .before .before .before .before .before .args .desk .now)) (c .before .before .call-refusal .result) (c .before .before .call-refusal .ensures) (c .if1 .left)),
 )
 
 check-seen-requires : tie.Need-check-seen-requires
 check-seen-requires c κs =
-    called-settings (c .before .before .before .before .before .before .args .settings .now) (c .before .before .before .before .before .before .args .desk .now) (c .before .before .before .call-refusal .result) (c .before .before .before .call-refusal .ensures) (c .before .if1 .left)
+    called-settings (c .before .before .before .before .before .before .args .settings .now) (wordsIn (c .before .before .before .before .before .before .args .desk .now)) (c .before .before .before .call-refusal .result) (c .before .before .before .call-refusal .ensures) (c .before .if1 .left)
 
 returns-2 : tie.Need-returns-2
 returns-2 c =
-    c .check-seen .ensures (c .before .before .before .before .before .before .before .args .desk .now) (called-desk (c .before .before .before .before .before .before .before .args .settings .now) (c .before .before .before .before .before .before .before .args .desk .now) (c .before .before .before .before .call-refusal .result) (c .before .before .before .before .call-refusal .ensures) (c .before .before .if1 .left)) (c .before .see .ensures)
+    c .check-seen .ensures (wordsIn (c .before .before .before .before .before .before .before .args .desk .now)) (called-desk (c .before .before .before .before .before .before .before .args .settings .now) (wordsIn (c .before .before .before .before .before .before .before .args .desk .now)) (c .before .before .before .before .call-refusal .result) (c .before .before .before .before .call-refusal .ensures) (c .before .before .if1 .left)) (c .before .see .ensures)
 
 pub check-spec : {M : Type 1} → statement M
 check-spec =

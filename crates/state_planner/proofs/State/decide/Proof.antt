@@ -8,6 +8,8 @@ use Rattle.state_planner.specs.Refusing.{isGathering, decideRefusal}
 use Rattle.state_planner.specs.Decide.{still}
 use Rattle.state_planner.specs.CallLaws.{called-settings, called-desk, call-entry}
 use Rattle.state_planner.specs.DecideLaws.{decides-refused}
+use Rattle.base_lent.specs.Lent.{wordsIn}
+use Rattle.report_desk.specs.Bytes.{desk-bytes}
 use borrow.Author.Needs.{needs}
 use Rattle.state_planner.proofs.State.decide.Statement.{statement}
 use Rattle.state_planner.proofs.State.decide.Tie as tie
@@ -17,23 +19,23 @@ unfolding decideRefusal
 returns c =
     let a = c .before .before .before .before .before .args in
     let r = c .before .before .call-refusal in
-    let f : r .result ≡ decideRefusal (a .settings .now) (a .self) (a .desk .now) =
-    call-entry (a .settings .now) (a .desk .now) (r .result) (r .ensures) (c .if1 .taken) (a .self) (isGathering (a .self .phase)) in
-    decides-refused (a .settings .now) (a .self) (a .desk .now) _ (sym (ap accepted f) ∙ ne-eqb _ _ (c .if1 .taken)) (ap (λ (k : Refusal). still (a .self) (Decision.Refused k)) f)
+    let f : r .result ≡ decideRefusal (a .settings .now) (a .self) (wordsIn (a .desk .now)) =
+    call-entry (a .settings .now) (wordsIn (a .desk .now)) (r .result) (r .ensures) (c .if1 .taken) (a .self) (isGathering (a .self .phase)) in
+    decides-refused (a .settings .now) (a .self) (wordsIn (a .desk .now)) _ (sym (ap accepted f) ∙ ne-eqb _ _ (c .if1 .taken)) (ap (λ (k : Refusal). still (a .self) (Decision.Refused k)) f)
 
 see-requires : tie.Need-see-requires
 see-requires c κs = (
-  called-settings (c .before .before .before .before .before .args .settings .now) (c .before .before .before .before .before .args .desk .now) (c .before .before .call-refusal .result) (c .before .before .call-refusal .ensures) (c .if1 .left),
-  called-desk (c .before .before .before .before .before .args .settings .now) (c .before .before .before .before .before .args .desk .now) (c .before .before .call-refusal .result) (c .before .before .call-refusal .ensures) (c .if1 .left),
+  called-settings (c .before .before .before .before .before .args .settings .now) (wordsIn (c .before .before .before .before .before .args .desk .now)) (c .before .before .call-refusal .result) (c .before .before .call-refusal .ensures) (c .if1 .left),
+  desk-bytes (c .before .before .before .before .before .args .desk .now) (called-desk (c .before .before .before .before .before .args .settings .now) (wordsIn (c .before .before .before .before .before .args .desk .now)) (c .before .before .call-refusal .result) (c .before .before .call-refusal .ensures) (c .if1 .left)),
 )
 
 decide-seen-requires : tie.Need-decide-seen-requires
 decide-seen-requires c κs =
-    called-settings (c .before .before .before .before .before .before .args .settings .now) (c .before .before .before .before .before .before .args .desk .now) (c .before .before .before .call-refusal .result) (c .before .before .before .call-refusal .ensures) (c .before .if1 .left)
+    called-settings (c .before .before .before .before .before .before .args .settings .now) (wordsIn (c .before .before .before .before .before .before .args .desk .now)) (c .before .before .before .call-refusal .result) (c .before .before .before .call-refusal .ensures) (c .before .if1 .left)
 
 returns-2 : tie.Need-returns-2
 returns-2 c =
-    c .decide-seen .ensures (c .before .before .before .before .before .before .before .args .desk .now) (called-desk (c .before .before .before .before .before .before .before .args .settings .now) (c .before .before .before .before .before .before .before .args .desk .now) (c .before .before .before .before .call-refusal .result) (c .before .before .before .before .call-refusal .ensures) (c .before .before .if1 .left)) (c .before .see .ensures)
+    c .decide-seen .ensures (wordsIn (c .before .before .before .before .before .before .before .args .desk .now)) (called-desk (c .before .before .before .before .before .before .before .args .settings .now) (wordsIn (c .before .before .before .before .before .before .before .args .desk .now)) (c .before .before .before .before .call-refusal .result) (c .before .before .before .before .call-refusal .ensures) (c .before .before .if1 .left)) (c .before .see .ensures)
 
 pub decide-spec : {M : Type 1} → statement M
 decide-spec =
