@@ -26,7 +26,7 @@ returns-3 c =
 returns-4 : tie.Need-returns-4
 unfolding row6
 returns-4 c =
-    λ e. record { own = c .before .before .before .before .before .before .before .before .before .before .if1 .left; known = lt-ltb (getD (c .before .before .before .before .before .before .before .before .before .before .before .before .before .before .before .args .w .now) 0 0) (nodes (c .before .before .before .before .before .before .before .before .before .before .before .before .before .before .before .args .settings .now)) (omega (arith, c .before .before .before .before .before .before .before .before .before .nodes .ensures)); seen = sym (c .row7 .ensures) ∙ e; view-to = omega arith }
+    λ e. record { own = c .before .before .before .before .before .before .before .before .before .before .if1 .left; known = lt-ltb (getD (c .before .before .before .before .before .before .before .before .before .before .before .before .before .before .before .args .w .now) 0 0) (nodes (c .before .before .before .before .before .before .before .before .before .before .before .before .before .before .before .args .settings .now)) (omega (arith, c .before .before .before .before .before .before .before .before .before .nodes .ensures)); seen = sym (c .row7 .ensures) ∙ e; earlier = omega arith }
 
 pub head-told-spec : {M : Type 1} → statement M
 head-told-spec =
