@@ -27,7 +27,7 @@ use Rattle.report_views.specs.Quorums.{candidate, best, target, able, holder}
 use Rattle.report_views.specs.Reports.{viewOf, endAt, hasAt, maskAt, positionAt}
 use Rattle.report_views.specs.Slots.{slotOk, slotsOk}
 use Rattle.report_views.specs.Standings.{holdersOf, targetsOf}
-use Rattle.plan_seen.specs.Numbers.{asNumber, fromNumber, number-start, number-back, number-before}
+use Rattle.report_views.specs.Numbers.{asNumber, fromNumber, number-start, number-back, number-before}
 use Rattle.report_walk.specs.Pairs.{FitWords}
 use Rattle.plan_seen.specs.Nodes.{eligible, takesOver, HolderRenewed, RenewedBelow, end-small, end-has}
 
@@ -74,7 +74,7 @@ module _ (v : Layout) (t : Termination) (held : ℕ) (d : List ℕ) (whole : len
         holders = λ s m. getD-replicate 16 s 32 0 (omega arith) ∙ sym (best-start (heldFor v t held d s) (endAt d s) 32);
         tops = λ s m.
             getD-replicate 16 s 0 0 (omega arith)
-            ∙ sym (ap (λ (x : ℕ). asNumber (endAt d s x)) (getD-replicate 16 s 32 0 (omega arith)) ∙ ap asNumber (desk-past held d whole s) ∙ number-start);
+            ∙ sym (ap (λ (x : ℕ). asNumber (endAt d s x)) (getD-replicate 16 s 32 0 (omega arith)) ∙ ap asNumber (desk-past d whole s) ∙ number-start);
       }
 
   -- a turn of the walk, shard by shard
@@ -99,7 +99,7 @@ module _ (v : Layout) (t : Termination) (held : ℕ) (d : List ℕ) (whole : len
       ⊎-elim (λ m. end-small d h whole m words s)
       (λ m.
       let e : h ≡ 32 = omega arith in
-      let z : endAt d s h ≡ start = ap (endAt d s) e ∙ desk-past held d whole s in
+      let z : endAt d s h ≡ start = ap (endAt d s) e ∙ desk-past d whole s in
       let k : endAt d s h .k ≡ 0 = ap (λ (p : Position). p .k) z in omega arith)
       (lt-or-le h 32)
 

@@ -35,10 +35,10 @@ updateSeen b n s goal =
 unfoldable pub goalAt : List ℕ → ℕ → ℕ
 goalAt positions s = 4294967296 * (getD positions (2 * s) 0 / 4294967296) + getD positions (2 * s + 1) 0 % 4294967296
 
-pub goal-is : (positions : List Position) (count : ℕ) (r : List ℕ) → count ≤ 16 → PositionRecords positions count r → (s : ℕ) → s < 16
+pub goal-is : (positions : List Position) (count : ℕ) (r : List ℕ) → PositionRecords positions count r → (s : ℕ) → s < 16
     → goalAt r s ≡ asNumber (getD positions s start)
 unfolding goalAt asNumber
-goal-is positions count r few e s l = number (getD r (2 * s) 0) (getD r (2 * s + 1) 0) (getD positions s start .view .0) (getD positions s start .k) (e .fronts s l) (e .backs s l) (e .fit s l)
+goal-is positions count r e s l = number (getD r (2 * s) 0) (getD r (2 * s + 1) 0) (getD positions s start .view .0) (getD positions s start .k) (e .fronts s l) (e .backs s l) (e .fit s l)
   where
     number : (x y v k : ℕ) → x ≡ 512 + s + 4294967296 * v → y ≡ k + 4294967296 * (count + s + 2) → k < 4294967296
         → 4294967296 * (x / 4294967296) + y % 4294967296 ≡ 4294967296 * v + k
