@@ -462,9 +462,7 @@ fn walk_nodes(
             let at = 2048 * n;
             base_bytes::pairs(&desk[at..at + 2048], &mut b);
             let node = Node(n as u32);
-            let told = quick_step(
-                frame, &masks, &records, &positions, &b, node, holders, tops,
-            );
+            let told = quick_step(frame, &masks, &records, &positions, &b, node, holders, tops);
             let slot = Slot { node, told };
             if !read_step(settings, v, t, &positions, &b, slot, holders, tops) {
                 return false;

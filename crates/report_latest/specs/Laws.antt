@@ -99,17 +99,17 @@ module _ (σ : List ℕ) (number held reported view n : ℕ) where
   unfolding recalledBy
   is-held h p = asked _ p ∙ and-rest _ h
 
-abbrev pub recalledAt : List ℕ → ℕ → ℕ → List ℕ → List View → ℕ → Bool
-recalledAt σ number held reported views n = recalledBy σ number held (getD reported n 0) (getD views n (record { 0 = 0 }) .0) n
+abbrev pub recalledAt : List ℕ → ℕ → ℕ → List View → List View → ℕ → Bool
+recalledAt σ number held reported views n = recalledBy σ number held (getD reported n (record { 0 = 0 }) .0) (getD views n (record { 0 = 0 }) .0) n
 
 -- the views are those that the held nodes of the desk d reported
-module _ (σ : List ℕ) (number held : ℕ) (views : List ℕ) (m : Latest) (d : List ℕ) (told : (n : ℕ) → n < 32 → has held n ≡ true → getD views n 0 ≡ viewOf d n) where
+module _ (σ : List ℕ) (number held : ℕ) (views : List View) (m : Latest) (d : List ℕ) (told : (n : ℕ) → n < 32 → has held n ≡ true → getD views n (record { 0 = 0 }) .0 ≡ viewOf d n) where
   recalled-told : (n : ℕ) → n < 32 → recalledAt σ number held views (m .views) n ≡ recalled σ number held d m n
   unfolding recalledBy recalled
   recalled-told n l = go (either (has held n))
     where
       go : (has held n ≡ true) ⊎ (has held n ≡ false)
-          → ((ltb n (nodes σ) || eqb (latestAt m n) 0) && (not (has held n) || (leb (getD views n 0) (latestAt m n) && leb (latestAt m n) number)))
+          → ((ltb n (nodes σ) || eqb (latestAt m n) 0) && (not (has held n) || (leb (getD views n (record { 0 = 0 }) .0) (latestAt m n) && leb (latestAt m n) number)))
           ≡ ((ltb n (nodes σ) || eqb (latestAt m n) 0) && (not (has held n) || (leb (viewOf d n) (latestAt m n) && leb (latestAt m n) number)))
       go (inl p) = rw (told n l p)
       go (inr p) = rw p

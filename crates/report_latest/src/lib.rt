@@ -116,11 +116,11 @@ pub fn latest_sound(
     settings: &[u32],
     number: View,
     held: u32,
-    views: &[u32; 32],
+    views: [View; 32],
     latest: Latest,
 ) -> bool
     requires { ⌜ Settings (now settings) ⌝ }
-    ensures { λ r. ⌜ ((d : List ℕ) → ((n : ℕ) → n < 32 → has held n ≡ true → getD (now (views .entry)) n 0 ≡ viewOf d n) → r ≡ Remembered.latestSound (now (settings .entry)) (number .0) held d latest) ⌝ }
+    ensures { λ r. ⌜ ((d : List ℕ) → ((n : ℕ) → n < 32 → has held n ≡ true → getD views n (record { 0 = 0 }) .0 ≡ viewOf d n) → r ≡ Remembered.latestSound (now (settings .entry)) (number .0) held d latest) ⌝ }
 {
     let remembered = latest.views;
     let mut n: usize = 0;
@@ -129,7 +129,7 @@ pub fn latest_sound(
             settings,
             number,
             held,
-            View(views[n]),
+            views[n],
             remembered[n],
             Node(n as u32),
         ) {

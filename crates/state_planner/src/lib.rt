@@ -13,6 +13,7 @@ use report_views::Plan;
 use report_views::Quorum;
 use report_views::Reason;
 use report_views::Termination;
+use report_walk::Tables;
 ghost use mathlib.Core.Bool.{true};
 ghost use mathlib.Core.List.{List};
 ghost use mathlib.Core.Path.{_≡_};
@@ -23,6 +24,7 @@ ghost use Rattle.base_lent.specs.Lent.{wordsIn};
 ghost use Rattle.settings_values.specs.Settings.{Settings};
 ghost use Rattle.report_views.specs.Soundness.{keptSound};
 ghost use Rattle.report_latest.specs.Remembered.{noted};
+ghost use Rattle.report_walk.specs.Kept.{TablesOf};
 ghost use Rattle.plan_seen.specs.Sight.{seenOf};
 ghost use Rattle.state_planner.specs.States as States;
 ghost use Rattle.state_planner.specs.Refusing as Refusing;
@@ -293,8 +295,9 @@ impl State {
     }
 
     // A node reports, beside what the desk tells; the desk is left to the caller.
-    fn report_seen(self, settings: &[u32], seen: Seen, message: &[u32]) -> Outcome
+    fn report_seen(self, settings: &[u32], seen: Seen, tables: Tables, message: &[u32]) -> Outcome
         requires { ⌜ Settings (now settings) ⌝ }
+        requires { ⌜ TablesOf (now settings) (self .kept) (self .termination) tables ⌝ }
         ensures { λ r. ⌜ ((d : List ℕ) → length d ≡ 16384 → seen ≡ seenOf (now (settings .entry)) (self .kept) (self .termination) (self .held) d → r ≡ Events.reported (now (settings .entry)) self d (now (message .entry))) ⌝ }
     {
         let phase = self.phase;
@@ -307,6 +310,7 @@ impl State {
             settings,
             self.kept,
             self.termination,
+            tables,
             self.latest,
             message,
         );
@@ -325,8 +329,16 @@ impl State {
         ensures words { λ r. ⌜ wordsIn (now (desk .exit)) ≡ Events.deskAfter (now (settings .entry)) self (wordsIn (now (desk .entry))) (now (message .entry)) ⌝ }
         ensures bytes { λ r. ⌜ now (desk .exit) ≡ Events.deskLeft (now (settings .entry)) self (now (desk .entry)) (now (message .entry)) ⌝ }
     {
-        let seen = plan_seen::see(settings, self.kept, self.termination, self.held, desk);
-        let outcome = State::report_seen(self, settings, seen, message);
+        let tables = report_walk::tables_of(settings, self.kept, self.termination);
+        let seen = plan_seen::see_with(
+            settings,
+            self.kept,
+            self.termination,
+            tables,
+            self.held,
+            desk,
+        );
+        let outcome = State::report_seen(self, settings, seen, tables, message);
         let answer = outcome.answer;
         if !is_accepted(answer) {
             return outcome;

@@ -90,7 +90,8 @@ fn is_sound(
     if !state_sound_parts::marks_sound(phase, held, fetched, prepared) {
         return false;
     }
-    if !report_latest::latest_sound(settings, kept.number, held, &seen.views, latest) {
+    let views = seen.views;
+    if !report_latest::latest_sound(settings, kept.number, held, views, latest) {
         return false;
     }
     state_sound_plan::plan_fits(phase, settings, kept, held, seen, plan)

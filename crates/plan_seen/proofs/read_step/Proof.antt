@@ -9,28 +9,28 @@ use Rattle.plan_seen.proofs.read_step.Statement.{statement}
 use Rattle.plan_seen.proofs.read_step.Tie as tie
 
 returns : tie.Need-returns
-returns c = let s = c .before .before .before in
+returns c = let s = c .before .before in
     (s .pre .1 .0, (λ e. (refl, refl, refl), λ e. clash (c .if1 .taken) e))
 
 words-fit-requires : tie.Need-words-fit-requires
-words-fit-requires c κs = let s = c .before .before .before .before .before in
+words-fit-requires c κs = let s = c .before .before .before .before in
     (s .pre .0, words-long (s .args .b .now) (c .before .words-of .result) (c .before .words-of .ensures))
 
 returns-2 : tie.Need-returns-2
-returns-2 c = let s = c .before .before .before .before .before .before .before in
+returns-2 c = let s = c .before .before .before .before .before .before in
     let a = s .args in
     let w = c .before .before .before .words-of in
     (s .pre .1 .0, (λ e. clash e (c .before .before .before .before .if1 .left), λ e d is. stepped-other (a .settings .now) (a .v) (a .t) d (a .slot .node .0) (a .b .now) (w .result) (s .pre .0) is (s .pre .1 .1 .0) (w .ensures) (a .holders .now) (a .tops .now) (c .before .words-fit .ensures (c .if2 .taken))))
 
 returns-3 : tie.Need-returns-3
-returns-3 c = let s = c .before .before .before .before .before .before .before .before .before .before .before .before in
+returns-3 c = let s = c .before .before .before .before .before .before .before .before .before .before .before in
     let a = s .args in
     let w = c .before .before .before .before .before .before .before .before .words-of in
     let r = c .before .before .before .read-under in
     (s .pre .1 .0, (λ e. clash e (c .before .before .before .before .before .before .before .before .before .if1 .left), λ e d is. stepped-refused (a .settings .now) (a .v) (a .t) d (a .slot .node .0) (a .b .now) (w .result) (s .pre .0) is (s .pre .1 .1 .0) (w .ensures) (a .holders .now) (a .tops .now) (r .result) (r .ensures) (c .if3 .taken)))
 
 returns-4 : tie.Need-returns-4
-returns-4 c = let s = c .before .before .before .before .before .before .before .before .before .before .before .before .before .before .before in
+returns-4 c = let s = c .before .before .before .before .before .before .before .before .before .before .before .before .before .before in
     let a = s .args in
     let w = c .before .before .before .before .before .before .before .before .before .before .before .words-of in
     let r = c .before .before .before .before .before .before .read-under in
@@ -44,13 +44,13 @@ returns-4 c = let s = c .before .before .before .before .before .before .before 
     )
 
 note-report-requires : tie.Need-note-report-requires
-note-report-requires c κs = let s = c .before .before .before .before .before .before .before .before .before .before .before .before .before .before .before .before .before in
+note-report-requires c κs = let s = c .before .before .before .before .before .before .before .before .before .before .before .before .before .before .before .before in
     let w = c .before .before .before .before .before .before .before .before .before .before .before .before .before .words-of in
     let r = c .before .before .before .before .before .before .before .before .read-under in
     (s .pre .0, (s .pre .1 .0, (s .pre .1 .1 .1, read-few (s .args .settings .now) (w .result) (r .result) (r .ensures) (c .before .before .before .before .before .if3 .left))))
 
 returns-5 : tie.Need-returns-5
-returns-5 c = let s = c .before .before .before .before .before .before .before .before .before .before .before .before .before .before .before .before .before .before in
+returns-5 c = let s = c .before .before .before .before .before .before .before .before .before .before .before .before .before .before .before .before .before in
     let a = s .args in
     let w = c .before .before .before .before .before .before .before .before .before .before .before .before .before .before .words-of in
     let r = c .before .before .before .before .before .before .before .before .before .read-under in

@@ -3,6 +3,7 @@ use Prim.Native.Nat.{ℕ, _≤_, _-_, _<_, _+_, _*_, _/_, _%_}
 use mathlib.Core.Path.{_≡_, refl, sym, ap, _∙_, subst}
 use native.Mathlib.Omega.{arith}
 use lib.ListN.{length, set, length-set, length-replicate}
+use Rattle.message_format.specs.Records.{tag, word1, word2}
 use Rattle.report_walk.specs.Updates.{RecordsAre}
 use Rattle.plan_seen.specs.Steps.{pairs-more}
 use borrow.Author.Needs.{needs}
@@ -28,8 +29,8 @@ loop-again c = let s = c .before .before .before .before .before .before .before
     let x = c .before .before .joined in
     let y = c .joined2 in
     let few = c .before .before .before .before .before .loop-test .taken in
-    let front = halves (x .result) _ _ (x .ensures .0) (x .ensures .1) in
-    let back = halves (y .result) _ _ (y .ensures .0) (y .ensures .1) in (
+    let front = halves (x .result) (tag (s .args .body .now) (l .j)) (word1 (s .args .body .now) (l .j)) (x .ensures .0) (x .ensures .1) in
+    let back = halves (y .result) (word2 (s .args .body .now) (l .j)) 0 (y .ensures .0) (y .ensures .1) in (
       omega (arith, few),
       length-set (set (l .list) (2 * l .j + 2) (x .result)) (2 * l .j + 3) (y .result) ∙ (length-set (l .list) (2 * l .j + 2) (x .result) ∙ l .inv .1),
       pairs-more (l .list) (s .args .body .now) (l .j) (x .result) (y .result) (l .inv .1) (omega (arith, s .pre, few)) (front .0) (front .1) (back .0) (l .inv .2),

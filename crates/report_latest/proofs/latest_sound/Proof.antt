@@ -25,7 +25,7 @@ returns c d told =
     let a = c .before .before .before .before .before .before .before .before .args in
     let k = c .before .recalled in
     sym (all-fails 32 _ (c .before .before .before .before .before .loop .n) (omega arith) (sym (k .ensures) ∙ not-true (k .result) (c .if1 .taken)))
-    ∙ latest-told (a .settings .now) (a .number .0) (a .held) (a .views .now) (a .latest) d told
+    ∙ latest-told (a .settings .now) (a .number .0) (a .held) (a .t4) (a .latest) d told
 
 loop-again : tie.Need-loop-again Inv-loop μ-loop
 loop-again c =
@@ -36,7 +36,7 @@ returns-2 : tie.Need-returns-2 Inv-loop μ-loop
 returns-2 c d told =
     let a = c .before .before .before .before .args in
     sym (all-fewer 32 (c .before .loop .n) _ (omega arith) (c .before .loop .inv .1))
-    ∙ latest-told (a .settings .now) (a .number .0) (a .held) (a .views .now) (a .latest) d told
+    ∙ latest-told (a .settings .now) (a .number .0) (a .held) (a .t4) (a .latest) d told
 
 pub latest-sound-spec : {M : Type 1} → statement M
 latest-sound-spec =

@@ -29,7 +29,7 @@ after-report-requires c κs =
     let s = c .before .before .before .before .before .before .before .before .before .before in
     let a = s .args in
     let t = c .before .before .before .take-in in
-    reporter-below (a .settings .now) (a .self) (a .message .now) (t .result) (t .ensures) (c .if2 .left) (s .pre)
+    reporter-below (a .settings .now) (a .self) (a .message .now) (t .result) (t .ensures) (c .if2 .left) (s .pre .0)
 
 returns-3 : tie.Need-returns-3
 returns-3 c =
