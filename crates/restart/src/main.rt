@@ -45,7 +45,7 @@ fn fed(run: Run, desk: &mut [u8], bytes: &mut [u8], buffer: &[u8], n: usize) -> 
 // One read more, and what it put into the buffer is fed to the run.
 fn turn(intake: Intake, desk: &mut [u8], bytes: &mut [u8], buffer: &mut [u8; 4096]) -> Intake
     requires { ⌜ ReadyRun (intake .run) (now bytes) ⌝ }
-    ensures { λ r. ⌜ Turns intake (wordsIn (now (desk .entry))) (now (bytes .entry)) (now (buffer .exit)) r (wordsIn (now (desk .exit))) (now (bytes .exit)) ⌝ }
+    ensures { λ r. ⌜ Turns intake (wordsIn (now (desk .entry))) (now (bytes .entry)) (take (r .input .got) (now (buffer .exit))) r (wordsIn (now (desk .exit))) (now (bytes .exit)) ⌝ }
 {
     let input = intake.input;
     let next = input.read(buffer);
