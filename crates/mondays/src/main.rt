@@ -103,7 +103,8 @@ fn main() {
         os::fail(b"mondays: standard input");
         return;
     }
-    if !tallied.written {
+    let written = tallied.written;
+    if !written {
         os::fail(b"mondays: standard output");
     }
 }

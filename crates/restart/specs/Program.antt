@@ -69,9 +69,9 @@ feeds-front {run} {d} {bytes} {r} {e} {b} n xs p =
     let same : n - 0 ≡ n = omega arith in
     subst (λ (k : ℕ). Feeds run d bytes (take k xs) r e b) same p
 
-pub turns-by : {d bytes buffer : List ℕ} {s : Run} {y : Input} {e b : List ℕ} {n : ℕ} (x : Intake) → ReadsOn (x .input) (take (y .got) buffer) y
+pub turns-by : {d bytes : List ℕ} {s : Run} {e b : List ℕ} (x : Intake) (y : Input) (buffer : List ℕ) (n : ℕ) → ReadsOn (x .input) (take (y .got) buffer) y
     → n ≡ y .got → Feeds (x .run) d bytes (take n buffer) s e b → Turns x d bytes (take (y .got) buffer) (record { run = s; input = y }) e b
-turns-by {d} {bytes} {buffer} {s} {y} {e} {b} x reads h feeds =
+turns-by {d} {bytes} {s} {e} {b} x y buffer n reads h feeds =
     record { reads = reads; feeds = subst (λ (k : ℕ). Feeds (x .run) d bytes (take k buffer) s e b) h feeds }
 
 -- while reading goes on more may come

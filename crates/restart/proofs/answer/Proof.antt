@@ -9,7 +9,7 @@ returns : tie.Need-returns
 returns c = answers-none _ (c .before .before .before .before .before .read-all .ensures) (sym (c .before .is-cut .ensures) ∙ c .if1 .taken)
 
 close-requires : tie.Need-close-requires
-close-requires c κs = reads-ready (c .before .before .before .before .before .before .before .before .read-all .ensures)
+close-requires c κs = (reads-ready (c .before .before .before .before .before .before .before .before .read-all .ensures), search needs)
 
 returns-2 : tie.Need-returns-2
 returns-2 c = answers-print empty-desk (c .before .before .before .before .before .before .before .before .before .before .before .before .before .read-all .ensures) (c .before .before .before .before .close .ensures) (c .print .ensures) (search needs) (sym (c .before .before .before .before .before .before .before .before .before .is-cut .ensures) ∙ c .before .before .before .before .before .before .before .before .if1 .left)

@@ -16,10 +16,10 @@ abbrev μ-loop : tie.MeasureT-loop
 μ-loop desk₀ bytes₀ intake₀ buffer₀ desk bytes intake buffer = readsLeft (intake .input)
 
 loop-holds : tie.Need-loop-holds Inv-loop μ-loop
-loop-holds c = (fed-first (c .before .before .pre) (c .before .start .ensures) (c .start2 .ensures), refl)
+loop-holds c = (fed-first (c .before .before .before .before .pre .0) (c .before .start .ensures) (c .start2 .ensures), refl)
 
 turn-requires : tie.Need-turn-requires Inv-loop μ-loop
-turn-requires c κs = c .before .before .before .before .before .loop .inv .0 .feeds .ready
+turn-requires c κs = (c .before .before .before .before .before .loop .inv .0 .feeds .ready, c .before .before .before .before .before .loop .inv .1 ∙ c .before .before .before .before .before .before .before .before .before .before .pre .1)
 
 loop-less : tie.Need-loop-less Inv-loop μ-loop
 loop-less c =
@@ -38,7 +38,7 @@ same-length : tie.Need-same-length Inv-loop μ-loop
 same-length c = c .before .before .loop .inv .1
 
 same-length-2 : tie.Need-same-length-2 Inv-loop μ-loop
-same-length-2 c = c .before .before .loop .inv .0 .feeds .ready .room ∙ sym (c .before .before .before .before .before .before .before .pre)
+same-length-2 c = c .before .before .loop .inv .0 .feeds .ready .room ∙ sym (c .before .before .before .before .before .before .before .pre .0)
 
 returns : tie.Need-returns Inv-loop μ-loop
 returns c = record { fed = c .before .before .loop .inv .0; ended = sym (c .before .is-going-on .ensures) ∙ c .if1 .left }
