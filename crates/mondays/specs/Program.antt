@@ -21,8 +21,8 @@ use Rattle.program_pieces.specs.Pieces.{wholeLines, standing, standing-none, te
 use Rattle.mondays.specs.declared.Tallied.{Tallied}
 
 -- more may come, no line was bad and all was written
-abbrev pub goesOn : Tallied → Bool
-goesOn x = cond (x .written) (cond (accepted (x .tally .refusal)) (mayCome (x .input .source)) false) false
+abbrev pub takesMore : Tallied → Bool
+takesMore x = cond (x .written) (cond (accepted (x .tally .refusal)) (mayCome (x .input .source)) false) false
 
 -- before the first read
 abbrev pub nothingTaken : Tallied
@@ -71,13 +71,13 @@ printed t bytes out r after k h e p =
 
 -- whether it goes on
 module _ (x : Tallied) where
-  pub not-written : x .written ≡ false → goesOn x ≡ false
+  pub not-written : x .written ≡ false → takesMore x ≡ false
   not-written h = rw h
 
-  pub was-refused : x .written ≡ true → accepted (x .tally .refusal) ≡ false → goesOn x ≡ false
+  pub was-refused : x .written ≡ true → accepted (x .tally .refusal) ≡ false → takesMore x ≡ false
   was-refused h k = rw (h, k)
 
-  pub goes-as : x .written ≡ true → accepted (x .tally .refusal) ≡ true → goesOn x ≡ mayCome (x .input .source)
+  pub goes-as : x .written ≡ true → accepted (x .tally .refusal) ≡ true → takesMore x ≡ mayCome (x .input .source)
   goes-as h k = rw (h, k)
 
 -- a turn
@@ -139,10 +139,10 @@ going-open true true m h = h
 going-open true false m h = absurd (true≢false (sym h))
 going-open false a m h = absurd (true≢false (sym h))
 
-pub goes-open : (x : Tallied) → goesOn x ≡ true → mayCome (x .input .source) ≡ true
+pub goes-open : (x : Tallied) → takesMore x ≡ true → mayCome (x .input .source) ≡ true
 goes-open x h = going-open (x .written) (accepted (x .tally .refusal)) (mayCome (x .input .source)) h
 
-module _ {x : Tallied} {block out : List ℕ} {r : Tallied} (s : Stands x) (g : goesOn x ≡ true) (t : TakesTurn x block out r) where
+module _ {x : Tallied} {block out : List ℕ} {r : Tallied} (s : Stands x) (g : takesMore x ≡ true) (t : TakesTurn x block out r) where
   size : length (s .came) % 32768 ≡ 0
   size = s .full (goes-open x g)
 
@@ -173,7 +173,7 @@ unfolding blockText
 text-none t bytes h = rw h
 
 -- it goes on no more
-module _ {x : Tallied} (s : Stands x) (g : goesOn x ≡ false) where
+module _ {x : Tallied} (s : Stands x) (g : takesMore x ≡ false) where
   -- a bad line ended it
   was-bad : (w a : Bool) → cond {A = Bool} w (cond a true false) false ≡ false → w ≡ true → a ≡ false
   was-bad true true h e = absurd (true≢false h)

@@ -6,7 +6,7 @@ use program_input::Input;
 use program_moves::Tally;
 ghost use mathlib.Core.Path.{_≡_};
 ghost use lib.ListN.{length, take};
-ghost use Rattle.mondays.specs.Program.{goesOn, PrintedBlock, TakesTurn, ShowsAll};
+ghost use Rattle.mondays.specs.Program.{takesMore, PrintedBlock, TakesTurn, ShowsAll};
 
 // What came of printing a block: the tally after it, the length of its text, and whether all of it was written.
 struct Shown {
@@ -24,7 +24,7 @@ struct Tallied {
 
 // Whether more is to be read.
 fn is_going_on(tallied: Tallied) -> bool
-    ensures { λ r. ⌜ r ≡ goesOn tallied ⌝ }
+    ensures { λ r. ⌜ r ≡ takesMore tallied ⌝ }
 {
     if !tallied.written {
         return false;

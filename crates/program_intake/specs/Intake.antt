@@ -25,26 +25,26 @@ pub record BytesCome (bytes : List ℕ) (at : ℕ) (fed : List ℕ) (from : ℕ)
   pub stored : after ≡ replaced at (take (r - at) (drop from fed)) bytes
 
 -- the place of the next byte, where those of a block below `at` are there: `at`, or 0 where the block is whole
-unfoldable pub placed : List ℕ → ℕ → ℕ
-placed bytes at = cond (ltb at (needed (take at bytes))) at 0
+unfoldable pub nextPlace : List ℕ → ℕ → ℕ
+nextPlace bytes at = cond (ltb at (needed (take at bytes))) at 0
 
 -- the memory for blocks after bytes are fed, the first of them at place `at`: each stands at its place in its block, all other bytes are as they were
-unfoldable pub laid : ℕ → List ℕ → List ℕ → List ℕ
-laid at bytes [] = bytes
-laid at bytes (b ∷ fed) = laid (placed (replaced at (b ∷ []) bytes) (at + 1)) (replaced at (b ∷ []) bytes) fed
+unfoldable pub bytesLaid : ℕ → List ℕ → List ℕ → List ℕ
+bytesLaid at bytes [] = bytes
+bytesLaid at bytes (b ∷ fed) = bytesLaid (nextPlace (replaced at (b ∷ []) bytes) (at + 1)) (replaced at (b ∷ []) bytes) fed
 
 -- ---- laws
 
-pub placed-waits : (bytes : List ℕ) (at : ℕ) → at < needed (take at bytes) → placed bytes at ≡ at
-unfolding placed
+pub placed-waits : (bytes : List ℕ) (at : ℕ) → at < needed (take at bytes) → nextPlace bytes at ≡ at
+unfolding nextPlace
 placed-waits bytes at h = rw (lt-ltb at (needed (take at bytes)) h)
 
-pub placed-whole : (bytes : List ℕ) (at : ℕ) → needed (take at bytes) ≤ at → placed bytes at ≡ 0
-unfolding placed
+pub placed-whole : (bytes : List ℕ) (at : ℕ) → needed (take at bytes) ≤ at → nextPlace bytes at ≡ 0
+unfolding nextPlace
 placed-whole bytes at h = rw (le-ltb at (needed (take at bytes)) h)
 
-pub laid-none : (at : ℕ) (bytes : List ℕ) → laid at bytes [] ≡ bytes
-unfolding laid
+pub laid-none : (at : ℕ) (bytes : List ℕ) → bytesLaid at bytes [] ≡ bytes
+unfolding bytesLaid
 laid-none at bytes = refl
 
 none-replaced : (at : ℕ) (bytes : List ℕ) → replaced at [] bytes ≡ bytes
@@ -86,12 +86,12 @@ module _ (rest : List ℕ) where
 
   -- bytes of a block that lacks as many or more
   pub laid-part : (part bytes : List ℕ) (at : ℕ) → at < needed (take at bytes) → at + length part ≤ needed (take at bytes) → needed (take at bytes) ≤ length bytes
-      → laid at bytes (part ++ rest) ≡ laid (placed (replaced at part bytes) (at + length part)) (replaced at part bytes) rest
-  unfolding laid
+      → bytesLaid at bytes (part ++ rest) ≡ bytesLaid (nextPlace (replaced at part bytes) (at + length part)) (replaced at part bytes) rest
+  unfolding bytesLaid
   laid-part [] bytes at h l m =
       let same : replaced at [] bytes ≡ bytes = none-replaced at bytes in
       let here : at + 0 ≡ at = omega arith in
-      ap₂ (λ (k : ℕ) (x : List ℕ). laid k x rest) (sym (ap₂ placed same here ∙ placed-waits bytes at h)) (sym same)
+      ap₂ (λ (k : ℕ) (x : List ℕ). bytesLaid k x rest) (sym (ap₂ nextPlace same here ∙ placed-waits bytes at h)) (sym same)
   laid-part (b ∷ []) bytes at h l m = refl
   laid-part (b ∷ (c ∷ p)) bytes at h l m =
       let fits : at < length bytes = omega arith in
@@ -100,9 +100,9 @@ module _ (rest : List ℕ) where
       let size : length next ≡ length bytes = length-replaced at (b ∷ []) bytes (omega arith) in
       let all : replaced (at + 1) (c ∷ p) next ≡ replaced at (b ∷ (c ∷ p)) bytes = one-then bytes at b fits (c ∷ p) in
       let place : at + 1 + length (c ∷ p) ≡ at + length (b ∷ (c ∷ p)) = omega arith in
-      ap (λ (k : ℕ). laid k next ((c ∷ p) ++ rest)) (placed-waits next (at + 1) (omega (arith, known)))
+      ap (λ (k : ℕ). bytesLaid k next ((c ∷ p) ++ rest)) (placed-waits next (at + 1) (omega (arith, known)))
       ∙ laid-part (c ∷ p) next (at + 1) (omega (arith, known)) (omega (arith, known)) (omega (arith, known, size))
-      ∙ ap₂ (λ (k : ℕ) (x : List ℕ). laid (placed x k) x rest) place all
+      ∙ ap₂ (λ (k : ℕ) (x : List ℕ). bytesLaid (nextPlace x k) x rest) place all
 
 pub lacks-few : (bytes : List ℕ) (at : ℕ) → Lacks bytes at → at < 2056
 lacks-few bytes at l = omega (arith, l .coming, needed-ends (take at bytes) .1)
@@ -184,10 +184,10 @@ module _ (bytes : List ℕ) (at : ℕ) (fed : List ℕ) (from : ℕ) (after : Li
   gathered-fed h = omega (arith, g .reached)
 
   -- the memory for blocks, before and after
-  pub gathered-laid : laid at bytes (drop from fed) ≡ laid (placed after r) after (drop (from + (r - at)) fed)
+  pub gathered-laid : bytesLaid at bytes (drop from fed) ≡ bytesLaid (nextPlace after r) after (drop (from + (r - at)) fed)
   unfolding part
   gathered-laid =
       let end : at + length part ≡ r = omega (arith, part-size, g .reached) in
-      ap (laid at bytes) (sym (take-append-drop (r - at) (drop from fed)) ∙ ap (λ (l : List ℕ). part ++ l) (drop-drop (r - at) from fed))
+      ap (bytesLaid at bytes) (sym (take-append-drop (r - at) (drop from fed)) ∙ ap (λ (l : List ℕ). part ++ l) (drop-drop (r - at) from fed))
       ∙ laid-part (drop (from + (r - at)) fed) part bytes at (lacks .coming) (omega (arith, end, g .reached, lacks .coming)) (omega (arith, lacks .room, needed-ends (take at bytes) .1))
-      ∙ ap₂ (λ (k : ℕ) (x : List ℕ). laid (placed x k) x (drop (from + (r - at)) fed)) end (sym (g .stored))
+      ∙ ap₂ (λ (k : ℕ) (x : List ℕ). bytesLaid (nextPlace x k) x (drop (from + (r - at)) fed)) end (sym (g .stored))

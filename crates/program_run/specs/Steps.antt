@@ -27,7 +27,7 @@ use Rattle.message_format.specs.Messages.{contentsOf}
 use Rattle.program_blocks.specs.declared.Block.{Block}
 use Rattle.program_blocks.specs.Blocks.{blocks, needed, wholeWords, length-whole, needed-ends}
 use Rattle.program_blocks.specs.Held.{held}
-use Rattle.program_intake.specs.Intake.{Lacks, BytesCome, placed, laid, placed-waits, placed-whole, laid-none, gathered-laid, gathered-size, gathered-come, gathered-within, gathered-some, gathered-fed}
+use Rattle.program_intake.specs.Intake.{Lacks, BytesCome, nextPlace, bytesLaid, placed-waits, placed-whole, laid-none, gathered-laid, gathered-size, gathered-come, gathered-within, gathered-some, gathered-fed}
 use Rattle.program_text.specs.Text.{numberLine}
 use Rattle.program_lines.specs.Lines.{number-length}
 use Rattle.program_text.specs.Puts.{Puts}
@@ -37,16 +37,16 @@ use Rattle.program_run.specs.declared.Stage.the-variants.{Opening, Open,
 use Rattle.program_run.specs.declared.Run.{Run}
 use Rattle.program_run.specs.Runs.{Progress, Underway, Ended, opened, told, taking, after, Prints}
 use Rattle.program_run.specs.RunLaws.{after-block, after-cut, after-none}
-use Rattle.program_run.specs.Machine.{Settled, progress, progressAt, closedBy, pendingBytes, ahead, ReadyRun, BytesGathered, Comes, Takes, Opens, Feeds, Closes, Writes}
+use Rattle.program_run.specs.Machine.{RightSettings, progress, progressAt, closedBy, pendingBytes, ahead, ReadyRun, BytesGathered, Comes, Takes, Opens, Feeds, Closes, Writes}
 
 -- ---- the settings of a run
 
 -- a run that is ended by a refusal is not open
-closed-settled : (run : Run) (x : Refusal) → Settled run → Settled (closedBy run x)
+closed-settled : (run : Run) (x : Refusal) → RightSettings run → RightSettings (closedBy run x)
 closed-settled run x s = (s .0, λ h. absurd (let z : _≡_ {A = ℕ} 0 1 = cc in omega arith))
 
 -- the settings as they are lent
-pub settled-right : (run : Run) → Settled run → run .stage ≡ Open → Settings (take (run .words - 0) (run .settings))
+pub settled-right : (run : Run) → RightSettings run → run .stage ≡ Open → Settings (take (run .words - 0) (run .settings))
 settled-right run s h = subst Settings (sym (part-front (run .words) (run .settings))) (s .1 h)
 
 -- ---- a report
@@ -96,7 +96,7 @@ module _ (run : Run) (d : List ℕ) where
   progress-is s h = ap (λ (k : Stage). progressAt k (take (run .words) (run .settings)) (run .state) d) h
 
   -- a report that is accepted, and one that is refused
-  module _ (w : List ℕ) (o : Outcome) (e : List ℕ) (h : run .stage ≡ Open) (settled : Settled run)
+  module _ (w : List ℕ) (o : Outcome) (e : List ℕ) (h : run .stage ≡ Open) (settled : RightSettings run)
       (given : o ≡ reported (take (run .words - 0) (run .settings)) (run .state) d w)
       (desk : e ≡ deskAfter (take (run .words - 0) (run .settings)) (run .state) d w) where
     own : o ≡ reported (take (run .words) (run .settings)) (run .state) d w
@@ -139,7 +139,7 @@ pub settings-size : (w : List ℕ) → settingsOk w ≡ true → length w ≤ 52
 settings-size w h = let g = settings-give w h in omega (arith, g .sizes .words, g .sizes .nodes-to, g .sizes .shards-to)
 
 module _ (run : Run) (w : List ℕ) where
-  pub open-refused : (r : Run) → Settled run → settingsOk w ≡ false → r ≡ closedBy run (refused 2) → Opens run w r
+  pub open-refused : (r : Run) → RightSettings run → settingsOk w ≡ false → r ≡ closedBy run (refused 2) → Opens run w r
   unfolding progressAt opened
   open-refused r settled h c =
       subst (λ (s : Run). Opens run w s) (sym c) (record { leads = λ d. rw h; pending = refl; settled = closed-settled run (refused 2) settled })
@@ -164,7 +164,7 @@ module _ (run : Run) (d w : List ℕ) where
   takes-first r h o =
       record { leads = o .leads d ∙ sym (ap (λ (p : Progress). taking p w) (progress-is run d Opening h)); pending = o .pending; settled = o .settled }
 
-  pub takes-none : (x : Refusal) → run .stage ≡ Closed x → Settled run → Takes run d w run d
+  pub takes-none : (x : Refusal) → run .stage ≡ Closed x → RightSettings run → Takes run d w run d
   unfolding progressAt taking
   takes-none x h settled =
       let e : progress run d ≡ Ended x d = progress-is run d (Closed x) h in
@@ -219,10 +219,10 @@ module _ (run : Run) (bytes : List ℕ) (end : ℕ) (gathered : BytesGathered ru
       }
 
   -- where the next byte stands
-  pub settle-waits-at : end < needed (take (end - 0) bytes) → end ≡ placed bytes end
+  pub settle-waits-at : end < needed (take (end - 0) bytes) → end ≡ nextPlace bytes end
   settle-waits-at h = sym (placed-waits bytes end (subst (λ (l : List ℕ). end < needed l) (part-front end bytes) h))
 
-  pub settle-takes-at : (n : ℕ) → needed (take (end - 0) bytes) ≤ end → n ≡ 0 → n ≡ placed bytes end
+  pub settle-takes-at : (n : ℕ) → needed (take (end - 0) bytes) ≤ end → n ≡ 0 → n ≡ nextPlace bytes end
   settle-takes-at n h e = e ∙ sym (placed-whole bytes end (subst (λ (l : List ℕ). needed l ≤ end) (part-front end bytes) h))
 
   -- the block is whole, and is taken
@@ -277,10 +277,10 @@ module _ (run : Run) (bytes fed : List ℕ) (i : ℕ) (now : List ℕ) (end : �
       (gathered-some bytes (run .pending) fed i now end (ready-lacks run bytes ready) g h, gathered-fed bytes (run .pending) fed i now end (ready-lacks run bytes ready) g (omega arith))
 
   -- the memory for blocks, before and after
-  pub gathers-laid : (n : ℕ) → n ≡ placed now end → laid (run .pending) bytes (drop i fed) ≡ laid n now (drop (i + (end - run .pending)) fed)
+  pub gathers-laid : (n : ℕ) → n ≡ nextPlace now end → bytesLaid (run .pending) bytes (drop i fed) ≡ bytesLaid n now (drop (i + (end - run .pending)) fed)
   gathers-laid n e =
       gathered-laid bytes (run .pending) fed i now end (ready-lacks run bytes ready) g
-      ∙ ap (λ (k : ℕ). laid k now (drop (i + (end - run .pending)) fed)) (sym e)
+      ∙ ap (λ (k : ℕ). bytesLaid k now (drop (i + (end - run .pending)) fed)) (sym e)
 
   -- the block that they are of is settled: they are fed
   pub gathers-feed : (d : List ℕ) (r : Run) (e b : List ℕ) → Feeds (pendingBytes run end) d now [] r e b
@@ -320,9 +320,9 @@ module _ {run : Run} {d bytes : List ℕ} where
       → Feeds run d bytes (take i fed) r e b → Feeds run d bytes fed r e b
   feeds-all fed i {r} {e} {b} l p = subst (λ (x : List ℕ). Feeds run d bytes x r e b) (take-all i fed l) p
 
--- all are laid
-pub laid-all : (at n i : ℕ) (bytes fed after : List ℕ) → length fed ≤ i → laid at bytes fed ≡ laid n after (drop i fed) → after ≡ laid at bytes fed
-laid-all at n i bytes fed after l e = sym (e ∙ ap (laid n after) (drop-of-length-le fed l) ∙ laid-none n after)
+-- all are bytesLaid
+pub laid-all : (at n i : ℕ) (bytes fed after : List ℕ) → length fed ≤ i → bytesLaid at bytes fed ≡ bytesLaid n after (drop i fed) → after ≡ bytesLaid at bytes fed
+laid-all at n i bytes fed after l e = sym (e ∙ ap (bytesLaid n after) (drop-of-length-le fed l) ∙ laid-none n after)
 
 -- ---- the end of the input
 

@@ -9,7 +9,7 @@ ghost use Prim.Native.Nat.{_-_};
 ghost use lib.ListN.{length, take, drop};
 ghost use Rattle.base_lent.specs.Lent.{wordsIn};
 ghost use Rattle.program_blocks.specs.Blocks.{wholeWords};
-ghost use Rattle.program_intake.specs.Intake.{placed, laid};
+ghost use Rattle.program_intake.specs.Intake.{nextPlace, bytesLaid};
 ghost use Rattle.program_run.specs.Machine as Machine;
 
 // How far a run has come.
@@ -44,7 +44,7 @@ fn closed(run: Run, refusal: Refusal) -> Run
 
 // The first block: the settings.
 fn begin(run: Run, block: &[u32]) -> Run
-    requires { ⌜ Machine.Settled run ⌝ }
+    requires { ⌜ Machine.RightSettings run ⌝ }
     ensures { λ r. ⌜ Machine.Opens run (now (block .entry)) r ⌝ }
 {
     if !settings_check::check(block) {
@@ -61,7 +61,7 @@ fn begin(run: Run, block: &[u32]) -> Run
 
 // A later block: a report.
 fn report(run: Run, desk: &mut [u8], block: &[u32]) -> Run
-    requires { ⌜ (run .stage ≡ Stage.Open) × Machine.Settled run ⌝ }
+    requires { ⌜ (run .stage ≡ Stage.Open) × Machine.RightSettings run ⌝ }
     requires { ⌜ length (now desk) ≡ 65536 ⌝ }
     ensures { λ r. ⌜ Machine.Takes run (wordsIn (now (desk .entry))) (now (block .entry)) r (wordsIn (now (desk .exit))) ⌝ }
 {
@@ -79,7 +79,7 @@ fn report(run: Run, desk: &mut [u8], block: &[u32]) -> Run
 
 // A block of words.
 fn take_block(run: Run, desk: &mut [u8], block: &[u32]) -> Run
-    requires { ⌜ Machine.Settled run ⌝ }
+    requires { ⌜ Machine.RightSettings run ⌝ }
     requires { ⌜ length (now desk) ≡ 65536 ⌝ }
     ensures { λ r. ⌜ Machine.Takes run (wordsIn (now (desk .entry))) (now (block .entry)) r (wordsIn (now (desk .exit))) ⌝ }
 {
@@ -110,7 +110,7 @@ fn settle(run: Run, desk: &mut [u8], bytes: &[u8], end: usize) -> Run
     requires { ⌜ Machine.BytesGathered run (now bytes) end ⌝ }
     requires { ⌜ length (now desk) ≡ 65536 ⌝ }
     ensures { λ r. ⌜ Machine.Feeds (Machine.pendingBytes run end) (wordsIn (now (desk .entry))) (now (bytes .entry)) [] r (wordsIn (now (desk .exit))) (now (bytes .entry)) ⌝ }
-    ensures { λ r. ⌜ r .pending ≡ placed (now (bytes .entry)) end ⌝ }
+    ensures { λ r. ⌜ r .pending ≡ nextPlace (now (bytes .entry)) end ⌝ }
 {
     if end < program_blocks::needed(&bytes[0..end]) {
         let mut waiting = run;
@@ -122,7 +122,7 @@ fn settle(run: Run, desk: &mut [u8], bytes: &[u8], end: usize) -> Run
 
 // What the decision prints.
 fn print_decision(run: Run, desk: &[u8], out: &mut [u8]) -> usize
-    requires { ⌜ (run .stage ≡ Stage.Open) × Machine.Settled run ⌝ }
+    requires { ⌜ (run .stage ≡ Stage.Open) × Machine.RightSettings run ⌝ }
     ensures { λ r. ⌜ Machine.Writes (Machine.progress run (wordsIn (now (desk .entry)))) (now (out .entry)) (now (out .exit)) r ⌝ }
 {
     let n = run.words;
@@ -165,7 +165,7 @@ impl Run {
         requires { ⌜ Machine.ReadyRun self (now bytes) ⌝ }
         requires { ⌜ length (now desk) ≡ 65536 ⌝ }
         ensures { λ r. ⌜ Machine.Feeds self (wordsIn (now (desk .entry))) (now (bytes .entry)) (now (fed .entry)) r (wordsIn (now (desk .exit))) (now (bytes .exit)) ⌝ }
-        ensures { λ _. ⌜ now (bytes .exit) ≡ laid (self .pending) (now (bytes .entry)) (now (fed .entry)) ⌝ }
+        ensures { λ _. ⌜ now (bytes .exit) ≡ bytesLaid (self .pending) (now (bytes .entry)) (now (fed .entry)) ⌝ }
     {
         let mut run = self;
         let mut i = 0;
@@ -193,7 +193,7 @@ impl Run {
 
     // What the run prints after the last block.
     pub fn print(self, desk: &[u8], out: &mut [u8]) -> usize
-        requires { ⌜ Machine.Settled self ⌝ }
+        requires { ⌜ Machine.RightSettings self ⌝ }
         ensures { λ r. ⌜ Machine.Writes (Machine.progress self (wordsIn (now (desk .entry)))) (now (out .entry)) (now (out .exit)) r ⌝ }
     {
         let stage = self.stage;

@@ -5,14 +5,14 @@ use native.Mathlib.Omega.{arith}
 use lib.ListN.{length, take, drop}
 use borrow.Author.Needs.{needs}
 use Rattle.base_lent.specs.Lent.{wordsIn}
-use Rattle.program_intake.specs.Intake.{laid}
+use Rattle.program_intake.specs.Intake.{bytesLaid}
 use Rattle.program_run.specs.Machine.{Feeds}
 use Rattle.program_run.specs.Steps.{ready-lacks, gathers-gathered, gathers-on, gathers-feed, gathers-laid, laid-all, feeds-none, feeds-more, feeds-all}
 use Rattle.program_run.proofs.Run.feed.Statement.{statement}
 use Rattle.program_run.proofs.Run.feed.Tie as tie
 
 abbrev Inv-loop : tie.InvT-loop
-Inv-loop desk₀ bytes₀ fed run₀ i₀ desk bytes run i = (i ≤ length fed) × (Feeds run₀ (wordsIn desk₀) bytes₀ (take i fed) run (wordsIn desk) bytes × ((length desk ≡ length desk₀) × (laid (run₀ .pending) bytes₀ fed ≡ laid (run .pending) bytes (drop i fed))))
+Inv-loop desk₀ bytes₀ fed run₀ i₀ desk bytes run i = (i ≤ length fed) × (Feeds run₀ (wordsIn desk₀) bytes₀ (take i fed) run (wordsIn desk) bytes × ((length desk ≡ length desk₀) × (bytesLaid (run₀ .pending) bytes₀ fed ≡ bytesLaid (run .pending) bytes (drop i fed))))
 
 abbrev μ-loop : tie.MeasureT-loop
 μ-loop desk₀ bytes₀ fed run₀ i₀ desk bytes run i = length fed - i
@@ -45,7 +45,7 @@ loop-again c = (
     (
       c .before .before .settle .kept .1 .0 ∙ c .before .before .before .before .before .before .before .before .before .before .loop .inv .1 .1 .0,
       c .before .before .before .before .before .before .before .before .before .before .loop .inv .1 .1 .1
-      ∙ gathers-laid (c .before .before .before .before .before .before .before .before .before .before .loop .run) (c .before .before .before .before .before .before .before .before .before .before .loop .bytes) (c .before .before .before .before .before .before .before .before .before .before .before .before .before .before .args .fed .now) (c .before .before .before .before .before .before .before .before .before .before .loop .i) _ _ (c .before .before .before .before .before .before .before .before .before .before .loop .inv .1 .0 .ready) (c .before .before .before .before .before .before .before .gather .ensures) _ (c .before .before .settle .ensures .1),
+          ∙ gathers-laid (c .before .before .before .before .before .before .before .before .before .before .loop .run) (c .before .before .before .before .before .before .before .before .before .before .loop .bytes) (c .before .before .before .before .before .before .before .before .before .before .before .before .before .before .args .fed .now) (c .before .before .before .before .before .before .before .before .before .before .loop .i) _ _ (c .before .before .before .before .before .before .before .before .before .before .loop .inv .1 .0 .ready) (c .before .before .before .before .before .before .before .gather .ensures) _ (c .before .before .settle .ensures .1),
     ),
   ),
 )
