@@ -4,11 +4,8 @@ use Prim.Native.Nat.{ℕ, zero, suc, _+_, _-_, max}
 use mathlib.Core.List.{List, [], _∷_, _++_}
 use lib.ListN.{length, take, drop}
 use Rattle.program_text.specs.Text.{decimal, line}
+use Rattle.program_sums.specs.Sums.{sumOf}
 use Rattle.program_windows.specs.declared.Window.{Window}
-
-unfoldable pub sumOf : List ℕ → ℕ
-sumOf [] = 0
-sumOf (m ∷ ms) = m + sumOf ms
 
 unfoldable pub greatestOf : List ℕ → ℕ
 greatestOf [] = 0

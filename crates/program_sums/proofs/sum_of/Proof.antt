@@ -1,20 +1,19 @@
--- `program_windows::sum_of` meets its contract. The loop's invariant: the sum of the first i moves, each below 256. Assumes nothing.
+-- `program_sums::sum_of` meets its contract. The loop's invariant: the sum of the first i bytes, each below 256. Assumes nothing.
 use Prim.Native.Nat.{_≤_, _*_, _-_}
 use mathlib.Core.Path.{_≡_, ap, _∙_}
 use native.Mathlib.Omega.{arith}
 use lib.ListN.{length, take}
 use lib.Seq.{take-all}
 use borrow.Author.Needs.{needs}
-use Rattle.program_windows.specs.Windows.{sumOf}
-use Rattle.program_windows.specs.Sliding.{sum-turn}
-use Rattle.program_windows.proofs.sum_of.Statement.{statement}
-use Rattle.program_windows.proofs.sum_of.Tie as tie
+use Rattle.program_sums.specs.Sums.{sumOf, sum-turn}
+use Rattle.program_sums.proofs.sum_of.Statement.{statement}
+use Rattle.program_sums.proofs.sum_of.Tie as tie
 
 abbrev Inv-loop : tie.InvT-loop
-Inv-loop moves sum₀ i₀ sum i = (i ≤ length moves) × (sum ≤ 255 * i) × (sum ≡ sumOf (take i moves))
+Inv-loop bytes sum₀ i₀ sum i = (i ≤ length bytes) × (sum ≤ 255 * i) × (sum ≡ sumOf (take i bytes))
 
 abbrev μ-loop : tie.MeasureT-loop
-μ-loop moves sum₀ i₀ sum i = length moves - i
+μ-loop bytes sum₀ i₀ sum i = length bytes - i
 
 loop-holds : tie.Need-loop-holds Inv-loop μ-loop
 unfolding sumOf
@@ -25,7 +24,7 @@ add-sum c = omega (arith, c .before .shared-slice-known2 .given (c .before .befo
 
 loop-again : tie.Need-loop-again Inv-loop μ-loop
 loop-again c =
-    let l = c .before .before .before .before .before .args .moves .now in
+    let l = c .before .before .before .before .before .args .bytes .now in
     let i = c .before .before .before .loop .i in (
       omega arith,
       omega (arith, c .before .shared-slice-known2 .given i),
@@ -33,7 +32,7 @@ loop-again c =
     )
 
 returns : tie.Need-returns Inv-loop μ-loop
-returns c = c .before .loop .inv .2 ∙ ap sumOf (take-all (c .before .loop .i) (c .before .before .before .args .moves .now) (c .loop-test .left))
+returns c = c .before .loop .inv .2 ∙ ap sumOf (take-all (c .before .loop .i) (c .before .before .before .args .bytes .now) (c .loop-test .left))
 
 pub sum-of-spec : {M : Type 1} → statement M
 sum-of-spec =
