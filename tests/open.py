@@ -138,7 +138,7 @@ class Reader:
                 words = set(words_in(said))
                 if bound and not words & {"≡", "<", "≤"} and said[:1] != ["ℕ"]:
                     ties = ties | set(bound)
-                elif words & ties and words & inputs:
+                elif words & ties and words & inputs and not unfolds(said, ties, inputs):
                     tied.append(" ".join(said))
                 if any(self.told(words_in(term)[:3], outputs) or self.told(words_in(term)[:1], outputs) for term in starts(said)):
                     return [], tied
@@ -191,6 +191,15 @@ def split_words(tokens):
         if depth == 0:
             words.append(token)
     return words
+
+
+def unfolds(tokens, ties, inputs):
+    """Whether an equation only names the parts of what arguments give, as `quorumOf .. ≡ Short reason` does."""
+    for this, other in (lambda sides: zip(sides, sides[::-1]) if len(sides) == 2 else [])(split_at(tokens, "≡")):
+        words = words_in(this)
+        if words[:1] and words[0].split(".")[-1][0].isupper() and set(words[1:]) <= ties and not set(words_in(other)) & ties:
+            return True
+    return False
 
 
 def starts(tokens):

@@ -1,6 +1,6 @@
 """What serves nothing. Checked, one test each:
 - every name in a line `use` of code, specs and proofs is used in its file, or by a wrong program that changes it;
-- every crate in a line of crates.txt is named by that crate's code, specs or proofs;
+- every crate in a line of crates.txt is named by that crate's code, specs or proofs, or its code touches a type from there;
 - every public function is called by another crate's code, is a call for C, or stands in a program; and every struct and enum is named;
 - every declaration of specs is reached: from the contracts, from the proofs of functions, or from a name in docs/PROMISES.md, by way of
   the declarations that these name, those that these name, and so on;
@@ -25,6 +25,7 @@ USE = re.compile(r"^(?:ghost )?use (.*?)(?:\.\{(.*)\}| as (\S+?)|::(\w+))?;?$")
 MODULE = re.compile(r"Rattle·([a-z0-9_]+)(?:·specs)?\.specs\.(\w+)(?:\.(\w+))?")
 PUBLIC = re.compile(r'^( *)pub (extern "C" )?fn (\w+)')
 TYPE = re.compile(r"(?m)^(?:pub )?(?:struct|enum) (\w+)")
+BUILT = re.compile(r"(?ms)^(?:pub )?(?:struct|enum) (\w+)(?:<[^>]*>)?(?: \{(.*?)^\}|\((.*?)\);)")
 KEPT = "## Kept without use\n"
 
 
@@ -122,6 +123,14 @@ class Tree:
             for pattern in ("src/**/*.rt", "specs/**/*.antt", "proofs/**/*.antt"):
                 for path in sorted(glob.glob("crates/%s/%s" % (crate, pattern), recursive=True)):
                     self.files.append(File(path, programs))
+        # what the types of the code hold, and the types that the heads of its functions have
+        self.types, self.signatures = {}, {}
+        for file in self.of("src"):
+            text = "\n".join(file.texts)
+            for name, fields, numbered in BUILT.findall(text):
+                self.types[name] = file.crate, re.findall(r"\b[A-Z]\w*", fields or numbered)
+            for name, head in re.findall(r"\bfn (\w+)(?:<[^>]*>)?(\(.*?)(?=\n\s*(?:requires|ensures)\b|\s*\{)", text, re.S):
+                self.signatures.setdefault((file.crate, name), []).extend(re.findall(r"\b[A-Z]\w*", head))
         self.words, self.items = {}, {}
         for file in self.files:
             if file.kind == "specs":
@@ -137,12 +146,30 @@ class Tree:
             for use, names in file.unused():
                 yield "%s:%d: %s not used" % (file.path, use.at + 1, ", ".join(names))
 
+    def touched(self, crate):
+        """The crates of the types that a crate's code touches: those that it names, those of the functions that it calls, and of fields."""
+        code = "\n".join("\n".join(file.texts + [use.line for use in file.uses]) for file in self.of("src", crate))
+        todo = re.findall(r"\b[A-Z]\w*", code)
+        for other, name in set(re.findall(r"\b([a-z0-9_]+)::(\w+)", code)):
+            todo += self.signatures.get((other, name), [])
+        for name in set(re.findall(r"(?:\.|\b[A-Z]\w*::)(\w+)\(", code)):
+            for other in self.edges[crate]:
+                todo += self.signatures.get((other, name), [])
+        found = set()
+        while todo:
+            name = todo.pop()
+            if name in self.types and name not in found:
+                found.add(name)
+                todo += self.types[name][1]
+        return {self.types[name][0] for name in found}
+
     def unnamed_crates(self):
-        """(crate, a crate of its line that it does not name)."""
+        """(crate, a crate of its line that it does not name, nor any type of it touch)."""
         for crate, used in self.edges.items():
             text = "\n".join("\n".join(file.texts + [use.line for use in file.uses]) for file in self.files if file.crate == crate)
+            touched = self.touched(crate)
             for other in used:
-                if not re.search(r"Rattle.%s\b|\b%s::" % (other, other), text):
+                if not re.search(r"Rattle.%s\b|\b%s::" % (other, other), text) and other not in touched:
                     yield crate, other
 
     def unused_crates(self):

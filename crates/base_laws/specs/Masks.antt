@@ -13,7 +13,7 @@ use lib.Pow.{pow-pos, pow-mono, pow-lt, shl-exact, shr-shr}
 use lib.Bits.{bitAnd, bitOr, and-step, or-step, and-le-l, and-le-r, or-lt}
 use lib.Count.{ones, ones-step, ones-le}
 use borrow.Author.Tests.{eqb-true, eq-eqb, ne-eqb, ltb-true, lt-ltb}
-use Rattle.base_laws.specs.Bools.{lt-or-le, either, clash, no-true, and-both, and-left, and-right, and-fails-left, or-holds, or-fails-left, or-fails-right, of-not-false}
+use Rattle.base_laws.specs.Bools.{lt-or-le, either, clash, no-true, and-both, and-left, and-right, and-fails-left, or-holds, or-fails-left, or-fails-right, not-of-false, of-not-false}
 use Rattle.base_laws.specs.Below.{allBelow, anyBelow, countBelow, all-at, all-counter, any-witness, any-fails, count-cong, count-front, count-mono, count-some, count-split, count-without, count-meet}
 
 -- bit n of the mask m is set
@@ -184,6 +184,12 @@ has-not (suc w) m zero h l =
 has-not (suc w) m (suc n) h l =
     let e : (2 ^ suc w - 1 - m) / 2 ≡ 2 ^ w - 1 - m / 2 = omega arith in
     rw (has-suc (2 ^ suc w - 1 - m) n, has-suc m n, e) (has-not w (m / 2) n (half-lt w h) (le-of-suc-le-suc l))
+
+-- all of the w lowest bits
+pub has-full : (w n : ℕ) → n < w → has (2 ^ w - 1) n ≡ true
+has-full w n l =
+    let e : 2 ^ w - 1 - 0 ≡ 2 ^ w - 1 = omega arith in
+    ap (λ (x : ℕ). has x n) (sym e) ∙ has-not w 0 n (pow-pos w) l ∙ not-of-false (has-zero n)
 
 -- ---- bounds
 

@@ -1,21 +1,22 @@
 -- Where the records of a message stand that passes rows 9, 16 and 17: record s gives the members of shard s, and in a message with a
 -- termination record S + s gives its position. Tags rise strictly up to kind 2, so the records of a kind that every shard has
 -- fill a block of S places.
-use mathlib.Core.Bool.{Bool, true, false, cond}
+use mathlib.Core.Bool.{Bool, true, false, cond, _&&_, _||_}
 use mathlib.Core.List.{List}
 use mathlib.Core.Logic.{_⊎_, inl, inr, ⊎-elim}
 use mathlib.Core.Path.{_≡_, refl, sym, ap, _∙_, subst}
 use Prim.Native.Nat.{ℕ, zero, suc, _+_, _*_, _-_, _<_, _≤_}
 use native.Mathlib.Nat.{not-suc-le-zero}
 use native.Mathlib.Omega.{arith}
-use lib.Dec.{eqb}
-use borrow.Author.Tests.{ltb-true, eqb-true, eq-eqb}
-use Rattle.base_laws.specs.Bools.{and-left, or-left, or-right, or-holds, clash, lt-or-le, eq-or-ne}
+use lib.Dec.{eqb, leb}
+use borrow.Author.Tests.{ltb-true, leb-true, eqb-true, eq-eqb}
+use Rattle.base_laws.specs.Bools.{and-left, and-right, or-left, or-right, or-holds, clash, lt-or-le, eq-or-ne}
 use Rattle.base_laws.specs.Below.{allBelow, all-at}
-use Rattle.base_laws.specs.Masks.{has, with, subset, has-zero, has-with}
-use Rattle.settings_values.specs.Settings.{shards}
+use Rattle.base_laws.specs.Masks.{has, with, subset, has-zero, has-with, has-full, subset-has}
+use Rattle.settings_values.specs.Settings.{shards, from-to}
 use Rattle.message_format.specs.declared.Form.{Form}
-use Rattle.message_format.specs.Records.{tag, word2, kind, shard, shardsWhere, shardsOf}
+use Rattle.message_format.specs.declared.Form.the-variants.{Report, Order}
+use Rattle.message_format.specs.Records.{tag, word2, kind, shard, shardsWhere, shardsOf, carriedBy}
 use Rattle.message_format.specs.Rows.{kindOk, plain, kindAt, shardAt, sequenceAt, everyShard, complete}
 use Rattle.message_format.specs.Rising.{precedes-cases, rising}
 
@@ -55,7 +56,46 @@ where-at f b (suc n) j l p = go (where-at f b n j) (eq-or-ne j n) (f n) refl
         has-with (shardsWhere f b n) (shard b n) (shard b j) ∙ or-left (eqb (shard b n) (shard b j)) (rest (omega arith) p)
     go rest (inr e) false h = rest (omega arith) p
 
+-- every shard has a record of kind k
+pub every-has : (σ b : List ℕ) (k len : ℕ) → subset (everyShard σ) (shardsOf k b len) ≡ true → (s : ℕ) → s < shards σ
+    → (j : ℕ) × (j < len) × (kind b j ≡ k) × (shard b j ≡ s)
+every-has σ b k len h s l =
+    let w = where-has (λ j. eqb (kind b j) k) b len s
+    (subset-has (everyShard σ) (shardsOf k b len) h s (has-full (shards σ) s l)) in
+    (w .0, w .1, eqb-true (kind b (w .0)) k (w .2), w .3)
+
 -- ---- what rows 9, 16 and 17 give
+
+pub kind-from : (form : Form) (k : ℕ) → kindOk form k ≡ true → 1 ≤ k
+unfolding kindOk
+kind-from Report k h = leb-true 1 k (and-left (leb 1 k) (leb k 3) h)
+kind-from Order k h =
+    ⊎-elim (λ p. leb-true 1 k (and-left (leb 1 k) (leb k 2) p))
+    (λ p. let four = leb-true 4 k (and-left (leb 4 k) (leb k 5) p) in omega arith)
+    (or-holds (from-to 1 2 k) (from-to 4 5 k) h)
+
+pub complete-members : (form : Form) (σ : List ℕ) (node : ℕ) (b : List ℕ) (len : ℕ) → complete form σ node b len ≡ true
+    → subset (everyShard σ) (shardsOf 1 b len) ≡ true
+unfolding complete
+complete-members Report σ node b len h = and-left (subset (everyShard σ) (shardsOf 1 b len)) _ h
+complete-members Order σ node b len h =
+    let one = subset (everyShard σ) (shardsOf 1 b len) in
+    let two = subset (everyShard σ) (shardsOf 2 b len) in
+    let four = subset (carriedBy node b len) (shardsOf 4 b len) in
+    and-left one two (and-left (one && two) four (and-left (one && two && four) _ h))
+
+pub complete-positions : (form : Form) (σ : List ℕ) (node : ℕ) (b : List ℕ) (len : ℕ) → complete form σ node b len ≡ true
+    → (shardsOf 2 b len ≡ 0 → ⊥) → subset (everyShard σ) (shardsOf 2 b len) ≡ true
+unfolding complete
+complete-positions Report σ node b len h z =
+    let two = subset (everyShard σ) (shardsOf 2 b len) in
+    ⊎-elim (λ e. absurd (z (eqb-true (shardsOf 2 b len) 0 e))) (λ e. e)
+    (or-holds (eqb (shardsOf 2 b len) 0) two (and-right (subset (everyShard σ) (shardsOf 1 b len)) (eqb (shardsOf 2 b len) 0 || two) h))
+complete-positions Order σ node b len h z =
+    let one = subset (everyShard σ) (shardsOf 1 b len) in
+    let two = subset (everyShard σ) (shardsOf 2 b len) in
+    let four = subset (carriedBy node b len) (shardsOf 4 b len) in
+    and-right one two (and-left (one && two) four (and-left (one && two && four) _ h))
 
 -- ---- a block of records
 
