@@ -34,7 +34,7 @@ FIRST = [
     ("crates by layer, definitions by name", ["python3", "tests/layers.py"]),
     ("nodes, shards and views by their types", ["python3", "tests/types.py"]),
     ("what has to be read", ["python3", "tests/read.py"]),
-    ("contracts that leave nothing open", ["python3", "tests/open.py"]),
+    ("contracts that leave nothing open", ["python3", "tests/contracts.py"]),
     ("nothing that serves nothing", ["python3", "tests/unused.py"]),
     ("the two before on planted faults", ["python3", "tests/planted.py"]),
     ("the judge of wrong programs", ["python3", "tests/judge.py"]),

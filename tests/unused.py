@@ -280,7 +280,7 @@ def kept():
 
 def mend(tree, layers):
     """Takes what is unused out of the lines `use` and of crates.txt, in the crates whose names start so."""
-    print("%d names taken out" % sum(file.mend() for file in tree.files if file.crate.startswith(layers)))
+    names = sum(file.mend() for file in tree.files if file.crate.startswith(layers))
     unnamed, lines = {edge for edge in tree.unnamed_crates() if edge[0].startswith(layers)}, []
     for line in read("crates.txt").split("\n"):
         crate, colon, used = line.partition(":")
@@ -289,13 +289,13 @@ def mend(tree, layers):
         lines.append(line)
     with open("crates.txt", "w", encoding="utf-8") as file:
         file.write("\n".join(lines))
-    print("%d crates taken out of crates.txt" % len(unnamed))
+    return "%d names and %d crates taken out" % (names, len(unnamed))
 
 
 def main():
     tree = Tree()
     if "--mend" in sys.argv:
-        mend(tree, tuple(sys.argv[sys.argv.index("--mend") + 1 :]) or ("",))
+        print(mend(tree, tuple(sys.argv[sys.argv.index("--mend") + 1 :]) or ("",)))
         tree = Tree()
     found, allowed = [*tree.uncalled(), *tree.unreached()], kept()
     functions, rest = [[entry for entry in found if ("::" in entry[0]) is code and entry[0] not in allowed] for code in (True, False)]

@@ -9,9 +9,15 @@ use Rattle.base_ids.specs.declared.Node.{Node}
 use Rattle.base_ids.specs.declared.Position.{Position}
 use Rattle.report_views.specs.declared.Layout.{Layout}
 use Rattle.report_views.specs.declared.Termination.{Termination}
-use Rattle.report_views.specs.declared.Standing.{Standing}
+use Rattle.report_views.specs.declared.Quorum.{Quorum}
 use Rattle.report_views.specs.Logs.{start}
 use Rattle.report_views.specs.Quorums.{target, holder, quorumOf}
+
+-- whether the quorum conditions are met, and each shard's holder (32: none) and target
+pub record Standing : Type 0 where
+  pub quorum : Quorum
+  pub holders : List Node
+  pub targets : List Position
 
 -- each shard's holder, and 0 from S up
 unfoldable pub holdersOf : List ℕ → Layout → Termination → ℕ → List ℕ → List Node

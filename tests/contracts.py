@@ -8,7 +8,7 @@ the checker asks of it). Checked of every public function that is no program's, 
 - docs/DECISIONS.md, under "Contracts without an equation", names what may stand all the same, and nothing else.
 Records and other definitions that a contract cites of the result or an exit are looked into.
 
-    python3 tests/open.py [--list]          --list prints what is open, named in docs/DECISIONS.md or not
+    python3 tests/contracts.py [--list]          --list prints what is open, named in docs/DECISIONS.md or not
 
 The last line is `N passed, M failed`."""
 import glob
@@ -240,8 +240,10 @@ def faults(reader, file, parameters, given, contract, fields):
     """(the hypotheses that tie an argument to what is none, the outputs without an equation)."""
     arguments = {part.split(":")[0].strip().removeprefix("mut ") for part in re.split(r",(?![^\[({<]*[\])}>])", parameters) if part.strip()}
     exits = re.findall(r"(\w+)\s*:\s*&(?:'\w+ )?mut\b", parameters)
-    found, tied = [], []
-    for result, formula in ENSURES.findall(contract):
+    found, tied, clauses = [], [], ENSURES.findall(contract)
+    if len(clauses) != len(re.findall(r"\bensures\b", contract)):
+        return [], ["a clause in a form that is not read"]
+    for result, formula in clauses:
         outputs = {result: "result", **{"now %s .exit" % name: name for name in exits}}
         more, also = reader.read(TOKEN.findall(formula), file, outputs, arguments)
         found, tied = found + more, tied + also
