@@ -58,7 +58,7 @@ def words_in(tokens):
 
 
 def groups(tokens):
-    """A row of arguments or binders, each without its brackets; `implicit` ones are left out."""
+    """The arguments or binders of a row; those in braces are left out."""
     at, depth, row = 0, 0, []
     for end, token in enumerate(tokens):
         depth += (token in OPENS) - (token in CLOSES)
@@ -108,7 +108,7 @@ class Reader:
         if len(equations) != 1 or "Type" not in text:
             return None
         left, _, right = equations[0].partition(" = ")
-        return around + [name for name in left.split()[1:]], [TOKEN.findall(right)], file
+        return around + left.split()[1:], [TOKEN.findall(right)], file
 
     def parameters(self, text):
         """The names that explicit binders bind."""
@@ -138,7 +138,7 @@ class Reader:
                 words = set(words_in(said))
                 if bound and not words & {"≡", "<", "≤"} and said[:1] != ["ℕ"]:
                     ties = ties | set(bound)
-                elif words & ties and words & inputs and not unfolds(said, ties, inputs):
+                elif words & ties and words & inputs and not unfolds(said, ties):
                     tied.append(" ".join(said))
                 if any(self.told(words_in(term)[:3], outputs) or self.told(words_in(term)[:1], outputs) for term in starts(said)):
                     return [], tied
@@ -155,10 +155,10 @@ class Reader:
         sides = split_at(concluded, "≡")
         if len(sides) == 2:
             return [(label, cases) for label in (self.told(side, outputs) for side in sides) if label], tied
-        found, more = self.cited(concluded, file, outputs, inputs, ties, cases, depth)
+        found, more = self.cited(concluded, file, outputs, inputs, cases, depth)
         return found, tied + more
 
-    def cited(self, tokens, file, outputs, inputs, ties, cases, depth):
+    def cited(self, tokens, file, outputs, inputs, cases, depth):
         """The same of a definition that is applied to outputs."""
         head, *row = groups(tokens) or [[]]
         made = self.find(file, head[0]) if len(head) == 1 and depth < 8 else None
@@ -193,13 +193,11 @@ def split_words(tokens):
     return words
 
 
-def unfolds(tokens, ties, inputs):
-    """Whether an equation only names the parts of what arguments give, as `quorumOf .. ≡ Short reason` does."""
-    for this, other in (lambda sides: zip(sides, sides[::-1]) if len(sides) == 2 else [])(split_at(tokens, "≡")):
-        words = words_in(this)
-        if words[:1] and words[0].split(".")[-1][0].isupper() and set(words[1:]) <= ties and not set(words_in(other)) & ties:
-            return True
-    return False
+def unfolds(tokens, ties):
+    """Whether an equation only names the parts of what arguments give, as `quorumOf .. ≡ Short reason` does: a constructor of such names."""
+    sides = [words_in(side) for side in split_at(tokens, "≡")]
+    named = [words for words in sides if words and words[0].split(".")[-1][0].isupper() and set(words[1:]) <= ties]
+    return len(sides) == 2 and len(named) == 1 and not any(set(words) & ties for words in sides if words not in named)
 
 
 def starts(tokens):

@@ -2,8 +2,8 @@
 - every name in a line `use` of code, specs and proofs is used in its file, or by a wrong program that changes it;
 - every crate in a line of crates.txt is named by that crate's code, specs or proofs, or its code touches a type from there;
 - every public function is called by another crate's code, is a call for C, or stands in a program; and every struct and enum is named;
-- every declaration of specs is reached: from the contracts, from the proofs of functions, or from a name in docs/PROMISES.md, by way of
-  the declarations that these name, those that these name, and so on;
+- every declaration of specs is reached: from a contract, from a function's proof, or from a name in docs/PROMISES.md or docs/ASSUMPTIONS.md,
+  by way of the declarations that these name, those that these name, and so on;
 - docs/DECISIONS.md, under "Kept without use", names what may stand all the same, and nothing else.
 
 Names are read off the words of the texts, so that rather too little is found than too much: a name that a text binds itself is taken for
@@ -70,7 +70,7 @@ class File:
         _, self.crate, self.kind, self.inside = path.split("/", 3)
         mark = r"//.*" if path.endswith(".rt") else r"(^|\s)--(\s.*)?$"
         self.texts = [re.sub(mark, "", line) for line in self.lines]
-        self.uses = [Used(at, line) for at, line in enumerate(self.texts) if USE.match(line.strip()) and not line.startswith("use =")]
+        self.uses = [Used(at, line) for at, line in enumerate(self.texts) if USE.match(line.strip())]
         lines = {use.at for use in self.uses}
         self.texts = ["" if at in lines else text for at, text in enumerate(self.texts)]
         self.wrong = " ".join(new for program in programs for file, _, new in program.pairs if path.endswith("%s/%s" % (self.crate, file)))
@@ -202,8 +202,7 @@ class Tree:
         """The declarations of a file, (crate, file, name) each, and their words; the head of a module is one too."""
         name = file.inside[: -len(".antt")]
         names = self.items.setdefault((file.crate, name), {})
-        data = None
-        item = None
+        data = item = None
         for owner, line, heads in declarations_of("\n".join(file.texts)):
             if owner is None or not line.strip():
                 continue
@@ -254,7 +253,7 @@ class Tree:
                 yield aliases[head][rest.split(".")[0]]
 
     def unreached(self):
-        todo, reached, scopes = [], set(), {}
+        todo, reached = [], set()
         for file in self.of("src"):
             todo += self.named(file, file.contracts)
         for file in self.of("proofs"):
