@@ -40,8 +40,8 @@ GIVEN = {
     "the index of a record": "message_passes::kinds message_passes::shards message_passes::sequence message_passes::positions report_walk::told",
     "two words as one number": "report_walk::pairs report_walk::mask_records report_walk::position_records",
     "positions as numbers or words": "report_ends::ends_of report_walk::end_at plan_order::cuts_of",
-    "a mask, or one for each shard": "place_groups::sets_of message_records::shards_of message_records::carried_more message_records::carried_by message_records::masks_of state_rows::mark",
-    "bytes for the search, by node, shard or failure set": "place_sheet::sheet place_tables::sets place_tables::needs place_tables::caps place_tables::move_cost place_tables::costs",
+    "a mask, or one for each shard": "place_groups::sets_of message_records::carried_more message_records::masks_of state_rows::mark",
+    "bytes for the search, by node, shard or failure set": "place_sheet::sheet place_tables::sets place_tables::needs place_tables::caps place_tables::costs",
 }
 
 # What OTHERS and GIVEN do not cover, by its place, and why it is right.

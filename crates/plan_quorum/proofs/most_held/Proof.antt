@@ -8,9 +8,6 @@ use Rattle.plan_quorum.specs.Quorum.{least-held}
 use Rattle.plan_quorum.proofs.most_held.Statement.{statement}
 use Rattle.plan_quorum.proofs.most_held.Tie as tie
 
-least-majority-requires : tie.Need-least-majority-requires
-least-majority-requires c κs = omega (arith, c .count .ensures, count-within 32 (c .before .args .members) (c .before .fits .members .fits))
-
 returns : tie.Need-returns
 returns c = let a = c .before .before .before .args in
     let m = c .before .before .count in
@@ -19,4 +16,4 @@ returns c = let a = c .before .before .before .args in
 
 pub most-held-spec : {M : Type 1} → statement M
 most-held-spec =
-    tie.close (tie.spec (λ c κs. search needs) least-majority-requires (λ c κs. search needs) returns)
+    tie.close (tie.spec (λ c κs. search needs) (λ c κs. search needs) (λ c κs. search needs) returns)
