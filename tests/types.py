@@ -39,7 +39,7 @@ GIVEN = {
     "a kind of record": "message_fields::kind",
     "the index of a record": "message_passes::kinds message_passes::shards message_passes::sequence message_passes::positions report_walk::told",
     "two words as one number": "report_walk::pairs report_walk::mask_records report_walk::position_records",
-    "positions as numbers or words": "report_ends::ends_of report_walk::end_at plan_order::cuts_of",
+    "positions as numbers or words": "report_ends::ends_of report_walk::end_at",
     "a mask, or one for each shard": "place_groups::sets_of message_records::carried_more message_records::masks_of state_rows::mark",
     "bytes for the search, by node, shard or failure set": "place_sheet::sheet place_tables::sets place_tables::needs place_tables::caps place_tables::costs",
 }
@@ -51,7 +51,6 @@ EXCEPTIONS = {
     "report_walk::end_at.s": "an index into the list of last runs",
     "report_latest::latest_sound.views": "a list that is lent; lists of types cannot be",
     "plan_seen::Seen.views": "the list that is lent to it",
-    "plan_order::order_contents.cuts": "two words for each shard, a list that is lent",
     "report_views::Reason.NoPlacement": "a subgroup",
 }
 

@@ -2,14 +2,13 @@
 use Prim.Native.Nat.{ℕ}
 use mathlib.Core.Bool.{cond}
 use mathlib.Core.List.{List}
-use mathlib.Core.Path.{_≡_}
 use lib.Dec.{eqb}
 use lib.ListN.{length}
 use Rattle.base_ids.specs.declared.Refusal.{Refusal}
-use Rattle.base_ids.specs.Refusals.{none, unless, accepted}
+use Rattle.base_ids.specs.Refusals.{unless, accepted}
 use Rattle.message_format.specs.declared.Writing.{Writing}
 use Rattle.message_format.specs.Messages.{messageLength, messageOf}
-use Rattle.plan_order.specs.Orders.{cutsOf, orderContents}
+use Rattle.plan_order.specs.Orders.{orderContents}
 use Rattle.state_planner.specs.declared.State.{State}
 use Rattle.state_planner.specs.Refusing.{callRefusal, orderRefusal}
 
@@ -30,8 +29,3 @@ ordered σ x d n buffer =
 unfoldable pub orderBuffer : List ℕ → State → List ℕ → ℕ → List ℕ → List ℕ
 orderBuffer σ x d n buffer =
     cond (accepted (orderRefusal σ x d n buffer)) (messageOf (orderContents σ (x .plan) d n) 512) buffer
-
--- an order is written from cuts: for every desk that gives them, and no refusal, the answer and the words left are the event's
-pub record OrderWritten (σ : List ℕ) (x : State) (cuts : List ℕ) (n : ℕ) (buffer : List ℕ) (r : Writing) (left : List ℕ) : Type 0 where
-  pub answers : (d : List ℕ) → cuts ≡ cutsOf σ (x .plan) d n → orderRefusal σ x d n buffer ≡ none → r ≡ ordered σ x d n buffer
-  pub leaves : (d : List ℕ) → cuts ≡ cutsOf σ (x .plan) d n → orderRefusal σ x d n buffer ≡ none → left ≡ orderBuffer σ x d n buffer

@@ -9,23 +9,8 @@ use state_planner::State;
 ghost use mathlib.Core.Path.{_≡_};
 ghost use lib.ListN.{length};
 ghost use Rattle.base_lent.specs.Lent.{wordsIn};
-ghost use Rattle.settings_values.specs.Settings.{Sizes, Settings};
-ghost use Rattle.state_order.specs.Orders.{callRefuses, ordered, orderBuffer, OrderWritten};
-
-// Writes the node's order, given its cuts, for an event that is not refused.
-fn write_order(
-    settings: &[u32],
-    x: State,
-    cuts: &[u32; 32],
-    node: Node,
-    buffer: &mut [u32],
-) -> Writing
-    requires { ⌜ Sizes (now settings) ⌝ }
-    ensures { λ r. ⌜ OrderWritten (now (settings .entry)) x (now (cuts .entry)) (node .0) (now (buffer .entry)) r (now (buffer .exit)) ⌝ }
-{
-    let c = plan_order::order_contents(settings, x.plan, cuts, node);
-    message_writer::write(Form::Order, settings, c, buffer)
-}
+ghost use Rattle.settings_values.specs.Settings.{Settings};
+ghost use Rattle.state_order.specs.Orders.{callRefuses, ordered, orderBuffer};
 
 // Writes the node's order into 512 lent words, where rows 1 and 2 do not refuse: rows 3, 4, 6 and 14.
 pub fn order_under(
@@ -48,8 +33,8 @@ pub fn order_under(
     if refusal.code != 0 {
         return Writing { refusal, length: 0 };
     }
-    let cuts = plan_order::cuts_of(settings, x.plan, desk, node);
-    write_order(settings, x, &cuts, node, buffer)
+    let c = plan_order::order_contents(settings, x.plan, desk, node);
+    message_writer::write(Form::Order, settings, c, buffer)
 }
 
 // Rows 1 and 2. The buffer's length and the desk's make row 1.
