@@ -18,20 +18,20 @@ returns c =
 
 returns-2 : tie.Need-returns-2
 returns-2 c =
-    let a = c .before .before .before .before .args in
-    let k = c .before .before .kept-sound in (
+    let a = c .before .before .before .before .before .args in
+    let k = c .before .before .before .kept-sound in (
       λ d e.
-          simp (sym (k .ensures), not-false (k .result) (c .before .if1 .left), sym (seen-ok (a .settings .now) (a .kept) (a .termination) (a .held) d (a .t2) e), not-true (a .t2 .ok) (c .if2 .taken)),
+          simp (sym (k .ensures), not-false (k .result) (c .before .before .if1 .left), sym (seen-ok (a .settings .now) (a .kept) (a .termination) (a .held) d (a .seen) e), not-true (a .seen .ok) (c .if2 .taken)),
       λ h. clash h refl,
     )
 
 returns-3 : tie.Need-returns-3
 returns-3 c =
-    let a = c .before .before .before .before .before .before .args in
-    let k = c .before .before .before .before .kept-sound in
+    let a = c .before .before .before .before .before .before .before .args in
+    let k = c .before .before .before .before .before .kept-sound in
     let m = c .before .marks-sound in (
       λ d e.
-          simp (sym (k .ensures), not-false (k .result) (c .before .before .before .if1 .left), sym (seen-ok (a .settings .now) (a .kept) (a .termination) (a .held) d (a .t2) e), not-false (a .t2 .ok) (c .before .before .if2 .left), sym (m .ensures), not-true (m .result) (c .if3 .taken)),
+          simp (sym (k .ensures), not-false (k .result) (c .before .before .before .before .if1 .left), sym (seen-ok (a .settings .now) (a .kept) (a .termination) (a .held) d (a .seen) e), not-false (a .seen .ok) (c .before .before .if2 .left), sym (m .ensures), not-true (m .result) (c .if3 .taken)),
       λ h. clash h refl,
     )
 
@@ -39,11 +39,11 @@ returns-4 : tie.Need-returns-4
 returns-4 c =
     let a = c .before .before .before .before .before .before .before .before .before .before .args in
     let k = c .before .before .before .before .before .before .before .before .kept-sound in
-    let m = c .before .before .before .before .before .marks-sound in
+    let m = c .before .before .before .before .marks-sound in
     let l = c .before .latest-sound in (
       λ d e.
-          let ok = sym (seen-ok (a .settings .now) (a .kept) (a .termination) (a .held) d (a .t2) e) ∙ not-false (a .t2 .ok) (c .before .before .before .before .before .before .if2 .left) in
-          simp (sym (k .ensures), not-false (k .result) (c .before .before .before .before .before .before .before .if1 .left), ok, sym (m .ensures), not-false (m .result) (c .before .before .before .before .if3 .left), sym (l .ensures d (seen-view (a .settings .now) (a .kept) (a .termination) (a .held) d (a .t2) e ok)), not-true (l .result) (c .if4 .taken)),
+          let ok = sym (seen-ok (a .settings .now) (a .kept) (a .termination) (a .held) d (a .seen) e) ∙ not-false (a .seen .ok) (c .before .before .before .before .before .if2 .left) in
+          simp (sym (k .ensures), not-false (k .result) (c .before .before .before .before .before .before .before .if1 .left), ok, sym (m .ensures), not-false (m .result) (c .before .before .before .if3 .left), sym (l .ensures d (seen-view (a .settings .now) (a .kept) (a .termination) (a .held) d (a .seen) e ok)), not-true (l .result) (c .if4 .taken)),
       λ h. clash h refl,
     )
 
@@ -58,11 +58,11 @@ returns-5 : tie.Need-returns-5
 returns-5 c =
     let a = c .before .before .before .before .before .before .before .before .before .before .before .args in
     let k = c .before .before .before .before .before .before .before .before .before .kept-sound in
-    let m = c .before .before .before .before .before .before .marks-sound in
+    let m = c .before .before .before .before .before .marks-sound in
     let l = c .before .before .latest-sound in (
       λ d e.
-          let ok = sym (seen-ok (a .settings .now) (a .kept) (a .termination) (a .held) d (a .t2) e) ∙ not-false (a .t2 .ok) (c .before .before .before .before .before .before .before .if2 .left) in
-          simp (sym (k .ensures), not-false (k .result) (c .before .before .before .before .before .before .before .before .if1 .left), ok, sym (m .ensures), not-false (m .result) (c .before .before .before .before .before .if3 .left), sym (l .ensures d (seen-view (a .settings .now) (a .kept) (a .termination) (a .held) d (a .t2) e ok)), not-false (l .result) (c .before .if4 .left), sym (c .plan-fits .ensures (a .termination) d ok e)),
+          let ok = sym (seen-ok (a .settings .now) (a .kept) (a .termination) (a .held) d (a .seen) e) ∙ not-false (a .seen .ok) (c .before .before .before .before .before .before .if2 .left) in
+          simp (sym (k .ensures), not-false (k .result) (c .before .before .before .before .before .before .before .before .if1 .left), ok, sym (m .ensures), not-false (m .result) (c .before .before .before .before .if3 .left), sym (l .ensures d (seen-view (a .settings .now) (a .kept) (a .termination) (a .held) d (a .seen) e ok)), not-false (l .result) (c .before .if4 .left), sym (c .plan-fits .ensures (a .termination) d ok e)),
       λ h. sym (k .ensures) ∙ not-false (k .result) (c .before .before .before .before .before .before .before .before .if1 .left),
     )
 
