@@ -1,8 +1,8 @@
 """The calls that a function of the library leads to, as a tree: calls.py [CRATE::FUNCTION ..], by default c_planner::restart_report.
 
 Each function is shown once with what it calls; where it is called again a line names it alone. At the end: how many functions are reached,
-how many calls lead to them, and how many of those go from one layer to another (the layer is the first half of a crate's name).
-Calls of the kit's libraries are left out."""
+how many calls lead to them, and how many of those go from one layer to another (the layer is the first half of a crate's name); then
+the same without the functions of the layers base and settings, which every layer calls. Calls of the kit's libraries are left out."""
 import os
 import re
 import sys
@@ -52,22 +52,25 @@ def layer(crate):
 def main(starts):
     known = {crate: functions(crate) for crate in crates()}
     for start in starts:
-        shown, calls, changes = set(), 0, 0
+        shown, calls = set(), []
 
         def show(at, depth):
-            nonlocal calls, changes
             again = at in shown
             shown.add(at)
             print("%s%s::%s%s" % ("  " * depth, at[0], at[1], " .." if again else ""))
             if again:
                 return
             for to in called(at[0], known[at[0]][at[1]], known):
-                calls += 1
-                changes += layer(at[0]) != layer(to[0])
+                calls.append((layer(at[0]), layer(to[0])))
                 show(to, depth + 1)
 
         show(tuple(start.split("::")), 0)
-        print("%s: %d functions, %d calls, %d of them to another layer" % (start, len(shown), calls, changes))
+        for left_out in ((), ("base", "settings")):
+            reached = [at for at in shown if layer(at[0]) not in left_out]
+            counted = [(at, to) for at, to in calls if at not in left_out and to not in left_out]
+            others = [call for call in counted if call[0] != call[1]]
+            without = "without %s: " % " and ".join(left_out) if left_out else ""
+            print("%s%s: %d functions, %d calls, %d of them to another layer" % (without, start, len(reached), len(counted), len(others)))
 
 
 if __name__ == "__main__":

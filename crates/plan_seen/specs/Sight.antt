@@ -23,13 +23,9 @@ use Rattle.report_views.specs.declared.Termination.{Termination}
 use Rattle.plan_quorum.specs.Quorum.{firstWithout, quorumBy}
 use Rattle.plan_seen.specs.declared.Seen.{Seen}
 
--- no view
-abbrev pub noView : View
-noView = record { 0 = 0 }
-
 -- nothing
 unfoldable pub noneSeen : Seen
-noneSeen = record { ok = false; views = replicate 32 noView; holders = replicate 16 (record { 0 = 0 }); targets = replicate 16 start }
+noneSeen = record { ok = false; views = replicate 32 (record { 0 = 0 }); holders = replicate 16 (record { 0 = 0 }); targets = replicate 16 start }
 
 -- the view that node n reported, if it is held, else 0
 unfoldable pub viewSeen : ℕ → List ℕ → ℕ → View
@@ -63,11 +59,11 @@ module _ (σ : List ℕ) (v : Layout) (t : Termination) (held : ℕ) (d : List �
   unfolding seenOf
   seen-targets h = ap (λ (y : Seen). y .targets) e ∙ rw h
 
-  pub seen-view : slotsOk σ v t held d ≡ true → (n : ℕ) → n < 32 → has held n ≡ true → getD (x .views) n noView .0 ≡ viewOf d n
+  pub seen-view : slotsOk σ v t held d ≡ true → (n : ℕ) → n < 32 → has held n ≡ true → getD (x .views) n (record { 0 = 0 }) .0 ≡ viewOf d n
   unfolding seenOf viewsSeen viewSeen
   seen-view h n l m =
       let same : x .views ≡ tabulate 32 (viewSeen held d) = ap (λ (y : Seen). y .views) e ∙ rw h in
-      ap (λ (k : List View). getD k n noView .0) same ∙ ap (λ (y : View). y .0) (getD-tabulate 32 (viewSeen held d) n noView l) ∙ rw m
+      ap (λ (k : List View). getD k n (record { 0 = 0 }) .0) same ∙ ap (λ (y : View). y .0) (getD-tabulate 32 (viewSeen held d) n (record { 0 = 0 }) l) ∙ rw m
 
   -- the quorum of the holders is that of the held reports
   module _ (right : Settings σ) where
@@ -97,7 +93,7 @@ module _ (σ : List ℕ) (v : Layout) (t : Termination) (held : ℕ) (d : List �
   seen-all h x a b c e = rw (h, sym a, sym b, sym c, sym e)
 
 module _ (held : ℕ) (d : List ℕ) (n : ℕ) where
-  pub view-unheld : has held n ≡ false → noView ≡ viewSeen held d n
+  pub view-unheld : has held n ≡ false → record { 0 = 0 } ≡ viewSeen held d n
   unfolding viewSeen
   view-unheld h = rw h
 
