@@ -1,11 +1,11 @@
 -- The sum of numbers. Laws: of two lists one after the other, a turn of a loop that adds up, and the sum of bytes is bounded.
-use Prim.Native.Nat.{ℕ, zero, suc, _+_, _*_, _≤_, _<_}
+use Prim.Native.Nat.{ℕ, zero, suc, _+_, _*_, _-_, _≤_, _<_}
 use mathlib.Core.List.{List, [], _∷_, _++_}
-use mathlib.Core.Path.{_≡_, ap, _∙_}
+use mathlib.Core.Path.{_≡_, sym, ap, _∙_}
 use native.Mathlib.Numerals.{add-one}
 use native.Mathlib.Omega.{arith}
-use lib.ListN.{length, take, getD}
-use lib.Seq.{take-suc}
+use lib.ListN.{length, take, drop, getD}
+use lib.Seq.{take-suc, take-add}
 
 unfoldable pub sumOf : List ℕ → ℕ
 sumOf [] = 0
@@ -27,6 +27,13 @@ pub sum-turn : (l : List ℕ) (i s v : ℕ) → i < length l → s ≡ sumOf (ta
 sum-turn l i s v h e d =
     let t : sumOf (take (i + 1) l) ≡ sumOf (take i l ++ (getD l i 0 ∷ [])) = ap (λ (n : ℕ). sumOf (take n l)) (add-one i) ∙ ap sumOf (take-suc l i 0 h) in
     omega (arith, sum-append (take i l) (getD l i 0 ∷ []), sum-one (getD l i 0))
+
+-- a turn that adds up a part
+pub sum-part : (l : List ℕ) (i to s v : ℕ) → i ≤ to → s ≡ sumOf (take i l) → v ≡ sumOf (take (to - i) (drop i l)) → s + v ≡ sumOf (take to l)
+sum-part l i to s v h e d =
+    let z : i + (to - i) ≡ to = omega arith in
+    let t : sumOf (take to l) ≡ sumOf (take i l ++ take (to - i) (drop i l)) = ap (λ (n : ℕ). sumOf (take n l)) (sym z) ∙ ap sumOf (take-add i (to - i) l) in
+    omega (arith, sum-append (take i l) (take (to - i) (drop i l)))
 
 -- each is below 256
 pub sum-bound : (l : List ℕ) (n : ℕ) → ((k : ℕ) → getD l k 0 < 256) → sumOf (take n l) ≤ 255 * n
