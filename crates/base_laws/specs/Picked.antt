@@ -60,11 +60,6 @@ has-mask (suc n) f k = go (either (f n)) (has-mask n f k) (eq-or-ne k n)
 pub mask-at : (n : ℕ) (f : ℕ → Bool) (k : ℕ) → k < n → has (maskBelow n f) k ≡ f k
 mask-at n f k l = has-mask n f k ∙ rw (lt-ltb k n l)
 
-pub mask-cong : (n : ℕ) (f g : ℕ → Bool) → ((k : ℕ) → k < n → f k ≡ g k) → maskBelow n f ≡ maskBelow n g
-unfolding maskBelow
-mask-cong zero f g h = refl
-mask-cong (suc n) f g h = rw (h n (omega arith), mask-cong n f g (λ k l. h k (omega arith)))
-
 pub mask-lt : (w n : ℕ) (f : ℕ → Bool) → n ≤ w → maskBelow n f < 2 ^ w
 unfolding maskBelow
 mask-lt w zero f l = pow-pos w

@@ -4,13 +4,12 @@ use mathlib.Core.Path.{_≡_, refl, sym, ap, ap₂, _∙_, subst, subst⁻¹}
 use mathlib.Core.Logic.{_⊎_, inl, inr, ⊎-elim}
 use mathlib.Core.Bool.{cond}
 use mathlib.Core.List.{List, [], _∷_, _++_, append-assoc, append-nil}
-use Prim.Native.Nat.{ℕ, zero, suc, _+_, _*_, _/_, _%_, _-_, _≤_, _<_, zero-le}
+use Prim.Native.Nat.{ℕ, zero, suc, _+_, _-_, _≤_, _<_}
 use native.Mathlib.Nat.{le-refl, le-antisymm, le-of-suc-le-suc, not-suc-le-zero, eq-or-lt-of-le, add-zero, add-suc}
 use native.Mathlib.Numerals.{add-one}
 use native.Mathlib.Omega.{arith}
-use lib.Arith.{lt-of-le-ne}
 use lib.Dec.{ltb}
-use lib.ListN.{length, getD, set, take, drop, replicate, replicate-append-replicate, length-set, length-append, length-take, length-drop, length-replicate, getD-replicate, List·getD-eq-default, List·getD-append}
+use lib.ListN.{length, getD, set, take, drop, replicate, replicate-append-replicate, length-append, length-take, length-drop, length-replicate, getD-replicate, List·getD-eq-default, List·getD-append}
 use lib.Seq.{ext-getD, take-nil, take-at, drop-at, getD-append-add, set-split, length-take-le, getD-set-same, getD-set-other, getD-take, getD-drop, getD-at, set-at, drop-cons, drop-length, append-snoc, drop-drop}
 use borrow.Author.Tests.{lt-ltb, le-ltb}
 use borrow.Rule.Slice.PartMut.{putMid}
@@ -342,35 +341,3 @@ filled-else v n count f l =
     ⊎-elim (λ i. getD-filled count f (replicate n v) k v i ∙ rw (lt-ltb k count i))
     (λ i. getD-filled-rest count f (replicate n v) k v i ∙ getD-replicate n k v v m ∙ rw (le-ltb k count i))
     (lt-or-le k count))
-
--- ---- tables of pairs of words
-
--- the two numbers whose half is s
-halves : (i s : ℕ) → i / 2 ≡ s → (i ≡ 2 * s + 1) ⊎ (i ≡ 2 * s)
-halves i s h = ⊎-elim (λ z. inr (omega arith)) (λ z. inl (odd (lt-of-le-ne zero-le (λ e. z (sym e))))) (eq-or-ne (i % 2) 0)
-  where
-    odd : 0 < i % 2 → i ≡ 2 * s + 1
-    odd l = omega arith
-
--- the two words of pair s are stored
-pub pair-set : (n : ℕ) (f g : ℕ → ℕ) (s v k : ℕ) → 2 * s + 1 < n → g (2 * s) ≡ v → g (2 * s + 1) ≡ k
-    → ((i : ℕ) → i < n → (i / 2 ≡ s → ⊥) → f i ≡ g i) → set (set (tabulate n f) (2 * s) v) (2 * s + 1) k ≡ tabulate n g
-pair-set n f g s v k l ev ek rest =
-    tabulate-ext 0 n g (set (set (tabulate n f) (2 * s) v) (2 * s + 1) k)
-    (simp length-set (length-tabulate n f))
-    (λ i m. go i m (eq-or-ne i (2 * s + 1)) (eq-or-ne i (2 * s)))
-  where
-    first : List ℕ
-    first = set (tabulate n f) (2 * s) v
-
-    go : (i : ℕ) → i < n → (i ≡ 2 * s + 1) ⊎ (i ≡ 2 * s + 1 → ⊥) → (i ≡ 2 * s) ⊎ (i ≡ 2 * s → ⊥) → getD (set first (2 * s + 1) k) i 0 ≡ g i
-    go i m (inl e) d =
-        rw e (getD-set-same first (2 * s + 1) k 0 (omega (arith, length-set (tabulate n f) (2 * s) v, length-tabulate n f)) ∙ sym ek)
-    go i m (inr a) (inl e) =
-        getD-set-other first (2 * s + 1) i k 0 a
-        ∙ rw e (getD-set-same (tabulate n f) (2 * s) v 0 (omega (arith, length-tabulate n f)) ∙ sym ev)
-    go i m (inr a) (inr d) =
-        getD-set-other first (2 * s + 1) i k 0 a
-        ∙ getD-set-other (tabulate n f) (2 * s) i v 0 d
-        ∙ getD-tabulate n f i 0 m
-        ∙ rest i m (λ h. ⊎-elim a d (halves i s h))

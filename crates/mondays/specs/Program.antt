@@ -24,10 +24,6 @@ use Rattle.mondays.specs.declared.Tallied.{Tallied}
 abbrev pub takesMore : Tallied → Bool
 takesMore x = cond (x .written) (cond (accepted (x .tally .refusal)) (mayCome (x .input .source)) false) false
 
--- before the first read
-abbrev pub nothingTaken : Tallied
-nothingTaken = record { tally = freshTally; input = unread; written = true }
-
 -- a block is taken: the tally after it, and what it prints is the first n bytes of `out`
 pub record PrintedBlock (t : Tally) (bytes : List ℕ) (after : Tally) (out : List ℕ) (n : ℕ) : Type 0 where
   pub tally : after ≡ tallyAfter t bytes

@@ -3,25 +3,24 @@ use Prim.Native.Nat.{ℕ, _+_, _*_, _/_, _%_, _<_, _≤_, zero-le}
 use mathlib.Core.Bool.{Bool, true, false, cond, not, _&&_, _||_}
 use mathlib.Core.List.{List}
 use mathlib.Core.Logic.{_⊎_, inl, inr, ⊎-elim}
-use mathlib.Core.Path.{_≡_, refl, sym, ap, ap₂, _∙_, subst, subst⁻¹}
+use mathlib.Core.Path.{_≡_, refl, sym, ap, _∙_, subst, subst⁻¹}
 use native.Mathlib.Omega.{arith}
 use lib.Arith.{lt-of-le-ne}
 use lib.Dec.{eqb, ltb}
 use lib.ListN.{length, getD, set, List·getD-eq-default}
 use lib.Seq.{getD-set-same, getD-set-other}
-use borrow.Author.Tests.{lt-ltb, eq-eqb, ne-eqb, eqb-true, eqb-false}
+use borrow.Author.Tests.{lt-ltb, ne-eqb, eqb-true, eqb-false}
 use Rattle.base_laws.specs.Bools.{either, clash, no-true, and-fails-left, and-fails-right, or-right, lt-or-le, eq-or-ne, not-of-true}
 use Rattle.base_laws.specs.Masks.{has}
 use Rattle.base_laws.specs.Tables.{tabulate, tabulate-ext, getD-tabulate, getD-tabulate-past, getD-part}
 use Rattle.base_ids.specs.declared.Position.{Position}
-use Rattle.base_ids.specs.Order.{notAfter}
 use Rattle.settings_values.specs.Settings.{shards}
 use Rattle.message_format.specs.Messages.{contentsOf, bodyOf, bodyWord}
 use Rattle.message_format.specs.Chain.{place, following}
-use Rattle.message_format.specs.Records.{word1, word2}
+use Rattle.message_format.specs.Records.{word2}
 use Rattle.report_views.specs.declared.Layout.{Layout}
 use Rattle.report_views.specs.declared.Termination.{Termination}
-use Rattle.report_views.specs.Logs.{start, endOf, isStart, hasUpdate}
+use Rattle.report_views.specs.Logs.{endOf, isStart, hasUpdate}
 use Rattle.report_views.specs.Meets.{SlotSound, slot-sound, report-records, log-end}
 use Rattle.report_views.specs.Reports.{slot, reportOf, viewOf, endAt, hasAt, maskAt, positionAt}
 use Rattle.report_views.specs.RunLaws.{Runs, passed-runs, end-cases, has-cases, held-of}
@@ -29,7 +28,7 @@ use Rattle.report_views.specs.Slots.{slotOk}
 use Rattle.report_quick.specs.Accepts.{length-slot}
 use Rattle.report_views.specs.Numbers.{asNumber, fromNumber, number-start, number-back, number-before}
 use Rattle.report_walk.specs.Updates.{RecordsAre}
-use Rattle.report_walk.specs.Pairs.{FitWords, pairOf, pairsOf, pair-at, pair-low, pair-high}
+use Rattle.report_walk.specs.Pairs.{FitWords, pairsOf, pair-at, pair-low, pair-high}
 
 -- word k of a slot that is given as pairs
 unfoldable pub wordOfPairs : List ℕ → ℕ → ℕ

@@ -1,22 +1,21 @@
 -- A slot that the walk tells: it is sound, and the indexes of the last runs give the ends.
-use Prim.Native.Nat.{ℕ, _+_, _*_, _<_, _≤_}
+use Prim.Native.Nat.{ℕ, _+_, _<_, _≤_}
 use mathlib.Core.Bool.{Bool, true, false}
 use mathlib.Core.List.{List}
 use mathlib.Core.Logic.{⊎-elim}
 use mathlib.Core.Path.{_≡_, refl, sym, ap, _∙_, subst, subst⁻¹}
 use native.Mathlib.Omega.{arith}
-use lib.ListN.{length, getD, set, replicate, length-set}
+use lib.ListN.{length, getD, set, replicate}
 use lib.Seq.{getD-set-same, getD-set-other}
 use Rattle.base_laws.specs.Bools.{eq-or-ne}
 use Rattle.base_laws.specs.Masks.{has}
 use Rattle.base_ids.specs.declared.View.{View}
-use Rattle.settings_values.specs.Settings.{shards, Settings}
+use Rattle.settings_values.specs.Settings.{Settings}
 use Rattle.report_views.specs.declared.Layout.{Layout}
 use Rattle.report_views.specs.declared.Termination.{Termination}
-use Rattle.report_views.specs.Reports.{slot, reportOf, viewOf, endAt, maskAt}
+use Rattle.report_views.specs.Reports.{slot, reportOf}
 use Rattle.report_views.specs.Slots.{slotOk}
 use Rattle.report_quick.specs.Accepts.{length-slot}
-use Rattle.report_walk.specs.Pairs.{FitWords, pairsOf}
 use Rattle.report_walk.specs.Seen as Walk
 use Rattle.report_walk.specs.Sound.{Walked, told-sound, told-view}
 use Rattle.report_walk.specs.Ends.{told-few, told-key, told-len, told-records}

@@ -1,17 +1,16 @@
 -- What the code of a step over a slot finds, and what it means for the desk.
 use Prim.Native.Nat.{ℕ, _+_, _*_, _/_, _%_, _<_, _≤_}
-use mathlib.Core.Bool.{Bool, true, false, cond, not, _&&_, _||_}
+use mathlib.Core.Bool.{Bool, true, false, not, _||_}
 use mathlib.Core.List.{List}
 use mathlib.Core.Logic.{⊎-elim}
 use mathlib.Core.Path.{_≡_, refl, sym, ap, _∙_, subst, subst⁻¹}
 use native.Mathlib.Omega.{arith}
-use lib.Dec.{eqb, ltb}
 use lib.ListN.{length, getD, set, length-set}
 use lib.Seq.{getD-set-same, getD-set-other}
 use borrow.Author.Tests.{eq-eqb, ne-eqb}
 use Rattle.base_laws.specs.Bools.{clash, and-fails-left, eq-or-ne}
 use Rattle.base_laws.specs.Masks.{has}
-use Rattle.base_laws.specs.Tables.{tabulate, getD-tabulate, length-tabulate}
+use Rattle.base_laws.specs.Tables.{getD-tabulate, length-tabulate}
 use Rattle.base_ids.specs.declared.Position.{Position}
 use Rattle.base_ids.specs.Refusals.{accepted}
 use Rattle.settings_values.specs.Settings.{shards, Settings}
@@ -23,17 +22,16 @@ use Rattle.message_format.specs.Records.{tag, word1, word2}
 use Rattle.message_reader.specs.Readings.{readingUnder, contents-few}
 use Rattle.report_views.specs.declared.Layout.{Layout}
 use Rattle.report_views.specs.declared.Termination.{Termination}
-use Rattle.report_views.specs.Logs.{start, endOf, hasUpdate}
-use Rattle.report_views.specs.Reports.{slot, reportOf, viewOf, endAt, maskAt, positionAt}
+use Rattle.report_views.specs.Logs.{endOf, hasUpdate}
+use Rattle.report_views.specs.Reports.{slot, reportOf, viewOf, maskAt, positionAt}
 use Rattle.report_views.specs.Slots.{slotOk}
 use Rattle.report_quick.specs.Accepts.{length-slot, WordsFit, accepts}
 use Rattle.report_slots.specs.Desk.{reportFits, slot-refused, slot-read}
-use Rattle.report_views.specs.Numbers.{asNumber, fromNumber}
+use Rattle.report_views.specs.Numbers.{asNumber}
 use Rattle.report_ends.specs.Ends.{endsOf}
-use Rattle.report_walk.specs.Pairs.{FitWords, pairsOf}
 use Rattle.report_walk.specs.Seen.{PositionRecords}
 use Rattle.report_walk.specs.Updates.{RecordsAre, updateSeen, update-seen, goalAt, goal-is}
-use Rattle.plan_seen.specs.Nodes.{wordOfPairs, wordsOfPairs, words-back, slot-words, eligible, takesOver, HolderRenewed, RenewedAt, RenewedBelow, renewed-not, renewed-other, SlotIs, EndsTold, EndTells, end-tells}
+use Rattle.plan_seen.specs.Nodes.{wordOfPairs, wordsOfPairs, words-back, slot-words, eligible, RenewedAt, renewed-not, renewed-other, SlotIs, EndsTold, EndTells, end-tells}
 use Rattle.plan_seen.specs.Fold.{Stepped}
 
 -- ---- words

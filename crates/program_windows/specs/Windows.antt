@@ -1,6 +1,6 @@
 -- What is printed of moves: for every 64 consecutive ones a line with their sum and the greatest of them. Each line adds up its own
 -- 64 moves afresh.
-use Prim.Native.Nat.{ℕ, zero, suc, _+_, _-_, max}
+use Prim.Native.Nat.{ℕ, zero, suc, _-_, max}
 use mathlib.Core.List.{List, [], _∷_, _++_}
 use lib.ListN.{length, take, drop}
 use Rattle.program_text.specs.Text.{decimal, line}

@@ -7,7 +7,7 @@ ghost use mathlib.Core.List.{[], _∷_};
 ghost use mathlib.Core.Path.{_≡_};
 ghost use Prim.Native.Nat.{_<_, _≤_};
 ghost use Prim.Native.Nat as Nat;
-ghost use Rattle.message_format.specs.Records.{tag, word1, word2};
+ghost use Rattle.message_format.specs.Records.{word1, word2};
 ghost use Rattle.report_views.specs.Logs.{pos, run};
 ghost use Rattle.report_views.specs.Cuts.{runsTo, sharedAfter, cutFrom};
 ghost use Rattle.report_cuts.specs.Walks.{NextRun, wholeRun};

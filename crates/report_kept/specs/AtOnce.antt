@@ -32,7 +32,7 @@ use Rattle.report_kept.specs.declared.Kept.{Kept}
 use Rattle.report_kept.specs.declared.Received.{Received}
 use Rattle.report_kept.specs.Reports.{keptRefusal, refusalBeside, terminationOf, keeps, renewed, takenIn}
 use Rattle.report_kept.specs.Words.{madeFirst}
-use Rattle.report_kept.specs.Laws.{message-node, termination-none, renewed-equal, in-taken}
+use Rattle.report_kept.specs.Laws.{termination-none, renewed-equal, in-taken}
 
 -- w reports the kept view and passes rows 5 to 13; a termination in it is kept
 pub record OfKept (σ : List ℕ) (v : Layout) (t : Termination) (w : List ℕ) : Type 0 where
@@ -88,10 +88,6 @@ walked-kept σ v t w x {b = b} {k = k} {l = l} {node = node} {n = n} right table
 module _ (σ : List ℕ) (v : Layout) (t : Termination) (m : Latest) (w : List ℕ) (g : OfKept σ v t w) where
   abbrev reportKept : Contents
   reportKept = contentsOf w
-
-  -- its node is one of the settings
-  pub kept-node : Settings σ → getD w 0 0 < 32
-  kept-node right = message-node σ w right (message-none Report σ w (g .passes))
 
   -- no termination of its own
   own : t .made ≡ false → terminated σ reportKept ≡ false

@@ -1,18 +1,18 @@
 -- Records that stand as the acceptance finds them pass rows 8, 9, 16, 17 and 11, and the slot is sound.
 use Prim.Native.Nat.{ℕ, zero, suc, _+_, _*_, _-_, _/_, _%_, _^_, _<_, _≤_}
-use mathlib.Core.Bool.{Bool, true, false, cond, not, _&&_, _||_}
+use mathlib.Core.Bool.{Bool, true, false, not, _&&_, _||_}
 use mathlib.Core.List.{List}
 use mathlib.Core.Logic.{_⊎_, inl, inr, ⊎-elim}
 use mathlib.Core.Path.{_≡_, refl, sym, ap, _∙_, subst}
 use native.Mathlib.Omega.{arith}
-use lib.Dec.{eqb, leb, ltb}
+use lib.Dec.{eqb, ltb}
 use lib.ListN.{length, getD}
 use lib.Pow.{pow-pos}
 use borrow.Author.Tests.{eqb-true, eq-eqb, ne-eqb, lt-ltb, le-ltb, le-leb, lt-leb}
-use Rattle.base_laws.specs.Bools.{either, and-both, and-fails-left, and-fails-right, or-left, or-right, not-of-false, lt-or-le, eq-or-ne}
+use Rattle.base_laws.specs.Bools.{either, and-both, and-fails-left, and-fails-right, or-left, or-right, not-of-false, lt-or-le}
 use Rattle.base_laws.specs.Below.{allBelow, all-of}
 use Rattle.base_laws.specs.Tables.{length-part}
-use Rattle.base_laws.specs.Masks.{has, subset, subset-of, has-below}
+use Rattle.base_laws.specs.Masks.{has, subset, subset-of}
 use Rattle.settings_values.specs.Settings.{shards, Settings}
 use Rattle.base_ids.specs.declared.Refusal.{Refusal}
 use Rattle.base_ids.specs.Refusals.{none}
@@ -30,7 +30,7 @@ use Rattle.report_views.specs.declared.Layout.{Layout}
 use Rattle.report_views.specs.declared.Termination.{Termination}
 use Rattle.report_views.specs.Reports.{slot, reportOf, terminatedAt, maskAt, positionAt}
 use Rattle.report_views.specs.Slots.{row12, row13, termKept, sameView, samePosition, sameTermination, slotOk}
-use Rattle.report_quick.specs.Told.{MemberTold, PositionTold, RunTold, RunsTold, HeadTold, maskTold, MasksFit, PositionFits, EndFits}
+use Rattle.report_quick.specs.Told.{MemberTold, PositionTold, RunTold, RunsTold, HeadTold, maskTold, MasksFit, EndFits}
 
 -- the records before the runs: members for each shard, then a position for each or none; m of them
 pub record FrontTold (w : List ℕ) (count view m : ℕ) : Type 0 where
@@ -85,9 +85,6 @@ module _ (σ : List ℕ) (w : List ℕ) (view m n : ℕ) (right : Settings σ) (
 
   few : many ≤ 16
   few = right .sizes .shards-to
-
-  some : 1 ≤ many
-  some = right .sizes .shards-from
 
   low : many ≤ m
   low = ⊎-elim (λ e. omega arith) (λ e. omega (arith, e .0)) (f .positions)

@@ -1,12 +1,12 @@
 -- A position as one number, 2^32 times its view and its k: where k is below 2^32 the numbers stand in the order of the positions.
 use Prim.Native.Nat.{ℕ, _+_, _*_, _/_, _%_, _<_, _≤_}
-use mathlib.Core.Bool.{Bool, true, false, not}
-use mathlib.Core.Logic.{_⊎_, inl, inr, ⊎-elim}
-use mathlib.Core.Path.{_≡_, refl, sym, ap, ap₂, _∙_}
+use mathlib.Core.Bool.{true, not}
+use mathlib.Core.Logic.{_⊎_, inl, inr}
+use mathlib.Core.Path.{_≡_, refl, ap₂, _∙_}
 use native.Mathlib.Omega.{arith}
 use lib.Dec.{ltb}
 use borrow.Author.Tests.{ltb-true, lt-ltb}
-use Rattle.base_laws.specs.Bools.{same, lt-or-le, eq-or-ne}
+use Rattle.base_laws.specs.Bools.{same, lt-or-le}
 use Rattle.base_laws.specs.Positions.{pairBefore, before-cases, before-view, before-place, before-not-after}
 use Rattle.base_ids.specs.declared.Position.{Position}
 use Rattle.base_ids.specs.Order.{notAfter}

@@ -1,5 +1,5 @@
 -- What is made once of the kept view and its termination, for the walk over slots and messages.
-use Prim.Native.Nat.{ℕ, _<_}
+use Prim.Native.Nat.{ℕ}
 use mathlib.Core.Bool.{Bool, true, false, not, _&&_, _||_}
 use mathlib.Core.List.{List}
 use mathlib.Core.Path.{_≡_, refl, ap, _∙_}
@@ -15,7 +15,7 @@ use Rattle.report_views.specs.declared.Termination.{Termination}
 use Rattle.report_views.specs.Reports.{maskAt, positionAt}
 use Rattle.report_views.specs.Soundness.{positionSound}
 use Rattle.report_walk.specs.declared.Tables.{Tables}
-use Rattle.report_walk.specs.Seen.{MaskRecords, PositionRecords, PositionLegal, Ready}
+use Rattle.report_walk.specs.Seen.{MaskRecords, PositionRecords, Ready}
 
 -- the kept view and termination pass rows 7, 10 and 11, whatever the node
 unfoldable pub readyOf : List ℕ → Layout → Termination → Bool

@@ -3,8 +3,6 @@ use base_ids::Node;
 use base_ids::Refusal;
 use message_format::Form;
 use message_format::Writing;
-use report_views::Layout;
-use report_views::Plan;
 use state_planner::State;
 ghost use mathlib.Core.Path.{_≡_};
 ghost use lib.ListN.{length};

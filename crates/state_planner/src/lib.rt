@@ -1,8 +1,6 @@
 // The planner: its state, and the events that lead from state to state.
 use base_ids::Node;
 use base_ids::Refusal;
-use base_ids::Shard;
-use base_ids::View;
 use plan_restart::Verdict;
 use plan_seen::Seen;
 use report_kept::Received;

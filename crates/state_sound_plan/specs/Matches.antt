@@ -4,8 +4,6 @@ use mathlib.Core.Bool.{Bool, true, false, cond, _&&_}
 use mathlib.Core.List.{List}
 use mathlib.Core.Path.{_≡_, refl, ap}
 use lib.Dec.{eqb}
-use lib.ListN.{getD}
-use Rattle.base_laws.specs.Bools.{clash}
 use Rattle.base_laws.specs.Below.{allBelow, all-cong}
 use Rattle.settings_values.specs.Settings.{Settings}
 use Rattle.place_groups.specs.Placements.{groupValid}

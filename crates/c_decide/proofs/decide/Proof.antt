@@ -1,5 +1,5 @@
 -- Each return is a case of what the call answers and leaves.
-use mathlib.Core.Path.{_≡_, sym, _∙_, subst}
+use mathlib.Core.Path.{sym, subst}
 use mathlib.Core.List.{List}
 use Prim.Native.Nat.{ℕ}
 use Rattle.settings_values.specs.Settings.{Settings}

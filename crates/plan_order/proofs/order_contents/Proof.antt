@@ -1,6 +1,5 @@
 -- `plan_order::order_contents` meets its contract: the contents with the cuts that the desk gives. Assumes nothing.
 use borrow.Author.Needs.{needs}
-use Rattle.base_lent.specs.Lent.{wordsIn}
 use Rattle.plan_order.proofs.order_contents.Statement.{statement}
 use Rattle.plan_order.proofs.order_contents.Tie as tie
 

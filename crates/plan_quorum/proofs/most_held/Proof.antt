@@ -1,9 +1,7 @@
 -- `plan_quorum::most_held` meets its contract: at least the least majority is more than half.
 use mathlib.Core.Path.{ap, _∙_}
-use native.Mathlib.Omega.{arith}
 use lib.Dec.{leb}
 use borrow.Author.Needs.{needs}
-use Rattle.base_laws.specs.Masks.{count-within}
 use Rattle.plan_quorum.specs.Quorum.{least-held}
 use Rattle.plan_quorum.proofs.most_held.Statement.{statement}
 use Rattle.plan_quorum.proofs.most_held.Tie as tie

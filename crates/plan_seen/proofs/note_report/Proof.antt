@@ -1,5 +1,5 @@
 -- `plan_seen::note_report` meets its contract: a report of another view counts for no shard.
-use mathlib.Core.Path.{_≡_, refl, sym, ap, _∙_, subst}
+use mathlib.Core.Path.{refl, ap, _∙_}
 use native.Mathlib.Omega.{arith}
 use Rattle.message_format.specs.declared.Contents.{Contents}
 use Rattle.settings_values.specs.Settings.{shards}

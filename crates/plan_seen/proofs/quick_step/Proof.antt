@@ -1,5 +1,5 @@
 -- `plan_seen::quick_step` meets its contract: what the walk tells is sound, and the ends are those of its list.
-use mathlib.Core.Path.{_≡_, refl, sym, ap, _∙_, subst}
+use mathlib.Core.Path.{refl, sym}
 use native.Mathlib.Omega.{arith}
 use Rattle.base_laws.specs.Bools.{clash}
 use Rattle.plan_seen.specs.Quick.{walked-sound, walked-ends}

@@ -1,5 +1,5 @@
 -- `plan_seen::reached` meets its contract, test by test.
-use mathlib.Core.Path.{_≡_, refl, sym, ap, _∙_, subst}
+use mathlib.Core.Path.{sym, ap, _∙_, subst}
 use Prim.Native.Nat.{ℕ, _<_, _≤_, _/_, _%_}
 use borrow.Author.Tests.{not-true, not-false}
 use mathlib.Core.Bool.{not}

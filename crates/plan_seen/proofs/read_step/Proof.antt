@@ -1,5 +1,5 @@
 -- `plan_seen::read_step` meets its contract: what is accepted at once is sound, and so is what the reader accepts and fits.
-use mathlib.Core.Path.{_≡_, refl, sym, ap, _∙_, subst}
+use mathlib.Core.Path.{refl, sym, _∙_}
 use borrow.Author.Tests.{not-true, not-false}
 use mathlib.Core.Bool.{true}
 use Rattle.base_laws.specs.Bools.{clash}

@@ -1,6 +1,6 @@
 -- `plan_seen::record_pairs` meets its contract. The invariant: the records below j are stored.
 use Prim.Native.Nat.{ℕ, _≤_, _-_, _<_, _+_, _*_, _/_, _%_}
-use mathlib.Core.Path.{_≡_, refl, sym, ap, _∙_, subst}
+use mathlib.Core.Path.{_≡_, _∙_, subst}
 use native.Mathlib.Omega.{arith}
 use lib.ListN.{length, set, length-set, length-replicate}
 use Rattle.message_format.specs.Records.{tag, word1, word2}

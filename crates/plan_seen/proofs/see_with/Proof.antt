@@ -1,5 +1,5 @@
 -- `plan_seen::see_with` meets its contract: sound slots, then what the walk gives.
-use mathlib.Core.Path.{_≡_, refl, sym, ap, _∙_, subst}
+use mathlib.Core.Path.{refl, sym, ap, _∙_}
 use native.Mathlib.Omega.{arith}
 use borrow.Author.Tests.{not-true, not-false}
 use Rattle.report_walk.specs.Pairs.{FitWords}

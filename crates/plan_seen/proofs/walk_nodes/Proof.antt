@@ -1,12 +1,12 @@
 -- `plan_seen::walk_nodes` meets its contract. The invariant: the slots of the held nodes below n are sound, and the lists are their bests.
-use Prim.Native.Nat.{ℕ, _≤_, _-_, _<_, _+_, _*_}
-use mathlib.Core.Path.{_≡_, refl, sym, ap, _∙_, subst}
+use Prim.Native.Nat.{ℕ, _-_, _+_, _*_}
+use mathlib.Core.Path.{_≡_, refl, sym, _∙_, subst}
 use native.Mathlib.Omega.{arith}
 use borrow.Author.Tests.{not-true, not-false}
-use mathlib.Core.Bool.{true, false}
+use mathlib.Core.Bool.{false}
 use mathlib.Core.List.{List}
 use mathlib.Core.Logic.{⊎-elim}
-use lib.ListN.{length, length-replicate}
+use lib.ListN.{length-replicate}
 use Rattle.base_laws.specs.Below.{all-fails}
 use Rattle.base_laws.specs.Bools.{clash}
 use Rattle.settings_values.specs.Settings.{Settings, shards}

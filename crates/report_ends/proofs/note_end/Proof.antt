@@ -1,6 +1,6 @@
 -- `report_ends::note_end` meets its contract, by the record's kind and shard.
-use Prim.Native.Nat.{_-_, _<_, _≤_}
-use mathlib.Core.Path.{sym, _∙_}
+use Prim.Native.Nat.{_<_, _≤_}
+use mathlib.Core.Path.{sym}
 use native.Mathlib.Omega.{arith}
 use borrow.Author.Needs.{needs}
 use Rattle.message_format.specs.Records.{tag}

@@ -1,11 +1,10 @@
 -- `report_quick::head_told` meets its contract.
 use mathlib.Core.Bool.{false≢true}
 use native.Mathlib.Omega.{arith}
-use mathlib.Core.Path.{_≡_, sym, _∙_, subst}
+use mathlib.Core.Path.{sym, _∙_}
 use borrow.Author.Tests.{lt-ltb}
 use lib.ListN.{getD}
 use Rattle.settings_values.specs.Settings.{nodes}
-use Rattle.report_quick.specs.Told.{HeadTold}
 use Rattle.message_format.specs.Rows.{row6}
 use borrow.Author.Needs.{needs}
 use Rattle.report_quick.proofs.head_told.Statement.{statement}

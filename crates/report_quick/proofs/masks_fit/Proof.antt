@@ -1,5 +1,5 @@
 -- `report_quick::masks_fit` meets its contract.
-use mathlib.Core.Path.{_≡_, sym, _∙_}
+use mathlib.Core.Path.{sym, _∙_}
 use native.Mathlib.Omega.{arith}
 use lib.ListN.{getD}
 use Rattle.message_format.specs.Alike.{row10-same}

@@ -1,10 +1,10 @@
 -- `report_quick::words_fit` meets its contract.
 use Prim.Native.Nat.{ℕ}
 use mathlib.Core.Bool.{false≢true}
-use mathlib.Core.Path.{_≡_, subst}
+use mathlib.Core.Path.{subst}
 use native.Mathlib.Omega.{arith}
 use Rattle.base_laws.specs.Bools.{of-not-false}
-use Rattle.report_quick.specs.Accepts.{RestFits, WordsFit}
+use Rattle.report_quick.specs.Accepts.{RestFits}
 use borrow.Author.Needs.{needs}
 use Rattle.report_quick.proofs.words_fit.Statement.{statement}
 use Rattle.report_quick.proofs.words_fit.Tie as tie

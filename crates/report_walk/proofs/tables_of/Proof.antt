@@ -1,7 +1,6 @@
 -- `report_walk::tables_of` meets its contract, part by part.
 use Prim.Native.Nat.{ℕ}
-use mathlib.Core.Path.{_≡_, refl, _∙_, subst}
-use native.Mathlib.Omega.{arith}
+use mathlib.Core.Path.{refl, _∙_, subst}
 use Rattle.report_walk.specs.Seen.{PositionRecords}
 use borrow.Author.Needs.{needs}
 use Rattle.report_walk.proofs.tables_of.Statement.{statement}

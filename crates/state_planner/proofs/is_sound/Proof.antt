@@ -1,6 +1,7 @@
 -- `state_planner::is_sound` meets its contract: part by part, as the definition has them. Assumes nothing.
 use mathlib.Core.Path.{sym, _∙_}
 use borrow.Author.Tests.{not-true, not-false}
+use Rattle.report_latest.specs.Laws.{latest-told}
 use Rattle.plan_restart.specs.Kept.{held-below}
 use Rattle.plan_seen.specs.Sight.{seen-ok, seen-view}
 use Rattle.state_sound_plan.specs.Matches.{fits-told}
@@ -19,30 +20,30 @@ returns c =
 returns-2 : tie.Need-returns-2
 unfolding sound
 returns-2 c =
-    let a = c .before .before .before .before .before .args in
-    let k = c .before .before .kept-sound in
+    let a = c .before .before .before .before .before .before .args in
+    let k = c .before .before .before .kept-sound in
     λ d e.
-    simp (sym (k .ensures), not-false (k .result) (c .before .if1 .left), sym (seen-ok (a .settings .now) (a .x .kept) (a .x .termination) (a .x .held) d (a .t3) e), not-true (a .t3 .ok) (c .if2 .taken))
+    simp (sym (k .ensures), not-false (k .result) (c .before .before .if1 .left), sym (seen-ok (a .settings .now) (a .x .kept) (a .x .termination) (a .x .held) d (a .seen) e), not-true (a .seen .ok) (c .if2 .taken))
 
 returns-3 : tie.Need-returns-3
 unfolding sound
 returns-3 c =
-    let a = c .before .before .before .before .before .before .before .args in
-    let k = c .before .before .before .before .kept-sound in
+    let a = c .before .before .before .before .before .before .before .before .args in
+    let k = c .before .before .before .before .before .kept-sound in
     let m = c .before .marks-sound in
     λ d e.
-    simp (sym (k .ensures), not-false (k .result) (c .before .before .before .if1 .left), sym (seen-ok (a .settings .now) (a .x .kept) (a .x .termination) (a .x .held) d (a .t3) e), not-false (a .t3 .ok) (c .before .before .if2 .left), sym (m .ensures), not-true (m .result) (c .if3 .taken))
+    simp (sym (k .ensures), not-false (k .result) (c .before .before .before .before .if1 .left), sym (seen-ok (a .settings .now) (a .x .kept) (a .x .termination) (a .x .held) d (a .seen) e), not-false (a .seen .ok) (c .before .before .if2 .left), sym (m .ensures), not-true (m .result) (c .if3 .taken))
 
 returns-4 : tie.Need-returns-4
 unfolding sound
 returns-4 c =
     let a = c .before .before .before .before .before .before .before .before .before .before .before .args in
     let k = c .before .before .before .before .before .before .before .before .kept-sound in
-    let m = c .before .before .before .before .before .marks-sound in
+    let m = c .before .before .before .before .marks-sound in
     let l = c .before .latest-sound in
     λ d e.
-    let ok = sym (seen-ok (a .settings .now) (a .x .kept) (a .x .termination) (a .x .held) d (a .t3) e) ∙ not-false (a .t3 .ok) (c .before .before .before .before .before .before .if2 .left) in
-    simp (sym (k .ensures), not-false (k .result) (c .before .before .before .before .before .before .before .if1 .left), ok, sym (m .ensures), not-false (m .result) (c .before .before .before .before .if3 .left), sym (l .ensures d (seen-view (a .settings .now) (a .x .kept) (a .x .termination) (a .x .held) d (a .t3) e ok)), not-true (l .result) (c .if4 .taken))
+    let ok = sym (seen-ok (a .settings .now) (a .x .kept) (a .x .termination) (a .x .held) d (a .seen) e) ∙ not-false (a .seen .ok) (c .before .before .before .before .before .if2 .left) in
+    simp (sym (k .ensures), not-false (k .result) (c .before .before .before .before .before .before .before .if1 .left), ok, sym (m .ensures), not-false (m .result) (c .before .before .before .if3 .left), sym (l .ensures ∙ latest-told (a .settings .now) (a .x .kept .number .0) (a .x .held) (a .seen .views) (a .x .latest) d (seen-view (a .settings .now) (a .x .kept) (a .x .termination) (a .x .held) d (a .seen) e ok)), not-true (l .result) (c .if4 .taken))
 
 plan-fits-requires : tie.Need-plan-fits-requires
 plan-fits-requires c κs =
@@ -57,11 +58,11 @@ returns-5 c =
     let s = c .before .before .before .before .before .before .before .before .before .before .before .before in
     let a = s .args in
     let k = c .before .before .before .before .before .before .before .before .before .kept-sound in
-    let m = c .before .before .before .before .before .before .marks-sound in
+    let m = c .before .before .before .before .before .marks-sound in
     let l = c .before .before .latest-sound in
     λ d e.
-    let ok = sym (seen-ok (a .settings .now) (a .x .kept) (a .x .termination) (a .x .held) d (a .t3) e) ∙ not-false (a .t3 .ok) (c .before .before .before .before .before .before .before .if2 .left) in
-    simp (sym (k .ensures), not-false (k .result) (c .before .before .before .before .before .before .before .before .if1 .left), ok, sym (m .ensures), not-false (m .result) (c .before .before .before .before .before .if3 .left), sym (l .ensures d (seen-view (a .settings .now) (a .x .kept) (a .x .termination) (a .x .held) d (a .t3) e ok)), not-false (l .result) (c .before .if4 .left), sym (c .plan-fits .ensures ∙ fits-told (a .x .phase) (a .settings .now) (a .x .kept) (a .x .termination) (a .x .held) d (a .x .plan) (a .t3) e (s .pre) ok))
+    let ok = sym (seen-ok (a .settings .now) (a .x .kept) (a .x .termination) (a .x .held) d (a .seen) e) ∙ not-false (a .seen .ok) (c .before .before .before .before .before .before .if2 .left) in
+    simp (sym (k .ensures), not-false (k .result) (c .before .before .before .before .before .before .before .before .if1 .left), ok, sym (m .ensures), not-false (m .result) (c .before .before .before .before .if3 .left), sym (l .ensures ∙ latest-told (a .settings .now) (a .x .kept .number .0) (a .x .held) (a .seen .views) (a .x .latest) d (seen-view (a .settings .now) (a .x .kept) (a .x .termination) (a .x .held) d (a .seen) e ok)), not-false (l .result) (c .before .if4 .left), sym (c .plan-fits .ensures ∙ fits-told (a .x .phase) (a .settings .now) (a .x .kept) (a .x .termination) (a .x .held) d (a .x .plan) (a .seen) e (s .pre) ok))
 
 pub is-sound-spec : {M : Type 1} → statement M
 is-sound-spec =
