@@ -51,6 +51,7 @@ def parts_of(text):
 def declarations_of(text):
     """The same for a file of specs/: (what the line belongs to, the line, the heads `module _ ..` that it stands under). A line belongs to
     a declaration, by its name, to the head of a module, by its place, or to None."""
+    # a head's indent, its name, and the indent of what stands under it
     heads, open_head, owner = [], False, None
     for number, line in enumerate(text.split("\n"), 1):
         code = line.split("--")[0].rstrip()
@@ -61,14 +62,16 @@ def declarations_of(text):
         if not open_head:
             while heads and indent <= heads[-1][0]:
                 heads.pop()
-            if indent == (heads[-1][0] + 2 if heads else 0):
+            if heads and heads[-1][2] is None:
+                heads[-1][2] = indent
+            if indent == (heads[-1][2] if heads else 0):
                 kind, name = DECLARED.match(code, indent).groups()
                 if kind in ("module", "mutual"):
-                    heads.append((indent, "module %d" % number))
+                    heads.append([indent, "module %d" % number, None])
                     open_head, owner = kind == "module", heads[-1][1]
                 elif kind != "unfolding ":
                     owner = None if kind == "use " else name
-        yield owner, line, tuple(head for _, head in heads if head != owner)
+        yield owner, line, tuple(head for _, head, _ in heads if head != owner)
         open_head = open_head and not code.endswith("where")
 
 

@@ -38,10 +38,10 @@ GIVEN = {
     "a word, or words": "settings_values::shard_word message_fields::tag message_fields::word1 message_fields::word2 report_desk::slot_words",
     "a kind of record": "message_fields::kind",
     "the index of a record": "message_passes::kinds message_passes::shards message_passes::sequence message_passes::positions report_walk::told",
-    "two words as one number": "report_walk::pairs report_walk::mask_records report_walk::position_records",
-    "positions as numbers or words": "report_ends::ends_of report_walk::end_at plan_order::cuts_of",
-    "a mask, or one for each shard": "place_groups::sets_of message_records::shards_of message_records::carried_more message_records::carried_by message_records::masks_of state_rows::mark",
-    "bytes for the search, by node, shard or failure set": "place_sheet::sheet place_tables::sets place_tables::needs place_tables::caps place_tables::move_cost place_tables::costs",
+    "two words as one number": "report_walk::pairs",
+    "positions as numbers or words": "report_ends::ends_of report_walk::end_at report_walk::goal_at",
+    "a mask, or one for each shard": "place_groups::sets_of message_records::carried_more message_records::masks_of state_rows::mark",
+    "bytes for the search, by node, shard or failure set": "place_sheet::sheet place_tables::sets place_tables::needs place_tables::caps place_tables::costs",
 }
 
 # What OTHERS and GIVEN do not cover, by its place, and why it is right.
@@ -49,10 +49,12 @@ EXCEPTIONS = {
     "report_cuts::cut.holder": "the words of the holder's report, not its number",
     "report_walk::told.positions": "the pairs of records, not positions",
     "report_walk::end_at.s": "an index into the list of last runs",
-    "report_latest::latest_sound.views": "a list that is lent; lists of types cannot be",
-    "plan_seen::Seen.views": "the list that is lent to it",
-    "plan_order::order_contents.cuts": "two words for each shard, a list that is lent",
-    "state_order::write_order.cuts": "the same list",
+    "report_walk::goal_at.positions": "the pairs of records, not positions",
+    "report_walk::goal_at.s": "an index into them",
+    "report_walk::has_update.n": "the index of the last record",
+    "report_walk::has_update.s": "the last digit of a record's tag",
+    "report_walk::has_update.goal": "a position as one number",
+    "report_walk::Tables.positions": "the pairs of records, not positions",
     "report_views::Reason.NoPlacement": "a subgroup",
 }
 

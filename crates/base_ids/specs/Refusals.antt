@@ -2,7 +2,7 @@
 -- word: the row's number and, 256 times, the index of the record that the row looked at, where the row tells one.
 -- Laws: a list gives none just where every condition of it holds; a word gives its number and its index back.
 use Prim.Native.Nat.{ℕ, suc, _+_, _*_, _/_, _%_, _<_}
-use mathlib.Core.Bool.{Bool, true, false, cond, _&&_, _||_}
+use mathlib.Core.Bool.{Bool, true, false, cond, _||_}
 use mathlib.Core.Path.{_≡_, refl, sym, ap, _∙_}
 use lib.Dec.{eqb}
 use borrow.Author.Tests.{eqb-true}

@@ -1,6 +1,5 @@
 // The three kinds of identifier, which never stand for one another, a position in a shard's log, and a refusal.
 ghost use mathlib.Core.Path.{_≡_};
-ghost use Rattle.base_ids.specs.Order.{notAfter};
 
 // The number of a node, from 0.
 pub struct Node(pub u32);
@@ -20,21 +19,6 @@ pub struct Position {
 // A refusal in one word: its number in document 01's table and 256 times the index of the record it tells; 0 is none.
 pub struct Refusal {
     pub code: u32,
-}
-
-// Positions are ordered by view, then k: p is q or before it.
-pub fn not_after(p: Position, q: Position) -> bool
-    ensures { λ r. ⌜ r ≡ notAfter p q ⌝ }
-{
-    let a = p.view;
-    let b = q.view;
-    if a.0 < b.0 {
-        return true;
-    }
-    if a.0 == b.0 {
-        return p.k <= q.k;
-    }
-    false
 }
 
 // A word as an index.

@@ -10,7 +10,7 @@ use native.Mathlib.Numerals.{add-one}
 use native.Mathlib.Omega.{arith}
 use lib.Dec.{eqb}
 use borrow.Author.Tests.{eq-eqb, ne-eqb, eqb-true}
-use Rattle.base_laws.specs.Bools.{either, clash, no-true, no-false, and-both, and-left, and-right, and-fails, and-fails-left, and-fails-right, or-holds, or-neither, or-fails-left, or-fails-right, not-of-true, not-of-false}
+use Rattle.base_laws.specs.Bools.{either, clash, no-true, and-both, and-left, and-right, and-fails, and-fails-left, and-fails-right, or-holds, or-neither, or-fails-left, or-fails-right}
 
 -- f holds of every number below n
 unfoldable pub allBelow : ℕ → (ℕ → Bool) → Bool
@@ -44,10 +44,6 @@ below-less h k l = h k (omega arith)
 pub all-none : (f : ℕ → Bool) → allBelow 0 f ≡ true
 unfolding allBelow
 all-none f = refl
-
-pub all-suc : (n : ℕ) (f : ℕ → Bool) → allBelow (suc n) f ≡ (allBelow n f && f n)
-unfolding allBelow
-all-suc n f = refl
 
 pub all-step : (n : ℕ) (f : ℕ → Bool) → allBelow (n + 1) f ≡ (allBelow n f && f n)
 unfolding allBelow
@@ -90,10 +86,6 @@ all-cong (suc n) f g h = ap₂ _&&_ (all-cong n f g (below-less h)) (h n (le-ref
 -- all below a bound, all below a lower one
 pub all-fewer : (m n : ℕ) (f : ℕ → Bool) → m ≤ n → allBelow n f ≡ true → allBelow m f ≡ true
 all-fewer m n f l h = all-of m f (λ k j. all-at n f h k (omega arith))
-
--- f implies g below n
-pub all-mono : (n : ℕ) (f g : ℕ → Bool) → ((k : ℕ) → k < n → f k ≡ true → g k ≡ true) → allBelow n f ≡ true → allBelow n g ≡ true
-all-mono n f g i h = all-of n g (λ k l. i k l (all-at n f h k l))
 
 -- ---- anyBelow
 
@@ -152,23 +144,7 @@ any-cong (suc n) f g h = ap₂ _||_ (any-cong n f g (below-less h)) (h n (le-ref
 pub any-mono : (n : ℕ) (f g : ℕ → Bool) → ((k : ℕ) → k < n → f k ≡ true → g k ≡ true) → anyBelow n f ≡ true → anyBelow n g ≡ true
 any-mono n f g i h = let w = any-witness n f h in any-at n g (w .0) (w .1) (i (w .0) (w .1) (w .2))
 
--- some and all, by not
-pub any-not-all : (n : ℕ) (f : ℕ → Bool) → anyBelow n f ≡ not (allBelow n (λ k. not (f k)))
-any-not-all n f =
-    ⊎-elim
-    (λ h. let w = any-witness n f h in h ∙ sym (not-of-false (all-fails n (λ k. not (f k)) (w .0) (w .1) (not-of-true (w .2)))))
-    (λ h. h ∙ sym (not-of-true (all-of n (λ k. not (f k)) (λ k l. not-of-false (any-fails n f h k l)))))
-    (either (anyBelow n f))
-
 -- ---- lowest
-
-pub lowest-zero : (f : ℕ → Bool) → lowest 0 f ≡ 0
-unfolding lowest
-lowest-zero f = refl
-
-pub lowest-step : (n : ℕ) (f : ℕ → Bool) → lowest (n + 1) f ≡ cond (anyBelow n f) (lowest n f) (cond (f n) n (n + 1))
-unfolding lowest
-lowest-step n f = rw add-one
 
 -- there is none
 pub lowest-none : (n : ℕ) (f : ℕ → Bool) → anyBelow n f ≡ false → lowest n f ≡ n
@@ -191,10 +167,6 @@ lowest-unique (suc n) f k l p q = go (lowest-unique n f k) (eq-or-lt-of-le (le-o
 -- the turn of a loop in which f first held
 pub lowest-at : (n : ℕ) (f : ℕ → Bool) (k : ℕ) → k < n → anyBelow k f ≡ false → f k ≡ true → lowest n f ≡ k
 lowest-at n f k l h p = lowest-unique n f k l p (any-fails k f h)
-
--- the end of a loop in which f never held
-pub lowest-end : (n : ℕ) (f : ℕ → Bool) (k : ℕ) → n ≤ k → anyBelow k f ≡ false → lowest n f ≡ n
-lowest-end n f k l h = lowest-none n f (any-fewer n k f l h)
 
 -- some number holds: the lowest does, is below the bound, and no lower one does
 pub lowest-holds : (n : ℕ) (f : ℕ → Bool) → anyBelow n f ≡ true → f (lowest n f) ≡ true
@@ -252,10 +224,6 @@ bit-mono : (a b : Bool) → (a ≡ true → b ≡ true) → cond a 1 0 ≤ cond 
 bit-mono true true h = le-refl 1
 bit-mono true false h = clash (h refl) refl
 bit-mono false b h = zero-le
-
-bit-not : (a : Bool) → cond a 1 0 + cond (not a) 1 0 ≡ 1
-bit-not true = refl
-bit-not false = refl
 
 bit-or-and : (a b : Bool) → cond (a || b) 1 0 + cond (a && b) 1 0 ≡ cond a 1 0 + cond b 1 0
 bit-or-and true true = refl
@@ -367,24 +335,6 @@ pub count-split : (n : ℕ) (f g : ℕ → Bool)
 unfolding countBelow
 count-split zero f g = refl
 count-split (suc n) f g = omega (arith, count-split n f g, bit-split (f n) (g n))
-
-pub count-not : (n : ℕ) (f : ℕ → Bool) → countBelow n f + countBelow n (λ k. not (f k)) ≡ n
-unfolding countBelow
-count-not zero f = refl
-count-not (suc n) f = omega (arith, count-not n f, bit-not (f n))
-
-pub count-all : (n : ℕ) (f : ℕ → Bool) → allBelow n f ≡ true → countBelow n f ≡ n
-unfolding countBelow
-count-all zero f h = refl
-count-all (suc n) f h =
-    let p : f n ≡ true = all-at (suc n) f h n (le-refl (suc n)) in
-    rw p (omega (arith, count-all n f (all-fewer n (suc n) f (omega arith) h)))
-
-pub count-full : (n : ℕ) (f : ℕ → Bool) → countBelow n f ≡ n → allBelow n f ≡ true
-count-full n f e =
-    all-of n f (λ k l. no-false (f k) (λ p.
-    let c : 0 < countBelow n (λ j. not (f j)) = count-pos n (λ j. not (f j)) k l (not-of-false p) in
-    omega (arith, count-not n f)))
 
 -- one number and no other
 pub count-single : (n k : ℕ) → k < n → countBelow n (eqb k) ≡ 1

@@ -2,19 +2,19 @@
 -- Most laws on bits go by one step: the lowest bit is `m % 2`, and the others are the bits of `m / 2`.
 use mathlib.Core.Path.{_≡_, refl, sym, ap, ap₂, _∙_, subst}
 use mathlib.Core.Logic.{_⊎_, inl, inr, ⊎-elim}
-use mathlib.Core.Bool.{Bool, true, false, cond, not, _&&_, _||_, and-true, or-false}
+use mathlib.Core.Bool.{Bool, true, false, cond, not, _&&_, _||_, and-true}
 use Prim.Native.Nat.{ℕ, zero, suc, _+_, _-_, _*_, _/_, _%_, _^_, _≤_, _<_, zero-le, suc-le-suc, min, max}
-use native.Mathlib.Nat.{le-refl, lt-of-lt-of-le, le-of-suc-le-suc, not-suc-le-zero, mod-lt, div-eq-of-lt, div-add-mod', zero-mul, one-mul, zero-lt-suc, lt-irrefl, lt-of-le-of-lt}
+use native.Mathlib.Nat.{le-refl, lt-of-lt-of-le, le-of-suc-le-suc, not-suc-le-zero, mod-lt, div-eq-of-lt, one-mul, zero-lt-suc, lt-of-le-of-lt}
 use native.Mathlib.Numerals.{one-add}
 use native.Mathlib.Omega.{arith}
 use lib.Dec.{eqb, ltb, eqb·suc-suc, eqb·suc-zero, eqb·zero-suc}
 use lib.Arith.{lt-one}
-use lib.Pow.{pow-pos, pow-mono, pow-lt, shl-exact, shr-le, shr-shr}
-use lib.Bits.{bitAnd, bitOr, and-step, or-step, and-le-l, and-le-r, and-lt, or-lt, and-self, and-comm}
+use lib.Pow.{pow-pos, pow-mono, pow-lt, shl-exact, shr-shr}
+use lib.Bits.{bitAnd, bitOr, and-step, or-step, and-le-l, and-le-r, or-lt}
 use lib.Count.{ones, ones-step, ones-le}
-use borrow.Author.Tests.{eqb-true, eqb-false, eq-eqb, ne-eqb, ltb-true, ltb-false, lt-ltb}
-use Rattle.base_laws.specs.Bools.{lt-or-le, either, clash, no-true, no-false, and-both, and-left, and-right, and-fails-left, or-left, or-holds, or-fails-left, or-fails-right, not-of-false, of-not-false}
-use Rattle.base_laws.specs.Below.{allBelow, anyBelow, countBelow, all-at, all-counter, any-witness, any-fails, count-cong, count-front, count-mono, count-some, count-pos, count-or-and, count-split, count-single, count-with, count-without, count-meet}
+use borrow.Author.Tests.{eqb-true, eq-eqb, ne-eqb, ltb-true, lt-ltb}
+use Rattle.base_laws.specs.Bools.{lt-or-le, either, clash, no-true, and-both, and-left, and-right, and-fails-left, or-holds, or-fails-left, or-fails-right, not-of-false, of-not-false}
+use Rattle.base_laws.specs.Below.{allBelow, anyBelow, countBelow, all-at, all-counter, any-witness, any-fails, count-cong, count-front, count-mono, count-some, count-split, count-without, count-meet}
 
 -- bit n of the mask m is set
 abbrev pub has : ℕ → ℕ → Bool
@@ -55,10 +55,6 @@ has-lowest m = let e : m / 2 ^ 0 ≡ m = omega arith in ap (λ (x : ℕ). eqb (x
 
 pub has-suc : (m n : ℕ) → has m (suc n) ≡ has (m / 2) n
 has-suc m n = ap (λ (x : ℕ). eqb (x % 2) 1) (sym (shr-shr m 1 n ∙ ap (λ (k : ℕ). m / 2 ^ k) (one-add n)))
-
--- the bits of m from n up are the bits of m / 2 ^ n
-pub has-add : (m n k : ℕ) → has m (n + k) ≡ has (m / 2 ^ n) k
-has-add m n k = ap (λ (x : ℕ). eqb (x % 2) 1) (sym (shr-shr m n k))
 
 half-lt : {m : ℕ} (w : ℕ) → m < 2 ^ suc w → m / 2 < 2 ^ w
 half-lt {m} w h = omega arith
@@ -280,15 +276,6 @@ subset-counter w a b h s =
     outside : (n : ℕ) → (not (has a n) || has b n) ≡ true → has a n ≡ true → has b n ≡ true
     outside n e p = rw p at e
 
-pub subset-fails : (a b n : ℕ) → has a n ≡ true → has b n ≡ false → subset a b ≡ false
-subset-fails a b n p q = no-true (subset a b) (λ s. clash (subset-has a b s n p) q)
-
-pub subset-refl : (a : ℕ) → subset a a ≡ true
-subset-refl a = eq-eqb (bitAnd a a) a (and-self a)
-
-pub subset-trans : (a b c : ℕ) → subset a b ≡ true → subset b c ≡ true → subset a c ≡ true
-subset-trans a b c s t = subset-of a a c (width a) (λ n l p. subset-has b c t n (subset-has a b s n p))
-
 pub subset-zero : (b : ℕ) → subset 0 b ≡ true
 subset-zero b = subset-of 0 0 b (le-refl 1) (λ n l. absurd (not-suc-le-zero l))
 
@@ -335,23 +322,6 @@ disjoint-of w a b h f =
     apart true q g = g refl
     apart false q g = refl
 
--- some bit is in both
-pub disjoint-counter : (w a b : ℕ) → a < 2 ^ w → disjoint a b ≡ false → (n : ℕ) × (n < w) × (has a n ≡ true) × (has b n ≡ true)
-disjoint-counter w a b h d =
-    let c = some-bit w (bitAnd a b) (omega (arith, and-le-l a b)) (eqb-false (bitAnd a b) 0 d) in
-    let e : (has a (c .0) && has b (c .0)) ≡ true = sym (has-and a b (c .0)) ∙ c .2 in
-    (c .0, c .1, and-left (has a (c .0)) (has b (c .0)) e, and-right (has a (c .0)) (has b (c .0)) e)
-
-pub disjoint-fails : (a b n : ℕ) → has a n ≡ true → has b n ≡ true → disjoint a b ≡ false
-disjoint-fails a b n p q = no-true (disjoint a b) (λ d. clash q (disjoint-has a b d n p))
-
-pub disjoint-sym : (a b : ℕ) → disjoint a b ≡ disjoint b a
-disjoint-sym a b = ap (λ (x : ℕ). eqb x 0) (and-comm a b)
-
--- a subset of a mask is disjoint from what the mask is disjoint from
-pub disjoint-subset : (a b c : ℕ) → subset a b ≡ true → disjoint b c ≡ true → disjoint a c ≡ true
-disjoint-subset a b c s d = disjoint-of a a c (width a) (λ n l p. disjoint-has b c d n (subset-has a b s n p))
-
 -- ---- within
 
 pub within-lt : (n m : ℕ) → within n m ≡ true → m < 2 ^ n
@@ -362,23 +332,6 @@ lt-within n m h = lt-ltb m (2 ^ n) h
 
 pub within-has : (n m : ℕ) → within n m ≡ true → (k : ℕ) → has m k ≡ true → k < n
 within-has n m e k p = has-below m n k (within-lt n m e) p
-
--- a bit at n or above
-pub within-counter : (w n m : ℕ) → m < 2 ^ w → within n m ≡ false → (k : ℕ) × (k < w) × (n ≤ k) × (has m k ≡ true)
-within-counter w n m h e =
-    let high : (m / 2 ^ n ≡ 0 → ⊥) = λ z. lt-irrefl m (lt-of-lt-of-le (lt-of-div m (2 ^ n) (pow-pos n) z) (ltb-false m (2 ^ n) e)) in
-    let c = some-bit w (m / 2 ^ n) (lt-of-le-of-lt (shr-le m n) h) high in
-    let p : has m (n + c .0) ≡ true = has-add m n (c .0) ∙ c .2 in
-    (n + c .0, has-below m w (n + c .0) h p, omega arith, p)
-  where
-    lt-of-div : (m d : ℕ) → 0 < d → m / d ≡ 0 → m < d
-    lt-of-div m d l z =
-        let e : m / d * d ≡ 0 = ap (λ (x : ℕ). x * d) z ∙ zero-mul d in
-        omega (arith, div-add-mod' m d, mod-lt m l)
-
-pub within-of : (w n m : ℕ) → m < 2 ^ w → ((k : ℕ) → n ≤ k → k < w → has m k ≡ false) → within n m ≡ true
-within-of w n m h f =
-    no-false (within n m) (λ e. let c = within-counter w n m h e in clash (c .3) (f (c .0) (c .2) (c .1)))
 
 pub within-subset : (n a b : ℕ) → subset a b ≡ true → within n b ≡ true → within n a ≡ true
 within-subset n a b s e = lt-within n a (omega (arith, subset-le a b s, within-lt n b e))
@@ -402,34 +355,10 @@ count-below (suc w) m h =
 pub count-within : (w m : ℕ) → m < 2 ^ w → count m ≤ w
 count-within w m h = ones-le w m h
 
-pub count-zero-of : (w m : ℕ) → m < 2 ^ w → count m ≡ 0 → m ≡ 0
-count-zero-of w m h e =
-    no-bit w m h (λ n l. no-true (has m n) (λ p. absurd (let c : 0 < countBelow w (has m) = count-pos w (has m) n l p in omega (arith, count-below w m h))))
-
--- a mask with a bit counts at least 1, and the other way
-pub count-has : (m n : ℕ) → has m n ≡ true → 0 < count m
-count-has m n p = rw (count-below m m (width m)) (count-pos m (has m) n (has-below m m n (width m) p) p)
-
-pub count-witness : (w m : ℕ) → m < 2 ^ w → 0 < count m → (n : ℕ) × (n < w) × (has m n ≡ true)
-count-witness w m h l = count-some w (has m) (rw (count-below w m h) at l)
-
 pub count-subset : (a b : ℕ) → subset a b ≡ true → count a ≤ count b
 count-subset a b s =
     let h : a < 2 ^ b = lt-of-le-of-lt (subset-le a b s) (width b) in
     rw (count-below b a h, count-below b b (width b)) (count-mono b (has a) (has b) (λ n l p. subset-has a b s n p))
-
-pub count-or-and-of : (w a b : ℕ) → a < 2 ^ w → b < 2 ^ w → count (bitOr a b) + count (bitAnd a b) ≡ count a + count b
-count-or-and-of w a b h l =
-    ap₂ (λ (x y : ℕ). x + y)
-    (count-below w (bitOr a b) (or-lt w a b h l) ∙ count-cong w (has (bitOr a b)) (λ n. has a n || has b n) (λ n k. has-or a b n))
-    (count-below w (bitAnd a b) (and-lt w a b h l) ∙ count-cong w (has (bitAnd a b)) (λ n. has a n && has b n) (λ n k. has-and a b n))
-    ∙ count-or-and w (has a) (has b)
-    ∙ sym (ap₂ (λ (x y : ℕ). x + y) (count-below w a h) (count-below w b l))
-
-pub count-disjoint : (w a b : ℕ) → a < 2 ^ w → b < 2 ^ w → disjoint a b ≡ true → count (bitOr a b) ≡ count a + count b
-count-disjoint w a b h l d =
-    let e : count (bitAnd a b) ≡ 0 = ap ones (eqb-true (bitAnd a b) 0 d) ∙ count-empty in
-    omega (arith, count-or-and-of w a b h l)
 
 -- what a has in common with b, and what is left
 pub count-and-minus : (a b : ℕ) → count (bitAnd a b) + count (minus a b) ≡ count a
@@ -442,19 +371,6 @@ count-and-minus a b =
     ∙ count-split a (has a) (has b)
     ∙ sym (count-below a a (width a))
 
-pub count-one : (k : ℕ) → count (2 ^ k) ≡ 1
-count-one k =
-    count-below (suc k) (2 ^ k) (pow-lt (le-refl (suc k)))
-    ∙ count-cong (suc k) (has (2 ^ k)) (eqb k) (λ n l. has-single k n)
-    ∙ count-single (suc k) k (le-refl (suc k))
-
-pub count-set : (w m k : ℕ) → m < 2 ^ w → k < w → has m k ≡ false → count (with m k) ≡ count m + 1
-count-set w m k h l p =
-    count-below w (with m k) (with-lt w m k h l)
-    ∙ count-cong w (has (with m k)) (λ n. has m n || eqb k n) (λ n i. has-with m k n)
-    ∙ count-with w (has m) k l p
-    ∙ ap (λ (x : ℕ). x + 1) (sym (count-below w m h))
-
 pub count-cleared : (m k : ℕ) → has m k ≡ true → count (without m k) + 1 ≡ count m
 count-cleared m k p =
     ap (λ (x : ℕ). x + 1)
@@ -462,15 +378,6 @@ count-cleared m k p =
     ∙ count-cong m (has (without m k)) (λ n. has m n && not (eqb k n)) (λ n i. has-without m k n))
     ∙ count-without m (has m) k (has-below m m k (width m) p) p
     ∙ sym (count-below m m (width m))
-
--- a bit that is there already, or is not there
-pub with-same : (m k : ℕ) → has m k ≡ true → with m k ≡ m
-with-same m k p =
-    ext-all (with m k) m (λ n. has-with m k n ∙ absorbed n (either (eqb k n)))
-  where
-    absorbed : (n : ℕ) → (eqb k n ≡ true) ⊎ (eqb k n ≡ false) → (has m n || eqb k n) ≡ has m n
-    absorbed n (inl e) = let q : has m n ≡ true = subst (λ (x : ℕ). has m x ≡ true) (eqb-true k n e) p in or-left (eqb k n) q ∙ sym q
-    absorbed n (inr e) = rw e (or-false (has m n))
 
 pub without-same : (m k : ℕ) → has m k ≡ false → without m k ≡ m
 without-same m k p =

@@ -26,14 +26,6 @@ pub mask-turn : (n m r : ℕ) (f : ℕ → Bool) → m ≡ maskBelow n f → r �
 unfolding maskBelow
 mask-turn n m r f e d = rw (add-one n) (d ∙ ap (λ (x : ℕ). cond (f n) (with x n) x) e)
 
-pub mask-hit : (n : ℕ) (f : ℕ → Bool) → f n ≡ true → with (maskBelow n f) n ≡ maskBelow (n + 1) f
-unfolding maskBelow
-mask-hit n f h = sym (ap (λ (k : ℕ). maskBelow k f) (add-one n) ∙ rw h)
-
-pub mask-miss : (n : ℕ) (f : ℕ → Bool) → f n ≡ false → maskBelow n f ≡ maskBelow (n + 1) f
-unfolding maskBelow
-mask-miss n f h = sym (ap (λ (k : ℕ). maskBelow k f) (add-one n) ∙ rw h)
-
 pub has-mask : (n : ℕ) (f : ℕ → Bool) (k : ℕ) → has (maskBelow n f) k ≡ (ltb k n && f k)
 unfolding maskBelow
 has-mask zero f k = has-zero k ∙ sym (rw (le-ltb k 0 zero-le))
@@ -67,16 +59,6 @@ has-mask (suc n) f k = go (either (f n)) (has-mask n f k) (eq-or-ne k n)
 -- below the bound a bit is f's own
 pub mask-at : (n : ℕ) (f : ℕ → Bool) (k : ℕ) → k < n → has (maskBelow n f) k ≡ f k
 mask-at n f k l = has-mask n f k ∙ rw (lt-ltb k n l)
-
-pub mask-cong : (n : ℕ) (f g : ℕ → Bool) → ((k : ℕ) → k < n → f k ≡ g k) → maskBelow n f ≡ maskBelow n g
-unfolding maskBelow
-mask-cong zero f g h = refl
-mask-cong (suc n) f g h = rw (h n (omega arith), mask-cong n f g (λ k l. h k (omega arith)))
-
-pub mask-empty : (n : ℕ) (f : ℕ → Bool) → ((k : ℕ) → k < n → f k ≡ false) → maskBelow n f ≡ 0
-unfolding maskBelow
-mask-empty zero f h = refl
-mask-empty (suc n) f h = rw (h n (omega arith)) (mask-empty n f (λ k l. h k (omega arith)))
 
 pub mask-lt : (w n : ℕ) (f : ℕ → Bool) → n ≤ w → maskBelow n f < 2 ^ w
 unfolding maskBelow

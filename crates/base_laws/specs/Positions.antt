@@ -8,7 +8,7 @@ use native.Mathlib.Omega.{arith}
 use lib.Dec.{eqb, ltb, leb}
 use lib.Arith.{lt-of-le-ne}
 use borrow.Author.Tests.{eqb-true, eq-eqb, ltb-true, lt-ltb, leb-true, le-leb}
-use Rattle.base_laws.specs.Bools.{either, clash, same, no-true, and-both, and-left, and-right, or-left, or-right, or-holds, not-of-true, not-of-false, of-not-true, lt-or-le, eq-or-ne}
+use Rattle.base_laws.specs.Bools.{either, clash, same, no-true, and-both, and-left, and-right, or-left, or-right, or-holds, not-of-false, of-not-true, lt-or-le, eq-or-ne}
 
 -- position v k comes before position u j
 unfoldable pub pairBefore : ℕ → ℕ → ℕ → ℕ → Bool
@@ -55,10 +55,6 @@ not-after-place v k j l = or-right (ltb v v) (and-both (eq-eqb v v refl) (le-leb
 -- the views are in order
 pub not-after-views : (v k u j : ℕ) → pairNotAfter v k u j ≡ true → v ≤ u
 not-after-views v k u j h = ⊎-elim (λ l. omega arith) (λ e. omega (arith, e .0)) (not-after-cases v k u j h)
-
--- and so are the places, where the view is one
-pub not-after-places : (v k j : ℕ) → pairNotAfter v k v j ≡ true → k ≤ j
-not-after-places v k j h = ⊎-elim (λ l. absurd (omega arith)) (λ e. e .1) (not-after-cases v k v j h)
 
 -- ---- the laws of an order
 
@@ -113,18 +109,3 @@ before-weak v k u j h =
 pub not-after-total : (v k u j : ℕ) → (pairNotAfter v k u j ≡ true) ⊎ (pairNotAfter u j v k ≡ true)
 not-after-total v k u j =
     ⊎-elim (λ h. inl h) (λ h. inr (before-weak u j v k (before-not-after u j v k ∙ not-of-false h))) (either (pairNotAfter v k u j))
-
-pub before-irrefl : (v k : ℕ) → pairBefore v k v k ≡ false
-before-irrefl v k = before-not-after v k v k ∙ not-of-true (not-after-refl v k)
-
-pub before-trans : (v k u j t i : ℕ) → pairBefore v k u j ≡ true → pairNotAfter u j t i ≡ true → pairBefore v k t i ≡ true
-before-trans v k u j t i p q =
-    before-not-after v k t i
-    ∙ not-of-false (no-true (pairNotAfter t i v k) (λ r.
-    clash p (before-not-after v k u j ∙ not-of-true (not-after-trans u j t i v k q r))))
-
-pub not-after-before : (v k u j t i : ℕ) → pairNotAfter v k u j ≡ true → pairBefore u j t i ≡ true → pairBefore v k t i ≡ true
-not-after-before v k u j t i p q =
-    before-not-after v k t i
-    ∙ not-of-false (no-true (pairNotAfter t i v k) (λ r.
-    clash q (before-not-after u j t i ∙ not-of-true (not-after-trans t i v k u j r p))))

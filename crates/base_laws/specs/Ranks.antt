@@ -7,7 +7,7 @@ use mathlib.Core.Logic.{_⊎_, inl, inr, ⊎-elim}
 use mathlib.Core.Path.{_≡_, refl, sym, ap, _∙_}
 use lib.Dec.{eqb}
 use borrow.Author.Tests.{eqb-true, eq-eqb, ne-eqb}
-use Rattle.base_laws.specs.Bools.{either, and-both, and-left, and-right, and-fails-left, and-fails-right, lt-or-le, eq-or-ne}
+use Rattle.base_laws.specs.Bools.{either, and-both, and-left, and-right, and-fails-left, and-fails-right, eq-or-ne}
 use Rattle.base_laws.specs.Below.{lowest, countBelow, anyBelow, any-at, lowest-unique, lowest-holds, lowest-below, count-hit, count-miss, count-zero, count-longer}
 
 -- k is the i-th number of which f holds
@@ -70,9 +70,3 @@ module _ (f : ℕ → Bool) where
     rank-nth i l =
         eqb-true (countBelow (nth n f i) f) i
         (and-right (f (nth n f i)) (eqb (countBelow (nth n f i) f) i) (lowest-holds n (isNth f i) (found i l)))
-
-    pub nth-rises : (i j : ℕ) → i < j → j < countBelow n f → nth n f i < nth n f j
-    nth-rises i j l m =
-        ⊎-elim (λ h. h)
-        (λ h. absurd (omega (arith, rank-nth i (omega arith), rank-nth j m, count-longer (nth n f j) (nth n f i) f h)))
-        (lt-or-le (nth n f i) (nth n f j))

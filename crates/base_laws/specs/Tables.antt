@@ -3,14 +3,13 @@
 use mathlib.Core.Path.{_≡_, refl, sym, ap, ap₂, _∙_, subst, subst⁻¹}
 use mathlib.Core.Logic.{_⊎_, inl, inr, ⊎-elim}
 use mathlib.Core.Bool.{cond}
-use mathlib.Core.List.{List, [], _∷_, _++_, map, map-append, append-assoc, append-nil}
-use Prim.Native.Nat.{ℕ, zero, suc, _+_, _*_, _/_, _%_, _-_, _≤_, _<_, zero-le}
+use mathlib.Core.List.{List, [], _∷_, _++_, append-assoc, append-nil}
+use Prim.Native.Nat.{ℕ, zero, suc, _+_, _-_, _≤_, _<_}
 use native.Mathlib.Nat.{le-refl, le-antisymm, le-of-suc-le-suc, not-suc-le-zero, eq-or-lt-of-le, add-zero, add-suc}
 use native.Mathlib.Numerals.{add-one}
 use native.Mathlib.Omega.{arith}
-use lib.Arith.{lt-of-le-ne}
 use lib.Dec.{ltb}
-use lib.ListN.{length, getD, set, take, drop, replicate, replicate-append-replicate, length-set, length-append, length-take, length-drop, length-replicate, getD-replicate, List·getD-eq-default, List·getD-append}
+use lib.ListN.{length, getD, set, take, drop, replicate, replicate-append-replicate, length-append, length-take, length-drop, length-replicate, getD-replicate, List·getD-eq-default, List·getD-append}
 use lib.Seq.{ext-getD, take-nil, take-at, drop-at, getD-append-add, set-split, length-take-le, getD-set-same, getD-set-other, getD-take, getD-drop, getD-at, set-at, drop-cons, drop-length, append-snoc, drop-drop}
 use borrow.Author.Tests.{lt-ltb, le-ltb}
 use borrow.Rule.Slice.PartMut.{putMid}
@@ -85,11 +84,6 @@ module _ {ℓ} {A : Type ℓ} where
   pub tabulate-self : (d : A) (l : List A) → tabulate (length l) (λ k. getD l k d) ≡ l
   tabulate-self d l = sym (tabulate-ext d (length l) (λ k. getD l k d) l refl (λ k i. refl))
 
-  -- equal tables have equal elements
-  pub tabulate-at : (n : ℕ) (f g : ℕ → A) → tabulate n f ≡ tabulate n g → (k : ℕ) → k < n → f k ≡ g k
-  tabulate-at n f g e k l =
-      sym (getD-tabulate n f k (f k) l) ∙ ap (λ (x : List A). getD x k (f k)) e ∙ getD-tabulate n g k (f k) l
-
   -- a table in two parts
   pub tabulate-add : (m n : ℕ) (f : ℕ → A) → tabulate (m + n) f ≡ tabulate m f ++ tabulate n (λ k. f (m + k))
   unfolding tabulate
@@ -98,12 +92,6 @@ module _ {ℓ} {A : Type ℓ} where
       ap (λ (k : ℕ). tabulate k f) (add-suc m n)
       ∙ ap (λ (l : List A). l ++ (f (m + n) ∷ [])) (tabulate-add m n f)
       ∙ append-assoc (tabulate m f) (tabulate n (λ k. f (m + k))) (f (m + n) ∷ [])
-
-  -- an element within the list does not depend on the default
-  pub getD-any : (l : List A) (k : ℕ) (d e : A) → k < length l → getD l k d ≡ getD l k e
-  getD-any [] k d e h = absurd (not-suc-le-zero h)
-  getD-any (x ∷ xs) zero d e h = refl
-  getD-any (x ∷ xs) (suc k) d e h = getD-any xs k d e (le-of-suc-le-suc h)
 
   -- ---- a loop that stores an element a turn
 
@@ -115,22 +103,6 @@ module _ {ℓ} {A : Type ℓ} where
       go : (k ≡ i) ⊎ (k ≡ i → ⊥) → getD (set l i v) k d ≡ f k
       go (inl q) = subst⁻¹ (λ (x : ℕ). getD (set l i v) x d ≡ f x) q (getD-set-same l i v d h ∙ e)
       go (inr q) = getD-set-other l i k v d q ∙ below k (omega arith)
-
-  -- the same of what is told of the elements
-  pub told-more : (d : A) (told : A → Type 0) (l : List A) (i : ℕ) (v : A) → i < length l → told v
-      → ((k : ℕ) → k < i → told (getD l k d)) → (k : ℕ) → k < i + 1 → told (getD (set l i v) k d)
-  told-more d told l i v h t below k m = go (eq-or-ne k i)
-    where
-      go : (k ≡ i) ⊎ (k ≡ i → ⊥) → told (getD (set l i v) k d)
-      go (inl q) = subst⁻¹ (λ (x : ℕ). told (getD (set l i v) x d)) q (subst⁻¹ told (getD-set-same l i v d h) t)
-      go (inr q) = subst⁻¹ told (getD-set-other l i k v d q) (below k (omega arith))
-
-  -- what lies from i on is as it was
-  pub set-rest : (d : A) (l₀ l : List A) (i : ℕ) (v : A)
-      → ((k : ℕ) → i ≤ k → getD l k d ≡ getD l₀ k d) → (k : ℕ) → i + 1 ≤ k → getD (set l i v) k d ≡ getD l₀ k d
-  set-rest d l₀ l i v rest k m =
-      let q : (k ≡ i → ⊥) = λ e. omega arith in
-      getD-set-other l i k v d q ∙ rest k (omega arith)
 
   -- what stands from a stored value on
   pub drop-set : (l : List A) (i : ℕ) (v : A) → i < length l → drop i (set l i v) ≡ v ∷ drop (suc i) l
@@ -186,10 +158,6 @@ module _ {ℓ} {A : Type ℓ} where
       ∙ getD-drop n l (k - length (tabulate n f)) d
       ∙ ap (λ (x : ℕ). getD l x d) back
 
-  pub filled-cong : (n : ℕ) (f g : ℕ → A) (l : List A) → ((k : ℕ) → k < n → f k ≡ g k) → filled n f l ≡ filled n g l
-  unfolding filled
-  filled-cong n f g l h = ap (λ (r : List A). r ++ drop n l) (tabulate-cong n f g h)
-
   -- a list of l's length with f below n and l's own elements from n on
   pub filled-ext : (d : A) (n : ℕ) (f : ℕ → A) (l m : List A) → n ≤ length l → length m ≡ length l
       → ((k : ℕ) → k < n → getD m k d ≡ f k) → ((k : ℕ) → n ≤ k → getD m k d ≡ getD l k d) → m ≡ filled n f l
@@ -220,10 +188,6 @@ module _ {ℓ} {A : Type ℓ} where
 
   pub getD-part : (a e : ℕ) (l : List A) (k : ℕ) (d : A) → k < e - a → getD (part a e l) k d ≡ getD l (a + k) d
   getD-part a e l k d h = getD-take (e - a) (drop a l) k d h ∙ getD-drop a l k d
-
-  pub part-tabulate : (d : A) (a e : ℕ) (l : List A) → e ≤ length l → part a e l ≡ tabulate (e - a) (λ k. getD l (a + k) d)
-  part-tabulate d a e l h =
-      tabulate-ext d (e - a) (λ k. getD l (a + k) d) (part a e l) (length-part a e l h) (λ k i. getD-part a e l k d i)
 
   -- a part from 0 on, and a part as the end of the front
   pub part-front : (n : ℕ) (l : List A) → part 0 n l ≡ take n l
@@ -295,12 +259,6 @@ unfolding replaced
 put-replaced {A} a n l ys e =
     ap (λ (r : List A). take a l ++ (ys ++ r)) (drop-drop n a l ∙ ap (λ (k : ℕ). drop (a + k) l) (sym e))
 
--- f of each element of a table
-pub map-tabulate {ℓ κ} : {A : Type ℓ} {B : Type κ} (g : A → B) (n : ℕ) (f : ℕ → A) → map g (tabulate n f) ≡ tabulate n (λ k. g (f k))
-unfolding tabulate
-map-tabulate g zero f = refl
-map-tabulate {B = B} g (suc n) f = map-append g (tabulate n f) (f n ∷ []) ∙ ap (λ (l : List B). l ++ (g (f n) ∷ [])) (map-tabulate g n f)
-
 -- ---- padded
 
 pub length-padded : (n : ℕ) (ws : List ℕ) → length (padded n ws) ≡ n
@@ -319,10 +277,6 @@ getD-padded-all n ws k h =
     (λ l. getD-tabulate-past n (λ j. getD ws j 0) k 0 l ∙ sym (List·getD-eq-default ws 0 (omega arith)))
     (lt-or-le k n)
 
-pub padded-self : (n : ℕ) (ws : List ℕ) → length ws ≡ n → padded n ws ≡ ws
-unfolding padded
-padded-self n ws e = sym (tabulate-ext 0 n (λ k. getD ws k 0) ws e (λ k i. refl))
-
 pub padded-ext : (n : ℕ) (ws l : List ℕ) → length l ≡ n → ((k : ℕ) → k < n → getD l k 0 ≡ getD ws k 0) → l ≡ padded n ws
 unfolding padded
 padded-ext n ws l e h = tabulate-ext 0 n (λ k. getD ws k 0) l e h
@@ -340,11 +294,6 @@ padded-append n ws h =
         getD-append-past ws (replicate (n - length ws) 0) k 0 j
         ∙ getD-replicate (n - length ws) (k - length ws) 0 0 (omega arith)
         ∙ sym (List·getD-eq-default ws 0 j)
-
--- padding twice
-pub padded-padded : (m n : ℕ) (ws : List ℕ) → length ws ≤ m → padded n (padded m ws) ≡ padded n ws
-unfolding padded
-padded-padded m n ws h = tabulate-cong n (λ k. getD (padded m ws) k 0) (λ k. getD ws k 0) (λ k i. getD-padded-all m ws k h)
 
 -- a loop that stores the words before zeros
 pub padded-stored : (n : ℕ) (ws : List ℕ) (i : ℕ) (l : List ℕ) → length ws ≤ n → i ≤ length ws → length ws ≤ i
@@ -392,35 +341,3 @@ filled-else v n count f l =
     ⊎-elim (λ i. getD-filled count f (replicate n v) k v i ∙ rw (lt-ltb k count i))
     (λ i. getD-filled-rest count f (replicate n v) k v i ∙ getD-replicate n k v v m ∙ rw (le-ltb k count i))
     (lt-or-le k count))
-
--- ---- tables of pairs of words
-
--- the two numbers whose half is s
-halves : (i s : ℕ) → i / 2 ≡ s → (i ≡ 2 * s + 1) ⊎ (i ≡ 2 * s)
-halves i s h = ⊎-elim (λ z. inr (omega arith)) (λ z. inl (odd (lt-of-le-ne zero-le (λ e. z (sym e))))) (eq-or-ne (i % 2) 0)
-  where
-    odd : 0 < i % 2 → i ≡ 2 * s + 1
-    odd l = omega arith
-
--- the two words of pair s are stored
-pub pair-set : (n : ℕ) (f g : ℕ → ℕ) (s v k : ℕ) → 2 * s + 1 < n → g (2 * s) ≡ v → g (2 * s + 1) ≡ k
-    → ((i : ℕ) → i < n → (i / 2 ≡ s → ⊥) → f i ≡ g i) → set (set (tabulate n f) (2 * s) v) (2 * s + 1) k ≡ tabulate n g
-pair-set n f g s v k l ev ek rest =
-    tabulate-ext 0 n g (set (set (tabulate n f) (2 * s) v) (2 * s + 1) k)
-    (simp length-set (length-tabulate n f))
-    (λ i m. go i m (eq-or-ne i (2 * s + 1)) (eq-or-ne i (2 * s)))
-  where
-    first : List ℕ
-    first = set (tabulate n f) (2 * s) v
-
-    go : (i : ℕ) → i < n → (i ≡ 2 * s + 1) ⊎ (i ≡ 2 * s + 1 → ⊥) → (i ≡ 2 * s) ⊎ (i ≡ 2 * s → ⊥) → getD (set first (2 * s + 1) k) i 0 ≡ g i
-    go i m (inl e) d =
-        rw e (getD-set-same first (2 * s + 1) k 0 (omega (arith, length-set (tabulate n f) (2 * s) v, length-tabulate n f)) ∙ sym ek)
-    go i m (inr a) (inl e) =
-        getD-set-other first (2 * s + 1) i k 0 a
-        ∙ rw e (getD-set-same (tabulate n f) (2 * s) v 0 (omega (arith, length-tabulate n f)) ∙ sym ev)
-    go i m (inr a) (inr d) =
-        getD-set-other first (2 * s + 1) i k 0 a
-        ∙ getD-set-other (tabulate n f) (2 * s) i v 0 d
-        ∙ getD-tabulate n f i 0 m
-        ∙ rest i m (λ h. ⊎-elim a d (halves i s h))

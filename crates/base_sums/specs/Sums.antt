@@ -64,16 +64,6 @@ sum-none n f h = sum-cong n f (λ k. 0) h ∙ (sum-const n 0 ∙ mul-zero n)
 pub sum-bound : (n c : ℕ) (f : ℕ → ℕ) → ((k : ℕ) → k < n → f k ≤ c) → sumBelow n f ≤ n * c
 sum-bound n c f h = omega (arith, sum-mono n f (λ k. c) h, sum-const n c)
 
--- a term is at most the sum
-pub sum-term : (n : ℕ) (f : ℕ → ℕ) (k : ℕ) → k < n → f k ≤ sumBelow n f
-unfolding sumBelow
-sum-term zero f k l = omega arith
-sum-term (suc n) f k l = go (sum-term n f k) (eqb k n) refl
-  where
-    go : (k < n → f k ≤ sumBelow n f) → (b : Bool) → eqb k n ≡ b → f k ≤ sumBelow n f + f n
-    go h true e = omega (arith, ap f (eqb-true k n e))
-    go h false e = omega (arith, h (omega (arith, eqb-false k n e)))
-
 -- exchange of two sums
 pub sum-swap : (n m : ℕ) (f : ℕ → ℕ → ℕ) → sumBelow n (λ i. sumBelow m (f i)) ≡ sumBelow m (λ j. sumBelow n (λ i. f i j))
 unfolding sumBelow

@@ -1,5 +1,5 @@
--- The promise of the call leaves no freedom: one answer meets it, and one state afterwards; and of two desks whose held slots say the
--- same both are the same.
+-- The promise of the call leaves no freedom: one answer meets it, and one state afterwards; and calls that agree on what decide reads
+-- answer the same, with the same plan.
 use Prim.Native.Nat.{ℕ}
 use mathlib.Core.Bool.{true}
 use mathlib.Core.List.{List}
@@ -11,7 +11,7 @@ use Rattle.base_ids.specs.Refusals.{accepted}
 use Rattle.report_views.specs.Agreeing.{SameReports}
 use Rattle.state_planner.specs.declared.Decided.{Decided}
 use Rattle.state_planner.specs.Refusing.{decideRefusal}
-use Rattle.state_exact.specs.Once.{same-state, decides-unique}
+use Rattle.state_exact.specs.Once.{SameAsked, SameSaid, same-said, same-state, decides-unique}
 use Rattle.c_state.specs.Calls.{stateLent}
 use Rattle.c_decide.specs.Decisions.{decisionWord, decisionLeaves, decideEntry, ByOutcome, DecideCall}
 
@@ -31,11 +31,24 @@ call-unique {settings} {state} {desk} p q =
     (λ h. (p .refused h .0 ∙ sym (q .refused h .0), p .refused h .1 ∙ sym (q .refused h .1)))
     (either (accepted (decideEntry settings state desk)))
 
--- the same settings and state, with held reports of the same contents
-pub calls-agree : {settings state desk other : List ℕ} {a b : ℕ} {l m : List ℕ} → DecideCall settings state desk a l → DecideCall settings state other b m
+-- two calls that agree on the settings, the kept view, its termination, the held mask and the contents of the held reports: one answer, and where it
+-- is a plan one plan
+pub calls-agree : {settings state second desk other : List ℕ} {a b : ℕ} {l m : List ℕ} (p : DecideCall settings state desk a l)
+    (q : DecideCall settings second other b m) (h : accepted (decideEntry settings state desk) ≡ true)
+    (k : accepted (decideEntry settings second other) ≡ true)
+    → accepted (decideRefusal (wordsIn settings) (stateLent state) (wordsIn desk)) ≡ true
+    → accepted (decideRefusal (wordsIn settings) (stateLent second) (wordsIn other)) ≡ true
+    → SameAsked (stateLent state) (stateLent second) (wordsIn desk) (wordsIn other)
+    → (a ≡ b) × SameSaid (p .decided h .outcome) (q .decided k .outcome)
+calls-agree p q h k taken also same =
+    let said = same-said (p .decided h .decides) (q .decided k .decides) taken also same in
+    (p .decided h .answers ∙ (ap decisionWord (said .decision) ∙ sym (q .decided k .answers)), said)
+
+-- with the same state: the same bytes
+pub calls-leave : {settings state desk other : List ℕ} {a b : ℕ} {l m : List ℕ} → DecideCall settings state desk a l → DecideCall settings state other b m
     → accepted (decideEntry settings state desk) ≡ true → accepted (decideEntry settings state other) ≡ true
     → accepted (decideRefusal (wordsIn settings) (stateLent state) (wordsIn desk)) ≡ true
     → accepted (decideRefusal (wordsIn settings) (stateLent state) (wordsIn other)) ≡ true
-    → SameReports (stateLent state .held) (wordsIn desk) (wordsIn other) → (a ≡ b) × (l ≡ m)
-calls-agree p q h k taken also same =
-    outcome-same (p .decided h) (q .decided k) (same-state (p .decided h .decides) (q .decided k .decides) taken also same)
+    → SameReports (stateLent state .held) (wordsIn desk) (wordsIn other) → l ≡ m
+calls-leave p q h k taken also same =
+    outcome-same (p .decided h) (q .decided k) (same-state (p .decided h .decides) (q .decided k .decides) taken also same) .1

@@ -4,7 +4,7 @@
 -- an order has few words
 -- ---- the cases
 use Prim.Native.Nat.{ℕ, _≤_}
-use mathlib.Core.Bool.{Bool, true, _&&_}
+use mathlib.Core.Bool.{Bool, _&&_}
 use mathlib.Core.List.{List}
 use mathlib.Core.Path.{_≡_, sym, ap, ap₂, _∙_}
 use native.Mathlib.Omega.{arith}
@@ -13,7 +13,7 @@ use lib.ListN.{length}
 use borrow.Author.Tests.{eqb-true, eq-eqb, ne-eqb, leb-true}
 use Rattle.base_laws.specs.Bools.{and-left, and-right}
 use Rattle.base_bytes.specs.Words.{bytesOf}
-use Rattle.base_lent.specs.Lent.{wordsIn, wordsWithin, bytes-of-words, length-test}
+use Rattle.base_lent.specs.Lent.{wordsIn, bytes-of-words, length-test}
 use Rattle.base_lent.specs.Answers.{withLength, Told, told-refused, told-accepted}
 use Rattle.base_ids.specs.Refusals.{none, accepted-none, unless-ok, unless-rest}
 use Rattle.settings_values.specs.Settings.{settingsOk}
@@ -27,7 +27,7 @@ use Rattle.state_order.specs.Orders.{ordered, orderBuffer}
 use Rattle.state_order.specs.Taken.{writer-takes}
 use Rattle.c_state.specs.declared.Entry.{Entry}
 use Rattle.c_state.specs.Calls.{stateLent, entry}
-use Rattle.c_state.specs.CallLaws.{settings-whole, CallEntered, entry-refuses, entry-passes}
+use Rattle.c_state.specs.CallLaws.{CallEntered, entry-refuses, entry-passes}
 use Rattle.c_order.specs.OrderCalls.{lengthsOk, orderRefused, orderAnswer, orderLeaves}
 
 module _ (σ : List ℕ) (x : State) (d : List ℕ) (n : ℕ) (b z : List ℕ) (same : length b ≡ length z) where

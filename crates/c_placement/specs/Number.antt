@@ -1,5 +1,5 @@
 -- A search's answer as C has it: a number, the weight or 10000 for none, beside the owners; and 10001 where a length is wrong.
-use mathlib.Core.Path.{_≡_, sym, _∙_, subst}
+use mathlib.Core.Path.{_≡_, sym, subst}
 use mathlib.Core.Bool.{Bool, true, false, _&&_}
 use mathlib.Core.List.{List}
 use Prim.Native.Nat.{ℕ, _≤_, _<_}

@@ -81,7 +81,7 @@ pub fn store(x: State, state: &mut [u8])
 }
 
 // The refusal that an answer holds.
-pub fn refusal_of(answer: Answer) -> Refusal
+fn refusal_of(answer: Answer) -> Refusal
     ensures { λ r. ⌜ r ≡ refusalOf answer ⌝ }
 {
     match answer {

@@ -1,5 +1,5 @@
 // What is decided for good: a pair that is taken, a list that is ended. Each is tried by a search for a way that the weight allows.
-ghost use Prim.Native.Nat.{_≤_, _<_};
+ghost use Prim.Native.Nat.{_≤_};
 
 const GRANTED: u32 = 0;
 

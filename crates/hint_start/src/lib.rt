@@ -1,6 +1,6 @@
 // The first placement: shards keep nodes that stay, for their needs and in their rooms; the others are placed nowhere; then ways from each
 // shard that lacks nodes to nowhere.
-ghost use Prim.Native.Nat.{_≤_, _<_};
+ghost use Prim.Native.Nat.{_≤_};
 
 // The level of all nodes, and of nowhere, at first.
 const FIRST_LEVEL: u32 = 1000;

@@ -9,7 +9,7 @@ use native.Mathlib.Omega.{arith}
 use lib.Bits.{bitAnd}
 use lib.Count.{ones, onesIn}
 use lib.Dec.{eqb, leb, ltb}
-use borrow.Author.Tests.{eqb-true, eq-eqb, leb-true, le-leb, lt-ltb, ltb-true}
+use borrow.Author.Tests.{eqb-true, eq-eqb, le-leb, lt-ltb, ltb-true}
 use Rattle.base_laws.specs.Bools.{clash, and-both, and-left, and-right, or-holds, of-not-true}
 use Rattle.base_laws.specs.Below.{allBelow, anyBelow, countBelow, all-at}
 use Rattle.base_laws.specs.Masks.{count, minus, subset, subset-le, and-subset-right, count-subset}

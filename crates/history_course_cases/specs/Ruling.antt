@@ -2,7 +2,7 @@
 -- plan's view, node 0 reports without it, and node 1 forgets it. They are restarted again, both get the view, and it counts: they serve.
 use Prim.Native.Nat.{ℕ}
 use mathlib.Core.Bool.{Bool, true}
-use mathlib.Core.List.{List, [], _∷_, _++_}
+use mathlib.Core.List.{List, [], _∷_}
 use mathlib.Core.Path.{_≡_, refl, sym, ap}
 use native.Mathlib.Omega.{arith}
 use lib.ListN.{take}

@@ -1,9 +1,9 @@
 -- What a leader finds of an open view is true: found sure, it counts or does so now that all its members have it; found never, it does not
 -- count, and one of its members stays without it; no machines that keep the rule say both; and once every member has sent its views,
 -- something is found.
-use Prim.Native.Nat.{ℕ, suc, _+_, _-_, _<_, _≤_}
-use mathlib.Core.Bool.{Bool, true, false, cond, not, _&&_, _||_}
-use mathlib.Core.List.{List, [], _∷_, _++_}
+use Prim.Native.Nat.{ℕ, _+_, _<_, _≤_}
+use mathlib.Core.Bool.{Bool, true, false, cond, not, _&&_}
+use mathlib.Core.List.{List}
 use mathlib.Core.Logic.{_⊎_, inl, inr, ⊎-elim}
 use mathlib.Core.Path.{_≡_, refl, sym, ap, _∙_, subst, subst⁻¹}
 use native.Mathlib.Omega.{arith}
@@ -17,15 +17,14 @@ use Rattle.base_laws.specs.Masks.{has, subset, disjoint, has-zero, has-or, has-
 use Rattle.report_views.specs.declared.Layout.{Layout}
 use Rattle.report_views.specs.Empty.{noView}
 use Rattle.history_claims.specs.History.{History, viewAt, numberAt, membersAt}
-use Rattle.history_open.specs.declared.Finding.{Finding}
 use Rattle.history_open.specs.declared.Finding.the-variants.{Sure, Never, Undecided, Contradicted}
 use Rattle.history_open.specs.Judged.{saysSure, saysNever, judged}
 use Rattle.history_course.specs.Course.{lastOf, Orderly}
 use Rattle.history_course.specs.Ever.{stands-on}
-use Rattle.history_course.specs.Counting.{Copies, now, OneLacks, allHave, never-both}
+use Rattle.history_course.specs.Counting.{now, OneLacks, allHave, never-both}
 use Rattle.history_rule.specs.Disks.{Attempt, planView, Each, each-more, Disks}
 use Rattle.history_rule.specs.Sent.{OneView, Among, among-first, among-later, Known, as-sure, in-list, in-plan, PassedBy, Sent}
-use Rattle.history_rule.specs.Ruled.{Closed, Machines, InHistory, Overtaken, OnlyLatest, latest-is, Ruled, ruled, number-above, number-next}
+use Rattle.history_rule.specs.Ruled.{Machines, InHistory, OnlyLatest, latest-is, Ruled, ruled, number-above, number-next}
 
 pub each-at : {A : Type 0} {P : A → Type 0} {x : A} {l : List A} → Among x l → Each P l → P x
 each-at (among-first l) (each-more _ _ p e) = p

@@ -1,20 +1,20 @@
 -- A member of an open view whose disk is lost for ever cannot be asked. Where the machines that have the view are more than half of the members
 -- of the view before it, no other view stands in its place and none can: every plan from that view would have held one of them, and that one
 -- would have reported without it. So it may be taken to count, and the course goes on.
-use Prim.Native.Nat.{ℕ, suc, _+_, _-_, _*_, _^_, _<_, _≤_}
+use Prim.Native.Nat.{ℕ, suc, _-_, _*_, _<_}
 use mathlib.Core.Bool.{true, false}
-use mathlib.Core.List.{List, _∷_}
+use mathlib.Core.List.{List}
 use mathlib.Core.Logic.{⊎-elim}
-use mathlib.Core.Path.{_≡_, refl, sym, ap, _∙_, subst, subst⁻¹}
+use mathlib.Core.Path.{_≡_, sym, ap, _∙_, subst, subst⁻¹}
 use native.Mathlib.Omega.{arith}
 use lib.Bits.{bitAnd}
-use lib.ListN.{length, getD, take}
+use lib.ListN.{length, getD}
 use lib.Seq.{getD-take}
 use Rattle.base_laws.specs.Bools.{clash, either, lt-or-le}
 use Rattle.base_laws.specs.Masks.{has, count, quorums-meet}
 use Rattle.report_views.specs.declared.Layout.{Layout}
 use Rattle.report_views.specs.Empty.{noView}
-use Rattle.history_claims.specs.History.{History, viewAt, membersAt}
+use Rattle.history_claims.specs.History.{History, membersAt}
 use Rattle.history_course.specs.Course.{lastOf, Orderly}
 use Rattle.history_course.specs.Ever.{Course, carrying, stands-on}
 use Rattle.history_course.specs.Counting.{enough-carried}

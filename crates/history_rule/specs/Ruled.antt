@@ -2,7 +2,7 @@
 -- both more than half of its last view's members, so one of them is in both and has reported without the older plan's view. So when all
 -- members of a view have it, the history it was planView from is the present one. And a list on disk is the list of the views that counted
 -- before, since a plan's kept view is the last of them.
-use Prim.Native.Nat.{ℕ, suc, _+_, _-_, _*_, _^_, _<_, _≤_}
+use Prim.Native.Nat.{ℕ, suc, _+_, _*_, _^_, _<_, _≤_}
 use mathlib.Core.Bool.{Bool, true, false, cond, not}
 use mathlib.Core.List.{List, [], _∷_, _++_}
 use mathlib.Core.Logic.{⊎-elim}
@@ -13,13 +13,13 @@ use lib.Bits.{bitAnd}
 use lib.Dec.{eqb}
 use lib.ListN.{length, getD, take, length-append, List·getD-append}
 use lib.Seq.{take-suc, take-length, take-append-le, take-append-seam, getD-at}
-use Rattle.base_laws.specs.Bools.{clash, and-left, no-true, either, lt-or-le, eq-or-ne, or-holds, or-left}
-use Rattle.base_laws.specs.Masks.{has, count, with, without, has-zero, has-with, has-without, quorums-meet}
+use Rattle.base_laws.specs.Bools.{clash, and-left, no-true, lt-or-le, eq-or-ne, or-holds, or-left}
+use Rattle.base_laws.specs.Masks.{has, count, without, has-zero, has-with, has-without, quorums-meet}
 use Rattle.report_views.specs.declared.Layout.{Layout}
 use Rattle.report_views.specs.Empty.{noView}
 use Rattle.history_claims.specs.History.{History, Listed, Supposed, viewAt, numberAt, membersAt}
 use Rattle.history_course.specs.Course.{lastOf, Orderly, CarriedOut}
-use Rattle.history_course.specs.Lasting.{kept-last, number-place}
+use Rattle.history_course.specs.Lasting.{kept-last}
 use Rattle.history_course.specs.Ever.{Restart, Course, here, running, carrying, supposing, stands-on}
 use Rattle.history_course.specs.Counting.{Copies, now, got, went, forgot, NoneBoth, OneLacks, allHave, still-apart, still-have, still-lacks, counted-carried}
 use Rattle.history_rule.specs.Disks.{Attempt, planView, attempted, seenOn, counting, Each, each-none, each-more, Without, Passing, pass-none, pass-more, Counted, Idle, listing, Disks, first, plans, passes, counted, served}

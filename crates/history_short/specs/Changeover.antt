@@ -1,6 +1,6 @@
 -- A group that has restarted from whole reports can go over to short ones: over a course in which no base changes, bases agree at its end.
 use Prim.Native.Nat.{ℕ}
-use mathlib.Core.Path.{_≡_, subst, subst⁻¹}
+use mathlib.Core.Path.{subst, subst⁻¹}
 use Rattle.history_claims.specs.History.{History}
 use Rattle.history_course.specs.Course.{Orderly}
 use Rattle.history_course.specs.Ever.{Course, supposing, stands-on}

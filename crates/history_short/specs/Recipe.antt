@@ -10,8 +10,8 @@ use mathlib.Core.Path.{_≡_, refl, sym, ap, ap₂, _∙_, subst, subst⁻¹}
 use native.Mathlib.Omega.{arith}
 use lib.Dec.{eqb, ltb}
 use lib.ListN.{length}
-use borrow.Author.Tests.{eqb-true, eq-eqb, ne-eqb, ltb-true, lt-ltb}
-use Rattle.base_laws.specs.Bools.{either, clash, no-true, and-both, and-left, and-right, and-fails-right, cond-of, lt-or-le}
+use borrow.Author.Tests.{eqb-true, eq-eqb, ltb-true, lt-ltb}
+use Rattle.base_laws.specs.Bools.{either, clash, no-true, and-both, and-left, and-right, cond-of, lt-or-le}
 use Rattle.base_laws.specs.Masks.{has}
 use Rattle.settings_values.specs.Settings.{shards}
 use Rattle.base_ids.specs.declared.Position.{Position}
@@ -38,10 +38,6 @@ start-is : (p : Position) → isStart p ≡ true → p ≡ start
 start-is p h =
     ap₂ (λ (v k : ℕ). record { view = record { 0 = v }; k = k }) (eqb-true (p .view .0) 0 (and-left (eqb (p .view .0) 0) (eqb (p .k) 0) h))
     (eqb-true (p .k) 0 (and-right (eqb (p .view .0) 0) (eqb (p .k) 0) h))
-
--- an update is not
-start-not : (p : Position) → 1 ≤ p .k → isStart p ≡ false
-start-not p l = and-fails-right (eqb (p .view .0) 0) (ne-eqb (p .k) 0 (λ e. omega arith))
 
 -- and it is past it
 past-start : {A : Type 0} (q : Position) → 1 ≤ q .k → notAfter q start ≡ true → A

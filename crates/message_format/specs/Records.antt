@@ -1,6 +1,6 @@
 -- The records of a message's contents by index: record j has words 3j, 3j + 1 and 3j + 2 of the body. Word 0 is
 -- kind × 256 + shard. Kinds: 1 a shard's members, 2 a position of the termination, 3 a run, 4 a holder, 5 a cut.
-use Prim.Native.Nat.{ℕ, zero, suc, _+_, _*_, _-_, _/_, _%_, _^_}
+use Prim.Native.Nat.{ℕ, zero, suc, _+_, _*_, _/_, _%_, _^_}
 use mathlib.Core.Bool.{Bool, cond, _&&_, _||_}
 use mathlib.Core.List.{List}
 use lib.Dec.{eqb, ltb}

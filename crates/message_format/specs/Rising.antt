@@ -1,6 +1,6 @@
 -- In contents that pass row 17's pass every record precedes all later ones, so tags never fall and the runs of a shard
 -- rise by view.
-use Prim.Native.Nat.{ℕ, zero, suc, _-_, _<_, _≤_}
+use Prim.Native.Nat.{ℕ, zero, suc, _-_, _<_}
 use mathlib.Core.Bool.{true, not, _&&_, _||_}
 use mathlib.Core.List.{List}
 use mathlib.Core.Logic.{_⊎_, inl, inr, ⊎-elim}
@@ -69,7 +69,3 @@ module _ (node : ℕ) (b : List ℕ) (len : ℕ) (h : allBelow len (sequenceAt n
   -- two runs of a shard, or any two records of one tag: the later one has the greater view
   pub views-rise : (i j : ℕ) → i < j → j < len → tag b i ≡ tag b j → word1 b i < word1 b j
   views-rise i j l m e = ⊎-elim (λ p. absurd (omega arith)) (λ p. p .2) (precedes-cases b i j (rising i j l m))
-
-  -- tags never fall
-  pub tags-rise : (i j : ℕ) → i < j → j < len → tag b i ≤ tag b j
-  tags-rise i j l m = ⊎-elim (λ p. omega arith) (λ p. omega (arith, p .0)) (precedes-cases b i j (rising i j l m))

@@ -1,21 +1,18 @@
 -- The message that the writer makes of contents c, of r records with len + 1 ≤ r: its words, its chain, which is record after
 -- record, and the contents that it gives.
-use Prim.Native.Nat.{ℕ, zero, suc, _+_, _*_, _-_, _/_, _%_, _≤_, _<_}
+use Prim.Native.Nat.{ℕ, _+_, _*_, _-_, _/_, _%_, _≤_, _<_}
 use native.Mathlib.Nat.{le-refl}
-use native.Mathlib.Numerals.{add-one}
 use native.Mathlib.Omega.{arith}
 use mathlib.Core.Logic.{_⊎_, inl, inr, ⊎-elim}
 use mathlib.Core.Bool.{Bool, true, false, cond}
-use mathlib.Core.List.{List}
 use mathlib.Core.Path.{_≡_, refl, sym, ap, _∙_}
 use lib.Dec.{ltb}
 use lib.ListN.{length, getD}
 use borrow.Author.Tests.{lt-ltb, le-ltb, eq-eqb, ne-eqb, le-leb}
-use Rattle.base_laws.specs.Bools.{lt-or-le, and-both, or-left, or-right}
-use Rattle.base_laws.specs.Below.{all-of, any-none-of, lowest-none, lowest-unique}
+use Rattle.base_laws.specs.Bools.{lt-or-le, and-both}
 use Rattle.base_laws.specs.Tables.{length-tabulate, getD-tabulate, getD-tabulate-past, tabulate-cong}
 use Rattle.message_format.specs.declared.Contents.{Contents}
-use Rattle.message_format.specs.Chain.{records, next, place, ends, following, linked, row5, row8}
+use Rattle.message_format.specs.Chain.{next, place, following, row5, row8}
 use Rattle.message_format.specs.Straight.{straight-place, straight-following, straight-row8}
 use Rattle.message_format.specs.Messages.{bodyWord, bodyOf, contentsOf, headWord, recordWord, messageWord, messageOf, tidy}
 

@@ -11,7 +11,7 @@ use borrow.Author.Tests.{lt-ltb, le-ltb, eq-eqb, eqb-true}
 use Rattle.base_laws.specs.Bools.{lt-or-le}
 use Rattle.base_laws.specs.Below.{any-none-of}
 use Rattle.base_laws.specs.Tables.{filled, filled-none, filled-more, tabulate-ext, length-filled, getD-filled, getD-filled-rest}
-use Rattle.message_format.specs.Chain.{records, next, place, ends, following, row8, following-le}
+use Rattle.message_format.specs.Chain.{records, next, place, following, row8, following-le}
 use Rattle.message_format.specs.Messages.{bodyWord, bodyOf, contentsOf}
 use Rattle.message_format.specs.declared.Contents.{Contents}
 use Rattle.message_chain.specs.declared.Record.{Record}

@@ -11,7 +11,7 @@ ghost use mathlib.Core.Path.{_≡_};
 ghost use Prim.Native.Nat.{_<_, _≤_};
 ghost use Rattle.base_ids.specs.Refusals.{indexIn};
 ghost use Rattle.message_format.specs.Chain.{place, following, row5, row8};
-ghost use Rattle.message_format.specs.Messages.{contentsOf, inOrder, messageRefusal, readingOf, recordsRefusal};
+ghost use Rattle.message_format.specs.Messages.{contentsOf, inOrder, readingOf, recordsRefusal};
 ghost use Rattle.message_format.specs.Placing.{placedBy};
 ghost use Rattle.message_reader.specs.Walks.{SizedMessage, chainRefusal};
 ghost use Rattle.message_reader.specs.Bodies.{recordPut};
@@ -19,7 +19,7 @@ ghost use Rattle.message_reader.specs.Readings.{answer, nothing, headOf,
 ghost use Rattle.settings_values.specs.Settings.{Settings};
 
 // Row 5: 1 to 128 records of four words.
-pub fn length_ok(words: &[u32]) -> bool
+fn length_ok(words: &[u32]) -> bool
     ensures { λ r. ⌜ r ≡ row5 (now (words .entry)) ⌝ }
 {
     if words.len() < 1 {
@@ -33,7 +33,7 @@ pub fn length_ok(words: &[u32]) -> bool
 
 // Row 8: each next index on the chain is larger than its own record's and lies inside the message, or is 0. A refusal
 // tells the first record of which this fails.
-pub fn chain_refusal(words: &[u32]) -> Refusal
+fn chain_refusal(words: &[u32]) -> Refusal
     requires { ⌜ SizedMessage (now words) ⌝ }
     ensures { λ r. ⌜ r ≡ chainRefusal (now (words .entry)) ⌝ }
 {
@@ -196,15 +196,6 @@ pub fn read_under(form: Form, settings: &[u32], words: &[u32]) -> Reading
     let c = contents_of(words);
     let records = records_of(form, settings, c);
     answer_with(placed(words, records), c)
-}
-
-// The refusal of a message under right settings.
-pub fn message_refusal(form: Form, settings: &[u32], words: &[u32]) -> Refusal
-    requires { ⌜ Settings (now settings) ⌝ }
-    ensures { λ r. ⌜ r ≡ messageRefusal form (now (settings .entry)) (now (words .entry)) ⌝ }
-{
-    let r = read_under(form, settings, words);
-    r.refusal
 }
 
 // Reads a report or an order: row 2 and those of a message.

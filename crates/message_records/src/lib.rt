@@ -24,7 +24,7 @@ fn shards_more(mask: u32, k: u32, body: &[u32; 381], j: usize) -> u32
 }
 
 // The shards that have a record of kind k.
-pub fn shards_of(k: u32, body: &[u32; 381], len: usize) -> u32
+fn shards_of(k: u32, body: &[u32; 381], len: usize) -> u32
     requires { ⌜ len ≤ 127 ⌝ }
     requires { ⌜ SmallShards (now body) len ⌝ }
     ensures { λ r. ⌜ r ≡ Records.shardsOf k (now (body .entry)) len ⌝ }
@@ -55,7 +55,7 @@ pub fn carried_more(mask: u32, node: Node, body: &[u32; 381], j: usize) -> u32
 }
 
 // The shards that the node carries, by the members that the records give.
-pub fn carried_by(node: Node, body: &[u32; 381], len: usize) -> u32
+fn carried_by(node: Node, body: &[u32; 381], len: usize) -> u32
     requires { ⌜ len ≤ 127 ⌝ }
     requires { ⌜ SmallShards (now body) len ⌝ }
     ensures { λ r. ⌜ r ≡ Records.carriedBy (node .0) (now (body .entry)) len ⌝ }

@@ -72,7 +72,7 @@ pub fn position(p: Position) -> bool
 }
 
 // The view of a position or run against the head's: not above it in a report, below it in an order.
-pub fn view_fits(form: Form, view: View, v: View) -> bool
+fn view_fits(form: Form, view: View, v: View) -> bool
     ensures { λ r. ⌜ r ≡ Rows.viewFits form (view .0) (v .0) ⌝ }
 {
     match form {

@@ -1,37 +1,57 @@
 -- What the program promises. No contract can say which bytes a read gives: the promise is of the bytes that came, whatever they are.
-use Prim.Native.Nat.{ℕ, _-_, _%_, _≤_}
-use mathlib.Core.Bool.{true}
-use mathlib.Core.List.{List, [], _++_}
-use mathlib.Core.Path.{_≡_, refl, sym, ap, _∙_}
+use Prim.Native.Nat.{ℕ, _*_, _/_, _%_, _≤_, _<_}
+use mathlib.Core.Bool.{Bool, true, false, cond, true≢false}
+use mathlib.Core.List.{List, [], _++_, append-nil}
+use mathlib.Core.Path.{_≡_, refl, sym, ap, _∙_, subst}
 use native.Mathlib.Omega.{arith}
-use lib.ListN.{length, take, drop, length-take, length-drop}
-use borrow.Rule.Slice.PartMut.{putMid}
-use Rattle.base_laws.specs.Tables.{put-replaced, length-replaced}
+use lib.ListN.{length, take, length-take, length-append}
+use lib.Seq.{take-at}
 use borrow.Author.Tests.{eq-eqb}
+use Rattle.base_ids.specs.Refusals.{accepted}
 use Rattle.program_text.specs.Puts.{puts-first}
+use Rattle.program_input.specs.declared.Source.{Source}
+use Rattle.program_input.specs.declared.Source.the-variants.{Open, Over, Failed, Endless}
+use Rattle.program_input.specs.declared.Input.{Input}
+use Rattle.program_input.specs.Inputs.{unread, mayCome, isCut, MayFollow, Came, no-read, Fills, reads-then}
 use Rattle.program_moves.specs.declared.Tally.{Tally}
 use Rattle.program_moves.specs.declared.Taken.{Taken}
 use Rattle.program_moves.specs.MovesFile.{mondaysText}
 use Rattle.program_moves.specs.Tallies.{freshTally, blockText, tallyAfter, TakesBlock}
-use Rattle.program_pieces.specs.Pieces.{wholeLines, standing, whole-more, standing-none, text-more, tally-more, text-length}
+use Rattle.program_pieces.specs.Pieces.{wholeLines, standing, standing-none, text-more, tally-more, text-length}
+use Rattle.mondays.specs.declared.Tallied.{Tallied}
 
--- the tally is the one that some bytes lead to
-pub record Stands (t : Tally) : Type 0 where
-  pub input : List ℕ
-  pub tally : t ≡ standing input
+-- more may come, no line was bad and all was written
+abbrev pub takesMore : Tallied → Bool
+takesMore x = cond (x .written) (cond (accepted (x .tally .refusal)) (mayCome (x .input .source)) false) false
 
--- the same, of bytes of whole lines
-pub record StandsWhole (t : Tally) : Type 0 where
-  pub input : List ℕ
-  pub whole : wholeLines input ≡ true
-  pub tally : t ≡ standing input
-
--- After bytes a of whole lines, the first n bytes of `out` are what these bytes add to the text printed for a, and the tally after them is
--- that of both.
+-- a block is taken: the tally after it, and what it prints is the first n bytes of `out`
 pub record PrintedBlock (t : Tally) (bytes : List ℕ) (after : Tally) (out : List ℕ) (n : ℕ) : Type 0 where
-  pub text : (a : List ℕ) → wholeLines a ≡ true → t ≡ standing a → mondaysText (a ++ bytes) ≡ mondaysText a ++ take n out
-  pub tally : (a : List ℕ) → wholeLines a ≡ true → t ≡ standing a → after ≡ standing (a ++ bytes)
+  pub tally : after ≡ tallyAfter t bytes
+  pub text : take n out ≡ blockText t bytes
   pub within : n ≤ length out
+
+-- one block more: what reads left at the start of the block is taken and printed; nothing is where reading was cut
+pub record TakesTurn (x : Tallied) (block out : List ℕ) (r : Tallied) : Type 0 where
+  pub len : ℕ
+  pub put : ℕ
+  pub room : length block ≡ 32768
+  pub fills : Fills (x .input) block (r .input) len
+  pub taken : isCut (r .input .source) ≡ false → PrintedBlock (x .tally) (take len block) (r .tally) out put
+  pub kept : isCut (r .input .source) ≡ true → r .tally ≡ x .tally
+
+-- the bytes without those after the last full block
+abbrev pub fullBlocks : List ℕ → List ℕ
+fullBlocks bytes = take (32768 * (length bytes / 32768)) bytes
+
+-- every byte that came is taken, but for those of a block at which reading was cut. Unless that or a write failed, what is printed for the bytes
+-- that came is what is printed for the file, whatever may follow them.
+pub record ShowsAll (r : Tallied) : Type 0 where
+  pub came : List ℕ
+  pub reads : Came came (r .input)
+  pub taken : isCut (r .input .source) ≡ false → r .tally ≡ standing came
+  pub cut : isCut (r .input .source) ≡ true → r .tally ≡ standing (fullBlocks came)
+  pub ended : r .written ≡ true → isCut (r .input .source) ≡ false → (rest : List ℕ) → MayFollow (r .input .source) rest
+      → mondaysText (came ++ rest) ≡ mondaysText came
 
 -- ---- laws
 
@@ -39,38 +59,148 @@ pub printed : (t : Tally) (bytes out : List ℕ) (r : Taken) (after : List ℕ) 
     → TakesBlock t bytes out r after → PrintedBlock t bytes (r .tally) after (r .len)
 printed t bytes out r after k h e p =
     let room : length (blockText t bytes) ≤ length out = omega (arith, text-length t bytes k h) in
-    let front : take (r .len) after ≡ blockText t bytes = puts-first out (blockText t bytes) after (r .len) room (p .puts) .1 in
     record {
-      text = λ a w s. text-more a bytes w ∙ ap (λ (x : Tally). mondaysText a ++ blockText x bytes) (sym s) ∙ ap (λ (l : List ℕ). mondaysText a ++ l) (sym front);
-      tally = λ a w s. p .tally ∙ ap (λ (x : Tally). tallyAfter x bytes) s ∙ tally-more a bytes w;
+      tally = p .tally;
+      text = puts-first out (blockText t bytes) after (r .len) room (p .puts) .1;
       within = p .puts .within;
     }
 
--- a block whose end was lent to a read is as long as before
-pub length-lent : (block last : List ℕ) (len : ℕ) → len ≤ length block → length last ≡ length (take (length block - len) (drop len block))
-    → (length (putMid len (length block - len) block last) ≡ length block) × (length last ≡ length block - len)
-length-lent block last len h e =
-    let size : length last ≡ length block - len = e ∙ simp (length-take, length-drop) (omega arith) in
-    (ap length (put-replaced len (length block - len) block last size) ∙ length-replaced len last block (omega arith), size)
+-- whether it goes on
+module _ (x : Tallied) where
+  pub not-written : x .written ≡ false → takesMore x ≡ false
+  not-written h = rw h
 
-pub stands-none : (t : Tally) → t ≡ freshTally → StandsWhole t
-stands-none t e = record { input = []; whole = refl; tally = e ∙ sym standing-none }
+  pub was-refused : x .written ≡ true → accepted (x .tally .refusal) ≡ false → takesMore x ≡ false
+  was-refused h k = rw (h, k)
 
-pub stands : {t : Tally} → StandsWhole t → Stands t
-stands s = record { input = s .input; tally = s .tally }
+  pub goes-as : x .written ≡ true → accepted (x .tally .refusal) ≡ true → takesMore x ≡ mayCome (x .input .source)
+  goes-as h k = rw (h, k)
 
-pub stands-more : {t after : Tally} {bytes out : List ℕ} {n : ℕ} → StandsWhole t → PrintedBlock t bytes after out n → Stands after
-stands-more {bytes = bytes} s p = record { input = s .input ++ bytes; tally = p .tally (s .input) (s .whole) (s .tally) }
+-- a turn
+module _ {x : Tallied} {block out : List ℕ} {y : Input} {n : ℕ} (room : length block ≡ 32768) (f : Fills (x .input) block y n) where
+  pub turn-cut : isCut (y .source) ≡ true → TakesTurn x block out (record { tally = x .tally; input = y; written = true })
+  turn-cut c =
+      record { len = n; put = 0; room = room; fills = f; taken = λ d. absurd (true≢false (sym c ∙ d)); kept = λ _. refl }
 
--- a full block is of whole lines
-pub stands-full : {t after : Tally} {out : List ℕ} {n : ℕ} (block : List ℕ) (len : ℕ) → StandsWhole t → length block ≡ 32768 → 32768 ≤ len → PrintedBlock t (take len block) after out n
-    → StandsWhole after
-stands-full block len s e h p =
-    record {
-      input = s .input ++ take len block;
-      whole = whole-more (s .input) (take len block) (s .whole) (eq-eqb _ 0 (full (omega (arith, length-take len block))));
-      tally = p .tally (s .input) (s .whole) (s .tally);
-    }
-  where
-    full : length (take len block) ≡ 32768 → length (take len block) % 8 ≡ 0
-    full d = omega arith
+  pub turn-taken : {t : Tally} {m : ℕ} {w : Bool} → isCut (y .source) ≡ false → PrintedBlock (x .tally) (take n block) t out m
+      → TakesTurn x block out (record { tally = t; input = y; written = w })
+  turn-taken {m = m} c p =
+      record { len = n; put = m; room = room; fills = f; taken = λ _. p; kept = λ d. absurd (true≢false (sym d ∙ c)) }
+
+-- an input that is cut is not open
+cut-shut : (s : Source) → isCut s ≡ true → mayCome s ≡ false
+cut-shut Open h = absurd (true≢false (sym h))
+cut-shut Over h = absurd (true≢false (sym h))
+cut-shut Failed h = refl
+cut-shut Endless h = refl
+
+open-whole : (s : Source) → mayCome s ≡ true → isCut s ≡ false
+open-whole Open h = refl
+open-whole Over h = absurd (true≢false (sym h))
+open-whole Failed h = absurd (true≢false (sym h))
+open-whole Endless h = absurd (true≢false (sym h))
+
+-- what is known before a turn, and after the last: where more may come, what came is full blocks
+pub record Stands (x : Tallied) : Type 0 where
+  pub came : List ℕ
+  pub reads : Came came (x .input)
+  pub full : mayCome (x .input .source) ≡ true → length came % 32768 ≡ 0
+  pub taken : isCut (x .input .source) ≡ false → x .tally ≡ standing came
+  pub cut : isCut (x .input .source) ≡ true → x .tally ≡ standing (fullBlocks came)
+
+pub stands-none : (t : Tally) (x : Input) → t ≡ freshTally → x ≡ unread → Stands (record { tally = t; input = x; written = true })
+stands-none t x e d =
+    subst (λ (y : Input). Stands (record { tally = t; input = y; written = true })) (sym d)
+    (record {
+      came = [];
+      reads = no-read;
+      full = λ _. refl;
+      taken = λ _. e ∙ sym standing-none;
+      cut = λ h. absurd (true≢false (sym h));
+    })
+
+-- bytes of full blocks are whole lines
+lines-whole : (a : List ℕ) → length a % 32768 ≡ 0 → wholeLines a ≡ true
+lines-whole a h = eq-eqb (length a % 8) 0 (omega arith)
+
+-- full blocks, and fewer bytes than a block has
+full-front : (a b : List ℕ) → length a % 32768 ≡ 0 → length b < 32768 → fullBlocks (a ++ b) ≡ a
+full-front a b h l =
+    let n : 32768 * (length (a ++ b) / 32768) ≡ length a = omega (arith, length-append a b) in
+    take-at a b (32768 * (length (a ++ b) / 32768)) (sym n)
+
+-- while it goes on
+going-open : (w a m : Bool) → cond w (cond a m false) false ≡ true → m ≡ true
+going-open true true m h = h
+going-open true false m h = absurd (true≢false (sym h))
+going-open false a m h = absurd (true≢false (sym h))
+
+pub goes-open : (x : Tallied) → takesMore x ≡ true → mayCome (x .input .source) ≡ true
+goes-open x h = going-open (x .written) (accepted (x .tally .refusal)) (mayCome (x .input .source)) h
+
+module _ {x : Tallied} {block out : List ℕ} {r : Tallied} (s : Stands x) (g : takesMore x ≡ true) (t : TakesTurn x block out r) where
+  size : length (s .came) % 32768 ≡ 0
+  size = s .full (goes-open x g)
+
+  before : x .tally ≡ standing (s .came)
+  before = s .taken (open-whole (x .input .source) (goes-open x g))
+
+  pub stands-turn : Stands r
+  stands-turn =
+      record {
+        came = s .came ++ take (t .len) block;
+        reads = reads-then (s .reads) (t .fills .reads);
+        full = λ o. omega (arith, length-append (s .came) (take (t .len) block), length-take (t .len) block, t .fills .full o, t .room, size);
+        taken =
+            λ c.
+            t .taken c .tally ∙ ap (λ (y : Tally). tallyAfter y (take (t .len) block)) before
+            ∙ tally-more (s .came) (take (t .len) block) (lines-whole (s .came) size);
+        cut =
+            λ c.
+            t .kept c ∙ before
+            ∙ ap standing
+            (sym (full-front (s .came) (take (t .len) block) size
+            (omega (arith, length-take (t .len) block, t .room, t .fills .short (cut-shut (r .input .source) c)))));
+      }
+
+-- nothing is printed after a refusal
+text-none : (t : Tally) (bytes : List ℕ) → accepted (t .refusal) ≡ false → blockText t bytes ≡ []
+unfolding blockText
+text-none t bytes h = rw h
+
+-- it goes on no more
+module _ {x : Tallied} (s : Stands x) (g : takesMore x ≡ false) where
+  -- a bad line ended it
+  was-bad : (w a : Bool) → cond {A = Bool} w (cond a true false) false ≡ false → w ≡ true → a ≡ false
+  was-bad true true h e = absurd (true≢false h)
+  was-bad true false h e = refl
+  was-bad false a h e = absurd (true≢false (sym e))
+
+  after-bad : accepted (x .tally .refusal) ≡ false → mayCome (x .input .source) ≡ true → (rest : List ℕ)
+      → mondaysText (s .came ++ rest) ≡ mondaysText (s .came)
+  after-bad b o rest =
+      let t : x .tally ≡ standing (s .came) = s .taken (open-whole (x .input .source) o) in
+      text-more (s .came) rest (lines-whole (s .came) (s .full o))
+      ∙ ap (λ (l : List ℕ). mondaysText (s .came) ++ l) (text-none (standing (s .came)) rest (ap (λ (y : Tally). accepted (y .refusal)) (sym t) ∙ b))
+      ∙ append-nil (mondaysText (s .came))
+
+  nothing-more : (k : Source) → x .input .source ≡ k → x .written ≡ true → isCut k ≡ false → (rest : List ℕ) → MayFollow k rest
+      → mondaysText (s .came ++ rest) ≡ mondaysText (s .came)
+  nothing-more Open e w c rest m =
+      let o : mayCome (x .input .source) ≡ true = ap mayCome e in
+      after-bad
+      (was-bad (x .written) (accepted (x .tally .refusal))
+      (ap (λ (y : Bool). cond (x .written) (cond (accepted (x .tally .refusal)) y false) false) (sym o) ∙ g) w) o rest
+  nothing-more Over e w c rest m = ap (λ (l : List ℕ). mondaysText (s .came ++ l)) m ∙ ap mondaysText (append-nil (s .came))
+  nothing-more Failed e w c rest m = absurd (true≢false c)
+  nothing-more Endless e w c rest m = absurd (true≢false c)
+
+  pub stands-all : ShowsAll x
+  stands-all =
+      record {
+        came = s .came;
+        reads = s .reads;
+        taken = s .taken;
+        cut = s .cut;
+        ended = λ w c rest m. nothing-more (x .input .source) refl w c rest m;
+      }

@@ -1,27 +1,12 @@
 // Reads the moves file from standard input once, in blocks, and prints for every 64 consecutive lines the sum of their moves and the
 // greatest of them. The number of the first bad line ends it. A read or a write that fails is told on standard error, and nothing more is
 // printed.
-use libc::EINTR;
-use libc::STDIN_FILENO;
 use libc::STDOUT_FILENO;
+use program_input::Input;
 use program_moves::Tally;
 ghost use mathlib.Core.Path.{_≡_};
-ghost use Prim.Native.Nat.{_≤_};
 ghost use lib.ListN.{length, take};
-ghost use Rattle.mondays.specs.Program.{PrintedBlock, Stands};
-
-// What came of a read: how many bytes, whether more may come, and whether it failed.
-struct Arrived {
-    count: usize,
-    more: bool,
-    failed: bool,
-}
-
-// What came of reading a block: its bytes, and whether a read failed.
-struct Filled {
-    len: usize,
-    failed: bool,
-}
+ghost use Rattle.mondays.specs.Program.{takesMore, PrintedBlock, TakesTurn, ShowsAll};
 
 // What came of printing a block: the tally after it, the length of its text, and whether all of it was written.
 struct Shown {
@@ -30,49 +15,27 @@ struct Shown {
     written: bool,
 }
 
-// Reads once. More may come after a read that a signal interrupted.
-fn read_some(buffer: &mut [u8]) -> Arrived
-    ensures { λ r. ⌜ r .count ≤ length (now (buffer .exit)) ⌝ }
-{
-    let got = libc::read(STDIN_FILENO, buffer);
-    if got >= 0 {
-        let count = io::count(got, buffer);
-        return Arrived {
-            count,
-            more: count > 0,
-            failed: false,
-        };
-    }
-    let again = os::errno() == EINTR;
-    Arrived {
-        count: 0,
-        more: again,
-        failed: !again,
-    }
+// How far the file was taken: the tally of its blocks, the input as far as it was read, and whether all that they print was written.
+struct Tallied {
+    tally: Tally,
+    input: Input,
+    written: bool,
 }
 
-// Reads until the block is full, the input ends or a read fails. A proved loop has to end: it counts its turns down, from a number that no
-// run uses up; if one did, it would count as a read that failed.
-fn read_block(block: &mut [u8]) -> Filled
-    ensures { λ r. ⌜ r .len ≤ length (now (block .exit)) ⌝ }
+// Whether more is to be read.
+fn is_going_on(tallied: Tallied) -> bool
+    ensures { λ r. ⌜ r ≡ takesMore tallied ⌝ }
 {
-    let mut len = 0;
-    let mut turns = u64::MAX;
-    while turns > 0 && len < block.len() {
-        let came = read_some(&mut block[len..]);
-        len += came.count;
-        if !came.more {
-            return Filled {
-                len,
-                failed: came.failed,
-            };
-        }
-        turns -= 1;
+    if !tallied.written {
+        return false;
     }
-    Filled {
-        len,
-        failed: len < block.len(),
+    let tally = tallied.tally;
+    let refusal = tally.refusal;
+    if refusal.code != 0 {
+        return false;
     }
+    let input = tallied.input;
+    input.is_open()
 }
 
 // Takes the first len bytes of a block and prints what they add.
@@ -92,35 +55,56 @@ fn print_block(tally: Tally, block: &[u8; 32768], len: usize, out: &mut [u8; 983
     }
 }
 
-// Prints block after block, and answers the tally of what came.
-fn print_all(block: &mut [u8; 32768], out: &mut [u8; 98304]) -> Tally
-    ensures { λ r. ⌜ Stands r ⌝ }
+// Reads one block more and prints what it adds; nothing where reading was cut.
+fn turn(tallied: Tallied, block: &mut [u8; 32768], out: &mut [u8; 98304]) -> Tallied
+    ensures { λ r. ⌜ TakesTurn tallied (now (block .exit)) (now (out .exit)) r ⌝ }
 {
-    let mut tally = Tally::start();
-    let mut turns = u64::MAX;
-    while turns > 0 {
-        let filled = read_block(block);
-        if filled.failed {
-            os::fail(b"mondays: standard input");
-            return tally;
-        }
-        let shown = print_block(tally, block, filled.len, out);
-        tally = shown.tally;
-        if !shown.written {
-            os::fail(b"mondays: standard output");
-            return tally;
-        }
-        let refusal = tally.refusal;
-        if filled.len < 32768 || refusal.code != 0 {
-            return tally;
-        }
-        turns -= 1;
+    let input = tallied.input;
+    let filled = input.fill(block);
+    let next = filled.input;
+    let tally = tallied.tally;
+    if next.is_cut() {
+        return Tallied {
+            tally,
+            input: next,
+            written: true,
+        };
     }
-    tally
+    let shown = print_block(tally, block, filled.len, out);
+    let after = shown.tally;
+    Tallied {
+        tally: after,
+        input: next,
+        written: shown.written,
+    }
+}
+
+// Prints block after block: to the end of the input, to a bad line, or until a read or a write fails.
+fn print_all(block: &mut [u8; 32768], out: &mut [u8; 98304]) -> Tallied
+    ensures { λ r. ⌜ ShowsAll r ⌝ }
+{
+    let mut tallied = Tallied {
+        tally: Tally::start(),
+        input: Input::start(),
+        written: true,
+    };
+    while is_going_on(tallied) {
+        tallied = turn(tallied, block, out);
+    }
+    tallied
 }
 
 fn main() {
     let mut block = [0u8; 32768];
     let mut out = [0u8; 98304];
-    print_all(&mut block, &mut out);
+    let tallied = print_all(&mut block, &mut out);
+    let input = tallied.input;
+    if input.is_cut() {
+        os::fail(b"mondays: standard input");
+        return;
+    }
+    let written = tallied.written;
+    if !written {
+        os::fail(b"mondays: standard output");
+    }
 }

@@ -9,7 +9,7 @@ use lib.ListN.{length, replicate, length-replicate, getD-replicate, List·getD-e
 use Rattle.base_laws.specs.Bools.{lt-or-le, eq-or-ne}
 use Rattle.base_laws.specs.Below.{anyBelow, any-fails}
 use Rattle.base_sums.specs.Sums.{sumBelow, sum-zero, sum-next}
-use Rattle.settings_values.specs.Settings.{nodes, shards, Settings}
+use Rattle.settings_values.specs.Settings.{nodes, Settings}
 use Rattle.place_groups.specs.Placements.{groupMoves, Impossible}
 use Rattle.place_groups.specs.Chosen.{Chosen}
 use Rattle.search_theory.specs.Case.{Case}

@@ -12,7 +12,7 @@ use Rattle.base_laws.specs.Bools.{either, and-left, and-right, lt-or-le}
 use Rattle.base_laws.specs.Below.{count-cong}
 use Rattle.base_laws.specs.Masks.{has, has-below}
 use Rattle.base_sums.specs.Sums.{sumBelow, sum-cong, sum-past}
-use Rattle.settings_values.specs.Settings.{nodes, shards, setOf, subgroup, need, Settings}
+use Rattle.settings_values.specs.Settings.{nodes, shards, subgroup, need, Settings}
 use Rattle.place_groups.specs.Placements.{meetsSet, setsIn, groupValid, groupMoves}
 use Rattle.place_sheet.specs.Sheet.{sheetAt, sheetOf}
 use Rattle.place_sheet.specs.Laws.{sheet-entry, entry-stays, held-entry, member-entry}

@@ -7,7 +7,6 @@ use Prim.Native.Nat.{ℕ, _+_, _*_, _-_, _/_, _%_, _<_}
 use native.Mathlib.Omega.{arith}
 use lib.ListN.{getD, set, replicate, length-replicate, getD-replicate}
 use Rattle.base_laws.specs.Bools.{lt-or-le}
-use Rattle.base_laws.specs.Masks.{has}
 use Rattle.base_laws.specs.Tables.{tabulate, filled, getD-tabulate, length-filled, getD-filled, getD-filled-rest, filled-ext, fill-turn}
 use Rattle.base_sums.specs.Sums.{sum-cong}
 use Rattle.settings_values.specs.Settings.{Settings}

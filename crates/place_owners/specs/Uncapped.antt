@@ -19,7 +19,7 @@ use Rattle.base_sums.specs.Sums.{sumBelow, sum-cong}
 use Rattle.settings_values.specs.Settings.{nodes, sets, least, shards, setOf, shardWord, subgroup, need, cap, Settings}
 use Rattle.place_groups.specs.Placements.{meetsSet, setsIn, groupValid, groupMovesAt, groupMoves, groupStaysAt, groupStays, Impossible, Lowest, LeastMoves}
 use Rattle.place_groups.specs.Chosen.{ofGroup, NotLater, Chosen}
-use Rattle.search_theory.specs.Case.{Case, Valid, moves}
+use Rattle.search_theory.specs.Case.{Case, Valid}
 use Rattle.search_theory.specs.Lesser.{Exact, narrowed, narrow, narrow-moves, widen}
 use Rattle.place_owners.specs.Cases.{setIn, needIn, priceIn, CaseFor, group-shard, need-cap, set-small}
 use Rattle.place_owners.specs.Shards.{group-valid-of, shard-placed}

@@ -49,24 +49,6 @@ module _ (σ : List ℕ) (held : ℕ) (old : ℕ → ℕ) where
   pub sheet-entry : (s f : ℕ) → s < 16 → f < 16 → getD (getD (sheetOf σ held old) s []) f 0 ≡ sheetAt σ held old s f
   sheet-entry s f l k = ap (λ (r : List ℕ). getD r f 0) (sheet-row s l) ∙ getD-tabulate 16 (sheetAt σ held old s) f 0 k
 
-  -- an entry is at most 2, and 2 from S up
-  pub entry-most : (s f : ℕ) → sheetAt σ held old s f ≤ 2
-  unfolding sheetAt
-  entry-most s f = most (ltb s (shards σ) && ltb f (sets σ)) (meetsSet σ (bitAnd held (old s)) f) (meetsSet σ held f)
-    where
-      most : (a b c : Bool) → cond a (cond b 0 (cond c 1 2)) 2 ≤ 2
-      most true true c = omega arith
-      most true false true = omega arith
-      most true false false = omega arith
-      most false b c = omega arith
-
-  pub entry-shard : (s f : ℕ) → sheetAt σ held old s f < 2 → s < shards σ
-  unfolding sheetAt
-  entry-shard s f h =
-      ⊎-elim (λ l. l)
-      (λ l. absurd (let e : sheetAt σ held old s f ≡ 2 = ap (λ (b : Bool). cond (b && ltb f (sets σ)) (cond (meetsSet σ (bitAnd held (old s)) f) 0 (cond (meetsSet σ held f) 1 2)) 2) (le-ltb s (shards σ) l) in omega arith))
-      (lt-or-le s (shards σ))
-
   module _ (right : Settings σ) (s : ℕ) (l : s < shards σ) where
     -- no node is of a set from F up
     outside : (mask f : ℕ) → sets σ ≤ f → meetsSet σ mask f ≡ false

@@ -106,7 +106,7 @@ fn spare_at(settings: &[u32], g: u32, s: u32) -> u8
 }
 
 // What a move costs in subgroup g: one more than the nodes that its caps allow over its needs.
-pub fn move_cost(settings: &[u32], g: u32) -> u8
+fn move_cost(settings: &[u32], g: u32) -> u8
     requires { ⌜ Settings (now settings) ⌝ }
     ensures { λ r. ⌜ r ≡ moveCost (now (settings .entry)) g ⌝ }
 {

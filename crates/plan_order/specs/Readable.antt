@@ -3,7 +3,7 @@ use Prim.Native.Nat.{ℕ, _<_, _≤_}
 use mathlib.Core.Bool.{Bool, true, false, cond}
 use mathlib.Core.List.{List}
 use mathlib.Core.Path.{_≡_, ap, _∙_, subst⁻¹}
-use lib.ListN.{length, getD}
+use lib.ListN.{length}
 use Rattle.base_laws.specs.Below.{lowest-le}
 use Rattle.message_format.specs.Chain.{place, ends, following, row8}
 use Rattle.message_format.specs.Messages.{contentsOf}

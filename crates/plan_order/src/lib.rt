@@ -104,7 +104,7 @@ fn put_cuts(
 }
 
 // The contents of a node's order under a plan, given its cuts.
-pub fn order_contents(settings: &[u32], plan: Plan, cuts: &[u32; 32], node: Node) -> Contents
+fn contents_with(settings: &[u32], plan: Plan, cuts: &[u32; 32], node: Node) -> Contents
     requires { ⌜ Sizes (now settings) ⌝ }
     ensures { λ r. ⌜ ((d : List ℕ) → now (cuts .entry) ≡ cutsOf (now (settings .entry)) plan d (node .0) → r ≡ orderContents (now (settings .entry)) plan d (node .0)) ⌝ }
 {
@@ -152,7 +152,7 @@ fn cut_for(
 }
 
 // The cuts of a node under a plan: two words for each shard, zeros for those that it does not carry.
-pub fn cuts_of(settings: &[u32], plan: Plan, desk: &[u8], node: Node) -> [u32; 32]
+fn cuts_of(settings: &[u32], plan: Plan, desk: &[u8], node: Node) -> [u32; 32]
     requires { ⌜ Sizes (now settings) ⌝ }
     requires { ⌜ ReadableSlot (wordsIn (now desk)) (node .0) ⌝ }
     requires { ⌜ Holders (shards (now settings)) plan (wordsIn (now desk)) ⌝ }
@@ -183,4 +183,15 @@ pub fn cuts_of(settings: &[u32], plan: Plan, desk: &[u8], node: Node) -> [u32; 3
         s += 1;
     }
     cuts
+}
+
+// The contents of a node's order under a plan, from the reports that the desk holds.
+pub fn order_contents(settings: &[u32], plan: Plan, desk: &[u8], node: Node) -> Contents
+    requires { ⌜ Sizes (now settings) ⌝ }
+    requires { ⌜ ReadableSlot (wordsIn (now desk)) (node .0) ⌝ }
+    requires { ⌜ Holders (shards (now settings)) plan (wordsIn (now desk)) ⌝ }
+    ensures { λ r. ⌜ r ≡ orderContents (now (settings .entry)) plan (wordsIn (now (desk .entry))) (node .0) ⌝ }
+{
+    let cuts = cuts_of(settings, plan, desk, node);
+    contents_with(settings, plan, &cuts, node)
 }

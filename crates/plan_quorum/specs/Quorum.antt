@@ -8,7 +8,7 @@ use lib.Bits.{bitAnd}
 use lib.Dec.{eqb, leb, ltb}
 use borrow.Author.Tests.{lt-ltb, le-ltb, ne-eqb, eq-eqb}
 use Rattle.base_laws.specs.Below.{lowest}
-use Rattle.base_laws.specs.Masks.{has, count}
+use Rattle.base_laws.specs.Masks.{count}
 use Rattle.base_majority.specs.Majority.{LeastMajority, enough-is-more}
 use Rattle.settings_values.specs.Settings.{least, shards}
 use Rattle.base_ids.specs.declared.Node.{Node}

@@ -5,7 +5,7 @@ use report_views::Layout;
 use report_views::Quorum;
 use report_views::Reason;
 ghost use mathlib.Core.Path.{_≡_};
-ghost use Prim.Native.Nat.{_<_, _≤_, _+_};
+ghost use Prim.Native.Nat.{_≤_};
 ghost use Rattle.settings_values.specs.Settings.{Settings};
 ghost use Rattle.plan_quorum.specs.Quorum.{mostHeld, firstWithout, quorumBy};
 

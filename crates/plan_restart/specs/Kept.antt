@@ -9,7 +9,7 @@ use native.Mathlib.Omega.{arith}
 use lib.Dec.{eqb}
 use lib.Pow.{pow-mono}
 use borrow.Author.Tests.{eqb-true}
-use Rattle.base_laws.specs.Bools.{and-both, and-left, and-right, or-left, or-right, or-holds}
+use Rattle.base_laws.specs.Bools.{and-left, and-right, or-holds}
 use Rattle.base_laws.specs.Masks.{within, within-lt}
 use Rattle.settings_values.specs.Settings.{nodes, Settings}
 use Rattle.settings_values.specs.Laws.{range-high}
@@ -36,13 +36,6 @@ module _ (σ : List ℕ) (v : Layout) (t : Termination) (held : ℕ) where
         held-within = and-right ((nothingKept v t held || viewSound σ v) && termSound σ v t) (within (nodes σ) held) h;
       }
 
-  pub kept-test : KeptSound σ v t held → keptSound σ v t held ≡ true
-  unfolding keptSound
-  kept-test p =
-      and-both
-      (and-both (⊎-elim (λ e. or-left (viewSound σ v) e) (λ e. or-right (nothingKept v t held) e) (p .view-kept)) (p .term-sound))
-      (p .held-within)
-
   -- while no view is kept its number is 0, and so are its members
   pub nothing-number : nothingKept v t held ≡ true → v .number .0 ≡ 0
   unfolding nothingKept layoutBlank
@@ -52,10 +45,6 @@ module _ (σ : List ℕ) (v : Layout) (t : Termination) (held : ℕ) where
   unfolding nothingKept layoutBlank
   nothing-members h =
       eqb-true (v .members) 0 (and-right (eqb (v .number .0) 0) (eqb (v .members) 0) (and-left _ _ (and-left _ _ (and-left _ _ h))))
-
-  -- a view with a number is kept soundly
-  pub kept-view : KeptSound σ v t held → (v .number .0 ≡ 0 → ⊥) → viewSound σ v ≡ true
-  kept-view p other = ⊎-elim (λ e. absurd (other (nothing-number e))) (λ e. e) (p .view-kept)
 
   pub held-below : keptSound σ v t held ≡ true → held < 2 ^ nodes σ
   held-below h = within-lt (nodes σ) held (kept-given h .held-within)

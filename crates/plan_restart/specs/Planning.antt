@@ -56,6 +56,37 @@ module _ (v : Layout) (held : ℕ) (x : Seen) (p : Placed) where
   unfolding verdictBy
   verdict-none e = ap (λ (b : Bool). cond b (record { quorum = Met; plan = planBy v held x p }) (waiting (NoPlacement (p .group)))) e
 
+-- the verdict of a placement of the held nodes
+pub record PlacedBy (σ : List ℕ) (v : Layout) (held : ℕ) (x : Seen) (r : Verdict) : Type 0 where
+  pub placed : Placed
+  pub places : Placement σ held (maskAt v) placed
+  pub given : r ≡ verdictBy v held x placed
+
+-- what comes of what is seen: the first quorum condition that fails, and where none does the verdict of the placement
+pub record RestartsBy (σ : List ℕ) (v : Layout) (held : ℕ) (x : Seen) (r : Verdict) : Type 0 where
+  pub waits : (reason : Reason) → quorumBy σ v held (x .holders) ≡ Short reason → r ≡ waiting reason
+  pub places : quorumBy σ v held (x .holders) ≡ Met → PlacedBy σ v held x r
+
+-- q is the quorum of the holders
+module _ (σ : List ℕ) (v : Layout) (held : ℕ) (x : Seen) (q : Quorum) (given : q ≡ quorumBy σ v held (x .holders)) where
+  -- a condition fails
+  pub restart-waits : (reason : Reason) (r : Verdict) → q ≡ Short reason → r ≡ waiting reason → RestartsBy σ v held x r
+  restart-waits reason r f a =
+      let found : quorumBy σ v held (x .holders) ≡ Short reason = sym given ∙ f in
+      record {
+        waits = λ other h. a ∙ ap (λ (k : Reason). waiting k) (cc);
+        places = λ h. let z : _≡_ {A = ℕ} 0 1 = cc in absurd (omega arith);
+      }
+
+  -- none fails
+  pub restart-met : (p : Placed) (r : Verdict) → Placement σ held (maskAt v) p → q ≡ Met → r ≡ verdictBy v held x p → RestartsBy σ v held x r
+  restart-met p r w f a =
+      let found : quorumBy σ v held (x .holders) ≡ Met = sym given ∙ f in
+      record {
+        waits = λ reason h. let z : _≡_ {A = ℕ} 0 1 = cc in absurd (omega arith);
+        places = λ h. record { placed = p; places = w; given = a };
+      }
+
 -- nothing stands from S up
 tidy-of : (σ : List ℕ) (w : Layout) → ((s : ℕ) → shards σ ≤ s → maskAt w s ≡ 0) → layoutTidy σ w ≡ true
 unfolding layoutTidy
@@ -105,26 +136,15 @@ module _ (σ : List ℕ) (v : Layout) (t : Termination) (held : ℕ) (d : List �
     answers-by : Placement σ held (maskAt v) p → FindsPlan σ v t held d (verdictBy v held x p) ⊎ FindsNone σ held (verdictBy v held x p)
     answers-by w = ⊎-elim (λ f. inl (planned-by f (w .laid f))) (λ f. inr (stuck-by f (w .unplaced f))) (either (p .found))
 
-  -- q is the quorum of the holders
-  module _ (q : Quorum) (given : q ≡ quorumBy σ v held (x .holders)) where
-    quorum-is : q ≡ quorumOf σ v t held d
-    quorum-is = given ∙ quorum-seen σ v t held d x e right slots
+  quorum-is : quorumBy σ v held (x .holders) ≡ quorumOf σ v t held d
+  quorum-is = quorum-seen σ v t held d x e right slots
 
-    -- a condition fails
-    pub restart-waits : (reason : Reason) (r : Verdict) → q ≡ Short reason → r ≡ waiting reason → Restarts σ v t held d r
-    restart-waits reason r f a =
-        let found : quorumOf σ v t held d ≡ Short reason = sym quorum-is ∙ f in
-        record {
-          waits = λ other h. a ∙ ap (λ (k : Reason). waiting k) (cc);
-          answers = λ h. let z : _≡_ {A = ℕ} 0 1 = cc in absurd (omega arith);
-        }
-
-    -- none fails
-    pub restart-met : keptSound σ v t held ≡ true → (p : Placed) (r : Verdict) → Placement σ held (maskAt v) p → q ≡ Met
-        → r ≡ verdictBy v held x p → Restarts σ v t held d r
-    restart-met kept p r w f a =
-        let found : quorumOf σ v t held d ≡ Met = sym quorum-is ∙ f in
-        record {
-          waits = λ reason h. let z : _≡_ {A = ℕ} 0 1 = cc in absurd (omega arith);
-          answers = λ h. subst⁻¹ (λ (y : Verdict). FindsPlan σ v t held d y ⊎ FindsNone σ held y) a (answers-by kept found p w);
-        }
+  -- so what comes of it is what the held reports allow
+  pub restarts-told : keptSound σ v t held ≡ true → (r : Verdict) → RestartsBy σ v held x r → Restarts σ v t held d r
+  restarts-told kept r k =
+      record {
+        waits = λ reason h. k .waits reason (quorum-is ∙ h);
+        answers = λ h.
+            let w = k .places (quorum-is ∙ h) in
+            subst⁻¹ (λ (y : Verdict). FindsPlan σ v t held d y ⊎ FindsNone σ held y) (w .given) (answers-by kept h (w .placed) (w .places));
+      }

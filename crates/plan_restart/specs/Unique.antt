@@ -20,10 +20,9 @@ use Rattle.report_views.specs.declared.Plan.{Plan}
 use Rattle.report_views.specs.declared.Quorum.{Quorum}
 use Rattle.report_views.specs.declared.Quorum.the-variants.{Met, Short}
 use Rattle.report_views.specs.declared.Reason.the-variants.{NoPlacement}
-use Rattle.report_views.specs.declared.Standing.{Standing}
 use Rattle.report_views.specs.Reports.{maskAt}
 use Rattle.report_views.specs.Quorums.{quorumOf}
-use Rattle.report_views.specs.Standings.{holdersOf, targetsOf, standingOf}
+use Rattle.report_views.specs.Standings.{holdersOf, targetsOf, Standing, standingOf}
 use Rattle.report_views.specs.Soundness.{layoutTidy, allMoves}
 use Rattle.plan_restart.specs.declared.Verdict.{Verdict}
 use Rattle.plan_restart.specs.Restarts.{waiting, Plans, FindsPlan, FindsNone, Restarts}

@@ -7,16 +7,10 @@ use report_views::Layout;
 use report_views::Plan;
 use report_views::Quorum;
 use report_views::Reason;
-ghost use mathlib.Core.Bool.{true};
 ghost use mathlib.Core.Path.{_≡_};
-ghost use mathlib.Core.List.{List};
-ghost use Prim.Native.Nat.{ℕ, _^_, _<_, _≤_};
+ghost use Prim.Native.Nat.{_^_, _<_, _≤_};
 ghost use Rattle.settings_values.specs.Settings.{nodes, Settings};
 ghost use Rattle.report_views.specs.Empty.{noView, noPlan};
-ghost use Rattle.report_views.specs.Slots.{slotsOk};
-ghost use Rattle.report_views.specs.Soundness.{keptSound};
-ghost use Rattle.report_views.specs.declared.Termination.{Termination};
-ghost use Rattle.plan_seen.specs.Sight.{seenOf};
 ghost use Rattle.plan_restart.specs.Restarts as Restarts;
 ghost use Rattle.plan_restart.specs.Planning as Planning;
 
@@ -95,12 +89,12 @@ fn verdict_by(kept: Layout, held: u32, seen: Seen, placed: Placed) -> Verdict
     }
 }
 
-// A plan for the held nodes, or the first reason why there is none.
+// A plan for the held nodes, or the first reason why there is none, by what is seen.
 pub fn restart(settings: &[u32], kept: Layout, held: u32, seen: Seen) -> Verdict
     requires { ⌜ Settings (now settings) ⌝ }
     requires { ⌜ kept .number .0 ≤ 4294967294 ⌝ }
     requires { ⌜ held < 2 ^ nodes (now settings) ⌝ }
-    ensures { λ r. ⌜ ((t : Termination) → (d : List ℕ) → keptSound (now (settings .entry)) kept t held ≡ true → slotsOk (now (settings .entry)) kept t held d ≡ true → seen ≡ seenOf (now (settings .entry)) kept t held d → Restarts.Restarts (now (settings .entry)) kept t held d r) ⌝ }
+    ensures { λ r. ⌜ Planning.RestartsBy (now (settings .entry)) kept held seen r ⌝ }
 {
     let holders = seen.holders;
     let quorum = plan_quorum::quorum(settings, kept, held, holders);

@@ -1,16 +1,16 @@
 -- The walk over the held nodes: for each shard the best so far and its end. After the last node they are the holders and the
 -- targets.
-use Prim.Native.Nat.{ℕ, suc, _+_, _<_, _≤_}
+use Prim.Native.Nat.{ℕ, _+_, _<_, _≤_}
 use mathlib.Core.Bool.{Bool, true, false, cond, not, _&&_, _||_}
 use mathlib.Core.List.{List}
 use mathlib.Core.Logic.{_⊎_, inl, inr, ⊎-elim}
-use mathlib.Core.Path.{_≡_, refl, sym, ap, ap₂, _∙_, subst}
+use mathlib.Core.Path.{_≡_, refl, sym, ap, _∙_}
 use native.Mathlib.Numerals.{add-one}
 use native.Mathlib.Omega.{arith}
 use lib.Dec.{eqb, ltb}
 use lib.ListN.{length, getD, replicate, getD-replicate}
 use borrow.Author.Tests.{lt-ltb, le-ltb}
-use Rattle.base_laws.specs.Bools.{either, clash, and-both, and-left, lt-or-le}
+use Rattle.base_laws.specs.Bools.{either, and-both, lt-or-le}
 use Rattle.base_laws.specs.Masks.{has}
 use Rattle.base_laws.specs.Tables.{tabulate, tabulate-cong}
 use Rattle.base_ids.specs.declared.Node.{Node}
@@ -22,14 +22,14 @@ use Rattle.report_views.specs.declared.Layout.{Layout}
 use Rattle.report_views.specs.declared.Termination.{Termination}
 use Rattle.report_views.specs.Best.{Greatest, bestSoFar, bestWith, with-miss, best-start, best-step, best-all, best-le, best-given, best-found, best-lowest, best-unique, best-cong, best-so-far-le}
 use Rattle.report_views.specs.Logs.{start}
-use Rattle.report_views.specs.Meets.{SlotSound, slot-given, candidate-given, able-candidate}
+use Rattle.report_views.specs.Meets.{slot-given, candidate-given, able-candidate}
 use Rattle.report_views.specs.Quorums.{candidate, best, target, able, holder}
 use Rattle.report_views.specs.Reports.{viewOf, endAt, hasAt, maskAt, positionAt}
 use Rattle.report_views.specs.Slots.{slotOk, slotsOk}
 use Rattle.report_views.specs.Standings.{holdersOf, targetsOf}
-use Rattle.plan_seen.specs.Numbers.{asNumber, fromNumber, number-start, number-back, number-before}
+use Rattle.report_views.specs.Numbers.{asNumber, fromNumber, number-start, number-back, number-before}
 use Rattle.report_walk.specs.Pairs.{FitWords}
-use Rattle.plan_seen.specs.Nodes.{eligible, takesOver, HolderRenewed, RenewedBelow, end-small, end-has}
+use Rattle.plan_seen.specs.Nodes.{eligible, takesOver, RenewedBelow, end-small, end-has}
 
 -- node n is held and counts for shard s
 abbrev pub heldFor : Layout → Termination → ℕ → List ℕ → ℕ → ℕ → Bool
@@ -74,7 +74,7 @@ module _ (v : Layout) (t : Termination) (held : ℕ) (d : List ℕ) (whole : len
         holders = λ s m. getD-replicate 16 s 32 0 (omega arith) ∙ sym (best-start (heldFor v t held d s) (endAt d s) 32);
         tops = λ s m.
             getD-replicate 16 s 0 0 (omega arith)
-            ∙ sym (ap (λ (x : ℕ). asNumber (endAt d s x)) (getD-replicate 16 s 32 0 (omega arith)) ∙ ap asNumber (desk-past held d whole s) ∙ number-start);
+            ∙ sym (ap (λ (x : ℕ). asNumber (endAt d s x)) (getD-replicate 16 s 32 0 (omega arith)) ∙ ap asNumber (desk-past d whole s) ∙ number-start);
       }
 
   -- a turn of the walk, shard by shard
@@ -99,7 +99,7 @@ module _ (v : Layout) (t : Termination) (held : ℕ) (d : List ℕ) (whole : len
       ⊎-elim (λ m. end-small d h whole m words s)
       (λ m.
       let e : h ≡ 32 = omega arith in
-      let z : endAt d s h ≡ start = ap (endAt d s) e ∙ desk-past held d whole s in
+      let z : endAt d s h ≡ start = ap (endAt d s) e ∙ desk-past d whole s in
       let k : endAt d s h .k ≡ 0 = ap (λ (p : Position). p .k) z in omega arith)
       (lt-or-le h 32)
 

@@ -1,5 +1,4 @@
 -- What a desk tells of the held nodes, and how one walk over their slots comes to it.
-pub mod Numbers
 pub mod Sight
 pub mod Nodes
 pub mod Fold

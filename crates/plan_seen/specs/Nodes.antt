@@ -3,37 +3,32 @@ use Prim.Native.Nat.{ℕ, _+_, _*_, _/_, _%_, _<_, _≤_, zero-le}
 use mathlib.Core.Bool.{Bool, true, false, cond, not, _&&_, _||_}
 use mathlib.Core.List.{List}
 use mathlib.Core.Logic.{_⊎_, inl, inr, ⊎-elim}
-use mathlib.Core.Path.{_≡_, refl, sym, ap, ap₂, _∙_, subst, subst⁻¹}
+use mathlib.Core.Path.{_≡_, refl, sym, ap, _∙_, subst, subst⁻¹}
 use native.Mathlib.Omega.{arith}
 use lib.Arith.{lt-of-le-ne}
 use lib.Dec.{eqb, ltb}
 use lib.ListN.{length, getD, set, List·getD-eq-default}
 use lib.Seq.{getD-set-same, getD-set-other}
-use borrow.Author.Tests.{lt-ltb, eq-eqb, ne-eqb, eqb-true, eqb-false}
+use borrow.Author.Tests.{lt-ltb, ne-eqb, eqb-true, eqb-false}
 use Rattle.base_laws.specs.Bools.{either, clash, no-true, and-fails-left, and-fails-right, or-right, lt-or-le, eq-or-ne, not-of-true}
 use Rattle.base_laws.specs.Masks.{has}
 use Rattle.base_laws.specs.Tables.{tabulate, tabulate-ext, getD-tabulate, getD-tabulate-past, getD-part}
 use Rattle.base_ids.specs.declared.Position.{Position}
-use Rattle.base_ids.specs.declared.Refusal.{Refusal}
-use Rattle.base_ids.specs.Order.{notAfter}
-use Rattle.base_ids.specs.Refusals.{accepted}
 use Rattle.settings_values.specs.Settings.{shards}
-use Rattle.message_format.specs.declared.Form.the-variants.{Report}
-use Rattle.message_format.specs.Messages.{contentsOf, bodyOf, bodyWord, messageRefusal}
+use Rattle.message_format.specs.Messages.{contentsOf, bodyOf, bodyWord}
 use Rattle.message_format.specs.Chain.{place, following}
-use Rattle.message_format.specs.Records.{word1, word2}
+use Rattle.message_format.specs.Records.{word2}
 use Rattle.report_views.specs.declared.Layout.{Layout}
 use Rattle.report_views.specs.declared.Termination.{Termination}
-use Rattle.report_views.specs.Logs.{start, endOf, isStart, hasUpdate}
+use Rattle.report_views.specs.Logs.{endOf, isStart, hasUpdate}
 use Rattle.report_views.specs.Meets.{SlotSound, slot-sound, report-records, log-end}
 use Rattle.report_views.specs.Reports.{slot, reportOf, viewOf, endAt, hasAt, maskAt, positionAt}
 use Rattle.report_views.specs.RunLaws.{Runs, passed-runs, end-cases, has-cases, held-of}
 use Rattle.report_views.specs.Slots.{slotOk}
-use Rattle.report_views.specs.PositionTables.{positionWord}
 use Rattle.report_quick.specs.Accepts.{length-slot}
-use Rattle.report_ends.specs.Ends.{endsOf, word-view, word-k}
-use Rattle.plan_seen.specs.Numbers.{asNumber, fromNumber, number-start, number-back, number-before}
-use Rattle.report_walk.specs.Pairs.{FitWords, pairOf, pairsOf, pair-at, pair-low, pair-high}
+use Rattle.report_views.specs.Numbers.{asNumber, fromNumber, number-start, number-back, number-before}
+use Rattle.report_walk.specs.Updates.{RecordsAre}
+use Rattle.report_walk.specs.Pairs.{FitWords, pairsOf, pair-at, pair-low, pair-high}
 
 -- word k of a slot that is given as pairs
 unfoldable pub wordOfPairs : List ℕ → ℕ → ℕ
@@ -235,49 +230,39 @@ module _ (v : Layout) (t : Termination) (d : List ℕ) (n : ℕ) where
 
 -- ---- what is known of a node whose slot is a sound report of the kept view
 
--- the numbers of positions
-pub record NumbersOf (positions : List Position) (xs : List ℕ) : Type 0 where
-  pub number : (s : ℕ) → s < 16 → getD xs s 0 ≡ asNumber (getD positions s start)
-  pub small : (s : ℕ) → s < 16 → getD positions s start .k < 4294967296
-
 -- a desk whose slot n is given as pairs
 pub record SlotIs (d : List ℕ) (n : ℕ) (b : List ℕ) : Type 0 where
   pub whole : length d ≡ 16384
   pub words : FitWords d
   pub pairs : b ≡ pairsOf (slot d n)
 
--- the ends are numbers that the node's logs have, of each shard of which it is a member
-pub record EndsTold (σ : List ℕ) (v : Layout) (t : Termination) (d : List ℕ) (n : ℕ) (b ends : List ℕ) : Type 0 where
-  pub given : SlotIs d n b
+-- the ends are numbers that the node's logs have, of each shard of which it is a member; b has its records, up to the last
+pub record EndsTold (σ : List ℕ) (v : Layout) (t : Termination) (d : List ℕ) (n : ℕ) (b : List ℕ) (last : ℕ) (ends : List ℕ) : Type 0 where
+  pub whole : length d ≡ 16384
+  pub words : FitWords d
   pub below : n < 32
   pub sound : slotOk σ v t d n ≡ true
   pub kept : viewOf d n ≡ v .number .0
+  pub length-is : reportOf d n .len ≡ last
+  pub records : RecordsAre b (reportOf d n .body) last
   pub ends-are : (s : ℕ) → s < shards σ → has (maskAt v s) n ≡ true → getD ends s 0 ≡ asNumber (endAt d s n)
 
--- what an end's number x tells of an update p, whose number is y, in the log of shard s of a valid report w
-pub record EndTells (σ w : List ℕ) (s : ℕ) (p : Position) (x y : ℕ) : Type 0 where
-  pub valid : accepted (messageRefusal Report σ w) ≡ true
+-- what an end's number x tells of an update p, whose number is y, in the log of shard s of a report with this body
+pub record EndTells (b body : List ℕ) (last s : ℕ) (p : Position) (x y : ℕ) : Type 0 where
+  pub records : RecordsAre b body last
   pub number : fromNumber y ≡ p
-  pub same : x ≡ y → hasUpdate (contentsOf w .body) (contentsOf w .len) s p ≡ true
-  pub before : x < y → hasUpdate (contentsOf w .body) (contentsOf w .len) s p ≡ false
-  pub within : y ≤ x → x / 4294967296 ≡ y / 4294967296 → 1 ≤ y % 4294967296 → hasUpdate (contentsOf w .body) (contentsOf w .len) s p ≡ true
+  pub same : x ≡ y → hasUpdate body last s p ≡ true
+  pub before : x < y → hasUpdate body last s p ≡ false
+  pub within : y ≤ x → x / 4294967296 ≡ y / 4294967296 → 1 ≤ y % 4294967296 → hasUpdate body last s p ≡ true
 
-pub end-tells : (σ : List ℕ) (v : Layout) (t : Termination) (d : List ℕ) (n : ℕ) (b ends : List ℕ) → EndsTold σ v t d n b ends
+pub end-tells : (σ : List ℕ) (v : Layout) (t : Termination) (d : List ℕ) (n : ℕ) (b : List ℕ) (last : ℕ) (ends : List ℕ) → EndsTold σ v t d n b last ends
     → (s : ℕ) → s < 16 → s < shards σ → has (maskAt v s) n ≡ true → (p : Position) → p .k < 4294967296
-    → EndTells σ (wordsOfPairs b) s p (getD ends s 0) (asNumber p)
-unfolding reportOf fromNumber
-end-tells σ v t d n b ends told s few l member p small =
-    subst⁻¹ (λ (w : List ℕ). EndTells σ w s p (getD ends s 0) (asNumber p)) words
-    (subst⁻¹ (λ (x : ℕ). EndTells σ (slot d n) s p x (asNumber p)) (told .ends-are s l member) tells)
+    → EndTells b (reportOf d n .body) last s p (getD ends s 0) (asNumber p)
+unfolding fromNumber
+end-tells σ v t d n b last ends told s few l member p small =
+    subst (λ (x : ℕ). EndTells b (reportOf d n .body) x s p (getD ends s 0) (asNumber p)) (told .length-is)
+    (subst⁻¹ (λ (x : ℕ). EndTells b (reportOf d n .body) (reportOf d n .len) s p x (asNumber p)) (told .ends-are s l member) tells)
   where
-    g : SlotIs d n b
-    g = told .given
-
-    words : wordsOfPairs b ≡ slot d n
-    words =
-        ap wordsOfPairs (g .pairs)
-        ∙ words-back (slot d n) (length-slot d n (g .whole) (told .below)) (slot-words d n (g .words) (g .whole) (told .below))
-
     ok : SlotSound σ v t d n
     ok = slot-sound σ v t 0 d n (told .sound)
 
@@ -285,12 +270,12 @@ end-tells σ v t d n b ends told s few l member p small =
     end = endAt d s n
 
     end-k : end .k < 4294967296
-    end-k = end-small d n (g .whole) (told .below) (g .words) s
+    end-k = end-small d n (told .whole) (told .below) (told .words) s
 
-    tells : EndTells σ (slot d n) s p (asNumber end) (asNumber p)
+    tells : EndTells b (reportOf d n .body) (reportOf d n .len) s p (asNumber end) (asNumber p)
     tells =
         record {
-          valid = eq-eqb _ 0 (ap (λ (x : Refusal). x .code) (ok .valid));
+          records = subst⁻¹ (λ (x : ℕ). RecordsAre b (reportOf d n .body) x) (told .length-is) (told .records);
           number = number-back p small;
           same = λ e.
               let z : end ≡ p = sym (number-back end end-k) ∙ ap fromNumber e ∙ number-back p small in
@@ -306,15 +291,3 @@ end-tells σ v t d n b ends told s few l member p small =
             let ev : asNumber end / 4294967296 ≡ end .view .0 = ap (λ (x : Position). x .view .0) (number-back end end-k) in
             let ek : asNumber end % 4294967296 ≡ end .k = ap (λ (x : Position). x .k) (number-back end end-k) in
             run-has σ v t d n ok s (omega arith) p (omega arith) (omega arith) (omega arith)
-
--- the end of shard s's log by two words, as a number
-unfoldable pub endNumber : List ℕ → ℕ → ℕ
-endNumber words s = 4294967296 * getD words (2 * s) 0 + getD words (2 * s + 1) 0
-
-pub end-number : (b : List ℕ) (len : ℕ) (words : List ℕ) → words ≡ endsOf b len → (s : ℕ) → s < 16 → endNumber words s ≡ asNumber (endOf b s len)
-unfolding endNumber endsOf asNumber
-end-number b len words e s l =
-    rw e
-    (ap₂ (λ (x y : ℕ). 4294967296 * x + y)
-    (getD-tabulate 32 (positionWord (λ x. endOf b x len)) (2 * s) 0 (omega arith) ∙ word-view (λ x. endOf b x len) s)
-    (getD-tabulate 32 (positionWord (λ x. endOf b x len)) (2 * s + 1) 0 (omega arith) ∙ word-k (λ x. endOf b x len) s))

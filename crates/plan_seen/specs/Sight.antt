@@ -10,6 +10,7 @@ use borrow.Author.Tests.{lt-ltb}
 use Rattle.base_laws.specs.Below.{lowest-cong}
 use Rattle.base_laws.specs.Masks.{has}
 use Rattle.base_laws.specs.Tables.{tabulate, getD-tabulate}
+use Rattle.base_ids.specs.declared.View.{View}
 use Rattle.settings_values.specs.Settings.{shards, Settings}
 use Rattle.report_views.specs.Logs.{start}
 use Rattle.report_views.specs.PlanLaws.{holders-at}
@@ -24,13 +25,13 @@ use Rattle.plan_seen.specs.declared.Seen.{Seen}
 
 -- nothing
 unfoldable pub noneSeen : Seen
-noneSeen = record { ok = false; views = replicate 32 0; holders = replicate 16 (record { 0 = 0 }); targets = replicate 16 start }
+noneSeen = record { ok = false; views = replicate 32 (record { 0 = 0 }); holders = replicate 16 (record { 0 = 0 }); targets = replicate 16 start }
 
 -- the view that node n reported, if it is held, else 0
-unfoldable pub viewSeen : ℕ → List ℕ → ℕ → ℕ
-viewSeen held d n = cond (has held n) (viewOf d n) 0
+unfoldable pub viewSeen : ℕ → List ℕ → ℕ → View
+viewSeen held d n = record { 0 = cond (has held n) (viewOf d n) 0 }
 
-unfoldable pub viewsSeen : ℕ → List ℕ → List ℕ
+unfoldable pub viewsSeen : ℕ → List ℕ → List View
 viewsSeen held d = tabulate 32 (viewSeen held d)
 
 -- all, where every held node's slot is sound, else nothing
@@ -58,11 +59,11 @@ module _ (σ : List ℕ) (v : Layout) (t : Termination) (held : ℕ) (d : List �
   unfolding seenOf
   seen-targets h = ap (λ (y : Seen). y .targets) e ∙ rw h
 
-  pub seen-view : slotsOk σ v t held d ≡ true → (n : ℕ) → n < 32 → has held n ≡ true → getD (x .views) n 0 ≡ viewOf d n
+  pub seen-view : slotsOk σ v t held d ≡ true → (n : ℕ) → n < 32 → has held n ≡ true → getD (x .views) n (record { 0 = 0 }) .0 ≡ viewOf d n
   unfolding seenOf viewsSeen viewSeen
   seen-view h n l m =
       let same : x .views ≡ tabulate 32 (viewSeen held d) = ap (λ (y : Seen). y .views) e ∙ rw h in
-      ap (λ (k : List ℕ). getD k n 0) same ∙ getD-tabulate 32 (viewSeen held d) n 0 l ∙ rw m
+      ap (λ (k : List View). getD k n (record { 0 = 0 }) .0) same ∙ ap (λ (y : View). y .0) (getD-tabulate 32 (viewSeen held d) n (record { 0 = 0 }) l) ∙ rw m
 
   -- the quorum of the holders is that of the held reports
   module _ (right : Settings σ) where
@@ -92,10 +93,10 @@ module _ (σ : List ℕ) (v : Layout) (t : Termination) (held : ℕ) (d : List �
   seen-all h x a b c e = rw (h, sym a, sym b, sym c, sym e)
 
 module _ (held : ℕ) (d : List ℕ) (n : ℕ) where
-  pub view-unheld : has held n ≡ false → 0 ≡ viewSeen held d n
+  pub view-unheld : has held n ≡ false → record { 0 = 0 } ≡ viewSeen held d n
   unfolding viewSeen
   view-unheld h = rw h
 
-  pub view-held : has held n ≡ true → viewOf d n ≡ viewSeen held d n
+  pub view-held : has held n ≡ true → (x : ℕ) → x ≡ viewOf d n → record { 0 = x } ≡ viewSeen held d n
   unfolding viewSeen
-  view-held h = rw h
+  view-held h x e = rw (h, e)

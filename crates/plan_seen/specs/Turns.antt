@@ -11,7 +11,6 @@ use Rattle.base_laws.specs.Tables.{length-tabulate}
 use Rattle.settings_values.specs.Settings.{shards, Settings}
 use Rattle.report_views.specs.declared.Layout.{Layout}
 use Rattle.report_views.specs.declared.Termination.{Termination}
-use Rattle.report_views.specs.Slots.{slotOk}
 use Rattle.report_slots.specs.Desk.{nodeOk, unheld-ok, held-ok}
 use Rattle.report_walk.specs.Pairs.{FitWords, pairOf, pairsOf}
 use Rattle.plan_seen.specs.Fold.{SoFar, Stepped, so-far-none, so-far-unheld, so-far-held}

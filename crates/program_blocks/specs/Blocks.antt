@@ -108,6 +108,11 @@ needed-le : (b : List ℕ) → 4 ≤ length b → needed b ≤ 4 + 4 * blockCoun
 needed-le b h =
     ⊎-elim (λ m. let e = needed-short b h m in omega arith) (λ m. let e = needed-long b h m in omega arith) (lt-or-le (blockCount b) 513)
 
+-- once the count is there it says how many are needed
+pub needed-same : (b c : List ℕ) → 4 ≤ length b → needed (b ++ c) ≡ needed b
+unfolding needed
+needed-same b c h = rw (count-append b c h, le-ltb (length b) 4 h, le-ltb (length (b ++ c)) 4 (omega (arith, length-append b c)))
+
 -- more bytes, though no more than are known to be needed: no more are there than are needed then
 pub needed-more : (b c : List ℕ) → length b < needed b → length (b ++ c) ≤ needed b → length (b ++ c) ≤ needed (b ++ c)
 unfolding needed
@@ -120,10 +125,7 @@ needed-more b c h l = ⊎-elim few many (lt-or-le (length b) 4)
     few m = omega (arith, needed-few b m, needed-ends (b ++ c) .0)
 
     many : 4 ≤ length b → length (b ++ c) ≤ needed (b ++ c)
-    many m =
-        let e : needed (b ++ c) ≡ needed b =
-        rw (count-append b c m, le-ltb (length b) 4 m, le-ltb (length (b ++ c)) 4 (omega (arith, size))) in
-        omega arith
+    many m = omega (arith, needed-same b c m)
 
 -- ---- the blocks of an input whose first block is there
 

@@ -1,2 +1,3 @@
--- Standard input as far as it was read, and what a read adds.
+-- Standard input as far as it was read, what a read adds, and blocks that reads fill.
 pub mod Inputs
+pub mod Filling

@@ -1,11 +1,11 @@
-// Standard input, as far as it was read. The fields of an Input are its own: only `start` and `read` make one, so whoever holds an Input
-// that is at its end, or that failed, has read.
+// Standard input, as far as it was read: the one way in which the programs read. The fields of an Input are its own: only `start`, `read` and
+// `fill` make one, so whoever holds an Input that is at its end, or that failed, has read.
 use libc::EINTR;
 use libc::STDIN_FILENO;
 ghost use mathlib.Core.Path.{_≡_};
-ghost use Prim.Native.Nat.{_≤_};
-ghost use lib.ListN.{length};
-ghost use Rattle.program_input.specs.Inputs.{unread, afterBytes, afterFailure, mayCome, isCut, readTo, ReadsOn, most};
+ghost use Prim.Native.Nat.{_≤_, _<_, max};
+ghost use lib.ListN.{length, take};
+ghost use Rattle.program_input.specs.Inputs.{unread, afterBytes, afterFailure, mayCome, isCut, readTo, most, counted, ReadsOn, Fills};
 
 // What may still come.
 pub enum Source {
@@ -15,20 +15,27 @@ pub enum Source {
     Over,
     // a read failed
     Failed,
-    // a read more than can be counted
+    // more than can be counted came
     Endless,
 }
 
-// Standard input: how many bytes came in all, how many reads were made, and how many bytes the last of them gave.
+// Standard input: how many bytes came in all and their sum, how many reads were made, and how many bytes the last of them gave.
 pub struct Input {
     total: u64,
+    sum: u64,
     reads: u64,
     got: usize,
     source: Source,
 }
 
-// Bytes and reads are counted so far: one read more fits.
-const MOST: u64 = 18446744073709547519;
+// What came of filling a block: the input after it, and how many bytes of the block are filled.
+pub struct Filled {
+    pub input: Input,
+    pub len: usize,
+}
+
+// Bytes, their sum and reads are counted so far: one read more fits.
+const MOST: u64 = 18446744069414584320;
 
 // What may come after a read that gave n bytes.
 fn after_bytes(n: usize) -> Source
@@ -50,15 +57,29 @@ fn after_failure(interrupted: bool) -> Source
     Source::Failed
 }
 
-// The input after one read more, which gave n bytes.
-fn read_to(x: Input, n: usize, source: Source) -> Input
-    requires { ⌜ (x .total ≤ most) × (x .reads ≤ most) × (n ≤ 4096) ⌝ }
-    ensures { λ r. ⌜ r ≡ readTo x n source ⌝ }
+fn long(x: u32) -> u64
+    ensures { λ r. ⌜ r ≡ x ⌝ }
 {
+    x as u64
+}
+
+fn greater(a: u64, b: u64) -> u64
+    ensures { λ r. ⌜ r ≡ max a b ⌝ }
+{
+    if a < b { b } else { a }
+}
+
+// The input after one read more, which gave these bytes.
+fn read_to(x: Input, bytes: &[u8], source: Source) -> Input
+    requires { ⌜ (counted x ≤ most) × (length (now bytes) ≤ 32768) ⌝ }
+    ensures { λ r. ⌜ r ≡ readTo x (now (bytes .entry)) source ⌝ }
+{
+    let sum = long(program_sums::sum_of(bytes));
     Input {
-        total: x.total + n as u64,
+        total: x.total + bytes.len() as u64,
+        sum: x.sum + sum,
         reads: x.reads + 1,
-        got: n,
+        got: bytes.len(),
         source,
     }
 }
@@ -70,6 +91,7 @@ impl Input {
     {
         Input {
             total: 0,
+            sum: 0,
             reads: 0,
             got: 0,
             source: Source::Open,
@@ -110,29 +132,37 @@ impl Input {
     }
 
     // Reads once more.
-    pub fn read(self, buffer: &mut [u8; 4096]) -> Input
-        ensures { λ r. ⌜ ReadsOn self r ⌝ }
-        ensures { λ _. ⌜ length (now (buffer .exit)) ≡ 4096 ⌝ }
+    pub fn read(self, buffer: &mut [u8]) -> Input
+        requires { ⌜ (0 < length (now buffer)) × (length (now buffer) ≤ 32768) ⌝ }
+        ensures { λ r. ⌜ r .got ≤ length (now (buffer .exit)) ⌝ }
+        ensures { λ r. ⌜ ReadsOn self (take (r .got) (now (buffer .exit))) r ⌝ }
     {
+        if MOST < greater(self.total, greater(self.sum, self.reads)) {
+            return Input {
+                source: Source::Endless,
+                got: 0,
+                ..self
+            };
+        }
         let answer = libc::read(STDIN_FILENO, buffer);
-        if MOST < self.total {
-            return Input {
-                source: Source::Endless,
-                got: 0,
-                ..self
-            };
-        }
-        if MOST < self.reads {
-            return Input {
-                source: Source::Endless,
-                got: 0,
-                ..self
-            };
-        }
         if answer < 0 {
-            return read_to(self, 0, after_failure(os::errno() == EINTR));
+            return read_to(self, &buffer[0..0], after_failure(os::errno() == EINTR));
         }
         let n = io::count(answer, buffer);
-        read_to(self, n, after_bytes(n))
+        read_to(self, &buffer[0..n], after_bytes(n))
+    }
+
+    // Reads until the block is full, the input is at its end or reading was cut.
+    pub fn fill(self, block: &mut [u8]) -> Filled
+        requires { ⌜ (0 < length (now block)) × (length (now block) ≤ 32768) ⌝ }
+        ensures { λ r. ⌜ Fills self (now (block .exit)) (r .input) (r .len) ⌝ }
+    {
+        let mut input = self;
+        let mut len = 0;
+        while input.is_open() && len < block.len() {
+            input = input.read(&mut block[len..]);
+            len += input.got();
+        }
+        Filled { input, len }
     }
 }

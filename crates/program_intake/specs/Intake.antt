@@ -1,13 +1,18 @@
 -- The bytes of a block that is coming in. Definitions, then their laws: what has come, and that it is no more than the block takes.
-use Prim.Native.Nat.{ℕ, _+_, _-_, _≤_, _<_, min}
-use mathlib.Core.List.{List, _++_, append-assoc, append-nil}
+use Prim.Native.Nat.{ℕ, suc, _+_, _-_, _≤_, _<_, min}
+use mathlib.Core.Bool.{cond}
+use mathlib.Core.List.{List, [], _∷_, _++_, append-assoc, append-nil}
+use mathlib.Core.Logic.{⊎-elim}
 use mathlib.Core.Path.{_≡_, refl, sym, ap, ap₂, _∙_, subst}
 use native.Mathlib.Omega.{arith}
-use lib.ListN.{length, take, drop, length-append, length-take, length-drop, drop-of-length-le}
-use lib.Seq.{take-at, take-length, length-take-le}
+use lib.Dec.{ltb}
+use lib.ListN.{length, take, drop, take-append-drop, length-append, length-take, length-drop, drop-of-length-le}
+use lib.Seq.{take-at, take-length, length-take-le, drop-append-add, drop-drop}
+use borrow.Author.Tests.{lt-ltb, le-ltb}
 use borrow.Rule.Slice.PartMut.{putMid}
+use Rattle.base_laws.specs.Bools.{lt-or-le}
 use Rattle.base_laws.specs.Tables.{part-front, replaced, length-replaced, put-replaced}
-use Rattle.program_blocks.specs.Blocks.{needed, needed-ends, needed-more}
+use Rattle.program_blocks.specs.Blocks.{needed, needed-ends, needed-few, needed-same, needed-more}
 
 -- `at` bytes of a block are there, which lacks more, and the memory for it has room
 pub record Lacks (bytes : List ℕ) (at : ℕ) : Type 0 where
@@ -19,7 +24,85 @@ pub record BytesCome (bytes : List ℕ) (at : ℕ) (fed : List ℕ) (from : ℕ)
   pub reached : r ≡ at + min (needed (take at bytes) - at) (length fed - from)
   pub stored : after ≡ replaced at (take (r - at) (drop from fed)) bytes
 
+-- the place of the next byte, where those of a block below `at` are there: `at`, or 0 where the block is whole
+unfoldable pub nextPlace : List ℕ → ℕ → ℕ
+nextPlace bytes at = cond (ltb at (needed (take at bytes))) at 0
+
+-- the memory for blocks after bytes are fed, the first of them at place `at`: each stands at its place in its block, all other bytes are as they were
+unfoldable pub bytesLaid : ℕ → List ℕ → List ℕ → List ℕ
+bytesLaid at bytes [] = bytes
+bytesLaid at bytes (b ∷ fed) = bytesLaid (nextPlace (replaced at (b ∷ []) bytes) (at + 1)) (replaced at (b ∷ []) bytes) fed
+
 -- ---- laws
+
+pub placed-waits : (bytes : List ℕ) (at : ℕ) → at < needed (take at bytes) → nextPlace bytes at ≡ at
+unfolding nextPlace
+placed-waits bytes at h = rw (lt-ltb at (needed (take at bytes)) h)
+
+pub placed-whole : (bytes : List ℕ) (at : ℕ) → needed (take at bytes) ≤ at → nextPlace bytes at ≡ 0
+unfolding nextPlace
+placed-whole bytes at h = rw (le-ltb at (needed (take at bytes)) h)
+
+pub laid-none : (at : ℕ) (bytes : List ℕ) → bytesLaid at bytes [] ≡ bytes
+unfolding bytesLaid
+laid-none at bytes = refl
+
+none-replaced : (at : ℕ) (bytes : List ℕ) → replaced at [] bytes ≡ bytes
+unfolding replaced
+none-replaced at bytes = ap (λ (k : ℕ). take at bytes ++ drop k bytes) (let z : at + 0 ≡ at = omega arith in z) ∙ take-append-drop at bytes
+
+-- bytes of one block, and others
+module _ (rest : List ℕ) where
+  -- one byte, and others of the same block
+  module _ (bytes : List ℕ) (at b : ℕ) (l : at < length bytes) where
+    abbrev one : List ℕ
+    one = replaced at (b ∷ []) bytes
+
+    one-front : take (at + 1) one ≡ take at bytes ++ (b ∷ [])
+    unfolding replaced
+    one-front =
+        ap (take (at + 1)) (sym (append-assoc (take at bytes) (b ∷ []) (drop (at + 1) bytes)))
+        ∙ take-at (take at bytes ++ (b ∷ [])) (drop (at + 1) bytes) (at + 1) (length-append (take at bytes) (b ∷ []) ∙ omega (arith, length-take-le at bytes (omega arith)))
+
+    one-then : (p : List ℕ) → replaced (at + 1) p one ≡ replaced at (b ∷ p) bytes
+    unfolding replaced
+    one-then p =
+        let front : length (take at bytes ++ (b ∷ [])) ≡ at + 1 = length-append (take at bytes) (b ∷ []) ∙ omega (arith, length-take-le at bytes (omega arith)) in
+        let gone : drop (at + 1 + length p) (take at bytes ++ ((b ∷ []) ++ drop (at + 1) bytes)) ≡ drop (at + suc (length p)) bytes =
+        ap (drop (at + 1 + length p)) (sym (append-assoc (take at bytes) (b ∷ []) (drop (at + 1) bytes)))
+        ∙ ap (λ (k : ℕ). drop (k + length p) ((take at bytes ++ (b ∷ [])) ++ drop (at + 1) bytes)) (sym front)
+        ∙ drop-append-add (take at bytes ++ (b ∷ [])) (drop (at + 1) bytes) (length p)
+        ∙ drop-drop (length p) (at + 1) bytes
+        ∙ ap (λ (k : ℕ). drop k bytes) (let z : at + 1 + length p ≡ at + suc (length p) = omega arith in z) in
+        ap₂ (λ (x y : List ℕ). x ++ (p ++ y)) one-front gone ∙ append-assoc (take at bytes) (b ∷ []) (p ++ drop (at + suc (length p)) bytes)
+
+    one-needed : at + 2 ≤ needed (take at bytes) → needed (take (at + 1) one) ≡ needed (take at bytes)
+    one-needed h =
+        let size : length (take at bytes) ≡ at = length-take-le at bytes (omega arith) in
+        let more : length (take at bytes ++ (b ∷ [])) ≡ at + 1 = length-append (take at bytes) (b ∷ []) ∙ omega (arith, size) in
+        ap needed one-front
+        ∙ ⊎-elim (λ f. let e = needed-few (take at bytes) (omega arith) in needed-few (take at bytes ++ (b ∷ [])) (omega arith) ∙ sym e)
+        (λ m. needed-same (take at bytes) (b ∷ []) (omega arith)) (lt-or-le at 4)
+
+  -- bytes of a block that lacks as many or more
+  pub laid-part : (part bytes : List ℕ) (at : ℕ) → at < needed (take at bytes) → at + length part ≤ needed (take at bytes) → needed (take at bytes) ≤ length bytes
+      → bytesLaid at bytes (part ++ rest) ≡ bytesLaid (nextPlace (replaced at part bytes) (at + length part)) (replaced at part bytes) rest
+  unfolding bytesLaid
+  laid-part [] bytes at h l m =
+      let same : replaced at [] bytes ≡ bytes = none-replaced at bytes in
+      let here : at + 0 ≡ at = omega arith in
+      ap₂ (λ (k : ℕ) (x : List ℕ). bytesLaid k x rest) (sym (ap₂ nextPlace same here ∙ placed-waits bytes at h)) (sym same)
+  laid-part (b ∷ []) bytes at h l m = refl
+  laid-part (b ∷ (c ∷ p)) bytes at h l m =
+      let fits : at < length bytes = omega arith in
+      let next : List ℕ = replaced at (b ∷ []) bytes in
+      let known : needed (take (at + 1) next) ≡ needed (take at bytes) = one-needed bytes at b fits (omega arith) in
+      let size : length next ≡ length bytes = length-replaced at (b ∷ []) bytes (omega arith) in
+      let all : replaced (at + 1) (c ∷ p) next ≡ replaced at (b ∷ (c ∷ p)) bytes = one-then bytes at b fits (c ∷ p) in
+      let place : at + 1 + length (c ∷ p) ≡ at + length (b ∷ (c ∷ p)) = omega arith in
+      ap (λ (k : ℕ). bytesLaid k next ((c ∷ p) ++ rest)) (placed-waits next (at + 1) (omega (arith, known)))
+      ∙ laid-part (c ∷ p) next (at + 1) (omega (arith, known)) (omega (arith, known)) (omega (arith, known, size))
+      ∙ ap₂ (λ (k : ℕ) (x : List ℕ). bytesLaid (nextPlace x k) x rest) place all
 
 pub lacks-few : (bytes : List ℕ) (at : ℕ) → Lacks bytes at → at < 2056
 lacks-few bytes at l = omega (arith, l .coming, needed-ends (take at bytes) .1)
@@ -99,3 +182,12 @@ module _ (bytes : List ℕ) (at : ℕ) (fed : List ℕ) (from : ℕ) (after : Li
   -- no more than were fed
   pub gathered-fed : from ≤ length fed → from + (r - at) ≤ length fed
   gathered-fed h = omega (arith, g .reached)
+
+  -- the memory for blocks, before and after
+  pub gathered-laid : bytesLaid at bytes (drop from fed) ≡ bytesLaid (nextPlace after r) after (drop (from + (r - at)) fed)
+  unfolding part
+  gathered-laid =
+      let end : at + length part ≡ r = omega (arith, part-size, g .reached) in
+      ap (bytesLaid at bytes) (sym (take-append-drop (r - at) (drop from fed)) ∙ ap (λ (l : List ℕ). part ++ l) (drop-drop (r - at) from fed))
+      ∙ laid-part (drop (from + (r - at)) fed) part bytes at (lacks .coming) (omega (arith, end, g .reached, lacks .coming)) (omega (arith, lacks .room, needed-ends (take at bytes) .1))
+      ∙ ap₂ (λ (k : ℕ) (x : List ℕ). bytesLaid (nextPlace x k) x (drop (from + (r - at)) fed)) end (sym (g .stored))

@@ -4,6 +4,7 @@ use mathlib.Core.Bool.{Bool, true, false}
 use mathlib.Core.List.{List, [], _++_}
 use mathlib.Core.Path.{_≡_}
 use lib.ListN.{length, take, replicate}
+use Rattle.settings_values.specs.Settings.{Settings}
 use Rattle.base_ids.specs.declared.Refusal.{Refusal}
 use Rattle.state_planner.specs.declared.State.{State}
 use Rattle.state_planner.specs.States.{fresh}
@@ -47,36 +48,40 @@ abbrev pub pendingBytes : Run → ℕ → Run
 pendingBytes run n =
     record { stage = run .stage; state = run .state; settings = run .settings; words = run .words; pending = n }
 
+-- the settings of a run are as many words as it says, and right where it is open
+abbrev pub RightSettings : Run → Type 0
+RightSettings run = (run .words ≤ length (run .settings)) × (run .stage ≡ Open → Settings (take (run .words) (run .settings)))
+
 -- the block that is coming in is not whole, and the memory for it has room
 pub record ReadyRun (run : Run) (bytes : List ℕ) : Type 0 where
   pub room : length bytes ≡ 2056
   pub coming : run .pending < needed (take (run .pending) bytes)
-  pub few : run .words ≤ length (run .settings)
+  pub settled : RightSettings run
 
 -- the bytes below `end` are of the block that is coming in, and no more than it takes
 pub record BytesGathered (run : Run) (bytes : List ℕ) (end : ℕ) : Type 0 where
   pub room : length bytes ≡ 2056
   pub within : end ≤ needed (take end bytes)
-  pub few : run .words ≤ length (run .settings)
+  pub settled : RightSettings run
 
 -- the bytes below `end` are of one block, its count among them
 pub record Comes (run : Run) (bytes : List ℕ) (end : ℕ) : Type 0 where
   pub room : length bytes ≡ 2056
   pub count : 4 ≤ end
   pub within : end ≤ length bytes
-  pub few : run .words ≤ length (run .settings)
+  pub settled : RightSettings run
 
 -- a block w is taken
 pub record Takes (run : Run) (d w : List ℕ) (r : Run) (e : List ℕ) : Type 0 where
   pub leads : progress r e ≡ taking (progress run d) w
   pub pending : r .pending ≡ run .pending
-  pub few : r .words ≤ length (r .settings)
+  pub settled : RightSettings r
 
 -- the first block w is taken, beside any desk
 pub record Opens (run : Run) (w : List ℕ) (r : Run) : Type 0 where
   pub leads : (d : List ℕ) → progress r d ≡ opened d w
   pub pending : r .pending ≡ run .pending
-  pub few : r .words ≤ length (r .settings)
+  pub settled : RightSettings r
 
 -- bytes are fed: whatever follows, the run comes to the same
 pub record Feeds (run : Run) (d bytes fed : List ℕ) (r : Run) (e after : List ℕ) : Type 0 where
@@ -86,7 +91,7 @@ pub record Feeds (run : Run) (d bytes fed : List ℕ) (r : Run) (e after : List 
 -- the input is at its end
 pub record Closes (run : Run) (d bytes : List ℕ) (r : Run) (e : List ℕ) : Type 0 where
   pub leads : progress r e ≡ ahead run d bytes []
-  pub few : r .words ≤ length (r .settings)
+  pub settled : RightSettings r
 
 -- the text that is printed is put into the bytes `out`
 pub record Writes (p : Progress) (out after : List ℕ) (n : ℕ) : Type 0 where

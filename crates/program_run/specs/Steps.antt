@@ -5,7 +5,7 @@ use mathlib.Core.Logic.{⊎-elim}
 use mathlib.Core.List.{List, [], _++_, append-assoc}
 use mathlib.Core.Path.{_≡_, refl, sym, ap, ap₂, _∙_, subst}
 use native.Mathlib.Omega.{arith}
-use lib.ListN.{length, take, drop, length-take}
+use lib.ListN.{length, take, drop, length-take, drop-of-length-le}
 use lib.Seq.{take-all, take-add, length-take-le}
 use Rattle.base_laws.specs.Bools.{either}
 use Rattle.base_laws.specs.Tables.{part-front, part-end, padded, length-padded, front-padded}
@@ -27,7 +27,7 @@ use Rattle.message_format.specs.Messages.{contentsOf}
 use Rattle.program_blocks.specs.declared.Block.{Block}
 use Rattle.program_blocks.specs.Blocks.{blocks, needed, wholeWords, length-whole, needed-ends}
 use Rattle.program_blocks.specs.Held.{held}
-use Rattle.program_intake.specs.Intake.{Lacks, BytesCome, gathered-size, gathered-come, gathered-within, gathered-some, gathered-fed}
+use Rattle.program_intake.specs.Intake.{Lacks, BytesCome, nextPlace, bytesLaid, placed-waits, placed-whole, laid-none, gathered-laid, gathered-size, gathered-come, gathered-within, gathered-some, gathered-fed}
 use Rattle.program_text.specs.Text.{numberLine}
 use Rattle.program_lines.specs.Lines.{number-length}
 use Rattle.program_text.specs.Puts.{Puts}
@@ -37,7 +37,17 @@ use Rattle.program_run.specs.declared.Stage.the-variants.{Opening, Open,
 use Rattle.program_run.specs.declared.Run.{Run}
 use Rattle.program_run.specs.Runs.{Progress, Underway, Ended, opened, told, taking, after, Prints}
 use Rattle.program_run.specs.RunLaws.{after-block, after-cut, after-none}
-use Rattle.program_run.specs.Machine.{progress, progressAt, closedBy, pendingBytes, ahead, ReadyRun, BytesGathered, Comes, Takes, Opens, Feeds, Closes, Writes}
+use Rattle.program_run.specs.Machine.{RightSettings, progress, progressAt, closedBy, pendingBytes, ahead, ReadyRun, BytesGathered, Comes, Takes, Opens, Feeds, Closes, Writes}
+
+-- ---- the settings of a run
+
+-- a run that is ended by a refusal is not open
+closed-settled : (run : Run) (x : Refusal) → RightSettings run → RightSettings (closedBy run x)
+closed-settled run x s = (s .0, λ h. absurd (let z : _≡_ {A = ℕ} 0 1 = cc in omega arith))
+
+-- the settings as they are lent
+pub settled-right : (run : Run) → RightSettings run → run .stage ≡ Open → Settings (take (run .words - 0) (run .settings))
+settled-right run s h = subst Settings (sym (part-front (run .words) (run .settings))) (s .1 h)
 
 -- ---- a report
 
@@ -86,7 +96,7 @@ module _ (run : Run) (d : List ℕ) where
   progress-is s h = ap (λ (k : Stage). progressAt k (take (run .words) (run .settings)) (run .state) d) h
 
   -- a report that is accepted, and one that is refused
-  module _ (w : List ℕ) (o : Outcome) (e : List ℕ) (h : run .stage ≡ Open) (few : run .words ≤ length (run .settings))
+  module _ (w : List ℕ) (o : Outcome) (e : List ℕ) (h : run .stage ≡ Open) (settled : RightSettings run)
       (given : o ≡ reported (take (run .words - 0) (run .settings)) (run .state) d w)
       (desk : e ≡ deskAfter (take (run .words - 0) (run .settings)) (run .state) d w) where
     own : o ≡ reported (take (run .words) (run .settings)) (run .state) d w
@@ -107,7 +117,7 @@ module _ (run : Run) (d : List ℕ) where
               (desk ∙ ap (λ (σ : List ℕ). deskAfter σ (run .state) d w) (part-front (run .words) (run .settings)))
               ∙ sym (told-next ∙ told-accepted (take (run .words) (run .settings)) (run .state) d w (sym (ap (λ (p : Outcome). p .answer) own) ∙ a));
           pending = refl;
-          few = few;
+          settled = settled;
         }
 
     pub report-refused : (x : Refusal) (r : Run) → o .answer ≡ Answer.Refused x → r ≡ closedBy run x → Takes run d w r e
@@ -120,7 +130,7 @@ module _ (run : Run) (d : List ℕ) where
               (desk ∙ desk-refused (take (run .words - 0) (run .settings)) (run .state) d w x (sym (ap (λ (p : Outcome). p .answer) given) ∙ a))
               ∙ sym (told-next ∙ told-refused (take (run .words) (run .settings)) (run .state) d w x (sym (ap (λ (p : Outcome). p .answer) own) ∙ a));
           pending = refl;
-          few = few;
+          settled = closed-settled run x settled;
         })
 
 -- ---- the settings
@@ -129,23 +139,21 @@ pub settings-size : (w : List ℕ) → settingsOk w ≡ true → length w ≤ 52
 settings-size w h = let g = settings-give w h in omega (arith, g .sizes .words, g .sizes .nodes-to, g .sizes .shards-to)
 
 module _ (run : Run) (w : List ℕ) where
-  pub open-refused : (r : Run) → run .words ≤ length (run .settings) → settingsOk w ≡ false → r ≡ closedBy run (refused 2) → Opens run w r
+  pub open-refused : (r : Run) → RightSettings run → settingsOk w ≡ false → r ≡ closedBy run (refused 2) → Opens run w r
   unfolding progressAt opened
-  open-refused r few h c =
-      subst (λ (s : Run). Opens run w s) (sym c) (record { leads = λ d. rw h; pending = refl; few = few })
+  open-refused r settled h c =
+      subst (λ (s : Run). Opens run w s) (sym c) (record { leads = λ d. rw h; pending = refl; settled = closed-settled run (refused 2) settled })
 
   pub open-accepted : (x : State) (table : List ℕ) → settingsOk w ≡ true → x ≡ fresh → table ≡ padded 52 w
       → Opens run w (record { stage = Open; state = x; settings = table; words = length w; pending = run .pending })
   unfolding progressAt opened
   open-accepted x table h e f =
       let size : length w ≤ 52 = settings-size w h in
+      let same : take (length w) table ≡ w = ap (take (length w)) f ∙ front-padded 52 (length w) w size refl in
       record {
-        leads =
-            λ d.
-            rw h
-            (ap₂ (λ (σ : List ℕ) (y : State). Underway σ y d) (ap (take (length w)) f ∙ front-padded 52 (length w) w size refl) e);
+        leads = λ d. rw h (ap₂ (λ (σ : List ℕ) (y : State). Underway σ y d) same e);
         pending = refl;
-        few = omega (arith, length-padded 52 w, ap length f);
+        settled = (omega (arith, length-padded 52 w, ap length f), λ _. subst Settings (sym same) (settings-give w h));
       }
 
 -- ---- a block
@@ -154,13 +162,13 @@ module _ (run : Run) (d w : List ℕ) where
   pub takes-first : (r : Run) → run .stage ≡ Opening → Opens run w r → Takes run d w r d
   unfolding progressAt taking
   takes-first r h o =
-      record { leads = o .leads d ∙ sym (ap (λ (p : Progress). taking p w) (progress-is run d Opening h)); pending = o .pending; few = o .few }
+      record { leads = o .leads d ∙ sym (ap (λ (p : Progress). taking p w) (progress-is run d Opening h)); pending = o .pending; settled = o .settled }
 
-  pub takes-none : (x : Refusal) → run .stage ≡ Closed x → run .words ≤ length (run .settings) → Takes run d w run d
+  pub takes-none : (x : Refusal) → run .stage ≡ Closed x → RightSettings run → Takes run d w run d
   unfolding progressAt taking
-  takes-none x h few =
+  takes-none x h settled =
       let e : progress run d ≡ Ended x d = progress-is run d (Closed x) h in
-      record { leads = e ∙ sym (ap (λ (p : Progress). taking p w) e); pending = refl; few = few }
+      record { leads = e ∙ sym (ap (λ (p : Progress). taking p w) e); pending = refl; settled = settled }
 
 -- the words of the block, as they are lent
 pub takes-as : (run : Run) (d v w : List ℕ) (r : Run) (e : List ℕ) → v ≡ w → Takes run d v r e → Takes run d w r e
@@ -205,10 +213,17 @@ module _ (run : Run) (bytes : List ℕ) (end : ℕ) (gathered : BytesGathered ru
             record {
               room = gathered .room;
               coming = subst (λ (l : List ℕ). end < needed l) (part-front end bytes) h;
-              few = gathered .few;
+              settled = gathered .settled;
             };
         same = λ rest. refl;
       }
+
+  -- where the next byte stands
+  pub settle-waits-at : end < needed (take (end - 0) bytes) → end ≡ nextPlace bytes end
+  settle-waits-at h = sym (placed-waits bytes end (subst (λ (l : List ℕ). end < needed l) (part-front end bytes) h))
+
+  pub settle-takes-at : (n : ℕ) → needed (take (end - 0) bytes) ≤ end → n ≡ 0 → n ≡ nextPlace bytes end
+  settle-takes-at n h e = e ∙ sym (placed-whole bytes end (subst (λ (l : List ℕ). needed l ≤ end) (part-front end bytes) h))
 
   -- the block is whole, and is taken
   module _ (h : needed (take (end - 0) bytes) ≤ end) where
@@ -223,7 +238,7 @@ module _ (run : Run) (bytes : List ℕ) (end : ℕ) (gathered : BytesGathered ru
           room = gathered .room;
           count = omega (arith, whole, length-take-le end bytes gathered-room, needed-ends (take end bytes) .0);
           within = gathered-room;
-          few = gathered .few;
+          settled = gathered .settled;
         }
 
     pub settle-takes : (d : List ℕ) (r : Run) (e : List ℕ) → Takes (pendingBytes run 0) d (wholeWords (take (end - 4) (drop 4 bytes))) r e
@@ -236,7 +251,7 @@ module _ (run : Run) (bytes : List ℕ) (end : ℕ) (gathered : BytesGathered ru
               record {
                 room = gathered .room;
                 coming = omega (arith, none, needed-ends (take (r .pending) bytes) .0);
-                few = t .few;
+                settled = t .settled;
               };
           same =
               λ rest.
@@ -253,13 +268,19 @@ module _ (run : Run) (bytes fed : List ℕ) (i : ℕ) (now : List ℕ) (end : �
       record {
         room = gathered-size bytes (run .pending) fed i now end (ready-lacks run bytes ready) g;
         within = gathered-within bytes (run .pending) fed i now end (ready-lacks run bytes ready) g;
-        few = ready .few;
+        settled = ready .settled;
       }
 
   -- a byte at least, and no more than were fed
   pub gathers-on : i < length fed → (run .pending < end) × (i + (end - run .pending) ≤ length fed)
   gathers-on h =
       (gathered-some bytes (run .pending) fed i now end (ready-lacks run bytes ready) g h, gathered-fed bytes (run .pending) fed i now end (ready-lacks run bytes ready) g (omega arith))
+
+  -- the memory for blocks, before and after
+  pub gathers-laid : (n : ℕ) → n ≡ nextPlace now end → bytesLaid (run .pending) bytes (drop i fed) ≡ bytesLaid n now (drop (i + (end - run .pending)) fed)
+  gathers-laid n e =
+      gathered-laid bytes (run .pending) fed i now end (ready-lacks run bytes ready) g
+      ∙ ap (λ (k : ℕ). bytesLaid k now (drop (i + (end - run .pending)) fed)) (sym e)
 
   -- the block that they are of is settled: they are fed
   pub gathers-feed : (d : List ℕ) (r : Run) (e b : List ℕ) → Feeds (pendingBytes run end) d now [] r e b
@@ -299,16 +320,20 @@ module _ {run : Run} {d bytes : List ℕ} where
       → Feeds run d bytes (take i fed) r e b → Feeds run d bytes fed r e b
   feeds-all fed i {r} {e} {b} l p = subst (λ (x : List ℕ). Feeds run d bytes x r e b) (take-all i fed l) p
 
+-- all are bytesLaid
+pub laid-all : (at n i : ℕ) (bytes fed after : List ℕ) → length fed ≤ i → bytesLaid at bytes fed ≡ bytesLaid n after (drop i fed) → after ≡ bytesLaid at bytes fed
+laid-all at n i bytes fed after l e = sym (e ∙ ap (bytesLaid n after) (drop-of-length-le fed l) ∙ laid-none n after)
+
 -- ---- the end of the input
 
 module _ (run : Run) (d bytes : List ℕ) (ready : ReadyRun run bytes) where
   pub close-none : run .pending < 4 → Closes run d bytes run d
   unfolding ahead
   close-none h =
-      record { leads = sym (after-none (progress run d) (take (run .pending) bytes) (omega (arith, come-size run bytes ready))); few = ready .few }
+      record { leads = sym (after-none (progress run d) (take (run .pending) bytes) (omega (arith, come-size run bytes ready))); settled = ready .settled }
 
   pub cut-comes : 4 ≤ run .pending → Comes run bytes (run .pending)
-  cut-comes h = record { room = ready .room; count = h; within = omega (arith, pending-room run bytes ready); few = ready .few }
+  cut-comes h = record { room = ready .room; count = h; within = omega (arith, pending-room run bytes ready); settled = ready .settled }
 
   pub close-cut : 4 ≤ run .pending → (r : Run) (e : List ℕ) → Takes (pendingBytes run 0) d (wholeWords (take (run .pending - 4) (drop 4 bytes))) r e
       → Closes run d bytes r e
@@ -320,7 +345,7 @@ module _ (run : Run) (d bytes : List ℕ) (ready : ReadyRun run bytes) where
         leads =
             t .leads ∙ ap (λ (l : List ℕ). taking (progress run d) (wholeWords l)) (part-end 4 (run .pending) bytes)
             ∙ sym (after-cut (progress run d) (take (run .pending) bytes) (omega arith) (omega arith));
-        few = t .few;
+        settled = t .settled;
       }
 
 -- ---- what is printed

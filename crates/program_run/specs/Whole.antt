@@ -17,7 +17,7 @@ use Rattle.program_run.specs.Machine.{started, progressAt, progress, clo
 -- a run that has just started is ready
 pub started-ready : (bytes : List ℕ) → length bytes ≡ 2056 → ReadyRun started bytes
 started-ready bytes h =
-    record { room = h; coming = omega (arith, needed-ends (take 0 bytes) .0); few = omega arith }
+    record { room = h; coming = omega (arith, needed-ends (take 0 bytes) .0); settled = (omega arith, λ h. absurd (let z : _≡_ {A = ℕ} 0 1 = cc in omega arith)) }
 
 -- a run that is closed has come to its end, whatever follows
 pub closed-now : (r : Run) (e b : List ℕ) → closedAt (r .stage) ≡ true → (rest : List ℕ) → ahead r e b rest ≡ progress r e

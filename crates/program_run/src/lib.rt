@@ -5,10 +5,11 @@ use state_planner::Answer;
 use state_planner::State;
 ghost use mathlib.Core.List.{[]};
 ghost use mathlib.Core.Path.{_≡_};
-ghost use Prim.Native.Nat.{_≤_, _-_};
+ghost use Prim.Native.Nat.{_-_};
 ghost use lib.ListN.{length, take, drop};
 ghost use Rattle.base_lent.specs.Lent.{wordsIn};
 ghost use Rattle.program_blocks.specs.Blocks.{wholeWords};
+ghost use Rattle.program_intake.specs.Intake.{nextPlace, bytesLaid};
 ghost use Rattle.program_run.specs.Machine as Machine;
 
 // How far a run has come.
@@ -43,7 +44,7 @@ fn closed(run: Run, refusal: Refusal) -> Run
 
 // The first block: the settings.
 fn begin(run: Run, block: &[u32]) -> Run
-    requires { ⌜ run .words ≤ length (run .settings) ⌝ }
+    requires { ⌜ Machine.RightSettings run ⌝ }
     ensures { λ r. ⌜ Machine.Opens run (now (block .entry)) r ⌝ }
 {
     if !settings_check::check(block) {
@@ -60,13 +61,14 @@ fn begin(run: Run, block: &[u32]) -> Run
 
 // A later block: a report.
 fn report(run: Run, desk: &mut [u8], block: &[u32]) -> Run
-    requires { ⌜ (run .stage ≡ Stage.Open) × (run .words ≤ length (run .settings)) ⌝ }
+    requires { ⌜ (run .stage ≡ Stage.Open) × Machine.RightSettings run ⌝ }
+    requires { ⌜ length (now desk) ≡ 65536 ⌝ }
     ensures { λ r. ⌜ Machine.Takes run (wordsIn (now (desk .entry))) (now (block .entry)) r (wordsIn (now (desk .exit))) ⌝ }
 {
     let n = run.words;
     let settings = run.settings;
     let state = run.state;
-    let outcome = state.report(&settings[0..n], desk, block);
+    let outcome = state.report_under(&settings[0..n], desk, block);
     let answer = outcome.answer;
     let next = outcome.state;
     match answer {
@@ -77,7 +79,8 @@ fn report(run: Run, desk: &mut [u8], block: &[u32]) -> Run
 
 // A block of words.
 fn take_block(run: Run, desk: &mut [u8], block: &[u32]) -> Run
-    requires { ⌜ run .words ≤ length (run .settings) ⌝ }
+    requires { ⌜ Machine.RightSettings run ⌝ }
+    requires { ⌜ length (now desk) ≡ 65536 ⌝ }
     ensures { λ r. ⌜ Machine.Takes run (wordsIn (now (desk .entry))) (now (block .entry)) r (wordsIn (now (desk .exit))) ⌝ }
 {
     let stage = run.stage;
@@ -91,6 +94,7 @@ fn take_block(run: Run, desk: &mut [u8], block: &[u32]) -> Run
 // The block whose bytes below `end` have come in, cut short or not.
 fn take_bytes(run: Run, desk: &mut [u8], bytes: &[u8], end: usize) -> Run
     requires { ⌜ Machine.Comes run (now bytes) end ⌝ }
+    requires { ⌜ length (now desk) ≡ 65536 ⌝ }
     ensures { λ r. ⌜ Machine.Takes (Machine.pendingBytes run 0) (wordsIn (now (desk .entry))) (wholeWords (take (end - 4) (drop 4 (now (bytes .entry))))) r (wordsIn (now (desk .exit))) ⌝ }
 {
     let block = program_intake::block_of(bytes, end);
@@ -104,7 +108,9 @@ fn take_bytes(run: Run, desk: &mut [u8], bytes: &[u8], end: usize) -> Run
 // The block whose bytes below `end` are there: it is taken where it is whole.
 fn settle(run: Run, desk: &mut [u8], bytes: &[u8], end: usize) -> Run
     requires { ⌜ Machine.BytesGathered run (now bytes) end ⌝ }
+    requires { ⌜ length (now desk) ≡ 65536 ⌝ }
     ensures { λ r. ⌜ Machine.Feeds (Machine.pendingBytes run end) (wordsIn (now (desk .entry))) (now (bytes .entry)) [] r (wordsIn (now (desk .exit))) (now (bytes .entry)) ⌝ }
+    ensures { λ r. ⌜ r .pending ≡ nextPlace (now (bytes .entry)) end ⌝ }
 {
     if end < program_blocks::needed(&bytes[0..end]) {
         let mut waiting = run;
@@ -116,7 +122,7 @@ fn settle(run: Run, desk: &mut [u8], bytes: &[u8], end: usize) -> Run
 
 // What the decision prints.
 fn print_decision(run: Run, desk: &[u8], out: &mut [u8]) -> usize
-    requires { ⌜ (run .stage ≡ Stage.Open) × (run .words ≤ length (run .settings)) ⌝ }
+    requires { ⌜ (run .stage ≡ Stage.Open) × Machine.RightSettings run ⌝ }
     ensures { λ r. ⌜ Machine.Writes (Machine.progress run (wordsIn (now (desk .entry)))) (now (out .entry)) (now (out .exit)) r ⌝ }
 {
     let n = run.words;
@@ -157,7 +163,9 @@ impl Run {
     // Bytes of the input.
     pub fn feed(self, desk: &mut [u8], bytes: &mut [u8], fed: &[u8]) -> Run
         requires { ⌜ Machine.ReadyRun self (now bytes) ⌝ }
+        requires { ⌜ length (now desk) ≡ 65536 ⌝ }
         ensures { λ r. ⌜ Machine.Feeds self (wordsIn (now (desk .entry))) (now (bytes .entry)) (now (fed .entry)) r (wordsIn (now (desk .exit))) (now (bytes .exit)) ⌝ }
+        ensures { λ _. ⌜ now (bytes .exit) ≡ bytesLaid (self .pending) (now (bytes .entry)) (now (fed .entry)) ⌝ }
     {
         let mut run = self;
         let mut i = 0;
@@ -173,6 +181,7 @@ impl Run {
     // The end of the input: a block cut short is its whole words.
     pub fn close(self, desk: &mut [u8], bytes: &[u8]) -> Run
         requires { ⌜ Machine.ReadyRun self (now bytes) ⌝ }
+        requires { ⌜ length (now desk) ≡ 65536 ⌝ }
         ensures { λ r. ⌜ Machine.Closes self (wordsIn (now (desk .entry))) (now (bytes .entry)) r (wordsIn (now (desk .exit))) ⌝ }
     {
         let end = self.pending;
@@ -184,7 +193,7 @@ impl Run {
 
     // What the run prints after the last block.
     pub fn print(self, desk: &[u8], out: &mut [u8]) -> usize
-        requires { ⌜ self .words ≤ length (self .settings) ⌝ }
+        requires { ⌜ Machine.RightSettings self ⌝ }
         ensures { λ r. ⌜ Machine.Writes (Machine.progress self (wordsIn (now (desk .entry)))) (now (out .entry)) (now (out .exit)) r ⌝ }
     {
         let stage = self.stage;

@@ -1,5 +1,5 @@
 -- Lines of refusals as they are printed: the record after 8, 9, 16 and 17, the head too, and none after any other number.
-use mathlib.Core.List.{List, [], _∷_}
+use mathlib.Core.List.{[], _∷_}
 use mathlib.Core.Path.{_≡_, refl}
 use Rattle.base_ids.specs.Refusals.{refused, refusedAt, located}
 use Rattle.program_text.specs.Text.{digitsBy, decimal, field, line, numberLine}

@@ -9,47 +9,27 @@ use lib.ListN.{length, take, drop, getD, length-append, length-drop}
 use lib.Seq.{take-suc, take-all, take-take, take-append-le, drop-append-le, drop-drop}
 use Rattle.base_laws.specs.Bools.{lt-or-le}
 use Rattle.program_text.specs.Text.{decimal, line, decimal-length, line-length}
+use Rattle.program_sums.specs.Sums.{sumOf, sum-append, sum-one}
 use Rattle.program_windows.specs.declared.Window.{Window}
-use Rattle.program_windows.specs.Windows.{sumOf, greatestOf, windowOf, windowLine, windowLines, allWindows, lastMoves}
+use Rattle.program_windows.specs.Windows.{greatestOf, windowOf, windowLine, windowLines, allWindows, lastMoves}
 
--- ---- sum and greatest
-
-pub sum-append : (a b : List ℕ) → sumOf (a ++ b) ≡ sumOf a + sumOf b
-unfolding sumOf
-sum-append [] b = omega arith
-sum-append (m ∷ a) b = omega (arith, sum-append a b)
+-- ---- the greatest
 
 pub greatest-append : (a b : List ℕ) → greatestOf (a ++ b) ≡ max (greatestOf a) (greatestOf b)
 unfolding greatestOf
 greatest-append [] b = omega arith
 greatest-append (m ∷ a) b = omega (arith, greatest-append a b)
 
-sum-one : (m : ℕ) → sumOf (m ∷ []) ≡ m
-unfolding sumOf
-sum-one m = omega arith
-
 greatest-one : (m : ℕ) → greatestOf (m ∷ []) ≡ m
 unfolding greatestOf
 greatest-one m = omega arith
 
--- a loop that adds up, or takes the greatest: a turn
-pub sum-turn : (l : List ℕ) (i s v : ℕ) → i < length l → s ≡ sumOf (take i l) → v ≡ getD l i 0 → s + v ≡ sumOf (take (i + 1) l)
-sum-turn l i s v h e d =
-    let t : sumOf (take (i + 1) l) ≡ sumOf (take i l ++ (getD l i 0 ∷ [])) = ap (λ (n : ℕ). sumOf (take n l)) (add-one i) ∙ ap sumOf (take-suc l i 0 h) in
-    omega (arith, sum-append (take i l) (getD l i 0 ∷ []), sum-one (getD l i 0))
-
+-- a loop that takes the greatest: a turn
 pub greatest-turn : (l : List ℕ) (i g v : ℕ) → i < length l → g ≡ greatestOf (take i l) → v ≡ max g (getD l i 0) → v ≡ greatestOf (take (i + 1) l)
 greatest-turn l i g v h e d =
     let t : greatestOf (take (i + 1) l) ≡ greatestOf (take i l ++ (getD l i 0 ∷ [])) =
     ap (λ (n : ℕ). greatestOf (take n l)) (add-one i) ∙ ap greatestOf (take-suc l i 0 h) in
     omega (arith, greatest-append (take i l) (getD l i 0 ∷ []), greatest-one (getD l i 0))
-
--- each move is below 256
-pub sum-bound : (l : List ℕ) (n : ℕ) → ((k : ℕ) → getD l k 0 < 256) → sumOf (take n l) ≤ 255 * n
-unfolding sumOf
-sum-bound l zero h = omega arith
-sum-bound [] (suc n) h = omega arith
-sum-bound (m ∷ l) (suc n) h = omega (arith, h 0, sum-bound l n (λ k. h (suc k)))
 
 -- ---- the next window: 65 moves are the first, the 63 that stay, and the last
 

@@ -1,14 +1,11 @@
 -- What is printed of moves: for every 64 consecutive ones a line with their sum and the greatest of them. Each line adds up its own
 -- 64 moves afresh.
-use Prim.Native.Nat.{ℕ, zero, suc, _+_, _-_, max}
+use Prim.Native.Nat.{ℕ, zero, suc, _-_, max}
 use mathlib.Core.List.{List, [], _∷_, _++_}
 use lib.ListN.{length, take, drop}
 use Rattle.program_text.specs.Text.{decimal, line}
+use Rattle.program_sums.specs.Sums.{sumOf}
 use Rattle.program_windows.specs.declared.Window.{Window}
-
-unfoldable pub sumOf : List ℕ → ℕ
-sumOf [] = 0
-sumOf (m ∷ ms) = m + sumOf ms
 
 unfoldable pub greatestOf : List ℕ → ℕ
 greatestOf [] = 0

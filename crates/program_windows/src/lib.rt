@@ -18,20 +18,6 @@ fn word(x: u8) -> u32
     x as u32
 }
 
-// The sum of moves.
-fn sum_of(moves: &[u8]) -> u32
-    requires { ⌜ length (now moves) ≤ 64 ⌝ }
-    ensures { λ r. ⌜ r ≡ Windows.sumOf (now (moves .entry)) ⌝ }
-{
-    let mut sum = 0;
-    let mut i = 0;
-    while i < moves.len() {
-        sum += word(moves[i]);
-        i += 1;
-    }
-    sum
-}
-
 fn larger(a: u8, b: u8) -> u8
     ensures { λ r. ⌜ r ≡ max a b ⌝ }
 {
@@ -57,7 +43,7 @@ fn fresh(moves: &[u8]) -> Window
     ensures { λ r. ⌜ r ≡ Windows.windowOf (now (moves .entry)) ⌝ }
 {
     Window {
-        sum: sum_of(moves),
+        sum: program_sums::sum_of(moves),
         greatest: greatest_of(moves),
     }
 }

@@ -5,8 +5,10 @@ use base_ids::Shard;
 use base_ids::View;
 ghost use mathlib.Core.List.{[], _∷_};
 ghost use mathlib.Core.Path.{_≡_};
-ghost use Prim.Native.Nat.{_≤_};
+ghost use Prim.Native.Nat.{_<_, _≤_};
 ghost use Prim.Native.Nat as Nat;
+ghost use Rattle.message_format.specs.Records.{word1, word2};
+ghost use Rattle.report_views.specs.Logs.{pos, run};
 ghost use Rattle.report_views.specs.Cuts.{runsTo, sharedAfter, cutFrom};
 ghost use Rattle.report_cuts.specs.Walks.{NextRun, wholeRun};
 
@@ -16,6 +18,25 @@ fn min(a: u32, b: u32) -> u32
     if a < b { a } else { b }
 }
 
+// Record j is a run of shard s.
+fn is_run(body: &[u32; 381], s: Shard, j: usize) -> bool
+    requires { ⌜ j < 127 ⌝ }
+    ensures { λ r. ⌜ r ≡ run (now (body .entry)) (s .0) j ⌝ }
+{
+    base_ids::wide(message_fields::tag(body, j)) == 768 + base_ids::wide(s.0)
+}
+
+// The last position of run j.
+fn run_end(body: &[u32; 381], j: usize) -> Position
+    requires { ⌜ j < 127 ⌝ }
+    ensures { λ r. ⌜ r ≡ pos (word1 (now (body .entry)) j) (word2 (now (body .entry)) j) ⌝ }
+{
+    Position {
+        view: View(message_fields::word1(body, j)),
+        k: message_fields::word2(body, j),
+    }
+}
+
 // The first record from i on that is a run of shard s, or len.
 fn next_run(body: &[u32; 381], len: usize, s: Shard, i: usize) -> usize
     requires { ⌜ (i ≤ len) × (len ≤ 127) ⌝ }
@@ -23,7 +44,7 @@ fn next_run(body: &[u32; 381], len: usize, s: Shard, i: usize) -> usize
 {
     let mut j = i;
     while j < len {
-        if report_logs::is_run(body, s, j) {
+        if is_run(body, s, j) {
             return j;
         }
         j += 1;
@@ -98,8 +119,8 @@ pub fn cut(
         if hlen <= j {
             return a;
         }
-        let r = report_logs::run_end(body, i);
-        let q = report_logs::run_end(holder, j);
+        let r = run_end(body, i);
+        let q = run_end(holder, j);
         if !shared_whole(r, q, t) {
             return shared_part(a, r, q, t);
         }

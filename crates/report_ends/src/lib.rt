@@ -1,20 +1,17 @@
-// The ends of a report's logs: two words for each shard.
+// The ends of a report's logs, each as one number: 2^32 times its view and its k.
 ghost use mathlib.Core.Path.{_≡_};
 ghost use Prim.Native.Nat.{_<_, _≤_, _+_, _*_};
-ghost use lib.ListN.{set};
 ghost use Rattle.report_ends.specs.Ends.{endsOf, endNoted};
 
-// Stores the two words of the position of shard s.
-fn put_position(list: &mut [u32; 32], s: usize, view: u32, k: u32)
-    requires { ⌜ s < 16 ⌝ }
-    ensures { λ r. ⌜ now (list .exit) ≡ set (set (now (list .entry)) (2 * s) view) (2 * s + 1) k ⌝ }
+// The number of a position.
+fn number(view: u32, k: u32) -> u64
+    ensures { λ r. ⌜ r ≡ 4294967296 * view + k ⌝ }
 {
-    list[2 * s] = view;
-    list[2 * s + 1] = k;
+    4294967296 * (view as u64) + k as u64
 }
 
 // Stores the end that record j gives, if it is a run.
-fn note_end(ends: &mut [u32; 32], body: &[u32; 381], j: usize)
+fn note_end(ends: &mut [u64; 16], body: &[u32; 381], j: usize)
     requires { ⌜ j < 127 ⌝ }
     ensures { λ r. ⌜ now (ends .exit) ≡ endNoted (now (body .entry)) j (now (ends .entry)) ⌝ }
 {
@@ -25,15 +22,15 @@ fn note_end(ends: &mut [u32; 32], body: &[u32; 381], j: usize)
     if 784 <= tag {
         return;
     }
-    put_position(ends, tag - 768, body[3 * j + 1], body[3 * j + 2]);
+    ends[tag - 768] = number(body[3 * j + 1], body[3 * j + 2]);
 }
 
 // The end of each shard's log.
-pub fn ends_of(body: &[u32; 381], len: usize) -> [u32; 32]
+pub fn ends_of(body: &[u32; 381], len: usize) -> [u64; 16]
     requires { ⌜ len ≤ 127 ⌝ }
     ensures { λ r. ⌜ r ≡ endsOf (now (body .entry)) len ⌝ }
 {
-    let mut ends = [0u32; 32];
+    let mut ends = [0u64; 16];
     let mut j: usize = 0;
     while j < len {
         note_end(&mut ends, body, j);

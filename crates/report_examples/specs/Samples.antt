@@ -1,5 +1,5 @@
 -- What document 01's runs start from: settings, kept view, and a desk with the reports.
-use Prim.Native.Nat.{ℕ, _+_, _-_}
+use Prim.Native.Nat.{ℕ, _-_}
 use mathlib.Core.List.{List, [], _∷_, _++_}
 use lib.ListN.{length, replicate}
 use Rattle.message_format.specs.declared.Contents.{Contents}

@@ -1,7 +1,7 @@
 -- A report of the kept view taken in at once: it is not refused, and what is kept stays.
 use Prim.Native.Nat.{ℕ, _/_, _%_, _<_, _≤_}
 use native.Mathlib.Omega.{arith}
-use mathlib.Core.Bool.{true, false}
+use mathlib.Core.Bool.{Bool, true, false}
 use mathlib.Core.List.{List}
 use mathlib.Core.Logic.{⊎-elim}
 use mathlib.Core.Path.{_≡_, refl, sym, ap, ap₂, _∙_, subst}
@@ -9,7 +9,8 @@ use lib.Dec.{leb}
 use lib.ListN.{length, getD}
 use borrow.Author.Tests.{eq-eqb}
 use Rattle.base_laws.specs.Bools.{either, clash, no-true}
-use Rattle.settings_values.specs.Settings.{shards, Settings}
+use Rattle.base_ids.specs.declared.View.{View}
+use Rattle.settings_values.specs.Settings.{Settings}
 use Rattle.base_ids.specs.Refusals.{none, accepted, unless-none, first-none}
 use Rattle.message_format.specs.declared.Form.the-variants.{Report}
 use Rattle.message_format.specs.declared.Contents.{Contents}
@@ -23,13 +24,15 @@ use Rattle.report_views.specs.Slots.{row12, row13, termKept}
 use Rattle.report_latest.specs.declared.Latest.{Latest}
 use Rattle.report_latest.specs.Remembered.{latestAt, row18}
 use Rattle.report_walk.specs.Pairs.{FitWords, pairsOf}
-use Rattle.report_walk.specs.Seen.{SlotTold, MaskRecords, PositionRecords, Ready}
+use Rattle.report_walk.specs.Seen.{SlotTold}
+use Rattle.report_walk.specs.Kept.{TablesOf, ready-means}
+use Rattle.report_walk.specs.declared.Tables.{Tables}
 use Rattle.report_walk.specs.Sound.{Walked, told-passes, told-view, told-row12, told-row13, told-kept}
 use Rattle.report_kept.specs.declared.Kept.{Kept}
 use Rattle.report_kept.specs.declared.Received.{Received}
 use Rattle.report_kept.specs.Reports.{keptRefusal, refusalBeside, terminationOf, keeps, renewed, takenIn}
 use Rattle.report_kept.specs.Words.{madeFirst}
-use Rattle.report_kept.specs.Laws.{message-node, termination-none, renewed-equal, in-taken}
+use Rattle.report_kept.specs.Laws.{termination-none, renewed-equal, in-taken}
 
 -- w reports the kept view and passes rows 5 to 13; a termination in it is kept
 pub record OfKept (σ : List ℕ) (v : Layout) (t : Termination) (w : List ℕ) : Type 0 where
@@ -50,12 +53,11 @@ pub record TakenAtOnce (σ : List ℕ) (v : Layout) (t : Termination) (m : Lates
   pub stays : keptStays (getD w 0 0) v t ≡ takenIn σ v t m w
 
 -- a message that the walk tells up to record n, one of its own
-pub walked-kept : (σ : List ℕ) (v : Layout) (t : Termination) (w : List ℕ) {b masks positions k l : List ℕ} {count node n : ℕ}
-    → count ≡ shards σ → Settings σ → Ready σ v t → FitWords w → b ≡ pairsOf w → MaskRecords (v .masks) masks
-    → PositionRecords (t .positions) count positions
-    → (n ≤ 127 → SlotTold (v .number .0) (v .members) masks (t .made) positions count b node k l n)
+pub walked-kept : (σ : List ℕ) (v : Layout) (t : Termination) (w : List ℕ) (x : Tables) {b k l : List ℕ} {node n : ℕ}
+    → Settings σ → TablesOf σ v t x → FitWords w → b ≡ pairsOf w
+    → (n ≤ 127 → (x .frame .ready ≡ true) × SlotTold (x .frame .number .0) (x .frame .members) (x .masks) (x .frame .made) (x .positions) (x .frame .count) b node k l n)
     → length w ≤ 512 → length w % 4 ≡ 0 → n < length w / 4 → OfKept σ v t w
-walked-kept σ v t w {b = b} {masks = masks} {positions = positions} {k = k} {l = l} {node = node} {n = n} e right ready words pairs members ends seen short whole within =
+walked-kept σ v t w x {b = b} {k = k} {l = l} {node = node} {n = n} right tables words pairs seen short whole within =
     record {
       passes = told-passes g short whole within;
       view = told-view g;
@@ -64,25 +66,28 @@ walked-kept σ v t w {b = b} {masks = masks} {positions = positions} {k = k} {l 
       kept = told-kept g;
     }
   where
-    g : Walked σ v t w b masks positions k l node n
+    told : (x .frame .ready ≡ true) × SlotTold (x .frame .number .0) (x .frame .members) (x .masks) (x .frame .made) (x .positions) (x .frame .count) b node k l n
+    told = seen (omega arith)
+
+    g : Walked σ v t w b (x .masks) (x .positions) k l node n
     g =
         record {
           right = right;
-          kept = ready;
+          kept = ready-means σ v t (sym (tables .ready) ∙ told .0);
           words = words;
           pairs = pairs;
-          members = members;
-          ends = subst (λ (x : ℕ). PositionRecords (t .positions) x positions) e ends;
-          seen = subst (λ (x : ℕ). SlotTold (v .number .0) (v .members) masks (t .made) positions x b node k l n) e (seen (omega arith));
+          members = tables .masks;
+          ends = tables .positions;
+          seen =
+              subst (λ (y : ℕ). SlotTold (v .number .0) (v .members) (x .masks) (t .made) (x .positions) y b node k l n) (tables .count)
+              (subst (λ (y : Bool). SlotTold (v .number .0) (v .members) (x .masks) y (x .positions) (x .frame .count) b node k l n) (tables .made)
+              (subst (λ (y : ℕ). SlotTold (v .number .0) y (x .masks) (x .frame .made) (x .positions) (x .frame .count) b node k l n) (tables .members)
+              (subst (λ (y : View). SlotTold (y .0) (x .frame .members) (x .masks) (x .frame .made) (x .positions) (x .frame .count) b node k l n) (tables .number) (told .1))));
         }
 
 module _ (σ : List ℕ) (v : Layout) (t : Termination) (m : Latest) (w : List ℕ) (g : OfKept σ v t w) where
   abbrev reportKept : Contents
   reportKept = contentsOf w
-
-  -- its node is one of the settings
-  pub kept-node : Settings σ → getD w 0 0 < 32
-  kept-node right = message-node σ w right (message-none Report σ w (g .passes))
 
   -- no termination of its own
   own : t .made ≡ false → terminated σ reportKept ≡ false

@@ -1,7 +1,7 @@
 -- The functions' answers as the definitions: a view and a termination from the words of the body, what is kept case by
 -- case, and what acceptance gives of a report.
-use Prim.Native.Nat.{ℕ, _-_, _%_, _<_, _≤_}
-use mathlib.Core.Bool.{Bool, true, false, cond, _&&_}
+use Prim.Native.Nat.{ℕ, _%_, _<_, _≤_}
+use mathlib.Core.Bool.{true, false, _&&_}
 use mathlib.Core.List.{List}
 use mathlib.Core.Logic.{⊎-elim}
 use mathlib.Core.Path.{_≡_, refl, sym, ap, _∙_}

@@ -9,11 +9,16 @@ use message_format::Reading;
 use report_latest::Latest;
 use report_views::Layout;
 use report_views::Termination;
+use report_walk::Tables;
 ghost use mathlib.Core.Bool.{true};
+ghost use mathlib.Core.List.{List};
 ghost use mathlib.Core.Path.{_≡_};
-ghost use Prim.Native.Nat.{_%_, _<_, _≤_};
+ghost use Prim.Native.Nat.{ℕ, _%_, _<_, _≤_};
 ghost use lib.ListN.{length};
 ghost use Rattle.settings_values.specs.Settings.{Settings};
+ghost use Rattle.report_views.specs.declared.Layout as Layouts;
+ghost use Rattle.report_views.specs.declared.Termination as Terminations;
+ghost use Rattle.report_walk.specs.Kept.{TablesOf};
 ghost use Rattle.report_kept.specs.Reports as Reports;
 ghost use Rattle.report_kept.specs.Words.{maskIn, masksIn, positionIn, positionsIn, madeFirst};
 ghost use Rattle.report_kept.specs.AtOnce.{OfKept, TakenAtOnce, keptStays};
@@ -218,45 +223,24 @@ fn read_in(settings: &[u32], v: Layout, t: Termination, latest: Latest, message:
 }
 
 // A report of the kept view whose records stand one after another: it passes rows 5 to 13, and what it says is kept.
-fn of_kept(settings: &[u32], v: Layout, t: Termination, message: &[u32]) -> bool
-    requires { ⌜ Settings (now settings) ⌝ }
+fn of_kept(tables: Tables, message: &[u32]) -> bool
     requires { ⌜ (4 ≤ length (now message)) × (length (now message) ≤ 512) × (length (now message) % 4 ≡ 0) ⌝ }
-    ensures { λ r. ⌜ (r ≡ true → OfKept (now (settings .entry)) v t (now (message .entry))) ⌝ }
+    requires { ⌜ (1 ≤ tables .frame .count) × (tables .frame .count ≤ 16) ⌝ }
+    ensures { λ r. ⌜ (r ≡ true → (σ : List ℕ) (v : Layouts.Layout) (t : Terminations.Termination) → Settings σ → TablesOf σ v t tables → OfKept σ v t (now (message .entry))) ⌝ }
 {
-    if !report_walk::ready(settings, v, t) {
-        return false;
-    }
-    let count = settings_values::shards(settings) as usize;
-    let masks = report_walk::mask_records(&v.masks);
-    let ends = t.positions;
-    let positions = report_walk::position_records(ends, count);
     let b = report_walk::pairs(message);
     let node = Node(message[0]);
     let mut last = [0usize; 16];
-    let n = report_walk::told(
-        v.number,
-        v.members,
-        &masks,
-        t.made,
-        &positions,
-        count,
-        &b,
-        node,
-        &mut last,
-    );
+    let masks = tables.masks;
+    let positions = tables.positions;
+    let n = report_walk::told(tables.frame, &masks, &positions, &b, node, &mut last);
     n < message.len() / 4
 }
 
 // A report of the kept view that is taken and changes nothing that is kept. Of other reports nothing is said.
-fn taken_at_once(
-    settings: &[u32],
-    v: Layout,
-    t: Termination,
-    latest: Latest,
-    message: &[u32],
-) -> bool
-    requires { ⌜ Settings (now settings) ⌝ }
-    ensures { λ r. ⌜ (r ≡ true → TakenAtOnce (now (settings .entry)) v t latest (now (message .entry))) ⌝ }
+fn taken_at_once(tables: Tables, latest: Latest, message: &[u32]) -> bool
+    requires { ⌜ (1 ≤ tables .frame .count) × (tables .frame .count ≤ 16) ⌝ }
+    ensures { λ r. ⌜ (r ≡ true → (σ : List ℕ) (v : Layouts.Layout) (t : Terminations.Termination) → Settings σ → TablesOf σ v t tables → TakenAtOnce σ v t latest (now (message .entry))) ⌝ }
 {
     let n = message.len();
     if n < 4 {
@@ -268,11 +252,15 @@ fn taken_at_once(
     if n % 4 != 0 {
         return false;
     }
-    let number = v.number;
+    if 32 <= message[0] {
+        return false;
+    }
+    let frame = tables.frame;
+    let number = frame.number;
     if message[1] != number.0 {
         return false;
     }
-    if !of_kept(settings, v, t, message) {
+    if !of_kept(tables, message) {
         return false;
     }
     report_latest::row18(latest, Node(message[0]), number)
@@ -297,18 +285,21 @@ fn kept_stays(node: Node, v: Layout, t: Termination) -> Received
     }
 }
 
-// Reads a report beside what is kept and remembered, and says what is kept after it.
+// Reads a report beside what is kept and remembered, and says what is kept after it. tables: what is made of the kept view and its
+// termination to compare with.
 pub fn take_in(
     settings: &[u32],
     v: Layout,
     t: Termination,
+    tables: Tables,
     latest: Latest,
     message: &[u32],
 ) -> Received
     requires { ⌜ Settings (now settings) ⌝ }
+    requires { ⌜ TablesOf (now settings) v t tables ⌝ }
     ensures { λ r. ⌜ r ≡ Reports.takenIn (now (settings .entry)) v t latest (now (message .entry)) ⌝ }
 {
-    if taken_at_once(settings, v, t, latest, message) {
+    if taken_at_once(tables, latest, message) {
         return kept_stays(Node(message[0]), v, t);
     }
     read_in(settings, v, t, latest, message)

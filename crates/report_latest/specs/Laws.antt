@@ -8,7 +8,7 @@ use native.Mathlib.Omega.{arith}
 use lib.Dec.{eqb, leb, ltb}
 use lib.ListN.{getD, getD-replicate}
 use borrow.Author.Tests.{eqb-true, eq-eqb, ne-eqb, leb-true, le-leb, ltb-true, lt-ltb}
-use Rattle.base_laws.specs.Bools.{either, asked, lt-or-le, eq-or-ne, and-both, and-left, and-right, and-fails-left, and-rest, or-left, or-right, or-holds, not-of-false}
+use Rattle.base_laws.specs.Bools.{either, asked, lt-or-le, and-both, and-left, and-right, and-fails-left, and-rest, or-left, or-right, or-holds, not-of-false}
 use Rattle.base_laws.specs.Below.{allBelow, all-at, all-of, all-cong}
 use Rattle.base_laws.specs.Masks.{has}
 use Rattle.base_laws.specs.Tables.{getD-tabulate}
@@ -99,21 +99,25 @@ module _ (σ : List ℕ) (number held reported view n : ℕ) where
   unfolding recalledBy
   is-held h p = asked _ p ∙ and-rest _ h
 
-abbrev pub recalledAt : List ℕ → ℕ → ℕ → List ℕ → List View → ℕ → Bool
-recalledAt σ number held reported views n = recalledBy σ number held (getD reported n 0) (getD views n (record { 0 = 0 }) .0) n
+abbrev pub recalledAt : List ℕ → ℕ → ℕ → List View → List View → ℕ → Bool
+recalledAt σ number held reported views n = recalledBy σ number held (getD reported n (record { 0 = 0 }) .0) (getD views n (record { 0 = 0 }) .0) n
+
+-- what is remembered is sound beside the views that the held nodes reported
+abbrev pub latestBy : List ℕ → ℕ → ℕ → List View → Latest → Bool
+latestBy σ number held reported m = allBelow 32 (recalledAt σ number held reported (m .views))
 
 -- the views are those that the held nodes of the desk d reported
-module _ (σ : List ℕ) (number held : ℕ) (views : List ℕ) (m : Latest) (d : List ℕ) (told : (n : ℕ) → n < 32 → has held n ≡ true → getD views n 0 ≡ viewOf d n) where
+module _ (σ : List ℕ) (number held : ℕ) (views : List View) (m : Latest) (d : List ℕ) (told : (n : ℕ) → n < 32 → has held n ≡ true → getD views n (record { 0 = 0 }) .0 ≡ viewOf d n) where
   recalled-told : (n : ℕ) → n < 32 → recalledAt σ number held views (m .views) n ≡ recalled σ number held d m n
   unfolding recalledBy recalled
   recalled-told n l = go (either (has held n))
     where
       go : (has held n ≡ true) ⊎ (has held n ≡ false)
-          → ((ltb n (nodes σ) || eqb (latestAt m n) 0) && (not (has held n) || (leb (getD views n 0) (latestAt m n) && leb (latestAt m n) number)))
+          → ((ltb n (nodes σ) || eqb (latestAt m n) 0) && (not (has held n) || (leb (getD views n (record { 0 = 0 }) .0) (latestAt m n) && leb (latestAt m n) number)))
           ≡ ((ltb n (nodes σ) || eqb (latestAt m n) 0) && (not (has held n) || (leb (viewOf d n) (latestAt m n) && leb (latestAt m n) number)))
       go (inl p) = rw (told n l p)
       go (inr p) = rw p
 
-  pub latest-told : allBelow 32 (recalledAt σ number held views (m .views)) ≡ latestSound σ number held d m
+  pub latest-told : latestBy σ number held views m ≡ latestSound σ number held d m
   unfolding latestSound
   latest-told = all-cong 32 (recalledAt σ number held views (m .views)) (recalled σ number held d m) recalled-told

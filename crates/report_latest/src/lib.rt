@@ -1,17 +1,13 @@
 // The greatest view that each node has reported: row 18, when a state remembers soundly, and what it remembers after a report.
 use base_ids::Node;
 use base_ids::View;
-ghost use mathlib.Core.Bool.{true, _||_};
-ghost use mathlib.Core.List.{List};
+ghost use mathlib.Core.Bool.{_||_};
 ghost use mathlib.Core.Path.{_≡_};
-ghost use Prim.Native.Nat.{ℕ, _<_, max};
+ghost use Prim.Native.Nat.{_<_, max};
 ghost use lib.Dec.{eqb, leb, ltb};
-ghost use lib.ListN.{getD};
-ghost use Rattle.base_laws.specs.Masks.{has};
 ghost use Rattle.settings_values.specs.Settings.{Settings, nodes};
-ghost use Rattle.report_views.specs.Reports.{viewOf};
 ghost use Rattle.report_latest.specs.Remembered as Remembered;
-ghost use Rattle.report_latest.specs.Laws.{recalledBy};
+ghost use Rattle.report_latest.specs.Laws.{recalledBy, latestBy};
 
 // Each node's greatest reported view since the fresh state; 0: none. Entries from N up are 0.
 pub struct Latest {
@@ -116,11 +112,11 @@ pub fn latest_sound(
     settings: &[u32],
     number: View,
     held: u32,
-    views: &[u32; 32],
+    views: [View; 32],
     latest: Latest,
 ) -> bool
     requires { ⌜ Settings (now settings) ⌝ }
-    ensures { λ r. ⌜ ((d : List ℕ) → ((n : ℕ) → n < 32 → has held n ≡ true → getD (now (views .entry)) n 0 ≡ viewOf d n) → r ≡ Remembered.latestSound (now (settings .entry)) (number .0) held d latest) ⌝ }
+    ensures { λ r. ⌜ r ≡ latestBy (now (settings .entry)) (number .0) held views latest ⌝ }
 {
     let remembered = latest.views;
     let mut n: usize = 0;
@@ -129,7 +125,7 @@ pub fn latest_sound(
             settings,
             number,
             held,
-            View(views[n]),
+            views[n],
             remembered[n],
             Node(n as u32),
         ) {

@@ -1,26 +1,27 @@
 -- Records that stand as the acceptance finds them pass rows 8, 9, 16, 17 and 11, and the slot is sound.
 use Prim.Native.Nat.{ℕ, zero, suc, _+_, _*_, _-_, _/_, _%_, _^_, _<_, _≤_}
-use mathlib.Core.Bool.{Bool, true, false, cond, not, _&&_, _||_}
+use mathlib.Core.Bool.{Bool, true, false, not, _&&_, _||_}
 use mathlib.Core.List.{List}
 use mathlib.Core.Logic.{_⊎_, inl, inr, ⊎-elim}
 use mathlib.Core.Path.{_≡_, refl, sym, ap, _∙_, subst}
 use native.Mathlib.Omega.{arith}
-use lib.Dec.{eqb, leb, ltb}
+use lib.Dec.{eqb, ltb}
 use lib.ListN.{length, getD}
 use lib.Pow.{pow-pos}
 use borrow.Author.Tests.{eqb-true, eq-eqb, ne-eqb, lt-ltb, le-ltb, le-leb, lt-leb}
-use Rattle.base_laws.specs.Bools.{either, and-both, and-fails-left, and-fails-right, or-left, or-right, not-of-false, lt-or-le, eq-or-ne}
+use Rattle.base_laws.specs.Bools.{either, and-both, and-fails-left, and-fails-right, or-left, or-right, not-of-false, lt-or-le}
 use Rattle.base_laws.specs.Below.{allBelow, all-of}
 use Rattle.base_laws.specs.Tables.{length-part}
-use Rattle.base_laws.specs.Masks.{has, subset, subset-of, has-below}
+use Rattle.base_laws.specs.Masks.{has, subset, subset-of}
 use Rattle.settings_values.specs.Settings.{shards, Settings}
 use Rattle.base_ids.specs.declared.Refusal.{Refusal}
+use Rattle.base_ids.specs.Refusals.{none}
 use Rattle.message_format.specs.declared.Form.the-variants.{Report}
 use Rattle.message_format.specs.Chain.{records, next, following, row5, row8}
 use Rattle.message_format.specs.Records.{tag, word1, word2, kind, shard, precedes, shardsWhere, shardsOf, membersOf}
 use Rattle.message_format.specs.Rows.{position, viewFits, kindOk, plain, kindAt, shardAt, surplus, sequenceAt, everyShard, complete, row10, legal, row11At}
 use Rattle.message_format.specs.Rising.{precedes-tag, precedes-view}
-use Rattle.message_format.specs.Messages.{bodyOf, contentsOf}
+use Rattle.message_format.specs.Messages.{bodyOf, contentsOf, messageRefusal}
 use Rattle.message_format.specs.Passed.{HeadPasses, RecordsPass, MessagePasses, message-none}
 use Rattle.message_format.specs.Alike.{row10-same}
 use Rattle.message_format.specs.Straight.{straight-following, straight-row8, straight-tag, straight-word1, straight-word2}
@@ -29,7 +30,7 @@ use Rattle.report_views.specs.declared.Layout.{Layout}
 use Rattle.report_views.specs.declared.Termination.{Termination}
 use Rattle.report_views.specs.Reports.{slot, reportOf, terminatedAt, maskAt, positionAt}
 use Rattle.report_views.specs.Slots.{row12, row13, termKept, sameView, samePosition, sameTermination, slotOk}
-use Rattle.report_quick.specs.Told.{MemberTold, PositionTold, RunTold, RunsTold, HeadTold, maskTold, MasksFit, PositionFits, EndFits}
+use Rattle.report_quick.specs.Told.{MemberTold, PositionTold, RunTold, RunsTold, HeadTold, maskTold, MasksFit, EndFits}
 
 -- the records before the runs: members for each shard, then a position for each or none; m of them
 pub record FrontTold (w : List ℕ) (count view m : ℕ) : Type 0 where
@@ -84,9 +85,6 @@ module _ (σ : List ℕ) (w : List ℕ) (view m n : ℕ) (right : Settings σ) (
 
   few : many ≤ 16
   few = right .sizes .shards-to
-
-  some : 1 ≤ many
-  some = right .sizes .shards-from
 
   low : many ≤ m
   low = ⊎-elim (λ e. omega arith) (λ e. omega (arith, e .0)) (f .positions)
@@ -292,37 +290,61 @@ unfolding slot
 length-slot d n whole below = length-part (512 * n) (512 * n + 512) d (omega arith) ∙ omega arith
 
 -- what stands after the masks: m records before the runs, n in all
-pub record RestFits (σ : List ℕ) (v : Layout) (t : Termination) (w : List ℕ) : Type 0 where
+pub record RestFits (count : ℕ) (w : List ℕ) : Type 0 where
   pub front : ℕ
   pub last : ℕ
-  pub ending : (front ≡ shards σ) ⊎ ((front ≡ shards σ + shards σ) × EndFits σ v t w)
-  pub positions : (front ≡ shards σ) ⊎ ((front ≡ shards σ + shards σ) × ((s : ℕ) → s < shards σ → PositionTold w (getD w 1 0) (shards σ + s) s))
-  pub runs : RunsTold w front (shards σ) (getD w 1 0) last
+  pub positions : (front ≡ count) ⊎ ((front ≡ count + count) × ((s : ℕ) → s < count → PositionTold w (getD w 1 0) (count + s) s))
+  pub runs : RunsTold w front count (getD w 1 0) last
 
 -- all of it
-pub record WordsFit (σ : List ℕ) (v : Layout) (t : Termination) (w : List ℕ) (n : ℕ) : Type 0 where
-  pub head : HeadTold σ (v .number .0) w n
+pub record WordsFit (σ : List ℕ) (number : ℕ) (w : List ℕ) (n : ℕ) : Type 0 where
+  pub head : HeadTold σ number w n
   pub members : (s : ℕ) → s < shards σ → MemberTold w s
-  pub masks : MasksFit σ v w
-  pub rest : RestFits σ v t w
+  pub masks : row10 σ (getD w 2 0) (maskTold w) ≡ true
+  pub rest : RestFits (shards σ) w
 
 -- the slot of node j is sound
-pub accepts : (σ : List ℕ) (v : Layout) (t : Termination) (d : List ℕ) (j : ℕ) → Settings σ → length (slot d j) ≡ 512 → WordsFit σ v t (slot d j) j
+pub accepts : (σ : List ℕ) (v : Layout) (t : Termination) (d : List ℕ) (j : ℕ) → Settings σ → length (slot d j) ≡ 512 → WordsFit σ (v .number .0) (slot d j) j
     → slotOk σ v t d j ≡ true
 unfolding slotOk reportOf Ending contentsOf
 accepts σ v t d j right long f =
-    let w : List ℕ = slot d j in
-    let m : ℕ = f .rest .front in
-    let n : ℕ = f .rest .last in
-    let view : ℕ = getD w 1 0 in
-    let p : FrontTold w (shards σ) view m = record { members = f .members; positions = f .rest .positions } in
-    let r = f .rest .runs in
-    let h = f .head in
-    let pass = message-none Report σ w (front-passes σ w view m n right p r (few-words w (omega arith) (omega arith) (omega arith)) (omega (arith, r .few)) (record { node-passes = h .known; view-passes = h .seen }) refl (f .masks .sound)) in
     and-both (and-both (and-both (and-both (and-both
     (eq-eqb _ 0 (ap (λ (x : Refusal). x .code) pass))
     (eq-eqb _ j (h .own)))
-    (le-leb _ (v .number .0) (h .view-to)))
-    (front-row12 σ w view m n right p r v t refl (f .masks)))
-    (front-row13 σ w view m n right p r v t refl (f .rest .ending)))
-    (front-kept σ w view m n right p r v t refl (f .rest .ending))
+    (le-leb _ (v .number .0) (omega (arith, h .earlier))))
+    (front-row12 σ w view m n right p r v t refl (record { sound = f .masks; members = λ e. absurd (other e); masks = λ e. absurd (other e) })))
+    (front-row13 σ w view m n right p r v t refl ending))
+    (front-kept σ w view m n right p r v t refl ending)
+  where
+    w : List ℕ
+    w = slot d j
+
+    m : ℕ
+    m = f .rest .front
+
+    n : ℕ
+    n = f .rest .last
+
+    view : ℕ
+    view = getD w 1 0
+
+    h : HeadTold σ (v .number .0) w j
+    h = f .head
+
+    p : FrontTold w (shards σ) view m
+    p = record { members = f .members; positions = f .rest .positions }
+
+    r : RunsTold w m (shards σ) view n
+    r = f .rest .runs
+
+    pass : messageRefusal Report σ w ≡ none
+    pass =
+        message-none Report σ w
+        (front-passes σ w view m n right p r (few-words w (omega arith) (omega arith) (omega arith)) (omega (arith, r .few))
+        (record { node-passes = h .known; view-passes = h .seen }) refl (f .masks))
+
+    other : getD w 1 0 ≡ v .number .0 → ⊥
+    other e = omega (arith, h .earlier)
+
+    ending : Ending σ w view m n right p r v t refl
+    ending = ⊎-elim (λ e. inl e) (λ e. inr (e .0, record { made = λ d. absurd (other d); positions = λ d. absurd (other d) })) (f .rest .positions)

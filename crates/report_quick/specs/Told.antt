@@ -47,12 +47,12 @@ pub record RunsTold (w : List ℕ) (at count view last : ℕ) : Type 0 where
   pub each : (i : ℕ) → at ≤ i → i < last → RunTold w count view i
   pub end : getD w (4 * last + 3) 0 ≡ 0
 
--- the head is node n's, of a view that is not above the kept one
+-- the head is node n's, of a view below the kept one
 pub record HeadTold (σ : List ℕ) (number : ℕ) (w : List ℕ) (n : ℕ) : Type 0 where
   pub own : getD w 0 0 ≡ n
   pub known : row6 σ (getD w 0 0) ≡ true
   pub seen : row7 Report σ (getD w 0 0) (getD w 1 0) (getD w 2 0) ≡ true
-  pub view-to : getD w 1 0 ≤ number
+  pub earlier : getD w 1 0 < number
 
 -- the masks that the records give for the shards
 abbrev pub maskTold : List ℕ → ℕ → ℕ

@@ -1,11 +1,9 @@
-// A quick acceptance of a held node's slot whose records stand one after another, as the writer lays them out. It accepts only
-// sound slots; of one that it does not accept nothing is said.
+// A quick acceptance of a held node's slot that has a report of an earlier view than the kept one, its records one after another as the
+// writer lays them out. It accepts only sound slots; of one that it does not accept nothing is said.
 use base_ids::Node;
 use base_ids::Position;
 use base_ids::View;
 use message_format::Form;
-use report_views::Layout;
-use report_views::Termination;
 ghost use mathlib.Core.Bool.{true};
 ghost use mathlib.Core.Logic.{_⊎_};
 ghost use mathlib.Core.Path.{_≡_};
@@ -13,8 +11,7 @@ ghost use Prim.Native.Nat.{ℕ, _+_, _*_, _<_, _≤_};
 ghost use lib.ListN.{length, getD};
 ghost use Rattle.settings_values.specs.Settings.{Settings, shards};
 ghost use Rattle.message_format.specs.Rows.{row10};
-ghost use Rattle.report_views.specs.Reports.{maskAt};
-ghost use Rattle.report_quick.specs.Told.{MemberTold, PositionTold, RunFits, RunsTold, HeadTold, maskTold, MasksFit, PositionFits, EndFits};
+ghost use Rattle.report_quick.specs.Told.{MemberTold, PositionTold, RunFits, RunsTold, HeadTold, maskTold};
 ghost use Rattle.report_quick.specs.Accepts.{RestFits, WordsFit};
 
 // Record s + 1 stands after the one before it and gives the members of shard s.
@@ -151,7 +148,7 @@ fn runs_told(w: &[u32], at: usize, count: u32, view: u32) -> usize
     if w[511] == 0 { 127 } else { 128 }
 }
 
-// The head is the node's, of a view that is not above the kept one.
+// The head is the node's, of a view below the kept one.
 fn head_told(settings: &[u32], number: View, w: &[u32], node: Node) -> bool
     requires { ⌜ Settings (now settings) ⌝ }
     requires { ⌜ length (now w) ≡ 512 ⌝ }
@@ -163,7 +160,7 @@ fn head_told(settings: &[u32], number: View, w: &[u32], node: Node) -> bool
     if settings_values::nodes(settings) <= w[0] {
         return false;
     }
-    if number.0 < w[1] {
+    if number.0 <= w[1] {
         return false;
     }
     message_rows::row7(Form::Report, settings, Node(w[0]), View(w[1]), w[2])
@@ -183,91 +180,20 @@ fn masks_told(w: &[u32], count: usize) -> [u32; 16]
     masks
 }
 
-// The records give these masks for the shards.
-fn masks_same(w: &[u32], masks: &[u32; 16], count: usize) -> bool
-    requires { ⌜ (length (now w) ≡ 512) × (count ≤ 16) ⌝ }
-    ensures { λ r. ⌜ (r ≡ true → (s : ℕ) → s < count → maskTold (now (w .entry)) s ≡ getD (now (masks .entry)) s 0) ⌝ }
-{
-    let mut s: usize = 0;
-    while s < count {
-        if w[4 * s + 5] != masks[s] {
-            return false;
-        }
-        s += 1;
-    }
-    true
-}
-
-// The masks pass row 10, and a report of the kept view has its members and masks; sound: the kept view passes row 10.
-fn masks_fit(settings: &[u32], v: Layout, sound: bool, w: &[u32], count: usize) -> bool
+// The masks pass row 10.
+fn masks_fit(settings: &[u32], w: &[u32], count: usize) -> bool
     requires { ⌜ Settings (now settings) ⌝ }
     requires { ⌜ (length (now w) ≡ 512) × (count ≡ shards (now settings)) ⌝ }
-    requires { ⌜ (sound ≡ true → row10 (now settings) (v .members) (maskAt v) ≡ true) ⌝ }
-    ensures { λ r. ⌜ (r ≡ true → MasksFit (now (settings .entry)) v (now (w .entry))) ⌝ }
+    ensures { λ r. ⌜ (r ≡ true → row10 (now (settings .entry)) (getD (now (w .entry)) 2 0) (maskTold (now (w .entry))) ≡ true) ⌝ }
 {
-    let number = v.number;
-    if w[1] != number.0 {
-        let masks = masks_told(w, count);
-        return message_shards::row10(settings, w[2], &masks);
-    }
-    if !sound {
-        return false;
-    }
-    if w[2] != v.members {
-        return false;
-    }
-    masks_same(w, &v.masks, count)
-}
-
-// Record i + 1 has this position.
-fn position_same(w: &[u32], p: Position, i: usize) -> bool
-    requires { ⌜ (length (now w) ≡ 512) × (i < 32) ⌝ }
-    ensures { λ r. ⌜ (r ≡ true → (getD (now (w .entry)) (4 * i + 5) 0 ≡ p .view .0) × (getD (now (w .entry)) (4 * i + 6) 0 ≡ p .k)) ⌝ }
-{
-    let view = p.view;
-    if w[4 * i + 5] != view.0 {
-        return false;
-    }
-    w[4 * i + 6] == p.k
-}
-
-// The positions are those of the termination.
-fn positions_same(w: &[u32], t: Termination, count: usize) -> bool
-    requires { ⌜ (length (now w) ≡ 512) × (count ≤ 16) ⌝ }
-    ensures { λ r. ⌜ (r ≡ true → (s : ℕ) → s < count → PositionFits t (now (w .entry)) (count + s) s) ⌝ }
-{
-    let positions = t.positions;
-    let mut s: usize = 0;
-    while s < count {
-        if !position_same(w, positions[s], count + s) {
-            return false;
-        }
-        s += 1;
-    }
-    true
-}
-
-// A termination in a report of the kept view is kept, with these positions.
-fn end_fits(settings: &[u32], v: Layout, t: Termination, w: &[u32], count: usize) -> bool
-    requires { ⌜ Settings (now settings) ⌝ }
-    requires { ⌜ (length (now w) ≡ 512) × (count ≡ shards (now settings)) ⌝ }
-    ensures { λ r. ⌜ (r ≡ true → EndFits (now (settings .entry)) v t (now (w .entry))) ⌝ }
-{
-    let number = v.number;
-    if w[1] != number.0 {
-        return true;
-    }
-    if !t.made {
-        return false;
-    }
-    positions_same(w, t, count)
+    let masks = masks_told(w, count);
+    message_shards::row10(settings, w[2], &masks)
 }
 
 // The records after the masks: a termination or none, and the runs.
-fn rest_fits(settings: &[u32], v: Layout, t: Termination, w: &[u32], count: usize) -> bool
-    requires { ⌜ Settings (now settings) ⌝ }
-    requires { ⌜ (length (now w) ≡ 512) × (count ≡ shards (now settings)) ⌝ }
-    ensures { λ r. ⌜ (r ≡ true → RestFits (now (settings .entry)) v t (now (w .entry))) ⌝ }
+fn rest_fits(w: &[u32], count: usize) -> bool
+    requires { ⌜ (length (now w) ≡ 512) × (count ≤ 16) ⌝ }
+    ensures { λ r. ⌜ (r ≡ true → RestFits count (now (w .entry))) ⌝ }
 {
     if w[4 * count + 4] / 256 != 2 {
         return runs_told(w, count, count as u32, w[1]) <= 127;
@@ -275,35 +201,24 @@ fn rest_fits(settings: &[u32], v: Layout, t: Termination, w: &[u32], count: usiz
     if !positions_told(w, count, w[1]) {
         return false;
     }
-    if !end_fits(settings, v, t, w, count) {
-        return false;
-    }
     runs_told(w, count + count, count as u32, w[1]) <= 127
 }
 
-// The words of a node's slot are sound, as far as is seen at once.
-pub fn words_fit(
-    settings: &[u32],
-    v: Layout,
-    t: Termination,
-    sound: bool,
-    w: &[u32],
-    node: Node,
-) -> bool
+// The words of a node's slot are sound beside a kept view of this number, as far as is seen at once: a report of an earlier view.
+pub fn words_fit(settings: &[u32], number: View, w: &[u32], node: Node) -> bool
     requires { ⌜ Settings (now settings) ⌝ }
     requires { ⌜ length (now w) ≡ 512 ⌝ }
-    requires { ⌜ (sound ≡ true → row10 (now settings) (v .members) (maskAt v) ≡ true) ⌝ }
-    ensures { λ r. ⌜ (r ≡ true → WordsFit (now (settings .entry)) v t (now (w .entry)) (node .0)) ⌝ }
+    ensures { λ r. ⌜ (r ≡ true → WordsFit (now (settings .entry)) (number .0) (now (w .entry)) (node .0)) ⌝ }
 {
-    if !head_told(settings, v.number, w, node) {
+    if !head_told(settings, number, w, node) {
         return false;
     }
     let count = settings_values::shards(settings) as usize;
     if !members_told(w, count) {
         return false;
     }
-    if !masks_fit(settings, v, sound, w, count) {
+    if !masks_fit(settings, w, count) {
         return false;
     }
-    rest_fits(settings, v, t, w, count)
+    rest_fits(w, count)
 }

@@ -5,7 +5,7 @@ use report_views::Layout;
 use report_views::Termination;
 ghost use mathlib.Core.Bool.{true, _&&_};
 ghost use mathlib.Core.Path.{_≡_};
-ghost use Prim.Native.Nat.{_<_, _≤_, _+_, _*_};
+ghost use Prim.Native.Nat.{_<_, _≤_};
 ghost use Rattle.settings_values.specs.Settings.{Settings};
 ghost use Rattle.report_views.specs.Reports as Reports;
 ghost use Rattle.report_views.specs.Slots as Slots;

@@ -1,6 +1,6 @@
 -- What the held reports give depends on their contents alone: desks whose held slots say the same give the same quorum, holders and
 -- targets, whatever stands off the chains and in other slots.
-use Prim.Native.Nat.{ℕ, _-_, _<_}
+use Prim.Native.Nat.{ℕ, _<_}
 use mathlib.Core.Bool.{Bool, true, cond, _&&_}
 use mathlib.Core.List.{List, []}
 use mathlib.Core.Logic.{⊎-elim}

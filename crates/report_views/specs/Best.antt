@@ -8,7 +8,7 @@ use native.Mathlib.Omega.{arith}
 use lib.Dec.{eqb}
 use borrow.Author.Tests.{eq-eqb, ne-eqb}
 use Rattle.base_laws.specs.Bools.{either, clash, and-both, and-left, and-right, and-fails-left, or-left, or-right, or-holds, or-neither, not-of-false, of-not-true, no-true, eq-or-ne}
-use Rattle.base_laws.specs.Below.{allBelow, anyBelow, lowest, any-suc, all-at, all-of, any-at, any-fails, any-witness, lowest-le, any-none-of, lowest-none, lowest-unique, lowest-below, lowest-holds, lowest-some, lowest-first}
+use Rattle.base_laws.specs.Below.{allBelow, anyBelow, any-suc, all-at, all-of, any-at, any-fails, any-witness, lowest-le, any-none-of, lowest-none, lowest-unique, lowest-below, lowest-holds, lowest-some, lowest-first}
 use Rattle.base_laws.specs.Positions.{not-after-refl, not-after-trans, not-after-total}
 use Rattle.base_ids.specs.declared.Position.{Position}
 use Rattle.base_ids.specs.Order.{notAfter}

@@ -1,8 +1,6 @@
 -- What means nothing is zero: no view, no termination, no plan.
 use mathlib.Core.Bool.{false}
 use lib.ListN.{replicate}
-use Rattle.base_ids.specs.declared.Node.{Node}
-use Rattle.base_ids.specs.declared.Position.{Position}
 use Rattle.report_views.specs.declared.Layout.{Layout}
 use Rattle.report_views.specs.declared.Termination.{Termination}
 use Rattle.report_views.specs.declared.Plan.{Plan}

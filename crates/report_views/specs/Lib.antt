@@ -8,6 +8,7 @@ pub mod Quorums
 pub mod Best
 pub mod Standings
 pub mod PositionTables
+pub mod Numbers
 pub mod Soundness
 pub mod PlanLaws
 pub mod RunLaws

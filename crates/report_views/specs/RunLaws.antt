@@ -53,13 +53,6 @@ module _ (σ : List ℕ) (node view members : ℕ) (b : List ℕ) (len : ℕ) (p
 
 -- ---- what the test of a position says
 
-pub position-cases : (v k : ℕ) → position v k ≡ true → ((v ≡ 0) × (k ≡ 0)) ⊎ ((1 ≤ v) × (1 ≤ k))
-unfolding position
-position-cases v k h =
-    ⊎-elim (λ e. inl (eqb-true v 0 (and-left (eqb v 0) (eqb k 0) e), eqb-true k 0 (and-right (eqb v 0) (eqb k 0) e)))
-    (λ e. inr (leb-true 1 v (and-left (leb 1 v) (leb 1 k) e), leb-true 1 k (and-right (leb 1 v) (leb 1 k) e)))
-    (or-holds (eqb v 0 && eqb k 0) (leb 1 v && leb 1 k) h)
-
 pub position-start : (v k : ℕ) → v ≡ 0 → k ≡ 0 → position v k ≡ true
 unfolding position
 position-start v k e f = or-left (leb 1 v && leb 1 k) (and-both (eq-eqb v 0 e) (eq-eqb k 0 f))

@@ -29,6 +29,7 @@ sameView σ v c =
 unfoldable pub row12 : List ℕ → Layout → Contents → Bool
 row12 σ v c = not (ofKept v c) || sameView σ v c
 
+-- p and q are one position
 abbrev pub samePosition : Position → Position → Bool
 samePosition p q = eqb (p .view .0) (q .view .0) && eqb (p .k) (q .k)
 

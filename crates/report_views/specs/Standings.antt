@@ -8,8 +8,8 @@ use Rattle.settings_values.specs.Settings.{shards}
 use Rattle.base_ids.specs.declared.Node.{Node}
 use Rattle.base_ids.specs.declared.Position.{Position}
 use Rattle.report_views.specs.declared.Layout.{Layout}
+use Rattle.report_views.specs.declared.Quorum.{Quorum}
 use Rattle.report_views.specs.declared.Termination.{Termination}
-use Rattle.report_views.specs.declared.Standing.{Standing}
 use Rattle.report_views.specs.Logs.{start}
 use Rattle.report_views.specs.Quorums.{target, holder, quorumOf}
 
@@ -20,6 +20,11 @@ holdersOf σ v t held d = tabulate 16 (λ s. record { 0 = cond (ltb s (shards σ
 -- each shard's target, and (0, 0) from S up
 unfoldable pub targetsOf : List ℕ → Layout → Termination → ℕ → List ℕ → List Position
 targetsOf σ v t held d = tabulate 16 (λ s. cond (ltb s (shards σ)) (target v t held d s) start)
+
+pub record Standing : Type 0 where
+  pub quorum : Quorum
+  pub holders : List Node
+  pub targets : List Position
 
 unfoldable pub standingOf : List ℕ → Layout → Termination → ℕ → List ℕ → Standing
 standingOf σ v t held d =

@@ -12,18 +12,17 @@ use Rattle.base_laws.specs.Positions.{not-after-refl, not-after-total}
 use Rattle.base_ids.specs.declared.Position.{Position}
 use Rattle.base_ids.specs.Order.{notAfter, order-trans}
 use Rattle.report_views.specs.Logs.{pos}
-use Rattle.report_views.specs.Updates.{onePosition, sharedStretch, lastAfter, thoseOf, upTo, beyond}
+use Rattle.report_views.specs.Slots.{samePosition}
+use Rattle.report_views.specs.Updates.{sharedStretch, lastAfter, thoseOf, upTo, beyond}
 
 -- ---- one position
 
-pub one-same : (p q : Position) → onePosition p q ≡ true → p ≡ q
-unfolding onePosition
+pub one-same : (p q : Position) → samePosition p q ≡ true → p ≡ q
 one-same p q h =
     ap₂ (λ (v k : ℕ). pos v k) (eqb-true (p .view .0) (q .view .0) (and-left (eqb (p .view .0) (q .view .0)) (eqb (p .k) (q .k)) h))
     (eqb-true (p .k) (q .k) (and-right (eqb (p .view .0) (q .view .0)) (eqb (p .k) (q .k)) h))
 
-pub one-refl : (p : Position) → onePosition p p ≡ true
-unfolding onePosition
+pub one-refl : (p : Position) → samePosition p p ≡ true
 one-refl p = and-both (eq-eqb (p .view .0) (p .view .0) refl) (eq-eqb (p .k) (p .k) refl)
 
 -- ---- the order
@@ -105,10 +104,10 @@ pub shared-rises : (a : Position) (ps qs : List Position) → risesAfter a ps �
 unfolding sharedStretch risesAfter
 shared-rises a [] qs h = refl
 shared-rises a (p ∷ ps) [] h = refl
-shared-rises a (p ∷ ps) (q ∷ qs) h = go (either (onePosition p q)) (shared-rises p ps qs (rises-rest a p ps h))
+shared-rises a (p ∷ ps) (q ∷ qs) h = go (either (samePosition p q)) (shared-rises p ps qs (rises-rest a p ps h))
   where
-    go : (onePosition p q ≡ true) ⊎ (onePosition p q ≡ false) → risesAfter p (sharedStretch ps qs) ≡ true
-        → risesAfter a (cond (onePosition p q) (p ∷ sharedStretch ps qs) []) ≡ true
+    go : (samePosition p q ≡ true) ⊎ (samePosition p q ≡ false) → risesAfter p (sharedStretch ps qs) ≡ true
+        → risesAfter a (cond (samePosition p q) (p ∷ sharedStretch ps qs) []) ≡ true
     go (inl e) rest = rw e (rises-on a p (sharedStretch ps qs) (rises-first a p ps h) rest)
     go (inr e) rest = rw e
 
@@ -118,12 +117,12 @@ pub shared-up : (a : Position) (ps qs : List Position) → risesAfter a ps ≡ t
 unfolding sharedStretch lastAfter thoseOf
 shared-up a [] qs h g = (refl, none-up-to a a qs g (order-refl a))
 shared-up a (p ∷ ps) [] h g = (none-up-to a a (p ∷ ps) h (order-refl a), refl)
-shared-up a (p ∷ ps) (q ∷ qs) h g = go (λ w. shared-up p ps qs (rises-rest a p ps h) w) (either (onePosition p q))
+shared-up a (p ∷ ps) (q ∷ qs) h g = go (λ w. shared-up p ps qs (rises-rest a p ps h) w) (either (samePosition p q))
   where
     go : (risesAfter p qs ≡ true → (upTo (lastAfter p (sharedStretch ps qs)) ps ≡ sharedStretch ps qs) × (upTo (lastAfter p (sharedStretch ps qs)) qs ≡ sharedStretch ps qs))
-        → (onePosition p q ≡ true) ⊎ (onePosition p q ≡ false)
-        → (upTo (lastAfter a (cond (onePosition p q) (p ∷ sharedStretch ps qs) [])) (p ∷ ps) ≡ cond (onePosition p q) (p ∷ sharedStretch ps qs) [])
-        × (upTo (lastAfter a (cond (onePosition p q) (p ∷ sharedStretch ps qs) [])) (q ∷ qs) ≡ cond (onePosition p q) (p ∷ sharedStretch ps qs) [])
+        → (samePosition p q ≡ true) ⊎ (samePosition p q ≡ false)
+        → (upTo (lastAfter a (cond (samePosition p q) (p ∷ sharedStretch ps qs) [])) (p ∷ ps) ≡ cond (samePosition p q) (p ∷ sharedStretch ps qs) [])
+        × (upTo (lastAfter a (cond (samePosition p q) (p ∷ sharedStretch ps qs) [])) (q ∷ qs) ≡ cond (samePosition p q) (p ∷ sharedStretch ps qs) [])
     go on (inl e) =
         let same = one-same p q e in
         let c = lastAfter p (sharedStretch ps qs) in
@@ -138,14 +137,14 @@ unfolding sharedStretch
 shared-turned [] [] = refl
 shared-turned [] (q ∷ qs) = refl
 shared-turned (p ∷ ps) [] = refl
-shared-turned (p ∷ ps) (q ∷ qs) = go (either (onePosition p q)) (either (onePosition q p)) (shared-turned ps qs)
+shared-turned (p ∷ ps) (q ∷ qs) = go (either (samePosition p q)) (either (samePosition q p)) (shared-turned ps qs)
   where
-    go : (onePosition p q ≡ true) ⊎ (onePosition p q ≡ false) → (onePosition q p ≡ true) ⊎ (onePosition q p ≡ false)
+    go : (samePosition p q ≡ true) ⊎ (samePosition p q ≡ false) → (samePosition q p ≡ true) ⊎ (samePosition q p ≡ false)
         → sharedStretch ps qs ≡ sharedStretch qs ps
-        → cond (onePosition p q) (p ∷ sharedStretch ps qs) [] ≡ cond (onePosition q p) (q ∷ sharedStretch qs ps) []
+        → cond (samePosition p q) (p ∷ sharedStretch ps qs) [] ≡ cond (samePosition q p) (q ∷ sharedStretch qs ps) []
     go (inl e) (inl o) rest = rw (e, o) (ap₂ (λ (x : Position) (zs : List Position). x ∷ zs) (one-same p q e) rest)
-    go (inl e) (inr o) rest = clash (subst (λ (x : Position). onePosition q x ≡ true) (sym (one-same p q e)) (one-refl q)) o
-    go (inr e) (inl o) rest = clash (subst (λ (x : Position). onePosition p x ≡ true) (sym (one-same q p o)) (one-refl p)) e
+    go (inl e) (inr o) rest = clash (subst (λ (x : Position). samePosition q x ≡ true) (sym (one-same p q e)) (one-refl q)) o
+    go (inr e) (inl o) rest = clash (subst (λ (x : Position). samePosition p x ≡ true) (sym (one-same q p o)) (one-refl p)) e
     go (inr e) (inr o) rest = rw (e, o)
 
 -- any stretch from the beginning of both is its beginning
@@ -170,12 +169,12 @@ those-append f (p ∷ ps) qs = go (either (f p)) (those-append f ps qs)
 
 unfoldable pub among : Position → List Position → Bool
 among p [] = false
-among p (q ∷ qs) = onePosition q p || among p qs
+among p (q ∷ qs) = samePosition q p || among p qs
 
 pub among-append : (p : Position) (ps qs : List Position) → among p (ps ++ qs) ≡ (among p ps || among p qs)
 unfolding among
 among-append p [] qs = refl
-among-append p (x ∷ ps) qs = rw (among-append p ps qs) (by-cases (onePosition x p))
+among-append p (x ∷ ps) qs = rw (among-append p ps qs) (by-cases (samePosition x p))
   where
     by-cases : (b : Bool) → (b || (among p ps || among p qs)) ≡ ((b || among p ps) || among p qs)
     by-cases true = refl
@@ -188,14 +187,14 @@ among-those f p [] = by-cases (f p)
     by-cases : (b : Bool) → false ≡ (b && false)
     by-cases true = refl
     by-cases false = refl
-among-those f p (q ∷ qs) = go (either (f q)) (either (onePosition q p)) (among-those f p qs)
+among-those f p (q ∷ qs) = go (either (f q)) (either (samePosition q p)) (among-those f p qs)
   where
     or-and : (b y : Bool) → (false || (b && y)) ≡ (b && (false || y))
     or-and true y = refl
     or-and false y = refl
 
-    go : (f q ≡ true) ⊎ (f q ≡ false) → (onePosition q p ≡ true) ⊎ (onePosition q p ≡ false) → among p (thoseOf f qs) ≡ (f p && among p qs)
-        → among p (cond (f q) (q ∷ thoseOf f qs) (thoseOf f qs)) ≡ (f p && (onePosition q p || among p qs))
+    go : (f q ≡ true) ⊎ (f q ≡ false) → (samePosition q p ≡ true) ⊎ (samePosition q p ≡ false) → among p (thoseOf f qs) ≡ (f p && among p qs)
+        → among p (cond (f q) (q ∷ thoseOf f qs) (thoseOf f qs)) ≡ (f p && (samePosition q p || among p qs))
     go (inl e) (inl o) rest =
         let hit : f p ≡ true = subst (λ (x : Position). f x ≡ true) (one-same q p o) e in
         rw (e, o, hit)
@@ -211,6 +210,6 @@ unfolding lastAfter among
 last-among a [] = inl refl
 last-among a (p ∷ ps) =
     inr (⊎-elim
-    (λ e. or-left (among (lastAfter p ps) ps) (subst (λ (x : Position). onePosition p x ≡ true) (sym e) (one-refl p)))
-    (λ h. or-right (onePosition p (lastAfter p ps)) h)
+    (λ e. or-left (among (lastAfter p ps) ps) (subst (λ (x : Position). samePosition p x ≡ true) (sym e) (one-refl p)))
+    (λ h. or-right (samePosition p (lastAfter p ps)) h)
     (last-among p ps))

@@ -15,7 +15,8 @@ use Rattle.message_format.specs.Records.{word1, word2}
 use Rattle.report_views.specs.Logs.{pos, start, run, endOf, runsFrom, runsOf, reaches, holds}
 use Rattle.report_views.specs.LogLaws.{reaches-run, reaches-view, reaches-count, reaches-of}
 use Rattle.report_views.specs.RunLaws.{Runs, held-given, held-of}
-use Rattle.report_views.specs.Updates.{updatesAfter, updatesIn, updatesOf, onePosition, sharedStretch, lastAfter, thoseOf, upTo}
+use Rattle.report_views.specs.Slots.{samePosition}
+use Rattle.report_views.specs.Updates.{updatesAfter, updatesIn, updatesOf, sharedStretch, lastAfter, thoseOf, upTo}
 use Rattle.report_views.specs.Stretches.{one-same, risesAfter, rises-on, rises-sooner, none-up-to, last-append, shared-both, shared-turned, those-append, among, among-append}
 use Rattle.report_views.specs.Cuts.{runsTo, sharedAfter}
 
@@ -200,7 +201,7 @@ updates-to t v (q ∷ qs) h =
 -- a log whose views are above v has nothing in common with one that goes on in v
 none-shared : (v k n : ℕ) (rs : List Position) (zs : List Position) → logAbove v rs ≡ true → 1 ≤ n
     → sharedStretch (updatesIn rs) (updatesAfter v k n ++ zs) ≡ []
-unfolding sharedStretch updatesIn onePosition
+unfolding sharedStretch updatesIn
 none-shared v k n [] zs h l = refl
 none-shared v k n (r ∷ rs) zs h l =
     rw (run-starts (r .view .0) 0 (r .k) (log-count v r rs h), run-starts v k n l, ne-eqb (r .view .0) v (λ e. omega (arith, log-view v r rs h)))
@@ -222,7 +223,7 @@ lesser-shared a v c d rs zs h m l =
 -- runs of two views share nothing
 views-apart : (v u m n : ℕ) (ys zs : List Position) → (v ≡ u → ⊥) → 1 ≤ m → 1 ≤ n
     → sharedStretch (updatesAfter v 0 m ++ ys) (updatesAfter u 0 n ++ zs) ≡ []
-unfolding sharedStretch onePosition
+unfolding sharedStretch
 views-apart v u m n ys zs d k l = rw (run-starts v 0 m k, run-starts u 0 n l, ne-eqb v u d)
 
 -- by runs and by updates
@@ -264,12 +265,12 @@ shared-updates a (r ∷ rs) (q ∷ qs) h g =
 -- ---- what a log holds
 
 run-among : (p : Position) (v k n : ℕ) → v ≡ p .view .0 → k < p .k → p .k ≤ k + n → among p (updatesAfter v k n) ≡ true
-unfolding updatesAfter among onePosition
+unfolding updatesAfter among
 run-among p v k zero e l m = absurd (omega arith)
 run-among p v k (suc n) e l m =
     ⊎-elim
     (λ d. or-left (among p (updatesAfter v (suc k) n)) (and-both (eq-eqb v (p .view .0) e) (eq-eqb (suc k) (p .k) d)))
-    (λ d. or-right (onePosition (pos v (suc k)) p) (run-among p v (suc k) n e (omega (arith, d)) (omega arith)))
+    (λ d. or-right (samePosition (pos v (suc k)) p) (run-among p v (suc k) n e (omega (arith, d)) (omega arith)))
     (eq-or-ne (suc k) (p .k))
 
 run-reaches : (p : Position) (v k n : ℕ) → among p (updatesAfter v k n) ≡ true → (v ≡ p .view .0) × (k < p .k) × (p .k ≤ k + n)
@@ -281,7 +282,7 @@ run-reaches p v k (suc n) h =
     let same-one = one-same (pos v (suc k)) p e in
     (ap (λ (x : Position). x .view .0) same-one, omega (arith, ap (λ (x : Position). x .k) same-one), omega (arith, ap (λ (x : Position). x .k) same-one)))
     (λ e. let w = run-reaches p v (suc k) n e in (w .0, omega (arith, w .1), omega (arith, w .2)))
-    (or-holds (onePosition (pos v (suc k)) p) (among p (updatesAfter v (suc k) n)) h)
+    (or-holds (samePosition (pos v (suc k)) p) (among p (updatesAfter v (suc k) n)) h)
 
 module _ (b : List ℕ) (s : ℕ) (p : Position) where
   record-among : (k i j : ℕ) → i ≤ j → j < i + k → 1 ≤ p .k → reaches b s p j ≡ true → among p (updatesIn (runsFrom b s i k)) ≡ true

@@ -1,13 +1,13 @@
 -- A log as the list of its updates, in their order; what two logs share from their beginning, and what of them a node keeps and
 -- fetches.
 use Prim.Native.Nat.{ℕ, zero, suc}
-use mathlib.Core.Bool.{Bool, cond, not, _&&_}
+use mathlib.Core.Bool.{Bool, cond, not}
 use mathlib.Core.List.{List, [], _∷_, _++_}
-use lib.Dec.{eqb}
 use Rattle.base_ids.specs.declared.Position.{Position}
 use Rattle.base_ids.specs.Order.{notAfter}
 use Rattle.report_views.specs.Logs.{pos, runsOf}
 use Rattle.report_views.specs.Reports.{reportOf}
+use Rattle.report_views.specs.Slots.{samePosition}
 
 -- n updates of view v, after update k
 unfoldable pub updatesAfter : ℕ → ℕ → ℕ → List Position
@@ -27,15 +27,11 @@ updatesOf b s len = updatesIn (runsOf b s len)
 abbrev pub updatesAt : List ℕ → ℕ → ℕ → List Position
 updatesAt d s n = updatesOf (reportOf d n .body) s (reportOf d n .len)
 
--- p and q are one position
-unfoldable pub onePosition : Position → Position → Bool
-onePosition p q = eqb (p .view .0) (q .view .0) && eqb (p .k) (q .k)
-
 -- the longest stretch that two logs share from their beginning
 unfoldable pub sharedStretch : List Position → List Position → List Position
 sharedStretch [] qs = []
 sharedStretch (p ∷ ps) [] = []
-sharedStretch (p ∷ ps) (q ∷ qs) = cond (onePosition p q) (p ∷ sharedStretch ps qs) []
+sharedStretch (p ∷ ps) (q ∷ qs) = cond (samePosition p q) (p ∷ sharedStretch ps qs) []
 
 -- the last of some updates, a where there are none
 unfoldable pub lastAfter : Position → List Position → Position

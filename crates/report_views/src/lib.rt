@@ -60,13 +60,6 @@ pub enum Phase {
     Committed,
 }
 
-// What the held reports give: whether the quorum conditions are met, and each shard's holder (32: none) and target.
-pub struct Standing {
-    pub quorum: Quorum,
-    pub holders: [Node; 16],
-    pub targets: [Position; 16],
-}
-
 // No position: (0, 0) for every shard.
 pub fn no_positions() -> [Position; 16]
     ensures { λ r. ⌜ r ≡ replicate 16 start ⌝ }

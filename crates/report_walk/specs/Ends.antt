@@ -18,6 +18,7 @@ use Rattle.report_views.specs.declared.Layout.{Layout}
 use Rattle.report_views.specs.declared.Termination.{Termination}
 use Rattle.report_views.specs.Logs.{pos, start, endOf}
 use Rattle.report_quick.specs.Accepts.{front-following, tag-is, word1-is, word2-is}
+use Rattle.report_walk.specs.Updates.{RecordsAre}
 use Rattle.report_walk.specs.Seen.{runsNoted, endKey, RunsSeen, RunsAfter, length-noted}
 use Rattle.report_walk.specs.Sound.{Walked, frontOf, front-told, front-tags, runs-told, run-low, run-high, low-at, high-at}
 
@@ -139,3 +140,24 @@ module _ {σ : List ℕ} {v : Layout} {t : Termination} {w b masks positions k l
   pub told-key : endKey b l s ≡ 4294967296 * (endOf (contentsOf w .body) s (contentsOf w .len)) .view .0 + (endOf (contentsOf w .body) s (contentsOf w .len)) .k
   unfolding endKey endSeen
   told-key = rw told-end (⊎-elim (λ e. rw (eq-eqb (getD l s 0) 0 e) refl) (λ e. rw (ne-eqb (getD l s 0) 0 e, high-at g (2 * getD l s 0) (4 * getD l s 0 + 1) (omega arith) (omega (arith, told-few)), low-at g (2 * getD l s 0 + 1) (4 * getD l s 0 + 2) (omega arith) (omega (arith, told-few))) refl) (eq-or-ne (getD l s 0) 0))
+
+-- the pairs have the records of the body
+module _ {σ : List ℕ} {v : Layout} {t : Termination} {w b masks positions k l : List ℕ} {node n : ℕ} (g : Walked σ v t w b masks positions k l node n) where
+  pub told-len : contentsOf w .len ≡ n
+  unfolding contentsOf
+  told-len = front-following σ w (v .number .0) (frontOf g) n (g .right) (front-told g) (runs-told g)
+
+  pub told-records : RecordsAre b (contentsOf w .body) n
+  unfolding contentsOf
+  told-records =
+      record {
+        tags = λ j h.
+            tag-is σ w (v .number .0) (frontOf g) n (g .right) (front-told g) (runs-told g) j h
+            ∙ low-at g (2 * j + 2) (4 * j + 4) (omega arith) (omega (arith, runs-told g .few));
+        firsts = λ j h.
+            word1-is σ w (v .number .0) (frontOf g) n (g .right) (front-told g) (runs-told g) j h
+            ∙ high-at g (2 * j + 2) (4 * j + 5) (omega arith) (omega (arith, runs-told g .few));
+        seconds = λ j h.
+            word2-is σ w (v .number .0) (frontOf g) n (g .right) (front-told g) (runs-told g) j h
+            ∙ low-at g (2 * j + 3) (4 * j + 6) (omega arith) (omega (arith, runs-told g .few));
+      }

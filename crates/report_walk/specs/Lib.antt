@@ -2,4 +2,6 @@
 pub mod Pairs
 pub mod Seen
 pub mod Sound
+pub mod Updates
 pub mod Ends
+pub mod Kept

@@ -1,5 +1,6 @@
 // A walk over a held node's slot, two words at a time. It tells a report of the kept view whose records stand one after another, as
-// the writer lays them out, and where each shard's last run stands. Of a slot that it does not tell nothing is said.
+// the writer lays them out, and where each shard's last run stands. Of a slot that it does not tell nothing is said. What it compares
+// with is made once of the kept view and its termination.
 use base_ids::Node;
 use base_ids::Position;
 use base_ids::View;
@@ -11,9 +12,29 @@ ghost use mathlib.Core.Path.{_≡_};
 ghost use Prim.Native.Nat.{ℕ, _+_, _*_, _-_, _/_, _%_, _<_, _≤_};
 ghost use lib.ListN.{length, getD};
 ghost use Rattle.settings_values.specs.Settings.{Settings};
+ghost use Rattle.base_laws.specs.Below.{allBelow};
 ghost use Rattle.report_views.specs.Reports.{positionAt};
+ghost use Rattle.report_views.specs.Soundness.{positionSound};
 ghost use Rattle.report_walk.specs.Pairs.{pairOf, pairsOf};
-ghost use Rattle.report_walk.specs.Seen.{keyOf, beforeAt, runsNoted, Goes, RunEnds, RunsOn, RunsSeen, RunsAfter, PositionsSeen, RestSeen, FrontSeen, SlotTold, MaskRecords, PositionRecords, PositionLegal, Ready, endKey};
+ghost use Rattle.report_walk.specs.Seen.{keyOf, beforeAt, runsNoted, Goes, RunEnds, RunsOn, RunsSeen, RunsAfter, PositionsSeen, RestSeen, FrontSeen, SlotTold, MaskRecords, PositionRecords, endKey};
+ghost use Rattle.report_walk.specs.Updates.{runHas, updateSeen, goalAt};
+ghost use Rattle.report_walk.specs.Kept.{readyOf, TablesOf};
+
+// Whether a report of the kept view can be told by comparing; the view's number and members, whether its termination is made, and S.
+pub struct Frame {
+    pub ready: bool,
+    pub number: View,
+    pub members: u32,
+    pub made: bool,
+    pub count: usize,
+}
+
+// What slots and messages are compared with: the pairs of the records of members, and of those of positions.
+pub struct Tables {
+    pub frame: Frame,
+    pub masks: [u64; 32],
+    pub positions: [u64; 32],
+}
 
 // Two words as one number.
 fn joined(low: u32, high: u32) -> u64
@@ -252,23 +273,24 @@ fn front_told(
 // A report of the kept view by this node whose records stand one after another: the index of its last record. 128: it is not told.
 // last: where each shard's last run stands; it stays 0 for one without runs.
 pub fn told(
-    number: View,
-    members: u32,
+    frame: Frame,
     masks: &[u64; 32],
-    made: bool,
     positions: &[u64; 32],
-    count: usize,
     b: &[u64; 256],
     node: Node,
     last: &mut [usize; 16],
 ) -> usize
-    requires { ⌜ (1 ≤ count) × (count ≤ 16) ⌝ }
-    ensures { λ r. ⌜ (r ≤ 127 → SlotTold (number .0) members (now (masks .entry)) made (now (positions .entry)) count (now (b .entry)) (node .0) (now (last .entry)) (now (last .exit)) r) ⌝ }
+    requires { ⌜ (1 ≤ frame .count) × (frame .count ≤ 16) ⌝ }
+    ensures { λ r. ⌜ (r ≤ 127 → (frame .ready ≡ true) × SlotTold (frame .number .0) (frame .members) (now (masks .entry)) (frame .made) (now (positions .entry)) (frame .count) (now (b .entry)) (node .0) (now (last .entry)) (now (last .exit)) r) ⌝ }
 {
-    if !front_told(number.0, members, masks, count, b, node.0) {
+    if !frame.ready {
         return 128;
     }
-    rest_told(b, made, positions, count, number.0, last)
+    let number = frame.number;
+    if !front_told(number.0, frame.members, masks, frame.count, b, node.0) {
+        return 128;
+    }
+    rest_told(b, frame.made, positions, frame.count, number.0, last)
 }
 
 // The view and k of a run as one number.
@@ -290,8 +312,50 @@ pub fn end_at(b: &[u64; 256], last: &[usize; 16], s: usize) -> u64
     end_key(b[2 * i], b[2 * i + 1])
 }
 
+// The number of shard s's position, by the pairs of its record.
+pub fn goal_at(positions: &[u64; 32], s: usize) -> u64
+    requires { ⌜ s < 16 ⌝ }
+    ensures { λ r. ⌜ r ≡ goalAt (now (positions .entry)) s ⌝ }
+{
+    end_key(positions[2 * s], positions[2 * s + 1])
+}
+
+// Record j + 1 is a run with this front, its tag and its view, and reaches k.
+fn run_has(b: &[u64; 256], front: u64, k: u64, j: usize) -> bool
+    requires { ⌜ j < 127 ⌝ }
+    ensures { λ r. ⌜ r ≡ runHas (now (b .entry)) front k j ⌝ }
+{
+    if b[2 * j + 2] != front {
+        return false;
+    }
+    k <= b[2 * j + 3] % 4294967296
+}
+
+// The log of shard s in the records from 1 to n has the update with this number: any log has (0, 0).
+pub fn has_update(b: &[u64; 256], n: usize, s: usize, goal: u64) -> bool
+    requires { ⌜ (n ≤ 127) × (s < 16) ⌝ }
+    ensures { λ r. ⌜ r ≡ updateSeen (now (b .entry)) n s goal ⌝ }
+{
+    if goal == 0 {
+        return true;
+    }
+    let k = goal % 4294967296;
+    if k < 1 {
+        return false;
+    }
+    let front = joined(768 + s as u32, high(goal));
+    let mut j: usize = 0;
+    while j < n {
+        if run_has(b, front, k, j) {
+            return true;
+        }
+        j += 1;
+    }
+    false
+}
+
 // The pairs of the records of members.
-pub fn mask_records(masks: &[u32; 16]) -> [u64; 32]
+fn mask_records(masks: &[u32; 16]) -> [u64; 32]
     ensures { λ r. ⌜ MaskRecords (now (masks .entry)) r ⌝ }
 {
     let mut list = [0u64; 32];
@@ -305,7 +369,7 @@ pub fn mask_records(masks: &[u32; 16]) -> [u64; 32]
 }
 
 // The pairs of the records of positions.
-pub fn position_records(positions: [Position; 16], count: usize) -> [u64; 32]
+fn position_records(positions: [Position; 16], count: usize) -> [u64; 32]
     requires { ⌜ count ≤ 16 ⌝ }
     ensures { λ r. ⌜ PositionRecords positions count r ⌝ }
 {
@@ -323,19 +387,19 @@ pub fn position_records(positions: [Position; 16], count: usize) -> [u64; 32]
 
 // A position of no view above the kept one.
 fn position_legal(number: View, p: Position) -> bool
-    ensures { λ r. ⌜ (r ≡ true → PositionLegal (number .0) p) ⌝ }
+    ensures { λ r. ⌜ r ≡ positionSound (number .0) p ⌝ }
 {
-    let view = p.view;
-    if number.0 < view.0 {
+    if !message_rows::position(p) {
         return false;
     }
-    message_rows::position(p)
+    let view = p.view;
+    view.0 <= number.0
 }
 
 // Positions of no view above the kept one.
 fn positions_legal(number: View, t: Termination, count: usize) -> bool
     requires { ⌜ count ≤ 16 ⌝ }
-    ensures { λ r. ⌜ (r ≡ true → (s : ℕ) → s < count → PositionLegal (number .0) (positionAt t s)) ⌝ }
+    ensures { λ r. ⌜ r ≡ allBelow count (λ s. positionSound (number .0) (positionAt t s)) ⌝ }
 {
     let positions = t.positions;
     let mut s: usize = 0;
@@ -349,9 +413,9 @@ fn positions_legal(number: View, t: Termination, count: usize) -> bool
 }
 
 // The kept view and termination can be told by comparing: they pass rows 7, 10 and 11, whatever the node.
-pub fn ready(settings: &[u32], v: Layout, t: Termination) -> bool
+fn ready(settings: &[u32], v: Layout, t: Termination) -> bool
     requires { ⌜ Settings (now settings) ⌝ }
-    ensures { λ r. ⌜ (r ≡ true → Ready (now (settings .entry)) v t) ⌝ }
+    ensures { λ r. ⌜ r ≡ readyOf (now (settings .entry)) v t ⌝ }
 {
     let number = v.number;
     if !message_rows::view_ok(Form::Report, number) {
@@ -367,4 +431,27 @@ pub fn ready(settings: &[u32], v: Layout, t: Termination) -> bool
         return true;
     }
     positions_legal(number, t, settings_values::shards(settings) as usize)
+}
+
+// What slots and messages are compared with.
+pub fn tables_of(settings: &[u32], v: Layout, t: Termination) -> Tables
+    requires { ⌜ Settings (now settings) ⌝ }
+    ensures { λ r. ⌜ TablesOf (now (settings .entry)) v t r ⌝ }
+{
+    let count = base_ids::wide(settings_values::shards(settings));
+    let kept = t.positions;
+    let masks = mask_records(&v.masks);
+    let positions = position_records(kept, count);
+    let frame = Frame {
+        ready: ready(settings, v, t),
+        number: v.number,
+        members: v.members,
+        made: t.made,
+        count,
+    };
+    Tables {
+        frame,
+        masks,
+        positions,
+    }
 }

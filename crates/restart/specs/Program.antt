@@ -4,14 +4,14 @@ use mathlib.Core.Bool.{Bool, true, false, cond, true≢false}
 use mathlib.Core.List.{List, [], _++_}
 use mathlib.Core.Path.{_≡_, refl, sym, ap, ap₂, _∙_, subst}
 use native.Mathlib.Omega.{arith}
-use lib.ListN.{length, getD, take, replicate, length-append, length-take, length-replicate, getD-replicate}
+use lib.ListN.{length, getD, take, replicate, length-replicate, getD-replicate}
 use Rattle.base_laws.specs.Tables.{tabulate-same, zeros}
 use Rattle.base_bytes.specs.Words.{wordAt, wordsOf}
 use Rattle.base_lent.specs.Lent.{wordsIn, all-words}
 use Rattle.program_input.specs.declared.Source.{Source}
 use Rattle.program_input.specs.declared.Source.the-variants.{Open, Over, Failed, Endless}
 use Rattle.program_input.specs.declared.Input.{Input}
-use Rattle.program_input.specs.Inputs.{unread, mayCome, isCut, MayFollow, ReadsOn, reads-add, reads-within}
+use Rattle.program_input.specs.Inputs.{unread, mayCome, isCut, MayFollow, ReadsOn, Came, no-read, one-more}
 use Rattle.program_run.specs.declared.Stage.{Stage}
 use Rattle.program_run.specs.declared.Run.{Run}
 use Rattle.program_run.specs.Runs.{Printed}
@@ -25,60 +25,42 @@ use Rattle.restart.specs.declared.Reply.{Reply}
 abbrev pub goesOn : Source → Stage → Bool
 goesOn s k = cond (closedAt k) false (mayCome s)
 
--- before the first read
-abbrev pub nothingRead : Intake
-nothingRead = record { run = started; input = unread }
+-- one read more: the bytes that it gave are fed
+pub record Turns (x : Intake) (d bytes gave : List ℕ) (r : Intake) (e b : List ℕ) : Type 0 where
+  pub reads : ReadsOn (x .input) gave (r .input)
+  pub feeds : Feeds (x .run) d bytes gave (r .run) e b
 
--- one read more: the bytes that it left at the start of the buffer are fed
-pub record Turns (x : Intake) (d bytes buffer : List ℕ) (r : Intake) (e b : List ℕ) : Type 0 where
-  pub reads : ReadsOn (x .input) (r .input)
-  pub room : length buffer ≡ 4096
-  pub feeds : Feeds (x .run) d bytes (take (r .input .got) buffer) (r .run) e b
-
--- reads, one after another, lead from the start
-pub data Reads (d bytes : List ℕ) : Intake → List ℕ → List ℕ → Type 0 where
-  no-read : Reads d bytes nothingRead d bytes
-  one-more : (x r : Intake) (e b buffer f c : List ℕ) → Reads d bytes x e b → Turns x e b buffer r f c → Reads d bytes r f c
+-- reads, one after another, lead from the start, and what they gave is fed
+pub record FedSoFar (d bytes : List ℕ) (r : Intake) (e b : List ℕ) : Type 0 where
+  pub came : List ℕ
+  pub reads : Came came (r .input)
+  pub feeds : Feeds started d bytes came (r .run) e b
 
 -- .. until the last of them gave nothing or failed, or the run is closed
 pub record ReadsAll (d bytes : List ℕ) (r : Intake) (e b : List ℕ) : Type 0 where
-  pub reads : Reads d bytes r e b
+  pub fed : FedSoFar d bytes r e b
   pub ended : goesOn (r .input .source) (r .run .stage) ≡ false
 
 -- the first bytes of `out` are what is printed for the bytes that came and whatever may follow them; nothing where the input was cut
 pub record Answers (out : List ℕ) (r : Reply) : Type 0 where
   pub came : List ℕ
-  pub whole : length came ≡ r .input .total
+  pub reads : Came came (r .input)
   pub printed : isCut (r .input .source) ≡ false → (rest : List ℕ) → MayFollow (r .input .source) rest → Printed (came ++ rest) (take (r .len) out)
   pub silent : isCut (r .input .source) ≡ true → r .len ≡ 0
   pub within : r .len ≤ length out
 
 -- ---- laws
 
--- the run is the one to which the bytes that all reads gave lead
-pub record Came (d bytes : List ℕ) (r : Intake) (e b : List ℕ) : Type 0 where
-  pub came : List ℕ
-  pub whole : length came ≡ r .input .total
-  pub feeds : Feeds started d bytes came (r .run) e b
+-- before the first read, and after one more
+pub fed-first : {d bytes : List ℕ} {r : Run} {x : Input} → length bytes ≡ 2056 → r ≡ started → x ≡ unread
+    → FedSoFar d bytes (record { run = r; input = x }) d bytes
+fed-first {d} {bytes} h e u =
+    subst (λ (i : Intake). FedSoFar d bytes i d bytes) (sym (ap₂ (λ (a : Run) (y : Input). record { run = a; input = y }) e u))
+    (record { came = []; reads = no-read; feeds = feeds-none (started-ready bytes h) })
 
-pub reads-came : (d bytes : List ℕ) (r : Intake) (e b : List ℕ) → length bytes ≡ 2056 → Reads d bytes r e b → Came d bytes r e b
-reads-came d bytes r e b h no-read = record { came = []; whole = refl; feeds = feeds-none (started-ready bytes h) }
-reads-came d bytes r e b h (one-more x r₀ e₀ b₀ buffer f c before turn) =
-    let p : Came d bytes x e₀ b₀ = reads-came d bytes x e₀ b₀ h before in
-    record {
-      came = p .came ++ take (r .input .got) buffer;
-      whole =
-          omega (
-            arith,
-            length-append (p .came) (take (r .input .got) buffer),
-            p .whole,
-            reads-add (x .input) (r .input) (turn .reads),
-            reads-within (x .input) (r .input) (turn .reads),
-            turn .room,
-            length-take (r .input .got) buffer,
-          );
-      feeds = feeds-then (p .feeds) (turn .feeds);
-    }
+pub fed-then : {d bytes gave : List ℕ} {x r : Intake} {e b f c : List ℕ} → FedSoFar d bytes x e b → Turns x e b gave r f c → FedSoFar d bytes r f c
+fed-then {gave = gave} {x} {r} p t =
+    record { came = p .came ++ gave; reads = one-more (p .came) gave (x .input) (r .input) (p .reads) (t .reads); feeds = feeds-then (p .feeds) (t .feeds) }
 
 -- the first n bytes of a buffer
 pub feeds-front : {run : Run} {d bytes : List ℕ} {r : Run} {e b : List ℕ} (n : ℕ) (xs : List ℕ) → Feeds run d bytes (take (n - 0) xs) r e b
@@ -87,14 +69,10 @@ feeds-front {run} {d} {bytes} {r} {e} {b} n xs p =
     let same : n - 0 ≡ n = omega arith in
     subst (λ (k : ℕ). Feeds run d bytes (take k xs) r e b) same p
 
-pub turns-by : {d bytes buffer : List ℕ} {s : Run} {y : Input} {e b : List ℕ} {n : ℕ} (x : Intake) → ReadsOn (x .input) y → length buffer ≡ 4096
-    → n ≡ y .got → Feeds (x .run) d bytes (take n buffer) s e b → Turns x d bytes buffer (record { run = s; input = y }) e b
-turns-by {d} {bytes} {buffer} {s} {y} {e} {b} x reads room h feeds =
-    record { reads = reads; room = room; feeds = subst (λ (k : ℕ). Feeds (x .run) d bytes (take k buffer) s e b) h feeds }
-
-pub reads-first : {d bytes : List ℕ} {r : Run} {x : Input} → r ≡ started → x ≡ unread → Reads d bytes (record { run = r; input = x }) d bytes
-reads-first {d} {bytes} e u =
-    subst (λ (i : Intake). Reads d bytes i d bytes) (sym (ap₂ (λ (a : Run) (y : Input). record { run = a; input = y }) e u)) no-read
+pub turns-by : {d bytes : List ℕ} {s : Run} {e b : List ℕ} (x : Intake) (y : Input) (buffer : List ℕ) (n : ℕ) → ReadsOn (x .input) (take (y .got) buffer) y
+    → n ≡ y .got → Feeds (x .run) d bytes (take n buffer) s e b → Turns x d bytes (take (y .got) buffer) (record { run = s; input = y }) e b
+turns-by {d} {bytes} {s} {e} {b} x y buffer n reads h feeds =
+    record { reads = reads; feeds = subst (λ (k : ℕ). Feeds (x .run) d bytes (take k buffer) s e b) h feeds }
 
 -- while reading goes on more may come
 pub going-open : (b m : Bool) → cond b false m ≡ true → m ≡ true
@@ -106,17 +84,16 @@ is-closed true h = refl
 is-closed false h = absurd (true≢false h)
 
 -- the run can be closed
-pub reads-ready : {d bytes : List ℕ} {r : Intake} {e b : List ℕ} → ReadsAll d bytes r e b → length bytes ≡ 2056 → ReadyRun (r .run) b
-reads-ready {d} {bytes} {r} {e} {b} p l = reads-came d bytes r e b l (p .reads) .feeds .ready
+pub reads-ready : {d bytes : List ℕ} {r : Intake} {e b : List ℕ} → ReadsAll d bytes r e b → ReadyRun (r .run) b
+reads-ready p = p .fed .feeds .ready
 
 -- the input was cut
-pub answers-none : {d bytes : List ℕ} {r : Intake} {e b : List ℕ} (out : List ℕ) → ReadsAll d bytes r e b → length bytes ≡ 2056
+pub answers-none : {d bytes : List ℕ} {r : Intake} {e b : List ℕ} (out : List ℕ) → ReadsAll d bytes r e b
     → isCut (r .input .source) ≡ true → Answers out (record { len = 0; input = r .input })
-answers-none {d} {bytes} {r} {e} {b} out p l h =
-    let q : Came d bytes r e b = reads-came d bytes r e b l (p .reads) in
+answers-none out p h =
     record {
-      came = q .came;
-      whole = q .whole;
+      came = p .fed .came;
+      reads = p .fed .reads;
       printed = λ g rest m. absurd (true≢false (sym h ∙ g));
       silent = λ g. refl;
       within = omega arith;
@@ -143,7 +120,7 @@ empty-desk = sym (zero-words 16384)
 
 -- the input is at its end, or the run is closed
 module _ {d bytes : List ℕ} {r : Intake} {e b : List ℕ} {last : Run} {f out after : List ℕ} {n : ℕ} (empty : d ≡ replicate 16384 0)
-    (p : ReadsAll d bytes r e b) (q : Closes (r .run) e b last f) (w : Writes (progress last f) out after n) (l : length bytes ≡ 2056) (h : length out ≡ 8192) where
+    (p : ReadsAll d bytes r e b) (q : Closes (r .run) e b last f) (w : Writes (progress last f) out after n) (h : length out ≡ 8192) where
   -- what may follow changes nothing
   ends-same : (s : Source) → goesOn s (r .run .stage) ≡ false → isCut s ≡ false → (rest : List ℕ) → MayFollow s rest
       → ahead (r .run) e b rest ≡ ahead (r .run) e b []
@@ -154,12 +131,12 @@ module _ {d bytes : List ℕ} {r : Intake} {e b : List ℕ} {last : Run} {f out 
 
   pub answers-print : isCut (r .input .source) ≡ false → Answers after (record { len = n; input = r .input })
   answers-print c =
-      let k : Came d bytes r e b = reads-came d bytes r e b l (p .reads) in
+      let k : FedSoFar d bytes r e b = p .fed in
       let fed : Feeds started (replicate 16384 0) bytes (k .came) (r .run) e b =
       subst (λ (x : List ℕ). Feeds started x bytes (k .came) (r .run) e b) empty (k .feeds) in
       record {
         came = k .came;
-        whole = k .whole;
+        reads = k .reads;
         printed =
             λ g rest m.
             run-prints-with (k .came) bytes (r .run) e b last f out after n fed q w (omega arith) rest

@@ -37,6 +37,7 @@ fn is_going_on(intake: Intake) -> bool
 // The run, fed with the first n bytes of a buffer.
 fn fed(run: Run, desk: &mut [u8], bytes: &mut [u8], buffer: &[u8], n: usize) -> Run
     requires { ⌜ ReadyRun run (now bytes) × (n ≤ length (now buffer)) ⌝ }
+    requires { ⌜ length (now desk) ≡ 65536 ⌝ }
     ensures { λ r. ⌜ Feeds run (wordsIn (now (desk .entry))) (now (bytes .entry)) (take n (now (buffer .entry))) r (wordsIn (now (desk .exit))) (now (bytes .exit)) ⌝ }
 {
     run.feed(desk, bytes, &buffer[0..n])
@@ -45,7 +46,8 @@ fn fed(run: Run, desk: &mut [u8], bytes: &mut [u8], buffer: &[u8], n: usize) -> 
 // One read more, and what it put into the buffer is fed to the run.
 fn turn(intake: Intake, desk: &mut [u8], bytes: &mut [u8], buffer: &mut [u8; 4096]) -> Intake
     requires { ⌜ ReadyRun (intake .run) (now bytes) ⌝ }
-    ensures { λ r. ⌜ Turns intake (wordsIn (now (desk .entry))) (now (bytes .entry)) (now (buffer .exit)) r (wordsIn (now (desk .exit))) (now (bytes .exit)) ⌝ }
+    requires { ⌜ length (now desk) ≡ 65536 ⌝ }
+    ensures { λ r. ⌜ Turns intake (wordsIn (now (desk .entry))) (now (bytes .entry)) (take (r .input .got) (now (buffer .exit))) r (wordsIn (now (desk .exit))) (now (bytes .exit)) ⌝ }
 {
     let input = intake.input;
     let next = input.read(buffer);
@@ -60,6 +62,7 @@ fn turn(intake: Intake, desk: &mut [u8], bytes: &mut [u8], buffer: &mut [u8; 409
 // Feeds a run with the input: to its end, to a read that fails, or until the run is closed.
 fn read_all(desk: &mut [u8], bytes: &mut [u8]) -> Intake
     requires { ⌜ length (now bytes) ≡ 2056 ⌝ }
+    requires { ⌜ length (now desk) ≡ 65536 ⌝ }
     ensures { λ r. ⌜ ReadsAll (wordsIn (now (desk .entry))) (now (bytes .entry)) r (wordsIn (now (desk .exit))) (now (bytes .exit)) ⌝ }
 {
     let mut intake = Intake {

@@ -1,6 +1,6 @@
 -- What weights tell of a placement that agrees with the owners before t and takes open pairs only: it weighs no less than a floor, more where
 -- it takes a pair whose inequality leaves much over, and more where it leaves a node nowhere whose inequality leaves much over there.
-use mathlib.Core.Path.{_≡_, refl, sym, ap, _∙_, subst}
+use mathlib.Core.Path.{_≡_, refl, sym, ap, subst}
 use mathlib.Core.Bool.{Bool, true, cond}
 use mathlib.Core.List.{List}
 use mathlib.Core.Logic.{⊎-elim}
@@ -9,11 +9,11 @@ use native.Mathlib.Omega.{arith}
 use lib.Dec.{eqb}
 use lib.ListN.{getD}
 use borrow.Author.Tests.{eq-eqb, ne-eqb, lt-ltb}
-use Rattle.base_laws.specs.Bools.{lt-or-le, eq-or-ne, clash}
+use Rattle.base_laws.specs.Bools.{lt-or-le, eq-or-ne}
 use Rattle.base_laws.specs.Masks.{has}
 use Rattle.base_sums.specs.Sums.{sum-none, sum-single}
 use Rattle.search_theory.specs.Case.{Case, Valid, weight}
-use Rattle.search_theory.specs.Order.{Agree, Begun, pair-takes}
+use Rattle.search_theory.specs.Order.{Agree, Begun}
 use Rattle.search_theory.specs.Duality.{DualWeights, Modest, Bounds, asked, gain, toll, weak}
 use Rattle.search_theory.specs.Cut.{keeps, open-pair}
 use Rattle.search_bounds.specs.Post.{OpenFor}
@@ -95,7 +95,3 @@ module _ {K : Case} {W : DualWeights} {o y : ℕ → ℕ} {t : ℕ} {rows : List
   pub away : (n : ℕ) → n < 32 → 16 ≤ y n → gain K W + (K .idle + W .node n) ≤ weight K y + toll K W + W .base
   away n l p =
       omega (arith, rests n l p, single n (K .idle + W .node n - W .base) l (λ q. absurd (omega arith)) (λ q. omega (arith, rests n l p)))
-
-  -- a node that has an owner takes no open pair: one that is free takes none before t
-  pub held : (n : ℕ) → n < 32 → y n < 16 → t ≤ y n * 32 + n → o n < 16 → ⊥
-  held n l p q h = clash (pair-takes o n (y n) l (sym (keeps b a n l h))) (b .rest (y n * 32 + n) q (omega arith))

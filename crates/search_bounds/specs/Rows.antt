@@ -2,26 +2,25 @@
 -- owner, and its bound is above k. Once every row is passed, the cut is sound.
 use mathlib.Core.Path.{_≡_, refl, sym, ap, ap₂, _∙_, subst, subst₂}
 use mathlib.Core.Bool.{Bool, true, false, cond, not, _&&_}
-use mathlib.Core.List.{List, []}
+use mathlib.Core.List.{List}
 use mathlib.Core.Logic.{_⊎_, inl, inr, ⊎-elim}
-use Prim.Native.Nat.{ℕ, _+_, _*_, _/_, _%_, _-_, _^_, _≤_, _<_}
+use Prim.Native.Nat.{ℕ, _+_, _*_, _/_, _-_, _^_, _≤_, _<_}
 use native.Mathlib.Omega.{arith}
 use lib.Bits.{bitAnd, bitOr}
 use lib.Dec.{eqb, leb, ltb}
 use lib.ListN.{length, getD, set, length-set}
 use lib.Seq.{getD-set-same, getD-set-other}
-use borrow.Author.Tests.{leb-true, ltb-true, le-leb, lt-ltb, le-ltb, ne-eqb, eqb-true}
+use borrow.Author.Tests.{leb-true, ltb-true, le-leb, lt-ltb, le-ltb, ne-eqb}
 use Rattle.base_laws.specs.Bools.{either, clash, and-both, and-left, and-right, or-holds, eq-or-ne, lt-or-le, not-of-false}
 use Rattle.base_laws.specs.Below.{allBelow, all-at}
 use Rattle.base_laws.specs.Masks.{has, without, minus, has-and, has-or, has-minus, has-without, has-past, has-zero}
-use Rattle.base_laws.specs.Picked.{maskBelow, has-mask, mask-at}
+use Rattle.base_laws.specs.Picked.{maskBelow, mask-at}
 use lib.Pow.{pow-pos}
 use Rattle.search_theory.specs.Case.{Case, Valid, weight}
-use Rattle.search_theory.specs.Tables.{caseOf, ownersOf}
 use Rattle.search_theory.specs.Order.{Agree, Begun}
 use Rattle.search_theory.specs.Duality.{DualWeights, Modest, asked, gain, toll}
-use Rattle.search_bounds.specs.Fair.{FairOpen, floor, dear, away, held}
-use Rattle.search_bounds.specs.Post.{weightsOf, Small, OpenFor, SoundBound, steady}
+use Rattle.search_bounds.specs.Fair.{FairOpen, floor, dear, away}
+use Rattle.search_bounds.specs.Post.{weightsOf, OpenFor, SoundBound, steady}
 
 -- the nodes of m whose pairs with shard i are not before t
 pub record Onward (m t i r : ℕ) : Type 0 where

@@ -6,7 +6,7 @@ ghost use mathlib.Core.List.{[]};
 ghost use Prim.Native.Nat.{_-_, _<_, _≤_, min};
 ghost use lib.Dec.{ltb};
 ghost use Rattle.search_theory.specs.Tables.{caseOf};
-ghost use Rattle.search_theory.specs.Floor.{entriesBelow, lackAt, floorOf, shortAt, tooFew};
+ghost use Rattle.search_theory.specs.Floor.{entriesBelow, floorOf, shortAt, tooFew};
 
 // 1 where a is below b, else 0.
 fn below(a: u8, b: u8) -> usize

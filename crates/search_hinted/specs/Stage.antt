@@ -1,7 +1,7 @@
 -- What the search by hints knows at pair t: the owners so far, and masks of open pairs: every placement that is still sought takes open
 -- pairs only. After them stands the mask of nodes without an owner that each of those placements places.
 use mathlib.Core.Path.{_≡_, sym, ap, _∙_, subst}
-use mathlib.Core.Bool.{Bool, true, false, not, _&&_}
+use mathlib.Core.Bool.{true, false, not, _&&_}
 use mathlib.Core.List.{List}
 use mathlib.Core.Logic.{_⊎_, inl, inr, ⊎-elim}
 use Prim.Native.Nat.{ℕ, _+_, _*_, _/_, _%_, _^_, _≤_, _<_}
@@ -13,9 +13,9 @@ use borrow.Author.Tests.{eqb-true, eqb-false, eq-eqb, lt-ltb, le-ltb}
 use lib.Bits.{bitOr}
 use Rattle.base_laws.specs.Bools.{lt-or-le, eq-or-ne, clash, and-both, and-left, and-right, and-fails-right, of-not-true, no-true, or-left, or-right}
 use Rattle.base_laws.specs.Below.{count-mono, count-past, count-le}
-use Rattle.base_laws.specs.Masks.{has, without, minus, has-without, has-minus, has-or, has-zero, some-bit}
+use Rattle.base_laws.specs.Masks.{has, without, minus, has-without, has-minus, has-or, some-bit}
 use Rattle.base_laws.specs.Picked.{maskBelow, mask-at}
-use Rattle.search_theory.specs.Case.{Case, Valid, Within, size}
+use Rattle.search_theory.specs.Case.{Case, Within, size}
 use Rattle.search_theory.specs.Tables.{ownersOf}
 use Rattle.search_theory.specs.Order.{takes, shardEnd, Begun, First, None, From, TakesPair, from-left, from-closed, from-taken, begun-close, pair-takes, first-leave, first-close, first-take}
 use Rattle.search_theory.specs.Cut.{keeps, decided}

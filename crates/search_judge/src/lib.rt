@@ -11,8 +11,7 @@ ghost use Rattle.base_laws.specs.Masks.{has};
 ghost use Rattle.search_theory.specs.Case.{size, spread, weight};
 ghost use Rattle.search_theory.specs.Tables.{caseOf, ownersOf};
 ghost use Rattle.search_theory.specs.Tests.{stands, needsMet};
-ghost use Rattle.search_theory.specs.Order.{Begun};
-ghost use Rattle.search_judge.specs.Post.{Judged, Barred, hopelessFrom};
+ghost use Rattle.search_judge.specs.Post.{Judged, isBarred, hopelessFrom};
 ghost use Rattle.search_judge.specs.Met.{Joined, Met};
 ghost use Rattle.search_judge.specs.Owners.{OwnersHeld};
 
@@ -249,8 +248,7 @@ pub fn barred(
     t: usize,
 ) -> bool
     requires { ⌜ t < 512 ⌝ }
-    requires { ⌜ Begun (ownersOf (now owner)) t ⌝ }
-    ensures { λ r. ⌜ Barred (caseOf (now (sets .entry)) (now (needs .entry)) (now (caps .entry)) (now (costs .entry)) idle) (ownersOf (now (owner .entry))) t r ⌝ }
+    ensures { λ r. ⌜ r ≡ isBarred (caseOf (now (sets .entry)) (now (needs .entry)) (now (caps .entry)) (now (costs .entry)) idle) (ownersOf (now (owner .entry))) t ⌝ }
 {
     let i = t / 32;
     if owner[t % 32] < 16 {

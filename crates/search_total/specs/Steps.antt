@@ -14,9 +14,9 @@ use borrow.Author.Tests.{eqb-true, eqb-false}
 use Rattle.base_laws.specs.Bools.{eq-or-ne, lt-or-le}
 use Rattle.search_theory.specs.Case.{Case, Within}
 use Rattle.search_theory.specs.Tables.{ownersOf}
-use Rattle.search_theory.specs.Order.{takes, shardEnd, None, From, TakesPair, begun-leave, begun-close, begun-take, first-leave, none-leave, first-close, first-take, none-take, first-end, none-end}
+use Rattle.search_theory.specs.Order.{takes, shardEnd, Begun, None, From, TakesPair, begun-leave, begun-close, begun-take, first-leave, none-leave, first-close, first-take, none-take, first-end, none-end}
 use Rattle.search_theory.specs.Tests.{within-same}
-use Rattle.search_judge.specs.Post.{Judged, Barred, hopelessFrom, hopeless-none}
+use Rattle.search_judge.specs.Post.{Judged, isBarred, barred-never, hopelessFrom, hopeless-none}
 use Rattle.search_total.specs.Post.{Owners, ReadyFrom, Sought}
 
 -- owners with pair t taken
@@ -157,8 +157,9 @@ module _ {K : Case} {k : ℕ} {o q : List ℕ} (t : ℕ) {j : ℕ} {b : Bool} (e
   closed-else {p} {d} g h = subst (λ (w : List ℕ). Sought K k w t p d) (s .kept g) h
 
 -- the pair is barred
-pub barred-none : {K : Case} {k : ℕ} {o : ℕ → ℕ} {t : ℕ} {b : Bool} → b ≡ true → Barred K o t b → (y : ℕ → ℕ) → From (Within K k) o t y → takes y t ≡ true → ⊥
-barred-none g b y f e = b .yes g y (f .has .valid) (f .agree) e
+pub barred-none : {K : Case} {k : ℕ} {o : ℕ → ℕ} {t : ℕ} {b : Bool} → t < 512 → Begun o t → b ≡ true → b ≡ isBarred K o t → (y : ℕ → ℕ) → From (Within K k) o t y
+    → takes y t ≡ true → ⊥
+barred-none {K} {k} {o} {t} l n g b y f e = barred-never K o t b g l n y (f .has .valid) (f .agree) e
 
 -- all pairs decided
 pub sought-end : {K : Case} {k : ℕ} {o : List ℕ} {t : ℕ} {b : Bool} → t ≡ 512 → ReadyFrom o t → Judged K k (ownersOf o) b → Sought K k o t o b

@@ -1,10 +1,9 @@
 // Row 2: whether the words of the settings are right.
 use base_ids::Shard;
-ghost use mathlib.Core.Bool.{true};
 ghost use mathlib.Core.Path.{_≡_};
 ghost use Prim.Native.Nat.{_<_, _≤_};
 ghost use lib.ListN.{length};
-ghost use Rattle.settings_values.specs.Settings.{rangesOk, sizesOk, nodesOk, shardOk, shardsOk, settingsOk, Sizes, shards, need};
+ghost use Rattle.settings_values.specs.Settings.{rangesOk, sizesOk, nodesOk, shardOk, shardsOk, settingsOk, Sizes, shards};
 
 // The first four words are in their ranges.
 fn ranges_ok(settings: &[u32]) -> bool

@@ -2,7 +2,7 @@
 use base_ids::Node;
 use base_ids::Shard;
 ghost use mathlib.Core.Path.{_≡_};
-ghost use Prim.Native.Nat.{_<_, _≤_};
+ghost use Prim.Native.Nat.{_<_};
 ghost use Rattle.settings_values.specs.Settings.{from-to, Sizes, Settings, nodes, sets, least, shards, setOf, shardWord, subgroup, need, cap};
 
 // low ≤ x ≤ high

@@ -21,7 +21,7 @@ use Rattle.report_views.specs.Meets.{slot-given}
 use Rattle.report_views.specs.Soundness.{layoutBlank, nothingKept, keptSound, marksSound, planBlank, planFits}
 use Rattle.report_views.specs.Slots.{slotsOk}
 use Rattle.report_latest.specs.declared.Latest.{Latest}
-use Rattle.report_latest.specs.Remembered.{latestAt, latestSound}
+use Rattle.report_latest.specs.Remembered.{latestSound}
 use Rattle.report_latest.specs.Laws.{latest-given, latest-test}
 use Rattle.state_planner.specs.declared.State.{State}
 use Rattle.state_planner.specs.States.{sound, holding, restarted}

@@ -3,7 +3,6 @@ use Prim.Native.Nat.{ℕ}
 use mathlib.Core.Bool.{true}
 use mathlib.Core.List.{List}
 use mathlib.Core.Path.{_≡_}
-use Rattle.base_laws.specs.Masks.{with}
 use Rattle.report_views.specs.declared.Phase.{Phase}
 use Rattle.report_views.specs.Soundness.{marksSound, planFits}
 use Rattle.state_planner.specs.declared.State.{State}

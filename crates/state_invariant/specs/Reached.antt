@@ -1,5 +1,5 @@
 -- The states and desks that accepted events lead to from the fresh state. Each is sound, so rows 1 to 3 refuse no event of a run
--- that goes by what the planner hands back. (A wait and an order change neither state nor desk.)
+-- that goes by what the planner hands back. (An order changes neither state nor desk.)
 use Prim.Native.Nat.{ℕ, max, _<_}
 use mathlib.Core.Bool.{Bool, true, cond}
 use mathlib.Core.List.{List}
@@ -13,8 +13,6 @@ use Rattle.base_laws.specs.Masks.{has-zero}
 use Rattle.settings_values.specs.Settings.{settingsOk}
 use Rattle.base_ids.specs.Refusals.{none, unless, unless-true}
 use Rattle.message_format.specs.Messages.{contentsOf}
-use Rattle.report_views.specs.declared.Plan.{Plan}
-use Rattle.report_views.specs.Soundness.{planSound}
 use Rattle.report_latest.specs.declared.Latest.{Latest}
 use Rattle.report_latest.specs.Remembered.{latestAt}
 use Rattle.report_latest.specs.Laws.{noted-at, none-latest}
@@ -30,16 +28,14 @@ use Rattle.state_invariant.specs.Noting.{RecallsReports}
 use Rattle.state_invariant.specs.AfterReport.{report-sound, report-recalled, report-desk}
 use Rattle.state_invariant.specs.AfterDrop.{drop-latest, drop-exact, drop-sound}
 use Rattle.state_invariant.specs.AfterMarks.{fetched-sound, prepared-sound}
-use Rattle.state_invariant.specs.AfterPlan.{plan-sound}
-use Rattle.state_invariant.specs.AfterDecide.{decided-state}
+use Rattle.state_invariant.specs.AfterDecide.{decided-state, decide-sound}
 
 pub data Reached (σ : List ℕ) : State → List ℕ → Type 0 where
   starting : (d : List ℕ) → settingsOk σ ≡ true → deskOk d ≡ true → Reached σ fresh d
   reporting : (x : State) (d w : List ℕ) → Reached σ x d → reportRefusal σ x d w ≡ none
       → Reached σ (afterReport σ x (contentsOf w)) (deskWith d (getD w 0 0) w)
   dropping : (x : State) (d : List ℕ) (n : ℕ) → Reached σ x d → dropRefusal σ x d n ≡ none → Reached σ (afterDrop x n) d
-  planning : (x : State) (d : List ℕ) (p : Plan) → Reached σ x d → decideRefusal σ x d ≡ none
-      → planSound σ (x .kept) (x .termination) (x .held) d p ≡ true → Reached σ (planned x p) d
+  deciding : (x : State) (d : List ℕ) (a : Decided) → Reached σ x d → decideRefusal σ x d ≡ none → Decides σ x d a → Reached σ (a .state) d
   fetching : (x : State) (d : List ℕ) (n : ℕ) → Reached σ x d → fetchedRefusal σ x d n ≡ none → Reached σ (afterFetched x n) d
   preparing : (x : State) (d : List ℕ) (n : ℕ) → Reached σ x d → preparedRefusal σ x d n ≡ none → Reached σ (afterPrepared x n) d
 
@@ -48,7 +44,7 @@ module _ (σ : List ℕ) where
   reached-sound (starting d s l) = fresh-sound σ d
   reached-sound (reporting x d w r h) = report-sound σ x d w h
   reached-sound (dropping x d n r h) = drop-sound σ x d n h
-  reached-sound (planning x d p r h s) = plan-sound σ x d p h s
+  reached-sound (deciding x d a r h w) = decide-sound σ x d a h w
   reached-sound (fetching x d n r h) = fetched-sound σ x d n h
   reached-sound (preparing x d n r h) = prepared-sound σ x d n h
 
@@ -56,7 +52,7 @@ module _ (σ : List ℕ) where
   reached-settings (starting d s l) = s
   reached-settings (reporting x d w r h) = reached-settings r
   reached-settings (dropping x d n r h) = reached-settings r
-  reached-settings (planning x d p r h s) = reached-settings r
+  reached-settings (deciding x d a r h w) = reached-settings r
   reached-settings (fetching x d n r h) = reached-settings r
   reached-settings (preparing x d n r h) = reached-settings r
 
@@ -64,7 +60,7 @@ module _ (σ : List ℕ) where
   reached-desk (starting d s l) = l
   reached-desk (reporting x d w r h) = eq-eqb (length (deskWith d (getD w 0 0) w)) 16384 (report-desk σ x d w h)
   reached-desk (dropping x d n r h) = reached-desk r
-  reached-desk (planning x d p r h s) = reached-desk r
+  reached-desk (deciding x d a r h w) = reached-desk r
   reached-desk (fetching x d n r h) = reached-desk r
   reached-desk (preparing x d n r h) = reached-desk r
 
@@ -74,7 +70,10 @@ module _ (σ : List ℕ) where
   reached-recalls (starting d s l) = λ n k h. clash h (has-zero n)
   reached-recalls (reporting x d w r h) = report-recalled σ x d w h (reached-recalls r)
   reached-recalls (dropping x d n r h) = drop-exact (x .phase) x d n (reached-recalls r)
-  reached-recalls (planning x d p r h s) = reached-recalls r
+  reached-recalls (deciding x d a r h w) =
+      ⊎-elim (λ e. subst⁻¹ (λ (y : State). RecallsReports (y .held) d (y .latest)) e (reached-recalls r))
+      (λ k. subst⁻¹ (λ (y : State). RecallsReports (y .held) d (y .latest)) (k .1) (reached-recalls r))
+      (decided-state σ x d a h w)
   reached-recalls (fetching x d n r h) = reached-recalls r
   reached-recalls (preparing x d n r h) = reached-recalls r
 
@@ -83,7 +82,7 @@ module _ (σ : List ℕ) where
   greatestReported (starting d s l) n = 0
   greatestReported (reporting x d w r h) n = cond (eqb n (getD w 0 0)) (max (greatestReported r n) (getD w 1 0)) (greatestReported r n)
   greatestReported (dropping x d m r h) n = greatestReported r n
-  greatestReported (planning x d p r h s) n = greatestReported r n
+  greatestReported (deciding x d a r h w) n = greatestReported r n
   greatestReported (fetching x d m r h) n = greatestReported r n
   greatestReported (preparing x d m r h) n = greatestReported r n
 
@@ -95,7 +94,9 @@ module _ (σ : List ℕ) where
       noted-at (x .latest) (getD w 0 0) (getD w 1 0) n k
       ∙ ap (λ (v : ℕ). cond (eqb n (getD w 0 0)) (max v (getD w 1 0)) v) (reached-greatest r n k)
   reached-greatest (dropping x d m r h) n k = ap (λ (q : Latest). latestAt q n) (drop-latest (x .phase) x m) ∙ reached-greatest r n k
-  reached-greatest (planning x d p r h s) n k = reached-greatest r n k
+  reached-greatest (deciding x d a r h w) n k =
+      ap (λ (q : Latest). latestAt q n) (⊎-elim (λ e. ap (λ (y : State). y .latest) e) (λ b. ap (λ (y : State). y .latest) (b .1)) (decided-state σ x d a h w))
+      ∙ reached-greatest r n k
   reached-greatest (fetching x d m r h) n k = reached-greatest r n k
   reached-greatest (preparing x d m r h) n k = reached-greatest r n k
 
@@ -106,10 +107,3 @@ module _ (σ : List ℕ) where
       unless-true (deskOk d) 1 _ (reached-desk r)
       ∙ unless-true (settingsOk σ) 2 _ (reached-settings r)
       ∙ unless-true (sound σ x d) 3 _ (reached-sound r)
-
-  -- what decide hands back is reached too
-  pub reached-decide : (x : State) (d : List ℕ) (r : Decided) → Reached σ x d → decideRefusal σ x d ≡ none → Decides σ x d r → Reached σ (r .state) d
-  reached-decide x d r before h w =
-      ⊎-elim (λ e. subst⁻¹ (λ (y : State). Reached σ y d) e before)
-      (λ k. subst⁻¹ (λ (y : State). Reached σ y d) (k .1) (planning x d (k .0) before h (k .2)))
-      (decided-state σ x d r h w)

@@ -5,7 +5,7 @@ use mathlib.Core.List.{List}
 use mathlib.Core.Path.{_≡_}
 use lib.Dec.{ltb}
 use borrow.Author.Tests.{ltb-true}
-use Rattle.base_laws.specs.Bools.{and-both, and-left, and-right}
+use Rattle.base_laws.specs.Bools.{and-left, and-right}
 use Rattle.settings_values.specs.Settings.{nodes, settingsOk}
 use Rattle.base_ids.specs.Refusals.{none, unless-ok, unless-rest, first-left, first-right}
 use Rattle.report_views.specs.Slots.{slotsOk}
@@ -43,11 +43,6 @@ module _ (σ : List ℕ) (x : State) (d : List ℕ) where
         latest-sound = and-right (k && s && m) l ksml;
         plan-fits = and-right (k && s && m && l) p h;
       }
-
-  pub sound-test : Sound σ x d → sound σ x d ≡ true
-  unfolding sound
-  sound-test p =
-      and-both (and-both (and-both (and-both (p .kept-sound) (p .slots-ok)) (p .marks-sound)) (p .latest-sound)) (p .plan-fits)
 
 -- rows 1 to 4 do not refuse
 pub record Entered (lengths : Bool) (σ : List ℕ) (x : State) (d : List ℕ) (inPhase : Bool) : Type 0 where

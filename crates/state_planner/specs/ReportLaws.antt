@@ -22,7 +22,7 @@ use Rattle.state_planner.specs.declared.State.{State}
 use Rattle.state_planner.specs.declared.Outcome.{Outcome}
 use Rattle.state_planner.specs.States.{keeping}
 use Rattle.state_planner.specs.Refusing.{isGathering, deskOk, entryRefusal, reportRefusal}
-use Rattle.state_planner.specs.Events.{refusing, accepting, outcome, isAccepted, afterReport, reported, deskAfter, deskLeft}
+use Rattle.state_planner.specs.Events.{refusing, accepting, isAccepted, afterReport, reported, deskAfter, deskLeft}
 use Rattle.state_planner.specs.EventLaws.{settles-refused, settles-accepted, answer-accepts}
 
 -- r: the report beside what is kept and remembered

@@ -1,8 +1,6 @@
 // The planner: its state, and the events that lead from state to state.
 use base_ids::Node;
 use base_ids::Refusal;
-use base_ids::Shard;
-use base_ids::View;
 use plan_restart::Verdict;
 use plan_seen::Seen;
 use report_kept::Received;
@@ -13,7 +11,7 @@ use report_views::Plan;
 use report_views::Quorum;
 use report_views::Reason;
 use report_views::Termination;
-ghost use mathlib.Core.Bool.{true};
+use report_walk::Tables;
 ghost use mathlib.Core.List.{List};
 ghost use mathlib.Core.Path.{_≡_};
 ghost use Prim.Native.Nat.{ℕ, _<_};
@@ -21,8 +19,8 @@ ghost use lib.ListN.{length};
 ghost use Rattle.base_laws.specs.Masks.{with};
 ghost use Rattle.base_lent.specs.Lent.{wordsIn};
 ghost use Rattle.settings_values.specs.Settings.{Settings};
-ghost use Rattle.report_views.specs.Soundness.{keptSound};
 ghost use Rattle.report_latest.specs.Remembered.{noted};
+ghost use Rattle.report_walk.specs.Kept.{TablesOf};
 ghost use Rattle.plan_seen.specs.Sight.{seenOf};
 ghost use Rattle.state_planner.specs.States as States;
 ghost use Rattle.state_planner.specs.Refusing as Refusing;
@@ -67,6 +65,13 @@ pub struct Decided {
     pub decision: Decision,
 }
 
+// What an event has found of rows 3 and 4, what the desk tells, and what slots and messages are compared with.
+struct Sighted {
+    refusal: Refusal,
+    seen: Seen,
+    tables: Tables,
+}
+
 // Rows 1 and 2.
 fn call_refusal(settings: &[u32], desk: &[u8]) -> Refusal
     ensures { λ r. ⌜ r ≡ Refusing.callRefusal (now (settings .entry)) (wordsIn (now (desk .entry))) ⌝ }
@@ -80,56 +85,79 @@ fn call_refusal(settings: &[u32], desk: &[u8]) -> Refusal
     Refusal { code: 0 }
 }
 
-// Rows 3 and 4, beside what the desk tells.
-fn entry_refusal(settings: &[u32], x: State, seen: Seen, in_phase: bool) -> Refusal
+// Row 3: the state is sound, by what is seen.
+fn is_sound(settings: &[u32], x: State, seen: Seen) -> bool
     requires { ⌜ Settings (now settings) ⌝ }
-    ensures refusal { λ r. ⌜ ((d : List ℕ) → length d ≡ 16384 → seen ≡ seenOf (now (settings .entry)) (x .kept) (x .termination) (x .held) d → r ≡ Refusing.entryRefusal (Refusing.deskOk d) (now (settings .entry)) x d in_phase) ⌝ }
-    ensures kept { λ r. ⌜ (r .code ≡ 0 → keptSound (now (settings .entry)) (x .kept) (x .termination) (x .held) ≡ true) ⌝ }
+    ensures { λ r. ⌜ ((d : List ℕ) → seen ≡ seenOf (now (settings .entry)) (x .kept) (x .termination) (x .held) d → r ≡ States.sound (now (settings .entry)) x d) ⌝ }
 {
+    let kept = x.kept;
+    if !state_sound_parts::kept_sound(settings, kept, x.termination, x.held) {
+        return false;
+    }
+    if !seen.ok {
+        return false;
+    }
     let phase = x.phase;
-    state_rows::sound_refusal(
-        settings,
-        seen,
-        in_phase,
-        phase,
-        x.kept,
-        x.termination,
-        x.held,
-        x.fetched,
-        x.prepared,
-        x.plan,
-        x.latest,
-    )
+    if !state_sound_parts::marks_sound(phase, x.held, x.fetched, x.prepared) {
+        return false;
+    }
+    let views = seen.views;
+    if !report_latest::latest_sound(settings, kept.number, x.held, views, x.latest) {
+        return false;
+    }
+    state_sound_plan::plan_fits(phase, settings, kept, x.held, seen, x.plan)
 }
 
-// Rows 3, 4, 6 and 14, beside what the desk tells: the refusal of an event that names a node.
-pub fn event_refusal_seen(
+// Rows 3 and 4, and what the desk tells, where rows 1 and 2 do not refuse.
+fn enter(settings: &[u32], x: State, desk: &[u8], in_phase: bool) -> Sighted
+    requires { ⌜ Settings (now settings) ⌝ }
+    requires { ⌜ length (now desk) ≡ 65536 ⌝ }
+    ensures refusal { λ r. ⌜ r .refusal ≡ Refusing.entryRefusal (Refusing.deskOk (wordsIn (now (desk .entry)))) (now (settings .entry)) x (wordsIn (now (desk .entry))) in_phase ⌝ }
+    ensures seen { λ r. ⌜ r .seen ≡ seenOf (now (settings .entry)) (x .kept) (x .termination) (x .held) (wordsIn (now (desk .entry))) ⌝ }
+    ensures tables { λ r. ⌜ TablesOf (now (settings .entry)) (x .kept) (x .termination) (r .tables) ⌝ }
+{
+    let tables = report_walk::tables_of(settings, x.kept, x.termination);
+    let seen = plan_seen::see(settings, x.kept, x.termination, tables, x.held, desk);
+    if !is_sound(settings, x, seen) {
+        return Sighted {
+            refusal: Refusal { code: 3 },
+            seen,
+            tables,
+        };
+    }
+    if !in_phase {
+        return Sighted {
+            refusal: Refusal { code: 4 },
+            seen,
+            tables,
+        };
+    }
+    Sighted {
+        refusal: Refusal { code: 0 },
+        seen,
+        tables,
+    }
+}
+
+// The refusal of an event that names a node, where rows 1 and 2 do not refuse: rows 3, 4, 6 and 14.
+pub fn event_refusal(
     settings: &[u32],
     x: State,
-    seen: Seen,
+    desk: &[u8],
     in_phase: bool,
     node: Node,
     ok: bool,
 ) -> Refusal
     requires { ⌜ Settings (now settings) ⌝ }
-    ensures { λ r. ⌜ ((d : List ℕ) → length d ≡ 16384 → seen ≡ seenOf (now (settings .entry)) (x .kept) (x .termination) (x .held) d → r ≡ Refusing.eventRefusal (Refusing.deskOk d) (now (settings .entry)) x d in_phase (node .0) ok) ⌝ }
+    requires { ⌜ length (now desk) ≡ 65536 ⌝ }
+    ensures { λ r. ⌜ r ≡ Refusing.eventRefusal (Refusing.deskOk (wordsIn (now (desk .entry)))) (now (settings .entry)) x (wordsIn (now (desk .entry))) in_phase (node .0) ok ⌝ }
 {
-    let phase = x.phase;
-    state_rows::event_refusal(
-        settings,
-        seen,
-        in_phase,
-        node,
-        ok,
-        phase,
-        x.kept,
-        x.termination,
-        x.held,
-        x.fetched,
-        x.prepared,
-        x.plan,
-        x.latest,
-    )
+    let entry = enter(settings, x, desk, in_phase);
+    let refusal = entry.refusal;
+    if refusal.code != 0 {
+        return refusal;
+    }
+    state_rows::node_refusal(settings, node, ok)
 }
 
 // The state as it was, beside a refusal.
@@ -292,21 +320,24 @@ impl State {
         }
     }
 
-    // A node reports, beside what the desk tells; the desk is left to the caller.
-    fn report_seen(self, settings: &[u32], seen: Seen, message: &[u32]) -> Outcome
+    // A node reports, where rows 1 and 2 do not refuse; the desk is left to the caller.
+    fn report_by(self, settings: &[u32], desk: &[u8], message: &[u32]) -> Outcome
         requires { ⌜ Settings (now settings) ⌝ }
-        ensures { λ r. ⌜ ((d : List ℕ) → length d ≡ 16384 → seen ≡ seenOf (now (settings .entry)) (self .kept) (self .termination) (self .held) d → r ≡ Events.reported (now (settings .entry)) self d (now (message .entry))) ⌝ }
+        requires { ⌜ length (now desk) ≡ 65536 ⌝ }
+        ensures { λ r. ⌜ r ≡ Events.reported (now (settings .entry)) self (wordsIn (now (desk .entry))) (now (message .entry)) ⌝ }
     {
         let phase = self.phase;
         let in_phase = state_rows::is_gathering(phase);
-        let entry = entry_refusal(settings, self, seen, in_phase);
-        if entry.code != 0 {
-            return refuse(self, entry);
+        let entry = enter(settings, self, desk, in_phase);
+        let first = entry.refusal;
+        if first.code != 0 {
+            return refuse(self, first);
         }
         let taken = report_kept::take_in(
             settings,
             self.kept,
             self.termination,
+            entry.tables,
             self.latest,
             message,
         );
@@ -325,8 +356,7 @@ impl State {
         ensures words { λ r. ⌜ wordsIn (now (desk .exit)) ≡ Events.deskAfter (now (settings .entry)) self (wordsIn (now (desk .entry))) (now (message .entry)) ⌝ }
         ensures bytes { λ r. ⌜ now (desk .exit) ≡ Events.deskLeft (now (settings .entry)) self (now (desk .entry)) (now (message .entry)) ⌝ }
     {
-        let seen = plan_seen::see(settings, self.kept, self.termination, self.held, desk);
-        let outcome = State::report_seen(self, settings, seen, message);
+        let outcome = State::report_by(self, settings, desk, message);
         let answer = outcome.answer;
         if !is_accepted(answer) {
             return outcome;
@@ -348,15 +378,16 @@ impl State {
         State::report_under(self, settings, desk, message)
     }
 
-    // A node is no longer there, beside what the desk tells.
-    pub fn drop_seen(self, settings: &[u32], seen: Seen, node: Node) -> Outcome
+    // A node is no longer there, where rows 1 and 2 do not refuse.
+    pub fn drop_under(self, settings: &[u32], desk: &[u8], node: Node) -> Outcome
         requires { ⌜ Settings (now settings) ⌝ }
-        ensures { λ r. ⌜ ((d : List ℕ) → length d ≡ 16384 → seen ≡ seenOf (now (settings .entry)) (self .kept) (self .termination) (self .held) d → r ≡ Events.dropped (now (settings .entry)) self d (node .0)) ⌝ }
+        requires { ⌜ length (now desk) ≡ 65536 ⌝ }
+        ensures { λ r. ⌜ r ≡ Events.dropped (now (settings .entry)) self (wordsIn (now (desk .entry))) (node .0) ⌝ }
     {
         let phase = self.phase;
         let in_phase = !state_rows::is_committed(phase);
         let known = base_masks::has(self.held, node.0 as usize);
-        let refusal = event_refusal_seen(settings, self, seen, in_phase, node, known);
+        let refusal = event_refusal(settings, self, desk, in_phase, node, known);
         if refusal.code != 0 {
             return refuse(self, refusal);
         }
@@ -371,19 +402,19 @@ impl State {
         if refusal.code != 0 {
             return refuse(self, refusal);
         }
-        let seen = plan_seen::see(settings, self.kept, self.termination, self.held, desk);
-        State::drop_seen(self, settings, seen, node)
+        State::drop_under(self, settings, desk, node)
     }
 
-    // A node has fetched what it lacked, beside what the desk tells.
-    pub fn fetched_seen(self, settings: &[u32], seen: Seen, node: Node) -> Outcome
+    // A node has fetched what it lacked, where rows 1 and 2 do not refuse.
+    pub fn fetched_under(self, settings: &[u32], desk: &[u8], node: Node) -> Outcome
         requires { ⌜ Settings (now settings) ⌝ }
-        ensures { λ r. ⌜ ((d : List ℕ) → length d ≡ 16384 → seen ≡ seenOf (now (settings .entry)) (self .kept) (self .termination) (self .held) d → r ≡ Events.fetchedOf (now (settings .entry)) self d (node .0)) ⌝ }
+        requires { ⌜ length (now desk) ≡ 65536 ⌝ }
+        ensures { λ r. ⌜ r ≡ Events.fetchedOf (now (settings .entry)) self (wordsIn (now (desk .entry))) (node .0) ⌝ }
     {
         let phase = self.phase;
         let in_phase = state_rows::is_ordered(phase);
         let known = state_rows::lacks(self.held, self.fetched, node);
-        let refusal = event_refusal_seen(settings, self, seen, in_phase, node, known);
+        let refusal = event_refusal(settings, self, desk, in_phase, node, known);
         if refusal.code != 0 {
             return refuse(self, refusal);
         }
@@ -398,19 +429,19 @@ impl State {
         if refusal.code != 0 {
             return refuse(self, refusal);
         }
-        let seen = plan_seen::see(settings, self.kept, self.termination, self.held, desk);
-        State::fetched_seen(self, settings, seen, node)
+        State::fetched_under(self, settings, desk, node)
     }
 
-    // A node has prepared the new view, beside what the desk tells.
-    pub fn prepared_seen(self, settings: &[u32], seen: Seen, node: Node) -> Outcome
+    // A node has prepared the new view, where rows 1 and 2 do not refuse.
+    pub fn prepared_under(self, settings: &[u32], desk: &[u8], node: Node) -> Outcome
         requires { ⌜ Settings (now settings) ⌝ }
-        ensures { λ r. ⌜ ((d : List ℕ) → length d ≡ 16384 → seen ≡ seenOf (now (settings .entry)) (self .kept) (self .termination) (self .held) d → r ≡ Events.preparedOf (now (settings .entry)) self d (node .0)) ⌝ }
+        requires { ⌜ length (now desk) ≡ 65536 ⌝ }
+        ensures { λ r. ⌜ r ≡ Events.preparedOf (now (settings .entry)) self (wordsIn (now (desk .entry))) (node .0) ⌝ }
     {
         let phase = self.phase;
         let in_phase = state_rows::is_preparing(phase);
         let known = state_rows::lacks(self.held, self.prepared, node);
-        let refusal = event_refusal_seen(settings, self, seen, in_phase, node, known);
+        let refusal = event_refusal(settings, self, desk, in_phase, node, known);
         if refusal.code != 0 {
             return refuse(self, refusal);
         }
@@ -425,25 +456,26 @@ impl State {
         if refusal.code != 0 {
             return refuse(self, refusal);
         }
-        let seen = plan_seen::see(settings, self.kept, self.termination, self.held, desk);
-        State::prepared_seen(self, settings, seen, node)
+        State::prepared_under(self, settings, desk, node)
     }
 
-    // A plan for the held nodes, or the first reason to wait, beside what the desk tells.
-    pub fn decide_seen(self, settings: &[u32], seen: Seen) -> Decided
+    // A plan for the held nodes, or the first reason to wait, where rows 1 and 2 do not refuse.
+    pub fn decide_under(self, settings: &[u32], desk: &[u8]) -> Decided
         requires { ⌜ Settings (now settings) ⌝ }
-        ensures { λ r. ⌜ ((d : List ℕ) → length d ≡ 16384 → seen ≡ seenOf (now (settings .entry)) (self .kept) (self .termination) (self .held) d → Decide.Decides (now (settings .entry)) self d r) ⌝ }
+        requires { ⌜ length (now desk) ≡ 65536 ⌝ }
+        ensures { λ r. ⌜ Decide.Decides (now (settings .entry)) self (wordsIn (now (desk .entry))) r ⌝ }
     {
         let phase = self.phase;
         let in_phase = state_rows::is_gathering(phase);
-        let refusal = entry_refusal(settings, self, seen, in_phase);
+        let entered = enter(settings, self, desk, in_phase);
+        let refusal = entered.refusal;
         if refusal.code != 0 {
             return Decided {
                 state: self,
                 decision: Decision::Refused(refusal),
             };
         }
-        let verdict = plan_restart::restart(settings, self.kept, self.held, seen);
+        let verdict = plan_restart::restart(settings, self.kept, self.held, entered.seen);
         after_verdict(self, verdict)
     }
 
@@ -458,16 +490,17 @@ impl State {
                 decision: Decision::Refused(refusal),
             };
         }
-        let seen = plan_seen::see(settings, self.kept, self.termination, self.held, desk);
-        State::decide_seen(self, settings, seen)
+        State::decide_under(self, settings, desk)
     }
 
-    // Whether the state is sound beside these settings and what the desk tells, in whatever phase it is: row 3.
-    pub fn check_seen(self, settings: &[u32], seen: Seen) -> Refusal
+    // Whether the state is sound beside these settings and this desk, where rows 1 and 2 do not refuse: row 3.
+    pub fn check_under(self, settings: &[u32], desk: &[u8]) -> Refusal
         requires { ⌜ Settings (now settings) ⌝ }
-        ensures { λ r. ⌜ ((d : List ℕ) → length d ≡ 16384 → seen ≡ seenOf (now (settings .entry)) (self .kept) (self .termination) (self .held) d → r ≡ Refusing.checkRefusal (now (settings .entry)) self d) ⌝ }
+        requires { ⌜ length (now desk) ≡ 65536 ⌝ }
+        ensures { λ r. ⌜ r ≡ Refusing.checkRefusal (now (settings .entry)) self (wordsIn (now (desk .entry))) ⌝ }
     {
-        entry_refusal(settings, self, seen, true)
+        let entry = enter(settings, self, desk, true);
+        entry.refusal
     }
 
     // Whether the state is sound beside these settings and this desk, in whatever phase it is: rows 1 to 3.
@@ -478,7 +511,6 @@ impl State {
         if refusal.code != 0 {
             return refusal;
         }
-        let seen = plan_seen::see(settings, self.kept, self.termination, self.held, desk);
-        State::check_seen(self, settings, seen)
+        State::check_under(self, settings, desk)
     }
 }

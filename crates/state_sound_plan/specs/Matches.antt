@@ -1,11 +1,9 @@
 -- A plan held against what the desk tells: the same as the plan's soundness where that is the held reports'.
 use Prim.Native.Nat.{ℕ, _+_}
-use mathlib.Core.Bool.{Bool, true, false, _&&_}
+use mathlib.Core.Bool.{Bool, true, false, cond, _&&_}
 use mathlib.Core.List.{List}
 use mathlib.Core.Path.{_≡_, refl, ap}
 use lib.Dec.{eqb}
-use lib.ListN.{getD}
-use Rattle.base_laws.specs.Bools.{clash}
 use Rattle.base_laws.specs.Below.{allBelow, all-cong}
 use Rattle.settings_values.specs.Settings.{Settings}
 use Rattle.place_groups.specs.Placements.{groupValid}
@@ -72,17 +70,24 @@ hasPlan Ordered = true
 hasPlan Preparing = true
 hasPlan Committed = true
 
-module _ (σ : List ℕ) (v : Layout) (t : Termination) (held : ℕ) (d : List ℕ) (p : Plan) where
-  pub blank-fits : (phase : Phase) → hasPlan phase ≡ false → planBlank p ≡ planFits phase σ v t held d p
-  unfolding planFits
-  blank-fits Gathering h = refl
-  blank-fits Ordered h = clash refl h
-  blank-fits Preparing h = clash refl h
-  blank-fits Committed h = clash refl h
+-- the plan is as the phase says, by what is seen
+unfoldable pub fitsSeen : Phase → List ℕ → Layout → ℕ → Seen → Plan → Bool
+fitsSeen phase σ v held x p = cond (hasPlan phase) (matches σ v held p x) (planBlank p)
 
-  pub sound-fits : (phase : Phase) → hasPlan phase ≡ true → planSound σ v t held d p ≡ planFits phase σ v t held d p
-  unfolding planFits
-  sound-fits Gathering h = clash h refl
-  sound-fits Ordered h = refl
-  sound-fits Preparing h = refl
-  sound-fits Committed h = refl
+module _ (phase : Phase) (σ : List ℕ) (v : Layout) (held : ℕ) (x : Seen) (p : Plan) where
+  pub fits-blank : hasPlan phase ≡ false → planBlank p ≡ fitsSeen phase σ v held x p
+  unfolding fitsSeen
+  fits-blank h = rw h
+
+  pub fits-matches : hasPlan phase ≡ true → matches σ v held p x ≡ fitsSeen phase σ v held x p
+  unfolding fitsSeen
+  fits-matches h = rw h
+
+-- what is seen is what the desk d tells, with sound slots
+pub fits-told : (phase : Phase) (σ : List ℕ) (v : Layout) (t : Termination) (held : ℕ) (d : List ℕ) (p : Plan) (x : Seen) → x ≡ seenOf σ v t held d
+    → Settings σ → slotsOk σ v t held d ≡ true → fitsSeen phase σ v held x p ≡ planFits phase σ v t held d p
+unfolding fitsSeen planFits
+fits-told Gathering σ v t held d p x e right ok = refl
+fits-told Ordered σ v t held d p x e right ok = matches-sound σ v t held d p right ok x e
+fits-told Preparing σ v t held d p x e right ok = matches-sound σ v t held d p right ok x e
+fits-told Committed σ v t held d p x e right ok = matches-sound σ v t held d p right ok x e

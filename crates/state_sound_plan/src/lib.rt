@@ -6,16 +6,13 @@ use report_views::Layout;
 use report_views::Phase;
 use report_views::Plan;
 use report_views::Quorum;
-ghost use mathlib.Core.Bool.{true, _&&_};
-ghost use mathlib.Core.List.{List};
+ghost use mathlib.Core.Bool.{_&&_};
 ghost use mathlib.Core.Path.{_≡_};
-ghost use Prim.Native.Nat.{ℕ, _<_, _^_};
+ghost use Prim.Native.Nat.{_<_, _^_};
 ghost use lib.Dec.{eqb};
 ghost use Rattle.settings_values.specs.Settings.{Settings, nodes};
-ghost use Rattle.report_views.specs.Slots.{samePosition, slotsOk};
-ghost use Rattle.report_views.specs.declared.Termination.{Termination};
+ghost use Rattle.report_views.specs.Slots.{samePosition};
 ghost use Rattle.report_views.specs.Soundness as Soundness;
-ghost use Rattle.plan_seen.specs.Sight.{seenOf};
 ghost use Rattle.state_sound_plan.specs.Matches as Matches;
 
 // Waits 1 to 4 do not apply.
@@ -129,15 +126,6 @@ fn matches(settings: &[u32], v: Layout, held: u32, p: Plan, seen: Seen) -> bool
     p.total as usize == all_moves(settings, v, p.layout)
 }
 
-// The plan is sound beside what is kept and the held reports.
-fn plan_sound(settings: &[u32], v: Layout, held: u32, seen: Seen, p: Plan) -> bool
-    requires { ⌜ Settings (now settings) ⌝ }
-    requires { ⌜ held < 2 ^ nodes (now settings) ⌝ }
-    ensures { λ r. ⌜ ((t : Termination) (d : List ℕ) → slotsOk (now (settings .entry)) v t held d ≡ true → seen ≡ seenOf (now (settings .entry)) v t held d → r ≡ Soundness.planSound (now (settings .entry)) v t held d p) ⌝ }
-{
-    matches(settings, v, held, p, seen)
-}
-
 // The phases in which a plan stands.
 fn has_plan(phase: Phase) -> bool
     ensures { λ r. ⌜ r ≡ Matches.hasPlan phase ⌝ }
@@ -150,14 +138,14 @@ fn has_plan(phase: Phase) -> bool
     }
 }
 
-// The plan is as the phase says.
+// The plan is as the phase says, by what is seen.
 pub fn plan_fits(phase: Phase, settings: &[u32], v: Layout, held: u32, seen: Seen, p: Plan) -> bool
     requires { ⌜ Settings (now settings) ⌝ }
     requires { ⌜ held < 2 ^ nodes (now settings) ⌝ }
-    ensures { λ r. ⌜ ((t : Termination) (d : List ℕ) → slotsOk (now (settings .entry)) v t held d ≡ true → seen ≡ seenOf (now (settings .entry)) v t held d → r ≡ Soundness.planFits phase (now (settings .entry)) v t held d p) ⌝ }
+    ensures { λ r. ⌜ r ≡ Matches.fitsSeen phase (now (settings .entry)) v held seen p ⌝ }
 {
     if !has_plan(phase) {
         return state_sound_parts::plan_blank(p);
     }
-    plan_sound(settings, v, held, seen, p)
+    matches(settings, v, held, p, seen)
 }

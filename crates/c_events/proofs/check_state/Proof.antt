@@ -1,5 +1,5 @@
 -- Each return is a case of what the call answers.
-use mathlib.Core.Path.{_≡_, sym, ap, _∙_, subst}
+use mathlib.Core.Path.{sym, ap, _∙_, subst}
 use mathlib.Core.List.{List}
 use Prim.Native.Nat.{ℕ}
 use Rattle.settings_values.specs.Settings.{Settings}
@@ -16,17 +16,17 @@ use Rattle.c_events.proofs.check_state.Tie as tie
 returns : tie.Need-returns
 returns c = check-refused _ _ _ _ ((c .before .before .before .enter) .ensures) ((c .if1) .taken)
 
-sub-check-lent : tie.Need-sub-check-lent
-sub-check-lent c = search needs
+sub-check-under : tie.Need-sub-check-under
+sub-check-under c = search needs
 
-part-check-lent-start : tie.Need-part-check-lent-start
-part-check-lent-start c = omega (arith, settings-few _ _ _ _ ((c .before .before .before .before .before .enter) .ensures), settings-long _ _ _ _ ((c .before .before .before .before .before .enter) .ensures))
+part-check-under-start : tie.Need-part-check-under-start
+part-check-under-start c = omega (arith, settings-few _ _ _ _ ((c .before .before .before .before .before .enter) .ensures), settings-long _ _ _ _ ((c .before .before .before .before .before .enter) .ensures))
 
-part-check-lent-end : tie.Need-part-check-lent-end
-part-check-lent-end c = omega (arith, settings-few _ _ _ _ ((c .before .before .before .before .before .enter) .ensures), settings-long _ _ _ _ ((c .before .before .before .before .before .enter) .ensures))
+part-check-under-end : tie.Need-part-check-under-end
+part-check-under-end c = omega (arith, settings-few _ _ _ _ ((c .before .before .before .before .before .enter) .ensures), settings-long _ _ _ _ ((c .before .before .before .before .before .enter) .ensures))
 
-check-lent-requires : tie.Need-check-lent-requires
-check-lent-requires c κs =
+check-under-requires : tie.Need-check-under-requires
+check-under-requires c κs =
     let a = (c .before .before .before .before .before .before .before .before .before .before) .args in
     let e = (c .before .before .before .before .before .before .enter) .ensures in
     let p = desk-passes (a .settings .now) (a .state .now) (a .desk .now) _ e ((c .before .before .before .if1) .left) in
@@ -38,7 +38,7 @@ returns-2 c =
     let e = (c .before .before .before .before .before .before .before .enter) .ensures in
     let p = desk-passes (a .settings .now) (a .state .now) (a .desk .now) _ e ((c .before .before .before .before .if1) .left) in
     check-done _ _ _ _ e ((c .before .before .before .before .if1) .left) _
-    ((c .check-lent) .ensures ∙ ap (λ (s : List ℕ). checkRefusal s ((c .before .before .before .before .before .before .before .enter) .result .state) (wordsIn (a .desk .now))) (settings-front _ _ _ _ e (p .settings-ok)))
+    ((c .check-under) .ensures ∙ ap (λ (s : List ℕ). checkRefusal s ((c .before .before .before .before .before .before .before .enter) .result .state) (wordsIn (a .desk .now))) (settings-front _ _ _ _ e (p .settings-ok)))
 
 pub check-state-spec : {M : Type 1} → statement M
-check-state-spec = tie.close (tie.spec (λ c κs. search needs) returns sub-check-lent part-check-lent-start part-check-lent-end check-lent-requires returns-2)
+check-state-spec = tie.close (tie.spec (λ c κs. search needs) returns sub-check-under part-check-under-start part-check-under-end check-under-requires returns-2)

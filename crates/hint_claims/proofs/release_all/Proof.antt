@@ -1,5 +1,5 @@
 -- `hint_claims::release_all` is safe and ends: `m` loses a node each turn. Assumes nothing.
-use Prim.Native.Nat.{_≤_, _<_, _-_}
+use Prim.Native.Nat.{_≤_}
 use borrow.Author.Needs.{needs}
 use Rattle.hint_claims.proofs.release_all.Statement.{statement}
 use Rattle.hint_claims.proofs.release_all.Tie as tie

@@ -1,5 +1,5 @@
 -- `hint_claims::save` is safe and ends: `i` counts the turns up to 256. Assumes nothing.
-use Prim.Native.Nat.{_≤_, _<_, _-_}
+use Prim.Native.Nat.{_≤_, _-_}
 use borrow.Author.Needs.{needs}
 use Rattle.hint_claims.proofs.save.Statement.{statement}
 use Rattle.hint_claims.proofs.save.Tie as tie

@@ -1,5 +1,5 @@
 -- `hint_owners::highest` is safe and ends: `m` loses a node each turn. Assumes nothing.
-use Prim.Native.Nat.{_≤_, _<_, _-_}
+use Prim.Native.Nat.{_<_}
 use borrow.Author.Needs.{needs}
 use Rattle.hint_owners.proofs.highest.Statement.{statement}
 use Rattle.hint_owners.proofs.highest.Tie as tie

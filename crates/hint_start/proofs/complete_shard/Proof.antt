@@ -1,5 +1,5 @@
 -- `hint_start::complete_shard` is safe and ends: `round` counts the turns up to 256. Assumes nothing.
-use Prim.Native.Nat.{_≤_, _<_, _-_}
+use Prim.Native.Nat.{_≤_, _-_}
 use borrow.Author.Needs.{needs}
 use Rattle.hint_start.proofs.complete_shard.Statement.{statement}
 use Rattle.hint_start.proofs.complete_shard.Tie as tie

@@ -1,5 +1,5 @@
 -- `hint_start::enter_rooms` is safe and ends: `i` counts the turns up to the number of shards. Assumes nothing.
-use Prim.Native.Nat.{_+_, _*_, _≤_, _<_, _-_}
+use Prim.Native.Nat.{_*_, _≤_, _-_}
 use native.Mathlib.Omega.{arith}
 use borrow.Author.Needs.{needs}
 use Rattle.hint_start.proofs.enter_rooms.Statement.{statement}

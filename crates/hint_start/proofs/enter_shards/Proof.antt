@@ -1,5 +1,5 @@
 -- `hint_start::enter_shards` is safe and ends: `i` counts the turns up to 16. Assumes nothing.
-use Prim.Native.Nat.{_≤_, _<_, _-_}
+use Prim.Native.Nat.{_≤_, _-_}
 use borrow.Author.Needs.{needs}
 use Rattle.hint_start.proofs.enter_shards.Statement.{statement}
 use Rattle.hint_start.proofs.enter_shards.Tie as tie

@@ -1,5 +1,5 @@
 -- `hint_start::keep_need` is safe and ends: `round` counts the turns up to 32. Assumes nothing.
-use Prim.Native.Nat.{_≤_, _<_, _-_}
+use Prim.Native.Nat.{_≤_, _-_}
 use borrow.Author.Needs.{needs}
 use Rattle.hint_start.proofs.keep_need.Statement.{statement}
 use Rattle.hint_start.proofs.keep_need.Tie as tie

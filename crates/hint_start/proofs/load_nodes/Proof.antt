@@ -1,5 +1,5 @@
 -- `hint_start::load_nodes` is safe and ends: `n` counts the turns up to 32. Assumes nothing.
-use Prim.Native.Nat.{_≤_, _<_, _-_}
+use Prim.Native.Nat.{_≤_, _-_}
 use mathlib.Core.Path.{_≡_}
 use lib.ListN.{length}
 use borrow.Author.Needs.{needs}

@@ -1,5 +1,5 @@
 -- `hint_start::load_row` is safe and ends: `n` counts the turns up to 32. Assumes nothing.
-use Prim.Native.Nat.{_≤_, _<_, _-_}
+use Prim.Native.Nat.{_≤_, _-_}
 use borrow.Author.Needs.{needs}
 use Rattle.hint_start.proofs.load_row.Statement.{statement}
 use Rattle.hint_start.proofs.load_row.Tie as tie

@@ -1,5 +1,5 @@
 -- `hint_ways::clear` is safe and ends: `v` counts the turns up to 34. Assumes nothing.
-use Prim.Native.Nat.{_≤_, _<_, _-_}
+use Prim.Native.Nat.{_≤_, _-_}
 use borrow.Author.Needs.{needs}
 use Rattle.hint_ways.proofs.clear.Statement.{statement}
 use Rattle.hint_ways.proofs.clear.Tie as tie

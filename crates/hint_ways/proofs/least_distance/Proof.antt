@@ -1,5 +1,5 @@
 -- `hint_ways::least_distance` is safe and ends: `m` loses a node each turn. Assumes nothing.
-use Prim.Native.Nat.{_≤_, _<_, _-_}
+use Prim.Native.Nat.{_<_}
 use borrow.Author.Needs.{needs}
 use Rattle.hint_ways.proofs.least_distance.Statement.{statement}
 use Rattle.hint_ways.proofs.least_distance.Tie as tie

@@ -1,5 +1,5 @@
 -- `hint_ways::raise` is safe and ends: `v` counts the turns up to 33. Assumes nothing.
-use Prim.Native.Nat.{_≤_, _<_, _-_}
+use Prim.Native.Nat.{_≤_, _-_}
 use borrow.Author.Needs.{needs}
 use Rattle.hint_ways.proofs.raise.Statement.{statement}
 use Rattle.hint_ways.proofs.raise.Tie as tie

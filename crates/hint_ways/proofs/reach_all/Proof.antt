@@ -1,5 +1,5 @@
 -- `hint_ways::reach_all` is safe and ends: `m` loses a node each turn. Assumes nothing.
-use Prim.Native.Nat.{_≤_, _<_, _-_}
+use Prim.Native.Nat.{_≤_}
 use borrow.Author.Needs.{needs}
 use Rattle.hint_ways.proofs.reach_all.Statement.{statement}
 use Rattle.hint_ways.proofs.reach_all.Tie as tie

@@ -1,5 +1,5 @@
 -- `hint_ways::release_way` is safe and ends: `round` counts the turns up to 34. Assumes nothing.
-use Prim.Native.Nat.{_≤_, _<_, _-_}
+use Prim.Native.Nat.{_≤_, _-_}
 use borrow.Author.Needs.{needs}
 use Rattle.hint_ways.proofs.release_way.Statement.{statement}
 use Rattle.hint_ways.proofs.release_way.Tie as tie

@@ -1,5 +1,5 @@
 -- `hint_ways::rooms_reach` is safe and ends: `i` counts the turns up to the number of shards, which is at most 16. Assumes nothing.
-use Prim.Native.Nat.{_≤_, _<_, _-_}
+use Prim.Native.Nat.{_≤_, _-_}
 use borrow.Author.Needs.{needs}
 use Rattle.hint_ways.proofs.rooms_reach.Statement.{statement}
 use Rattle.hint_ways.proofs.rooms_reach.Tie as tie

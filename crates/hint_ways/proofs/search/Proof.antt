@@ -1,5 +1,5 @@
 -- `hint_ways::search` is safe and ends: `round` counts the turns up to 128. Assumes nothing.
-use Prim.Native.Nat.{_≤_, _<_, _-_}
+use Prim.Native.Nat.{_≤_, _-_}
 use borrow.Author.Needs.{needs}
 use Rattle.hint_ways.proofs.search.Statement.{statement}
 use Rattle.hint_ways.proofs.search.Tie as tie

@@ -1,5 +1,5 @@
 -- `hint_ways::settle` is safe and ends: `ways` counts the turns up to 33. Assumes nothing.
-use Prim.Native.Nat.{_≤_, _<_, _-_}
+use Prim.Native.Nat.{_≤_, _-_}
 use borrow.Author.Needs.{needs}
 use Rattle.hint_ways.proofs.settle.Statement.{statement}
 use Rattle.hint_ways.proofs.settle.Tie as tie

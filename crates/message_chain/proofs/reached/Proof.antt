@@ -1,7 +1,7 @@
 -- The reader is taken apart, and `record_at` is called on the words and the index; only its contract is known. The reader is Copy:
 -- what it owns is had twice, one copy is kept whole for the exit, and of the other what the words own goes to the call.
 use mathlib.Core.Path.{_≡_, refl}
-use Prim.Native.Nat.{ℕ, _<_, _^_}
+use Prim.Native.Nat.{_<_, _^_}
 use mathlib.Core.List.{[], _∷_}
 use lib.Dec.{T as Holds}
 use lib.ListN.{length}

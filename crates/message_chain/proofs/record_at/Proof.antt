@@ -1,5 +1,4 @@
 -- `message_chain::record_at` meets its contract. Assumes nothing.
-use mathlib.Core.Path.{_≡_, sym, ap}
 use borrow.Author.Needs.{needs}
 use borrow.Author.Tests.{lt-ltb, le-ltb}
 use Rattle.message_chain.specs.Steps.{recordAt}

@@ -1,5 +1,4 @@
 -- `message_reader::head_of` meets its contract: the head's words are those that the reader reaches. Assumes nothing.
-use Prim.Native.Nat.{ℕ}
 use mathlib.Core.Path.{ap, _∙_}
 use borrow.Author.Needs.{needs}
 use Rattle.message_format.specs.Messages.{headRefusal}

@@ -1,6 +1,6 @@
 -- `place_tables::costs` meets its contract. The invariant: the costs of the shards below s are filled in; those of another subgroup's
 -- shards are 255, as the table has them from the start. Assumes nothing.
-use Prim.Native.Nat.{ℕ, _+_, _*_, _/_, _%_, _≤_, _-_}
+use Prim.Native.Nat.{_+_, _*_, _/_, _%_, _≤_, _-_}
 use mathlib.Core.Path.{_≡_, sym, ap, _∙_}
 use mathlib.Core.Logic.{⊎-elim}
 use native.Mathlib.Omega.{arith}

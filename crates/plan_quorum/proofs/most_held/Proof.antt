@@ -1,15 +1,10 @@
 -- `plan_quorum::most_held` meets its contract: at least the least majority is more than half.
 use mathlib.Core.Path.{ap, _∙_}
-use native.Mathlib.Omega.{arith}
 use lib.Dec.{leb}
 use borrow.Author.Needs.{needs}
-use Rattle.base_laws.specs.Masks.{count-within}
 use Rattle.plan_quorum.specs.Quorum.{least-held}
 use Rattle.plan_quorum.proofs.most_held.Statement.{statement}
 use Rattle.plan_quorum.proofs.most_held.Tie as tie
-
-least-majority-requires : tie.Need-least-majority-requires
-least-majority-requires c κs = omega (arith, c .count .ensures, count-within 32 (c .before .args .members) (c .before .fits .members .fits))
 
 returns : tie.Need-returns
 returns c = let a = c .before .before .before .args in
@@ -19,4 +14,4 @@ returns c = let a = c .before .before .before .args in
 
 pub most-held-spec : {M : Type 1} → statement M
 most-held-spec =
-    tie.close (tie.spec (λ c κs. search needs) least-majority-requires (λ c κs. search needs) returns)
+    tie.close (tie.spec (λ c κs. search needs) (λ c κs. search needs) (λ c κs. search needs) returns)

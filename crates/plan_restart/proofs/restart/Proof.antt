@@ -10,16 +10,14 @@ enum-told c = search needs
 returns : tie.Need-returns
 returns c = let s = c .before .before .before .before .before .before .before in
     let q = c .before .before .before .before .quorum in
-    λ t d kept slots e.
-    restart-waits (s .args .settings .now) (s .args .kept) t (s .args .held) d (s .args .seen) e (s .pre .0) slots (q .result) (q .ensures) _ (c .waiting .result)
+    restart-waits (s .args .settings .now) (s .args .kept) (s .args .held) (s .args .seen) (q .result) (q .ensures) _ (c .waiting .result)
     (c .before .before .quorum2 .given .1) (c .waiting .ensures)
 
 returns-2 : tie.Need-returns-2
 returns-2 c = let s = c .before .before .before .before .before .before .before .before .before in
     let q = c .before .before .before .before .before .before .quorum in
     let p = c .before .place in
-    λ t d kept slots e.
-    restart-met (s .args .settings .now) (s .args .kept) t (s .args .held) d (s .args .seen) e (s .pre .0) slots (q .result) (q .ensures) kept (p .result)
+    restart-met (s .args .settings .now) (s .args .kept) (s .args .held) (s .args .seen) (q .result) (q .ensures) (p .result)
     (c .verdict-by .result) (p .ensures) (c .before .before .before .before .enum-told .given .1) (c .verdict-by .ensures)
 
 pub restart-spec : {M : Type 1} → statement M

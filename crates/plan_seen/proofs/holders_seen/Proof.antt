@@ -1,6 +1,6 @@
 -- `plan_seen::holders_seen` meets its contract. The invariant: the holders of the shards below s are stored.
-use Prim.Native.Nat.{ℕ, _≤_, _-_, _<_, _+_, _*_}
-use mathlib.Core.Path.{_≡_, refl, sym, ap, _∙_, subst}
+use Prim.Native.Nat.{ℕ, _≤_, _-_}
+use mathlib.Core.Path.{_≡_, refl, ap, _∙_}
 use native.Mathlib.Omega.{arith}
 use mathlib.Core.List.{List}
 use lib.ListN.{replicate, getD}

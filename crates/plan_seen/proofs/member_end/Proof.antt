@@ -1,7 +1,7 @@
 -- `plan_seen::member_end` meets its contract: of a shard of another node nothing is asked.
-use mathlib.Core.Path.{_≡_, refl, sym, ap, _∙_, subst}
+use mathlib.Core.Path.{sym, _∙_}
 use native.Mathlib.Omega.{arith}
-use borrow.Author.Tests.{not-true, not-false}
+use borrow.Author.Tests.{not-true}
 use Rattle.base_laws.specs.Bools.{clash}
 use borrow.Author.Needs.{needs}
 use Rattle.plan_seen.proofs.member_end.Statement.{statement}

@@ -1,9 +1,9 @@
 -- `plan_seen::note_best` meets its contract: kept, or stored.
 use native.Mathlib.Omega.{arith}
-use mathlib.Core.Path.{_≡_, refl, sym, ap, _∙_}
+use mathlib.Core.Path.{sym, _∙_}
 use mathlib.Core.Bool.{true}
 use lib.ListN.{length-set}
-use borrow.Author.Tests.{not-true, not-false, eq-eqb, ne-eqb}
+use borrow.Author.Tests.{not-true, not-false}
 use Rattle.plan_seen.specs.Nodes.{renewed-not, renewed-set}
 use borrow.Author.Needs.{needs}
 use Rattle.plan_seen.proofs.note_best.Statement.{statement}

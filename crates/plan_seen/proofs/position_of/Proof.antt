@@ -1,6 +1,6 @@
 -- `plan_seen::position_of` meets its contract: quotient and remainder.
-use mathlib.Core.Path.{_≡_, refl, sym, ap, _∙_}
-use Rattle.plan_seen.specs.Numbers.{fromNumber}
+use mathlib.Core.Path.{refl}
+use Rattle.report_views.specs.Numbers.{fromNumber}
 use borrow.Author.Needs.{needs}
 use Rattle.plan_seen.proofs.position_of.Statement.{statement}
 use Rattle.plan_seen.proofs.position_of.Tie as tie

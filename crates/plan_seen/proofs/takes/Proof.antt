@@ -1,7 +1,5 @@
 -- `plan_seen::takes` meets its contract, test by test.
-use mathlib.Core.Path.{_≡_, refl, sym, ap, _∙_}
-use borrow.Author.Tests.{not-true, not-false, eq-eqb, ne-eqb}
-use borrow.Author.Needs.{needs}
+use borrow.Author.Tests.{eq-eqb, ne-eqb}
 use Rattle.plan_seen.proofs.takes.Statement.{statement}
 use Rattle.plan_seen.proofs.takes.Tie as tie
 

@@ -1,5 +1,5 @@
 -- `plan_seen::target_of` meets its contract.
-use mathlib.Core.Path.{_≡_, refl, sym, ap, _∙_, subst}
+use mathlib.Core.Path.{_∙_}
 use Rattle.plan_seen.specs.Fold.{from-kept, from-top}
 use borrow.Author.Needs.{needs}
 use Rattle.plan_seen.proofs.target_of.Statement.{statement}

@@ -20,10 +20,10 @@ returns-2 : tie.Need-returns-2
 returns-2 c = let s = c .before .before .before .before .before in
     let a = s .args in
     let h = c .before .before .has in
-    c .word-at .ensures
+    view-held (a .held) (wordsIn (a .desk .now)) (a .node .0) (sym (h .ensures) ∙ not-false (h .result) (c .before .if1 .left)) _
+    (c .word-at .ensures
     ∙ sym (desk-word (a .desk .now) (s .pre .0) (512 * a .node .0 + 1) (omega (arith, s .pre .1)))
-    ∙ view-at (wordsIn (a .desk .now)) (a .node .0) (desk-length (a .desk .now) (s .pre .0)) (s .pre .1)
-    ∙ view-held (a .held) (wordsIn (a .desk .now)) (a .node .0) (sym (h .ensures) ∙ not-false (h .result) (c .before .if1 .left))
+    ∙ view-at (wordsIn (a .desk .now)) (a .node .0) (desk-length (a .desk .now) (s .pre .0)) (s .pre .1))
 
 pub view-seen-spec : {M : Type 1} → statement M
 view-seen-spec = tie.close (tie.spec (λ c. search needs) (λ c κs. search needs) returns (λ c. search needs) (λ c. search needs) (λ c κs. search needs) returns-2)

@@ -1,5 +1,5 @@
 -- `plan_seen::word_at` meets its contract, by the word's place in its pair.
-use mathlib.Core.Path.{_≡_, refl, sym, ap, _∙_, subst}
+use mathlib.Core.Path.{_∙_}
 use Rattle.plan_seen.specs.Steps.{word-even, word-odd}
 use borrow.Author.Needs.{needs}
 use Rattle.plan_seen.proofs.word_at.Statement.{statement}

@@ -1,6 +1,6 @@
 -- `plan_seen::words_of` meets its contract. The invariant: the words below k are stored.
-use Prim.Native.Nat.{ℕ, _≤_, _-_, _<_, _+_, _*_}
-use mathlib.Core.Path.{_≡_, refl, sym, ap, _∙_}
+use Prim.Native.Nat.{_≤_, _-_}
+use mathlib.Core.Path.{_≡_}
 use native.Mathlib.Omega.{arith}
 use lib.ListN.{replicate}
 use Rattle.base_laws.specs.Tables.{filled, fill-start, fill-turn, fill-end}

@@ -6,10 +6,10 @@ use Rattle.program_run.proofs.print_decision.Statement.{statement}
 use Rattle.program_run.proofs.print_decision.Tie as tie
 
 part-decide-end : tie.Need-part-decide-end
-part-decide-end c = omega (arith, c .before .before .before .before .before .pre .1)
+part-decide-end c = omega (arith, c .before .before .before .before .before .pre .1 .0)
 
 part-decision-lines-end : tie.Need-part-decision-lines-end
-part-decision-lines-end c = omega (arith, c .before .before .before .before .before .before .before .before .before .before .pre .1)
+part-decision-lines-end c = omega (arith, c .before .before .before .before .before .before .before .before .before .before .pre .1 .0)
 
 decision-lines-requires : tie.Need-decision-lines-requires
 decision-lines-requires c κs = λ e. planned-settings _ _ _ _ (c .before .before .before .before .decide .ensures) e

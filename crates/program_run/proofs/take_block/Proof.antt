@@ -11,7 +11,7 @@ returns : tie.Need-returns
 returns c = takes-first (c .before .before .before .before .before .args .run) _ _ _ (c .before .enum-told .given .1) (c .begin .ensures)
 
 returns-3 : tie.Need-returns-3
-returns-3 c = takes-none (c .before .before .before .before .args .run) _ _ _ (c .enum-told3 .given .1) (c .before .before .before .before .pre)
+returns-3 c = takes-none (c .before .before .before .before .args .run) _ _ _ (c .enum-told3 .given .1) (c .before .before .before .before .pre .0)
 
 pub take-block-spec : {M : Type 1} → statement M
 take-block-spec =

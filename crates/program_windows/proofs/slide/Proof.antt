@@ -8,7 +8,8 @@ use lib.Seq.{take-all}
 use borrow.Author.Needs.{needs}
 use Rattle.program_windows.specs.declared.Window.{Window}
 use Rattle.program_windows.specs.Windows.{greatestOf}
-use Rattle.program_windows.specs.Sliding.{sum-bound, old-within, slid, greatest-new, greatest-stays}
+use Rattle.program_sums.specs.Sums.{sum-bound}
+use Rattle.program_windows.specs.Sliding.{old-within, slid, greatest-new, greatest-stays}
 use Rattle.program_windows.proofs.slide.Statement.{statement}
 use Rattle.program_windows.proofs.slide.Tie as tie
 

@@ -1,6 +1,6 @@
 -- `report_ends::note_end` meets its contract, by the record's kind and shard.
-use Prim.Native.Nat.{_-_, _<_, _≤_}
-use mathlib.Core.Path.{sym, _∙_}
+use Prim.Native.Nat.{_<_, _≤_}
+use mathlib.Core.Path.{sym}
 use native.Mathlib.Omega.{arith}
 use borrow.Author.Needs.{needs}
 use Rattle.message_format.specs.Records.{tag}
@@ -21,13 +21,13 @@ returns-2 c = let a = c .before .before .before .before .args in
     sym (noted-high (a .body .now) (a .j) (a .ends .now) high)
 
 returns-3 : tie.Need-returns-3
-returns-3 c = let a = c .before .before .before .before .before .before .before .before .args in
-    let w = c .before .before .before .before .before .before .wide in
-    c .put-position .ensures ∙ noted-run (a .body .now) (a .j) (a .ends .now) (w .result) (w .ensures) (c .before .before .before .before .before .if1 .left) (c .before .before .before .before .if2 .left)
+returns-3 c = let a = c .before .before .before .before .before .before .before .args in
+    let w = c .before .before .before .before .before .wide in
+    noted-run (a .body .now) (a .j) (a .ends .now) (w .result) (c .number .result) (w .ensures) (c .number .ensures) (c .before .before .before .before .if1 .left) (c .before .before .before .if2 .left)
 
 pub note-end-spec : {M : Type 1} → statement M
 note-end-spec =
     tie.close
     (tie.spec (λ c. search needs) (λ c. search needs) (λ c. search needs) (λ c κs. search needs) returns returns-2 (λ c. search needs)
     (λ c. search needs) (λ c. search needs) (λ c. search needs) (λ c. search needs) (λ c. search needs) (λ c. search needs) (λ c. search needs)
-    (λ c κs. search needs) returns-3)
+    (λ c κs. search needs) (λ c. search needs) (λ c. search needs) returns-3)

@@ -1,11 +1,10 @@
 -- `report_quick::head_told` meets its contract.
 use mathlib.Core.Bool.{false≢true}
 use native.Mathlib.Omega.{arith}
-use mathlib.Core.Path.{_≡_, sym, _∙_, subst}
+use mathlib.Core.Path.{sym, _∙_}
 use borrow.Author.Tests.{lt-ltb}
 use lib.ListN.{getD}
 use Rattle.settings_values.specs.Settings.{nodes}
-use Rattle.report_quick.specs.Told.{HeadTold}
 use Rattle.message_format.specs.Rows.{row6}
 use borrow.Author.Needs.{needs}
 use Rattle.report_quick.proofs.head_told.Statement.{statement}
@@ -26,7 +25,7 @@ returns-3 c =
 returns-4 : tie.Need-returns-4
 unfolding row6
 returns-4 c =
-    λ e. record { own = c .before .before .before .before .before .before .before .before .before .before .if1 .left; known = lt-ltb (getD (c .before .before .before .before .before .before .before .before .before .before .before .before .before .before .before .args .w .now) 0 0) (nodes (c .before .before .before .before .before .before .before .before .before .before .before .before .before .before .before .args .settings .now)) (omega (arith, c .before .before .before .before .before .before .before .before .before .nodes .ensures)); seen = sym (c .row7 .ensures) ∙ e; view-to = omega arith }
+    λ e. record { own = c .before .before .before .before .before .before .before .before .before .before .if1 .left; known = lt-ltb (getD (c .before .before .before .before .before .before .before .before .before .before .before .before .before .before .before .args .w .now) 0 0) (nodes (c .before .before .before .before .before .before .before .before .before .before .before .before .before .before .before .args .settings .now)) (omega (arith, c .before .before .before .before .before .before .before .before .before .nodes .ensures)); seen = sym (c .row7 .ensures) ∙ e; earlier = omega arith }
 
 pub head-told-spec : {M : Type 1} → statement M
 head-told-spec =

@@ -1,10 +1,9 @@
 -- `report_quick::masks_told` meets its contract. The invariant: what is promised, of the shards below s.
-use Prim.Native.Nat.{ℕ, _+_, _*_, _≤_, _<_, _-_}
+use Prim.Native.Nat.{ℕ, _≤_, _<_, _-_}
 use mathlib.Core.Logic.{⊎-elim}
 use mathlib.Core.Path.{_≡_, sym, _∙_, subst}
 use native.Mathlib.Omega.{arith}
-use Rattle.base_laws.specs.Bools.{eq-or-ne, of-not-false}
-use mathlib.Core.List.{List}
+use Rattle.base_laws.specs.Bools.{eq-or-ne}
 use lib.ListN.{length, getD, set, length-set}
 use lib.Seq.{getD-set-same, getD-set-other}
 use Rattle.report_quick.specs.Told.{maskTold}

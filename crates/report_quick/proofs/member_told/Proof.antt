@@ -1,7 +1,6 @@
 -- `report_quick::member_told` meets its contract.
 use mathlib.Core.Bool.{false≢true}
 use borrow.Author.Tests.{eqb-true}
-use Rattle.report_quick.specs.Told.{MemberTold}
 use borrow.Author.Needs.{needs}
 use Rattle.report_quick.proofs.member_told.Statement.{statement}
 use Rattle.report_quick.proofs.member_told.Tie as tie

@@ -1,8 +1,7 @@
 -- `report_quick::position_told` meets its contract.
 use mathlib.Core.Bool.{false≢true}
 use native.Mathlib.Omega.{arith}
-use mathlib.Core.Path.{_≡_, sym, _∙_, subst}
-use Rattle.report_quick.specs.Told.{PositionTold}
+use mathlib.Core.Path.{sym, _∙_}
 use borrow.Author.Needs.{needs}
 use Rattle.report_quick.proofs.position_told.Statement.{statement}
 use Rattle.report_quick.proofs.position_told.Tie as tie

@@ -1,8 +1,8 @@
 -- `report_quick::positions_told` meets its contract. The invariant: what is promised, of the shards below s.
-use Prim.Native.Nat.{ℕ, _+_, _*_, _≤_, _<_, _-_}
+use Prim.Native.Nat.{ℕ, _+_, _≤_, _<_, _-_}
 use mathlib.Core.Bool.{false≢true}
 use mathlib.Core.Logic.{⊎-elim}
-use mathlib.Core.Path.{_≡_, sym, _∙_, subst}
+use mathlib.Core.Path.{sym, subst}
 use native.Mathlib.Omega.{arith}
 use Rattle.base_laws.specs.Bools.{eq-or-ne, of-not-false}
 use Rattle.report_quick.specs.Told.{PositionTold}

@@ -2,7 +2,6 @@
 use mathlib.Core.Bool.{false≢true}
 use mathlib.Core.Logic.{inl, inr}
 use borrow.Author.Tests.{ltb-true}
-use borrow.Author.Needs.{needs}
 use Rattle.report_quick.proofs.rises.Statement.{statement}
 use Rattle.report_quick.proofs.rises.Tie as tie
 

@@ -3,7 +3,6 @@ use mathlib.Core.Bool.{false≢true}
 use native.Mathlib.Omega.{arith}
 use Rattle.base_laws.specs.Bools.{of-not-false}
 use borrow.Author.Tests.{leb-true}
-use Rattle.report_quick.specs.Told.{RunFits}
 use borrow.Author.Needs.{needs}
 use Rattle.report_quick.proofs.run_fits.Statement.{statement}
 use Rattle.report_quick.proofs.run_fits.Tie as tie

@@ -1,11 +1,11 @@
 -- `report_quick::runs_told` meets its contract. The invariant: runs stand up to record i, and tag and word are its words.
 use Prim.Native.Nat.{ℕ, _+_, _*_, _≤_, _<_, _-_}
 use mathlib.Core.Logic.{⊎-elim}
-use mathlib.Core.Path.{_≡_, sym, ap, _∙_, subst}
+use mathlib.Core.Path.{_≡_, sym, ap, subst}
 use native.Mathlib.Omega.{arith}
 use Rattle.base_laws.specs.Bools.{eq-or-ne, of-not-false}
 use lib.ListN.{getD}
-use Rattle.report_quick.specs.Told.{RunFits, RunTold, RunsTold}
+use Rattle.report_quick.specs.Told.{RunFits, RunTold}
 use borrow.Author.Needs.{needs}
 use Rattle.report_quick.proofs.runs_told.Statement.{statement}
 use Rattle.report_quick.proofs.runs_told.Tie as tie

@@ -3,7 +3,6 @@ use Prim.Native.Nat.{_≤_, _-_}
 use mathlib.Core.Path.{_≡_}
 use native.Mathlib.Omega.{arith}
 use lib.ListN.{replicate}
-use borrow.Author.Needs.{needs}
 use Rattle.base_laws.specs.Tables.{filled, fill-start, fill-turn}
 use Rattle.report_walk.specs.Pairs.{pairOf, pairs-filled}
 use Rattle.report_walk.proofs.pairs.Statement.{statement}

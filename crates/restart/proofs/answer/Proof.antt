@@ -6,13 +6,13 @@ use Rattle.restart.proofs.answer.Statement.{statement}
 use Rattle.restart.proofs.answer.Tie as tie
 
 returns : tie.Need-returns
-returns c = answers-none _ (c .before .before .before .before .before .read-all .ensures) (search needs) (sym (c .before .is-cut .ensures) ∙ c .if1 .taken)
+returns c = answers-none _ (c .before .before .before .before .before .read-all .ensures) (sym (c .before .is-cut .ensures) ∙ c .if1 .taken)
 
 close-requires : tie.Need-close-requires
-close-requires c κs = reads-ready (c .before .before .before .before .before .before .before .before .read-all .ensures) (search needs)
+close-requires c κs = (reads-ready (c .before .before .before .before .before .before .before .before .read-all .ensures), search needs)
 
 returns-2 : tie.Need-returns-2
-returns-2 c = answers-print empty-desk (c .before .before .before .before .before .before .before .before .before .before .before .before .before .read-all .ensures) (c .before .before .before .before .close .ensures) (c .print .ensures) (search needs) (search needs) (sym (c .before .before .before .before .before .before .before .before .before .is-cut .ensures) ∙ c .before .before .before .before .before .before .before .before .if1 .left)
+returns-2 c = answers-print empty-desk (c .before .before .before .before .before .before .before .before .before .before .before .before .before .read-all .ensures) (c .before .before .before .before .close .ensures) (c .print .ensures) (search needs) (sym (c .before .before .before .before .before .before .before .before .before .is-cut .ensures) ∙ c .before .before .before .before .before .before .before .before .if1 .left)
 
 pub answer-spec : {M : Type 1} → statement M
 answer-spec =

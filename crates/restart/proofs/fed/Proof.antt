@@ -5,7 +5,7 @@ use Rattle.restart.proofs.fed.Statement.{statement}
 use Rattle.restart.proofs.fed.Tie as tie
 
 returns : tie.Need-returns
-returns c = feeds-front (c .before .before .before .before .before .before .before .before .before .before .before .args .n) (c .before .before .before .before .before .before .before .before .before .before .before .args .buffer .now) (c .before .before .before .before .feed .ensures)
+returns c = feeds-front (c .before .before .before .before .before .before .before .before .before .before .before .args .n) (c .before .before .before .before .before .before .before .before .before .before .before .args .buffer .now) (c .before .before .before .before .feed .ensures .0)
 
 pub fed-spec : {M : Type 1} → statement M
 fed-spec =

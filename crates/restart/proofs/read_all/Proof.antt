@@ -5,32 +5,32 @@ use borrow.Author.Needs.{needs}
 use Rattle.base_lent.specs.Lent.{wordsIn}
 use Rattle.program_input.specs.Inputs.{mayCome, readsLeft, reads-fall}
 use Rattle.program_run.specs.Machine.{closedAt}
-use Rattle.restart.specs.Program.{Reads, one-more, reads-first, reads-came, going-open}
+use Rattle.restart.specs.Program.{FedSoFar, fed-first, fed-then, going-open}
 use Rattle.restart.proofs.read_all.Statement.{statement}
 use Rattle.restart.proofs.read_all.Tie as tie
 
 abbrev Inv-loop : tie.InvT-loop
-Inv-loop desk₀ bytes₀ intake₀ buffer₀ desk bytes intake buffer = Reads (wordsIn desk₀) bytes₀ intake (wordsIn desk) bytes × (length desk ≡ length desk₀)
+Inv-loop desk₀ bytes₀ intake₀ buffer₀ desk bytes intake buffer = FedSoFar (wordsIn desk₀) bytes₀ intake (wordsIn desk) bytes × (length desk ≡ length desk₀)
 
 abbrev μ-loop : tie.MeasureT-loop
 μ-loop desk₀ bytes₀ intake₀ buffer₀ desk bytes intake buffer = readsLeft (intake .input)
 
 loop-holds : tie.Need-loop-holds Inv-loop μ-loop
-loop-holds c = (reads-first (c .before .start .ensures) (c .start2 .ensures), refl)
+loop-holds c = (fed-first (c .before .before .before .before .pre .0) (c .before .start .ensures) (c .start2 .ensures), refl)
 
 turn-requires : tie.Need-turn-requires Inv-loop μ-loop
-turn-requires c κs = reads-came _ _ _ _ _ (c .before .before .before .before .before .before .before .before .before .before .pre) (c .before .before .before .before .before .loop .inv .0) .feeds .ready
+turn-requires c κs = (c .before .before .before .before .before .loop .inv .0 .feeds .ready, c .before .before .before .before .before .loop .inv .1 ∙ c .before .before .before .before .before .before .before .before .before .before .pre .1)
 
 loop-less : tie.Need-loop-less Inv-loop μ-loop
 loop-less c =
-    reads-fall _ _
+    reads-fall _ _ _
     (going-open (closedAt (c .before .before .before .before .before .before .before .before .before .before .loop .intake .run .stage)) (mayCome (c .before .before .before .before .before .before .before .before .before .before .loop .intake .input .source))
     (sym (c .before .before .before .before .before .before .before .before .before .is-going-on .ensures) ∙ c .before .before .before .before .before .before .before .before .if1 .taken))
     (c .before .before .before .before .turn .ensures .reads)
 
 loop-again : tie.Need-loop-again Inv-loop μ-loop
 loop-again c = (
-  one-more _ _ _ _ _ _ _ (c .before .before .before .before .before .before .before .before .before .before .loop .inv .0) (c .before .before .before .before .turn .ensures),
+  fed-then (c .before .before .before .before .before .before .before .before .before .before .loop .inv .0) (c .before .before .before .before .turn .ensures),
   c .before .before .before .before .turn .kept .1 .0 ∙ c .before .before .before .before .before .before .before .before .before .before .loop .inv .1,
 )
 
@@ -38,10 +38,10 @@ same-length : tie.Need-same-length Inv-loop μ-loop
 same-length c = c .before .before .loop .inv .1
 
 same-length-2 : tie.Need-same-length-2 Inv-loop μ-loop
-same-length-2 c = reads-came _ _ _ _ _ (c .before .before .before .before .before .before .before .pre) (c .before .before .loop .inv .0) .feeds .ready .room ∙ sym (c .before .before .before .before .before .before .before .pre)
+same-length-2 c = c .before .before .loop .inv .0 .feeds .ready .room ∙ sym (c .before .before .before .before .before .before .before .pre .0)
 
 returns : tie.Need-returns Inv-loop μ-loop
-returns c = record { reads = c .before .before .loop .inv .0; ended = sym (c .before .is-going-on .ensures) ∙ c .if1 .left }
+returns c = record { fed = c .before .before .loop .inv .0; ended = sym (c .before .is-going-on .ensures) ∙ c .if1 .left }
 
 pub read-all-spec : {M : Type 1} → statement M
 read-all-spec =

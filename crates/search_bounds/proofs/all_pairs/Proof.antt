@@ -1,18 +1,10 @@
 -- The loop's invariant: the sum so far is that of the shards below i. Assumes nothing.
 use borrow.Author.Needs.{needs}
-use Prim.Native.Nat.{ℕ, _≤_, _<_, _-_, _+_, _*_, _/_, _%_, min}
-use mathlib.Core.Path.{_≡_, refl, sym, _∙_, ap, ap₂, subst}
-use mathlib.Core.Bool.{Bool, true, false, cond, _&&_, false≢true}
-use mathlib.Core.List.{[]}
+use Prim.Native.Nat.{_≤_, _-_, _+_, _*_, min}
+use mathlib.Core.Path.{_≡_, sym}
 use native.Mathlib.Omega.{arith}
-use borrow.Author.Tests.{not-true, not-false, lt-ltb, le-ltb, ltb-true, le-leb, lt-leb}
-use lib.Dec.{eqb, ltb, leb}
-use lib.ListN.{getD, length-set}
-use Rattle.base_sums.specs.Sums.{sumBelow, sum-zero, sum-turn, sum-done, sum-const}
-use Rattle.base_laws.specs.Below.{allBelow, all-none, all-more, all-fails, all-at}
-use Rattle.base_laws.specs.Loops.{all-done}
-use Rattle.search_theory.specs.Tables.{caseOf, ownersOf}
-use Rattle.search_bounds.specs.Post.{weightsOf, steady-there, steady-nowhere}
+use lib.ListN.{getD}
+use Rattle.base_sums.specs.Sums.{sumBelow, sum-zero, sum-turn, sum-done}
 use Rattle.search_bounds.proofs.all_pairs.Statement.{statement}
 use Rattle.search_bounds.proofs.all_pairs.Tie as tie
 

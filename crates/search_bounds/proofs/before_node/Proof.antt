@@ -1,7 +1,7 @@
 -- The shifted 1 is 2 ^ n, since nothing is shifted out. Assumes nothing.
 use borrow.Author.Needs.{needs}
 use mathlib.Core.Path.{ap}
-use Prim.Native.Nat.{ℕ, _-_, _^_}
+use Prim.Native.Nat.{ℕ, _-_}
 use native.Mathlib.Omega.{arith}
 use lib.Pow.{pow-pos}
 use Rattle.base_laws.specs.Masks.{shl-single}

@@ -1,12 +1,10 @@
 -- The loop's invariant: every row from that of t to i is passed. At the end the cut is sound. Assumes nothing.
 use borrow.Author.Needs.{needs}
-use Prim.Native.Nat.{ℕ, _≤_, _<_, _-_, _+_, _*_, _/_}
-use mathlib.Core.Path.{_≡_, refl, sym, _∙_, ap, subst}
-use mathlib.Core.List.{[]}
+use Prim.Native.Nat.{ℕ, _≤_, _-_, _+_, _/_}
+use mathlib.Core.Path.{refl, sym, _∙_, ap, subst}
 use native.Mathlib.Nat.{le-antisymm}
 use native.Mathlib.Omega.{arith}
 use borrow.Author.Tests.{not-false}
-use lib.ListN.{getD}
 use Rattle.base_laws.specs.Bools.{clash}
 use Rattle.search_theory.specs.Tables.{caseOf, ownersOf}
 use Rattle.search_theory.specs.Duality.{gain, toll}

@@ -1,9 +1,6 @@
 -- The row is sifted by the limits that the weights give. Assumes nothing.
 use borrow.Author.Needs.{needs}
-use Prim.Native.Nat.{ℕ, _+_, _-_}
 use mathlib.Core.List.{[]}
-use mathlib.Core.Path.{sym, _∙_, ap, ap₂}
-use native.Mathlib.Omega.{arith}
 use Rattle.search_theory.specs.Tables.{caseOf}
 use Rattle.search_bounds.specs.Post.{weightsOf}
 use Rattle.search_bounds.specs.Rows.{row-cut}

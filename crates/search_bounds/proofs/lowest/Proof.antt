@@ -1,6 +1,4 @@
 -- The lowest bit is one of the bits, and so below 32. Assumes nothing.
-use borrow.Author.Needs.{needs}
-use Prim.Native.Nat.{_^_, _<_}
 use native.Mathlib.Omega.{arith}
 use lib.Count.{trailingZeros, trailing-le}
 use Rattle.base_laws.specs.Masks.{has-below}

@@ -1,7 +1,7 @@
 -- All nodes, or those past the ones before t. Assumes nothing.
 use borrow.Author.Needs.{needs}
 use mathlib.Core.Path.{sym, subst}
-use Prim.Native.Nat.{ℕ, _*_, _-_, _≤_}
+use Prim.Native.Nat.{ℕ}
 use native.Mathlib.Omega.{arith}
 use Rattle.search_bounds.specs.Rows.{Onward, onward-all, onward-rest}
 use Rattle.search_bounds.proofs.onward.Statement.{statement}

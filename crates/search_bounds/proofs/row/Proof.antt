@@ -1,6 +1,6 @@
 -- The loop's invariant: the sum so far is that of the sets below f. Assumes nothing.
 use borrow.Author.Needs.{needs}
-use Prim.Native.Nat.{ℕ, _≤_, _-_, _+_, _*_, min}
+use Prim.Native.Nat.{_≤_, _-_, _+_, _*_, min}
 use mathlib.Core.Path.{_≡_, sym, _∙_}
 use native.Mathlib.Omega.{arith}
 use lib.ListN.{getD}

@@ -1,13 +1,13 @@
 -- The loop's invariant: of the nodes that are not to be looked at any more, none asks too little, and those that were dropped ask too much. Assumes nothing.
 use borrow.Author.Needs.{needs}
-use Prim.Native.Nat.{ℕ, _+_, _*_, _≤_, _<_, min}
-use mathlib.Core.Path.{_≡_, sym, subst, subst₂}
-use mathlib.Core.Bool.{true, false≢true}
+use Prim.Native.Nat.{ℕ, _+_, _*_, _<_, min}
+use mathlib.Core.Path.{sym, subst, subst₂}
+use mathlib.Core.Bool.{false≢true}
 use mathlib.Core.List.{List}
 use native.Mathlib.Omega.{arith}
 use borrow.Author.Tests.{ltb-true}
 use lib.ListN.{getD}
-use Rattle.base_laws.specs.Masks.{count, without, count-cleared}
+use Rattle.base_laws.specs.Masks.{count, count-cleared}
 use Rattle.search_bounds.specs.Rows.{Sifting, sift-start, sift-turn, sift-end}
 use Rattle.search_bounds.proofs.sift.Statement.{statement}
 use Rattle.search_bounds.proofs.sift.Tie as tie

@@ -1,12 +1,9 @@
 -- Each branch by its test; the owner that was read stands for the node's. Assumes nothing.
 use borrow.Author.Needs.{needs}
-use mathlib.Core.Path.{_≡_, sym, _∙_, ap, ap₂}
 use mathlib.Core.List.{[]}
-use Prim.Native.Nat.{ℕ, _+_}
+use Prim.Native.Nat.{_+_}
 use native.Mathlib.Omega.{arith}
-use lib.ListN.{getD}
 use Rattle.search_theory.specs.Tables.{caseOf, ownersOf}
-use Rattle.search_theory.specs.Duality.{asked}
 use Rattle.search_bounds.specs.Post.{weightsOf, steady-there, steady-nowhere}
 use Rattle.search_bounds.proofs.steady.Statement.{statement}
 use Rattle.search_bounds.proofs.steady.Tie as tie

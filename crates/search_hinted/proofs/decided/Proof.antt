@@ -1,7 +1,7 @@
 -- A pair is left where it is not open, where its node has an owner, or where it is left for good; it is taken where its node is free. Assumes nothing.
 use borrow.Author.Needs.{needs}
-use Prim.Native.Nat.{ℕ, _≤_, _<_, _+_, _/_}
-use mathlib.Core.Path.{_≡_, refl, sym, _∙_, subst₂}
+use Prim.Native.Nat.{ℕ, _<_, _+_, _/_}
+use mathlib.Core.Path.{refl, sym, _∙_, subst₂}
 use mathlib.Core.List.{List}
 use native.Mathlib.Omega.{arith}
 use borrow.Author.Tests.{not-true}

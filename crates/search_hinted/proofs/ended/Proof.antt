@@ -1,6 +1,5 @@
 -- The list is ended, or goes on. Assumes nothing.
 use borrow.Author.Needs.{needs}
-use Prim.Native.Nat.{ℕ, _≤_, _<_}
 use native.Mathlib.Omega.{arith}
 use Rattle.search_hinted.specs.Stage.{moved-close, moved-on}
 use Rattle.search_hinted.proofs.ended.Statement.{statement}

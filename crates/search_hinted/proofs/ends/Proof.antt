@@ -1,7 +1,7 @@
 -- A node that must be placed could not be, too few sets, or a bound above k with the list ended. Assumes nothing.
 use borrow.Author.Needs.{needs}
-use Prim.Native.Nat.{ℕ, _≤_, _<_, _/_}
-use mathlib.Core.Path.{_≡_, subst}
+use Prim.Native.Nat.{ℕ, _/_}
+use mathlib.Core.Path.{subst}
 use native.Mathlib.Omega.{arith}
 use Rattle.search_theory.specs.Case.{spread, meets}
 use Rattle.search_theory.specs.Tests.{none-thin}

@@ -1,6 +1,5 @@
 -- The floor is above k. Assumes nothing.
 use borrow.Author.Needs.{needs}
-use Prim.Native.Nat.{ℕ, _<_}
 use mathlib.Core.Bool.{false≢true}
 use borrow.Author.Tests.{ltb-true}
 use Rattle.search_hinted.specs.Post.{sound-none}

@@ -1,7 +1,6 @@
 -- The loop's invariant: what is first from p is first of all. At the end the owners are tested. Assumes nothing.
 use borrow.Author.Needs.{needs}
-use Prim.Native.Nat.{ℕ, _≤_, _<_, _-_}
-use mathlib.Core.Path.{_≡_}
+use Prim.Native.Nat.{_≤_, _-_}
 use native.Mathlib.Omega.{arith}
 use Rattle.base_laws.specs.Bools.{clash}
 use Rattle.search_theory.specs.Case.{weight}

@@ -1,6 +1,6 @@
 -- A shard meets no more sets than it has nodes, and has no more nodes than were looked at. Assumes nothing.
 use borrow.Author.Needs.{needs}
-use Prim.Native.Nat.{ℕ, _<_, _/_}
+use Prim.Native.Nat.{_/_}
 use mathlib.Core.Bool.{false≢true}
 use mathlib.Core.List.{[]}
 use native.Mathlib.Omega.{arith}

@@ -1,16 +1,16 @@
 -- A pair is left where it is barred, or where a cut excludes it. Assumes nothing.
 use borrow.Author.Needs.{needs}
-use Prim.Native.Nat.{ℕ, _≤_, _<_}
-use mathlib.Core.Path.{_≡_, sym, _∙_}
+use mathlib.Core.Path.{sym, _∙_}
 use mathlib.Core.Bool.{false≢true}
 use native.Mathlib.Omega.{arith}
 use Rattle.base_laws.specs.Bools.{of-not-true}
+use Rattle.search_judge.specs.Post.{barred-never}
 use Rattle.search_hinted.specs.Stage.{stage-cut, stage-shut, advance-leave}
 use Rattle.search_hinted.proofs.leaves.Statement.{statement}
 use Rattle.search_hinted.proofs.leaves.Tie as tie
 
 returns : tie.Need-returns
-returns c = λ e. advance-leave (c .before .before .pre .1 .1) (c .before .before .pre .0 .0) (λ y f d. c .barred .ensures .yes e y (f .has .valid) (f .agree) d)
+returns c = λ e. advance-leave (c .before .before .pre .1 .1) (c .before .before .pre .0 .0) (λ y f d. barred-never _ _ _ (c .barred .ensures) e (c .before .before .pre .0 .0) (c .before .before .pre .1 .1 .ready .begun) y (f .has .valid) (f .agree) d)
 
 prune-requires : tie.Need-prune-requires
 prune-requires c κs = let s = c .before .before .before in ((omega (arith, s .pre .0 .0), s .pre .0 .1), (s .pre .1 .0, (s .pre .1 .1 .long, s .pre .1 .1 .ready .begun)))

@@ -1,6 +1,5 @@
 -- A cut at pair 0 gives the floor: below it there is none, else the hints are followed. Assumes nothing.
 use borrow.Author.Needs.{needs}
-use Prim.Native.Nat.{ℕ, _≤_, _<_}
 use native.Mathlib.Omega.{arith}
 use borrow.Author.Tests.{not-false}
 use Rattle.base_laws.specs.Bools.{clash}

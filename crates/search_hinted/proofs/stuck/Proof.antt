@@ -1,6 +1,5 @@
 -- A node that must be placed is left over. Assumes nothing.
 use borrow.Author.Needs.{needs}
-use Prim.Native.Nat.{ℕ, _^_, _<_}
 use mathlib.Core.Bool.{false≢true}
 use native.Mathlib.Omega.{arith}
 use Rattle.search_hinted.specs.Stage.{only-here-by}

@@ -3,13 +3,14 @@
 -- none was found with it. Assumes nothing.
 use Prim.Native.Nat.{ℕ, _<_, _≤_, _-_, _+_, _*_}
 use mathlib.Core.Path.{_≡_, ap}
-use mathlib.Core.Bool.{Bool, true, false, cond, false≢true}
+use mathlib.Core.Bool.{Bool, false, cond, false≢true}
 use native.Mathlib.Numerals.{add-one-le}
 use native.Mathlib.Omega.{arith}
 use borrow.Author.Needs.{needs}
 use borrow.Author.Tests.{not-true, not-false}
 use borrow.Fn.Kinds.{In}
 use borrow.Fn.PlainCycle.{Measures, is, falls, and}
+use Rattle.search_judge.specs.Post.{unbarred-free}
 use Rattle.search_total.specs.Steps.{closing, sought-end, sought-hopeless, sought-leave, sought-last, sought-found, sought-else, barred-none}
 use Rattle.search_total.specs.Steps.{ready-leave, ready-stored, ready-restored, closed-found, closed-ready, closed-none, closed-else, none-later, none-last, restored-none, restored-last}
 use Rattle.search_total.proofs.seek.Reads as seek
@@ -86,15 +87,13 @@ pub +seek-spec : {M : Type 1} → statement M
     let s = c .before .before .before .before .before .before .before .before .before .before .before in
     closed-else (s .args .t) (c .before .before .before .before .next .ensures .0) (c .before .before .before .seek .ensures) (c .before .before .if4 .left)
     (c .seek2 .ensures))
-    (λ c κs.
-    let s = c .before .before .before .before .before .before in
-    (below (c .before .before .before .before .before .if1 .left) (s .pre .1 .0), s .pre .1 .1 .0 .begun))
+    (λ c κs. below (c .before .before .before .before .before .if1 .left) (c .before .before .before .before .before .before .pre .1 .0))
     (λ c κs. below (c .before .before .before .before .before .before .before .if1 .left) (c .before .before .before .before .before .before .before .before .pre .1 .0))
     (λ c.
     let s = c .before .before .before .before .before .before .before .before .before .before in
     let l = below (c .before .before .before .before .before .before .before .before .before .if1 .left) (s .pre .1 .0) in
     let n = s .pre .1 .1 .1 (not-false (s .args .tried) (c .before .before .before .before .before .if3 .left)) in
-    sought-leave l (s .pre .1 .1 .0) (barred-none (c .before .before .if5 .taken) (c .before .before .before .barred .ensures))
+    sought-leave l (s .pre .1 .1 .0) (barred-none l (s .pre .1 .1 .0 .begun) (c .before .before .if5 .taken) (c .before .before .before .barred .ensures))
     (sought-last (s .pre .1 .1 .0) (none-last (s .args .owner .now) (s .args .t) (c .before .same-shard .ensures) (not-true (c .before .same-shard .result) (c .if6 .taken)) n)))
     (λ c. search needs)
     (λ c κs.
@@ -108,20 +107,20 @@ pub +seek-spec : {M : Type 1} → statement M
     (λ c.
     let s = c .before .before .before .before .before .before .before .before .before .before .before .before in
     let l = below (c .before .before .before .before .before .before .before .before .before .before .before .if1 .left) (s .pre .1 .0) in
-    sought-leave l (s .pre .1 .1 .0) (barred-none (c .before .before .before .before .if5 .taken) (c .before .before .before .before .before .barred .ensures)) (c .seek3 .ensures))
+    sought-leave l (s .pre .1 .1 .0) (barred-none l (s .pre .1 .1 .0 .begun) (c .before .before .before .before .if5 .taken) (c .before .before .before .before .before .barred .ensures)) (c .seek3 .ensures))
     (λ c κs. search needs)
     (λ c. search needs)
     (λ c. search needs)
     (λ c κs.
     let s = c .before .before .before .before .before .before .before .before .before .before in
     let l = below (c .before .before .before .before .before .before .before .before .before .if1 .left) (s .pre .1 .0) in
-    let f = c .before .before .before .barred .ensures .no (c .before .before .if5 .left) in
+    let f = unbarred-free _ _ _ (c .before .before .before .barred .ensures) (c .before .before .if5 .left) in
     (omega (arith, s .pre .0), (add-one-le l, (ready-stored l (s .pre .1 .1 .0) (c .before .shard .ensures) f, λ e. absurd (false≢true e)))))
     (λ c.
     let s = c .before .before .before .before .before .before .before .before .before .before .before .before in
     let l = below (c .before .before .before .before .before .before .before .before .before .before .before .if1 .left) (s .pre .1 .0) in
     let n = s .pre .1 .1 .1 (not-false (s .args .tried) (c .before .before .before .before .before .before .before .if3 .left)) in
-    let f = c .before .before .before .before .before .barred .ensures .no (c .before .before .before .before .if5 .left) in
+    let f = unbarred-free _ _ _ (c .before .before .before .before .before .barred .ensures) (c .before .before .before .before .if5 .left) in
     sought-found l (s .pre .1 .1 .0) (c .before .before .before .shard .ensures) f n (c .if7 .taken) (c .before .seek4 .ensures))
     (λ c. search needs)
     (λ c κs. below (c .before .before .before .before .before .before .before .before .before .before .before .if1 .left) (c .before .before .before .before .before .before .before .before .before .before .before .before .pre .1 .0))
@@ -129,7 +128,7 @@ pub +seek-spec : {M : Type 1} → statement M
     let s = c .before .before .before .before .before .before .before .before .before .before .before .before .before .before in
     let l = below (c .before .before .before .before .before .before .before .before .before .before .before .before .before .if1 .left) (s .pre .1 .0) in
     let n = s .pre .1 .1 .1 (not-false (s .args .tried) (c .before .before .before .before .before .before .before .before .before .if3 .left)) in
-    let f = c .before .before .before .before .before .before .before .barred .ensures .no (c .before .before .before .before .before .before .if5 .left) in
+    let f = unbarred-free _ _ _ (c .before .before .before .before .before .before .before .barred .ensures) (c .before .before .before .before .before .before .if5 .left) in
     restored-last l (s .pre .1 .1 .0) (c .before .before .before .before .before .shard .ensures) f (c .before .before .if7 .left) (c .before .before .before .seek4 .ensures)
     (none-last (s .args .owner .now) (s .args .t) (c .before .same-shard2 .ensures) (not-true (c .before .same-shard2 .result) (c .if8 .taken)) n))
     (λ c. search needs)
@@ -137,7 +136,7 @@ pub +seek-spec : {M : Type 1} → statement M
     let s = c .before .before .before .before .before .before .before .before .before .before .before .before .before .before .before in
     let l = below (c .before .before .before .before .before .before .before .before .before .before .before .before .before .before .if1 .left) (s .pre .1 .0) in
     let n = s .pre .1 .1 .1 (not-false (s .args .tried) (c .before .before .before .before .before .before .before .before .before .before .if3 .left)) in
-    let f = c .before .before .before .before .before .before .before .before .barred .ensures .no (c .before .before .before .before .before .before .before .if5 .left) in
+    let f = unbarred-free _ _ _ (c .before .before .before .before .before .before .before .before .barred .ensures) (c .before .before .before .before .before .before .before .if5 .left) in
     let e = c .before .before .before .before .before .before .shard .ensures in
     let g = c .before .before .before .if7 .left in
     let v = c .before .before .before .before .seek4 .ensures in
@@ -148,5 +147,5 @@ pub +seek-spec : {M : Type 1} → statement M
     (λ c.
     let s = c .before .before .before .before .before .before .before .before .before .before .before .before .before .before .before .before in
     let l = below (c .before .before .before .before .before .before .before .before .before .before .before .before .before .before .before .if1 .left) (s .pre .1 .0) in
-    let f = c .before .before .before .before .before .before .before .before .before .barred .ensures .no (c .before .before .before .before .before .before .before .before .if5 .left) in
+    let f = unbarred-free _ _ _ (c .before .before .before .before .before .before .before .before .before .barred .ensures) (c .before .before .before .before .before .before .before .before .if5 .left) in
     sought-else l (s .pre .1 .1 .0) (c .before .before .before .before .before .before .before .shard .ensures) f (c .before .before .before .before .if7 .left) (c .before .before .before .before .before .seek4 .ensures) (c .seek5 .ensures))

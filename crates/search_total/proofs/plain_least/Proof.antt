@@ -2,7 +2,6 @@
 -- is the first of least weight. Assumes nothing.
 use borrow.Author.Needs.{needs}
 use borrow.Author.Tests.{not-true, not-false}
-use Prim.Native.Nat.{_≤_}
 use native.Mathlib.Omega.{arith}
 use Rattle.search_theory.specs.Tables.{caseOf}
 use Rattle.search_theory.specs.Least.{at-least-zero, at-least-next}

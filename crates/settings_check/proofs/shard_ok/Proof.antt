@@ -1,5 +1,4 @@
 -- `settings_check::shard_ok` meets its contract: the word is the shard's, and each way out has the tests that led there.
-use mathlib.Core.Path.{sym}
 use borrow.Author.Tests.{le-leb, lt-leb, not-true, not-false}
 use borrow.Author.Needs.{needs}
 use Rattle.settings_values.specs.Settings.{shardOk}

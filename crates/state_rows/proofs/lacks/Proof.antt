@@ -1,7 +1,6 @@
 -- `state_rows::lacks` meets its contract: test by test. Assumes nothing.
 use mathlib.Core.Path.{sym}
 use borrow.Author.Tests.{not-true, not-false}
-use Rattle.base_laws.specs.Masks.{has}
 use borrow.Author.Needs.{needs}
 use Rattle.state_rows.proofs.lacks.Statement.{statement}
 use Rattle.state_rows.proofs.lacks.Tie as tie

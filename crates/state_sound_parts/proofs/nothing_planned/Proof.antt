@@ -1,5 +1,4 @@
 -- `state_sound_parts::nothing_planned` meets its contract. Assumes nothing.
-use mathlib.Core.Path.{sym}
 use borrow.Author.Tests.{eq-eqb, ne-eqb}
 use borrow.Author.Needs.{needs}
 use Rattle.state_sound_parts.proofs.nothing_planned.Statement.{statement}

@@ -1,22 +1,24 @@
 -- `state_sound_plan::plan_fits` meets its contract: by whether a plan stands in the phase. Assumes nothing.
 use mathlib.Core.Path.{sym, _∙_}
 use borrow.Author.Tests.{not-true, not-false}
-use Rattle.state_sound_plan.specs.Matches.{blank-fits, sound-fits}
+use Rattle.state_sound_plan.specs.Matches.{fits-blank, fits-matches}
 use borrow.Author.Needs.{needs}
 use Rattle.state_sound_plan.proofs.plan_fits.Statement.{statement}
 use Rattle.state_sound_plan.proofs.plan_fits.Tie as tie
 
 returns : tie.Need-returns
-returns c t d ok e = let a = c .before .before .before .before .args in
+returns c =
+    let a = c .before .before .before .before .args in
     let k = c .before .before .has-plan in
     c .plan-blank .ensures
-    ∙ blank-fits (a .settings .now) (a .v) t (a .held) d (a .p) (a .phase) (sym (k .ensures) ∙ not-true (k .result) (c .before .if1 .taken))
+    ∙ fits-blank (a .phase) (a .settings .now) (a .v) (a .held) (a .seen) (a .p) (sym (k .ensures) ∙ not-true (k .result) (c .before .if1 .taken))
 
 returns-2 : tie.Need-returns-2
-returns-2 c t d ok e = let a = c .before .before .before .before .args in
+returns-2 c =
+    let a = c .before .before .before .before .args in
     let k = c .before .before .has-plan in
-    c .plan-sound .ensures t d ok e
-    ∙ sound-fits (a .settings .now) (a .v) t (a .held) d (a .p) (a .phase) (sym (k .ensures) ∙ not-false (k .result) (c .before .if1 .left))
+    c .matches .ensures
+    ∙ fits-matches (a .phase) (a .settings .now) (a .v) (a .held) (a .seen) (a .p) (sym (k .ensures) ∙ not-false (k .result) (c .before .if1 .left))
 
 pub plan-fits-spec : {M : Type 1} → statement M
 plan-fits-spec = tie.close (tie.spec (λ c κs. search needs) (λ c κs. search needs) returns (λ c κs. search needs) returns-2)

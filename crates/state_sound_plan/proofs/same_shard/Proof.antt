@@ -1,6 +1,5 @@
 -- `state_sound_plan::same_shard` meets its contract: the three tests as the definition has them. Assumes nothing.
 use borrow.Author.Tests.{eq-eqb, ne-eqb}
-use borrow.Author.Needs.{needs}
 use Rattle.state_sound_plan.proofs.same_shard.Statement.{statement}
 use Rattle.state_sound_plan.proofs.same_shard.Tie as tie
 

@@ -1,5 +1,5 @@
 -- `hint_oracle::levels::open_nodes` is safe and ends: `n` counts the turns up to 32, and the array keeps its length. Assumes nothing.
-use Prim.Native.Nat.{_≤_, _<_, _-_}
+use Prim.Native.Nat.{_≤_, _-_}
 use mathlib.Core.Path.{_≡_}
 use lib.ListN.{length}
 use borrow.Author.Needs.{needs}

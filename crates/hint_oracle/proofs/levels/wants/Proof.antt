@@ -1,5 +1,5 @@
 -- `hint_oracle::levels::wants` is safe and ends: `i` counts the turns up to the number of shards, and the array keeps its length. Assumes nothing.
-use Prim.Native.Nat.{_≤_, _<_, _-_}
+use Prim.Native.Nat.{_≤_, _-_}
 use mathlib.Core.Path.{_≡_}
 use lib.ListN.{length}
 use borrow.Author.Needs.{needs}

@@ -1,5 +1,4 @@
 -- `hint_oracle::levels::weigh_fixed` is safe and ends: `m` loses a node each turn, and the array keeps its length. Assumes nothing.
-use Prim.Native.Nat.{_≤_, _<_, _-_}
 use mathlib.Core.Path.{_≡_}
 use lib.ListN.{length}
 use borrow.Author.Needs.{needs}

@@ -1,0 +1,2 @@
+-- The sum of bytes, and its laws.
+pub mod Sums

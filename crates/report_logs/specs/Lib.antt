@@ -1,2 +1,0 @@
--- One turn of each walk over a log's records.
-pub mod Walks

@@ -1,0 +1,77 @@
+"""The calls that a function of the library leads to, as a tree: calls.py [CRATE::FUNCTION ..], by default c_planner::restart_report.
+
+Each function is shown once with what it calls; where it is called again a line names it alone. At the end: how many functions are reached,
+how many calls lead to them, and how many of those go from one layer to another (the layer is the first half of a crate's name); then
+the same without the functions of the layers base and settings, which every layer calls. Calls of the kit's libraries are left out."""
+import os
+import re
+import sys
+
+ROOT = os.path.dirname(os.path.dirname(os.path.abspath(__file__)))
+FUNCTION = re.compile(r"^( *)(?:pub )?(?:extern \"C\" )?fn (\w+)\(", re.M)
+CALL = re.compile(r"(?<![\w.])(?:(\w+)::)?(\w+)\(|\.(\w+)\(")
+
+
+def crates():
+    with open(os.path.join(ROOT, "crates.txt")) as lines:
+        return [line.split(":")[0].strip() for line in lines if ":" in line and not line.startswith("#")]
+
+
+def functions(crate):
+    """Each function of a crate, with the text of its body."""
+    found = {}
+    folder = os.path.join(ROOT, "crates", crate, "src")
+    for name in sorted(os.listdir(folder)) if os.path.isdir(folder) else []:
+        with open(os.path.join(folder, name)) as text:
+            source = re.sub(r"//.*", "", text.read())
+        for match in FUNCTION.finditer(source):
+            end = source.index("\n%s}\n" % match.group(1), match.end())
+            begin = source.find("\n%s{\n" % match.group(1), match.end(), end)
+            found[match.group(2)] = source[begin if 0 <= begin else match.end() : end]
+    return found
+
+
+def called(crate, body, known):
+    """The functions that a body calls, each once, in their order."""
+    seen = []
+    for of, name, method in CALL.findall(body):
+        name = name or method
+        homes = [of] if of in known else [crate] if of in ("", "State", "self") and name in known[crate] else []
+        if method and not homes:
+            homes = [home for home in known if home == "state_planner"]
+        for home in homes:
+            if name in known[home] and (home, name) not in seen:
+                seen.append((home, name))
+    return seen
+
+
+def layer(crate):
+    return crate.split("_")[0]
+
+
+def main(starts):
+    known = {crate: functions(crate) for crate in crates()}
+    for start in starts:
+        shown, calls = set(), []
+
+        def show(at, depth):
+            again = at in shown
+            shown.add(at)
+            print("%s%s::%s%s" % ("  " * depth, at[0], at[1], " .." if again else ""))
+            if again:
+                return
+            for to in called(at[0], known[at[0]][at[1]], known):
+                calls.append((layer(at[0]), layer(to[0])))
+                show(to, depth + 1)
+
+        show(tuple(start.split("::")), 0)
+        for left_out in ((), ("base", "settings")):
+            reached = [at for at in shown if layer(at[0]) not in left_out]
+            counted = [(at, to) for at, to in calls if at not in left_out and to not in left_out]
+            others = [call for call in counted if call[0] != call[1]]
+            without = "without %s: " % " and ".join(left_out) if left_out else ""
+            print("%s%s: %d functions, %d calls, %d of them to another layer" % (without, start, len(reached), len(counted), len(others)))
+
+
+if __name__ == "__main__":
+    main(sys.argv[1:] or ["c_planner::restart_report"])
