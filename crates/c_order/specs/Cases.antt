@@ -26,7 +26,7 @@ use Rattle.state_planner.specs.Refusing.{deskOk, orderRefusal}
 use Rattle.state_order.specs.Orders.{ordered, orderBuffer}
 use Rattle.state_order.specs.Taken.{writer-takes}
 use Rattle.c_state.specs.declared.Entry.{Entry}
-use Rattle.c_state.specs.Calls.{stateLent, entry}
+use Rattle.c_state.specs.Calls.{byPlanner, stateLent, entry}
 use Rattle.c_state.specs.CallLaws.{settings-whole, CallEntered, entry-refuses, entry-passes}
 use Rattle.c_order.specs.OrderCalls.{lengthsOk, orderRefused, orderAnswer, orderLeaves}
 
@@ -52,12 +52,12 @@ few-words σ x d n z h =
     let few = leb-true (c .len) 127 (unless-ok (leb (c .len) 127) 4 _ taken) in
     rw h (omega arith)
 
-module _ (settings state desk : List ℕ) (node : ℕ) (buffer : List ℕ) where
+module _ (role : ℕ) (settings state desk : List ℕ) (node : ℕ) (buffer : List ℕ) where
   abbrev pub ToldOrder : ℕ → List ℕ → Type 0
-  ToldOrder answer left = (answer ≡ orderAnswer settings state desk node buffer) × (left ≡ orderLeaves settings state desk node buffer)
+  ToldOrder answer left = (answer ≡ orderAnswer role settings state desk node buffer) × (left ≡ orderLeaves role settings state desk node buffer)
 
   told : {answer : ℕ} {left : List ℕ}
-      → Told (orderRefused settings state desk node buffer)
+      → Told (orderRefused role settings state desk node buffer)
       (withLength (ordered (wordsIn settings) (stateLent state) (wordsIn desk) node (wordsIn buffer) .length))
       (bytesOf (orderBuffer (wordsIn settings) (stateLent state) (wordsIn desk) node (wordsIn buffer)))
       buffer answer left
@@ -66,17 +66,17 @@ module _ (settings state desk : List ℕ) (node : ℕ) (buffer : List ℕ) where
   told t = (t .answers, t .leaves)
 
   module _ (lengths : Bool) (ok : lengths ≡ (eqb (length desk) 65536 && eqb (length buffer) 2048)) (e : Entry)
-      (given : e ≡ entry lengths settings state) where
-    from : e ≡ entry (lengthsOk desk buffer) settings state
-    from = given ∙ ap (λ (b : Bool). entry b settings state) (ok ∙ ap₂ _&&_ (length-test desk 16383) (length-test buffer 511))
+      (given : e ≡ entry (byPlanner role) lengths settings state) where
+    from : e ≡ entry (byPlanner role) (lengthsOk desk buffer) settings state
+    from = given ∙ ap (λ (b : Bool). entry (byPlanner role) b settings state) (ok ∙ ap₂ _&&_ (length-test desk 16383) (length-test buffer 511))
 
     pub order-not-entered : (e .refusal .code ≡ 0 → ⊥) → ToldOrder (e .refusal .code) buffer
     unfolding orderRefused
-    order-not-entered h = told (entry-refuses (lengthsOk desk buffer) settings state e from h _ _ _ buffer)
+    order-not-entered h = told (entry-refuses (byPlanner role) (lengthsOk desk buffer) settings state e from h _ _ _ buffer)
 
     module _ (h : e .refusal .code ≡ 0) where
-      pub order-passes : CallEntered (lengthsOk desk buffer) settings state (e .state)
-      order-passes = entry-passes (lengthsOk desk buffer) settings state e from h
+      pub order-passes : CallEntered (byPlanner role) (lengthsOk desk buffer) settings state (e .state)
+      order-passes = entry-passes (byPlanner role) (lengthsOk desk buffer) settings state e from h
 
       pub desk-long : length desk ≡ 65536
       desk-long =
@@ -98,7 +98,7 @@ module _ (settings state desk : List ℕ) (node : ℕ) (buffer : List ℕ) where
         same-length : length (wordsIn buffer) ≡ length z
         same-length = buffer-words ∙ sym long
 
-        refusal-is : orderRefused settings state desk node buffer ≡ w .refusal
+        refusal-is : orderRefused role settings state desk node buffer ≡ w .refusal
         unfolding orderRefused ordered
         refusal-is =
             order-passes .event _

@@ -37,13 +37,13 @@ fn order_words(x: State, settings: &[u32], desk: &[u8], node: u32, words: &mut [
     state_order::write_order(settings, x, &cuts, Node(node), words)
 }
 
-// Writes a node's order into the lent buffer: rows 1 (desk or buffer), 2 to 4, 6 and 14.
-pub fn order(settings: &[u8], state: &[u8], desk: &[u8], node: u32, buffer: &mut [u8]) -> u32
-    ensures answer { λ r. ⌜ r ≡ orderAnswer (now (settings .entry)) (now (state .entry)) (now (desk .entry)) node (now (buffer .entry)) ⌝ }
-    ensures bytes { λ r. ⌜ now (buffer .exit) ≡ orderLeaves (now (settings .entry)) (now (state .entry)) (now (desk .entry)) node (now (buffer .entry)) ⌝ }
+// Writes a node's order into the lent buffer: rows 1 (desk or buffer), 2, 15, 3, 4, 6 and 14.
+pub fn order(role: u32, settings: &[u8], state: &[u8], desk: &[u8], node: u32, buffer: &mut [u8]) -> u32
+    ensures answer { λ r. ⌜ r ≡ orderAnswer role (now (settings .entry)) (now (state .entry)) (now (desk .entry)) node (now (buffer .entry)) ⌝ }
+    ensures bytes { λ r. ⌜ now (buffer .exit) ≡ orderLeaves role (now (settings .entry)) (now (state .entry)) (now (desk .entry)) node (now (buffer .entry)) ⌝ }
 {
     let lengths = lengths_ok(desk.len(), buffer.len());
-    let entry = c_state::enter(lengths, settings, state);
+    let entry = c_state::enter_planner(role, lengths, settings, state);
     let first = entry.refusal;
     if first.code != 0 {
         return first.code;
