@@ -10,6 +10,7 @@ ghost use Rattle.c_events.specs.Events.{freshAnswer, freshLeaves, checkStateAns
 ghost use Rattle.c_report.specs.ReportCalls.{reportAnswer, reportLeaves, reportDesk};
 ghost use Rattle.c_decide.specs.Decisions.{DecideCall};
 ghost use Rattle.c_order.specs.OrderCalls.{orderAnswer, orderLeaves};
+ghost use Rattle.c_page.specs.PageCalls.{PageCall};
 ghost use Rattle.c_views.specs.ViewAnswers.{openViewAnswer};
 
 // 0 where the settings are right, else 2.
@@ -170,4 +171,19 @@ pub extern "C" fn restart_prepared(role: u32, settings: &[u8], state: &mut [u8],
     ensures bytes { λ r. ⌜ now (state .exit) ≡ takeLeaves role Event.Prepared (now (settings .entry)) (now (state .entry)) (now (desk .entry)) node ⌝ }
 {
     c_events::take(role, Event::Prepared, settings, state, desk, node)
+}
+
+// Writes a subgroup's page, for a role that may read it: rows 1 (desk or buffer), 2, 15 and 3.
+#[no_mangle]
+pub extern "C" fn restart_page(
+    role: u32,
+    settings: &[u8],
+    state: &[u8],
+    desk: &[u8],
+    subgroup: u32,
+    buffer: &mut [u8],
+) -> u32
+    ensures { λ r. ⌜ PageCall role (now (settings .entry)) (now (state .entry)) (now (desk .entry)) subgroup (now (buffer .entry)) r (now (buffer .exit)) ⌝ }
+{
+    c_page::page(role, settings, state, desk, subgroup, buffer)
 }

@@ -8,16 +8,16 @@
 -- an entry by its parts
 -- the entry of a call that is lent a desk
 -- ---- a call whose event hands back an outcome
-use mathlib.Core.Path.{_≡_, sym, ap, _∙_}
+use mathlib.Core.Path.{_≡_, sym, ap, ap₂, _∙_}
 use mathlib.Core.Logic.{⊎-elim}
-use mathlib.Core.Bool.{Bool, true, false}
+use mathlib.Core.Bool.{Bool, true, false, _&&_}
 use mathlib.Core.List.{List}
 use Prim.Native.Nat.{ℕ, _-_, _≤_}
 use native.Mathlib.Omega.{arith}
 use lib.Dec.{eqb}
 use lib.ListN.{length, take, drop}
 use borrow.Author.Tests.{eqb-true, eq-eqb, ne-eqb}
-use Rattle.base_laws.specs.Bools.{either, no-true}
+use Rattle.base_laws.specs.Bools.{either, no-true, and-left, and-right}
 use Rattle.base_laws.specs.Tables.{length-padded, front-padded}
 use Rattle.base_bytes.specs.Words.{bytesOf, length-words}
 use Rattle.base_lent.specs.Lent.{countWithin, wordsIn, wordsWithin, within-le, bytes-of-words, length-test, HoldsSettings}
@@ -34,7 +34,7 @@ use Rattle.c_state_words.specs.StateWords.{stateWords, isState, decoded}
 use Rattle.c_state_words.specs.Laws.{stated}
 use Rattle.c_state_words.specs.declared.Decoded.{Decoded}
 use Rattle.c_state.specs.declared.Entry.{Entry}
-use Rattle.c_state.specs.Calls.{byPlanner, stateLent, entryRefused, called, entry, refusalOf, eventRefused, eventAnswer, eventLeaves}
+use Rattle.c_state.specs.Calls.{lengthsOk, byPlanner, stateLent, entryRefused, called, entry, refusalOf, eventRefused, eventAnswer, eventLeaves}
 
 not-state : (w : List ℕ) → (length w ≡ 160 → ⊥) → isState w ≡ false
 not-state w h = no-true (isState w) (λ s. h (stated w s .long))
@@ -136,6 +136,29 @@ module _ (allowed : Bool) (settings state desk : List ℕ) (e : Entry) (given : 
 
   pub desk-long : e .refusal .code ≡ 0 → length desk ≡ 65536
   desk-long h = bytes-of-words desk 16383 (eqb-true (length (wordsIn desk)) 16384 (desk-passes h .lengths-ok))
+
+-- the entry of a call that is lent a desk and a buffer
+module _ (allowed : Bool) (settings state desk buffer : List ℕ) (lengths : Bool)
+    (ok : lengths ≡ (eqb (length desk) 65536 && eqb (length buffer) 2048)) (e : Entry) (given : e ≡ entry allowed lengths settings state) where
+  pub buffer-entry : e ≡ entry allowed (lengthsOk desk buffer) settings state
+  buffer-entry =
+      given ∙ ap (λ (b : Bool). entry allowed b settings state) (ok ∙ ap₂ _&&_ (length-test desk 16383) (length-test buffer 511))
+
+  module _ (h : e .refusal .code ≡ 0) where
+    pub buffer-passes : CallEntered allowed (lengthsOk desk buffer) settings state (e .state)
+    buffer-passes = entry-passes allowed (lengthsOk desk buffer) settings state e buffer-entry h
+
+    pub buffer-desk : length desk ≡ 65536
+    buffer-desk =
+        bytes-of-words desk 16383
+        (eqb-true (length (wordsIn desk)) 16384 (and-left (deskOk (wordsIn desk)) (eqb (length (wordsIn buffer)) 512) (buffer-passes .lengths-ok)))
+
+    pub buffer-words : length (wordsIn buffer) ≡ 512
+    buffer-words =
+        eqb-true (length (wordsIn buffer)) 512 (and-right (deskOk (wordsIn desk)) (eqb (length (wordsIn buffer)) 512) (buffer-passes .lengths-ok))
+
+    pub buffer-long : length buffer ≡ 2048
+    buffer-long = bytes-of-words buffer 511 buffer-words
 
 module _ (role : ℕ) (settings state desk : List ℕ) (o : Outcome) where
   -- what it answers, and leaves in the state's bytes

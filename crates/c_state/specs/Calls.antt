@@ -1,8 +1,9 @@
 -- What the C calls over the planner's state have in common: what the lent bytes mean, when a call is refused, what it answers, and
 -- what it leaves in the state's bytes.
 use Prim.Native.Nat.{ℕ}
-use mathlib.Core.Bool.{Bool}
+use mathlib.Core.Bool.{Bool, _&&_}
 use mathlib.Core.List.{List}
+use lib.Dec.{eqb}
 use lib.ListN.{length}
 use Rattle.base_laws.specs.Tables.{padded}
 use Rattle.base_bytes.specs.Words.{bytesOf}
@@ -23,6 +24,10 @@ use Rattle.c_state.specs.declared.Entry.{Entry}
 -- the state that lent bytes say
 unfoldable pub stateLent : List ℕ → State
 stateLent state = stateIn (wordsIn state)
+
+-- row 1 of a call that writes into a lent buffer: desk and buffer have their lengths
+abbrev pub lengthsOk : List ℕ → List ℕ → Bool
+lengthsOk desk buffer = deskOk (wordsIn desk) && eqb (length (wordsIn buffer)) 512
 
 -- the word is the planner's role, to whom every operation is allowed
 abbrev pub byPlanner : ℕ → Bool

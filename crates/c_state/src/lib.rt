@@ -4,7 +4,9 @@ use c_state_words::Decoded;
 use state_planner::Answer;
 use state_planner::Outcome;
 use state_planner::State;
+ghost use mathlib.Core.Bool.{_&&_};
 ghost use mathlib.Core.Path.{_≡_};
+ghost use lib.Dec.{eqb};
 ghost use lib.ListN.{length};
 ghost use Rattle.base_bytes.specs.Words.{bytesOf};
 ghost use Rattle.base_lent.specs.Lent.{wordsIn};
@@ -19,6 +21,16 @@ pub struct Entry {
     pub state: State,
     pub settings: [u32; 52],
     pub words: usize,
+}
+
+// The lengths of desk and buffer in bytes are right.
+pub fn lengths_ok(desk: usize, buffer: usize) -> bool
+    ensures { λ r. ⌜ r ≡ (eqb desk 65536 && eqb buffer 2048) ⌝ }
+{
+    if desk != 65536 {
+        return false;
+    }
+    buffer == 2048
 }
 
 // The state that lent bytes say.
