@@ -53,9 +53,9 @@ module _ {g : ℕ} {σ τ : List ℕ} {x y : State} {d e : List ℕ} (a : Whole 
       below = held-below τ (y .kept) (y .termination) (y .held) (sound-given τ y e (b .safe) .kept-sound)
 
 -- the page of a whole state is refused to nobody to whom it is allowed
-pub whole-shown : {g : ℕ} {σ : List ℕ} {x : State} {d : List ℕ} {role : Role} → Whole σ x d → mayRead role g ≡ true → pageRefusal σ x d role g ≡ none
+pub whole-shown : {σ : List ℕ} {x : State} {d : List ℕ} (role : Role) (g : ℕ) → Whole σ x d → mayRead role g ≡ true → pageRefusal σ x d role g ≡ none
 unfolding soundRefusal unless
-whole-shown {g} {σ} {x} {d} {role} a m =
+whole-shown {σ} {x} {d} role g a m =
     page-allowed σ d role g x (eq-eqb (length d) 16384 (a .desk)) (settings-of σ (a .right)) m ∙ rw (a .safe)
 
 -- an answer is its refusal and its page
@@ -64,20 +64,20 @@ paged-is a b = λ i. record { refusal = a i; page = b i }
 
 -- two callers to whom the page of subgroup g is allowed get one page from states that agree on it, and neither is refused
 module _ {g : ℕ} {σ τ : List ℕ} {x y : State} {d e : List ℕ} (a : Whole σ x d) (b : Whole τ y e) (k : Agree g σ τ x y d e) where
-  pub readers-see : {role other : Role} → mayRead role g ≡ true → mayRead other g ≡ true → {r q : Paged} → PageCalled σ x d role g r
+  pub readers-see : (role other : Role) → mayRead role g ≡ true → mayRead other g ≡ true → {r q : Paged} → PageCalled σ x d role g r
       → PageCalled τ y e other g q → (r .refusal ≡ none) × (r ≡ q)
-  readers-see {role} {other} m n v w =
-      let s : pageRefusal σ x d role g ≡ none = whole-shown a m in
-      let t : pageRefusal τ y e other g ≡ none = whole-shown b n in
+  readers-see role other m n v w =
+      let s : pageRefusal σ x d role g ≡ none = whole-shown role g a m in
+      let t : pageRefusal τ y e other g ≡ none = whole-shown other g b n in
       (v .answers ∙ s,
       paged-is (v .answers ∙ s ∙ sym (w .answers ∙ t)) (pages-same a b k (v .shows (ap accepted s)) (w .shows (ap accepted t))))
 
   -- in particular the watcher of the subgroup
   pub watcher-sees : g ≤ 3 → {r q : Paged} → PageCalled σ x d (Watcher g) g r → PageCalled τ y e (Watcher g) g q → (r .refusal ≡ none) × (r ≡ q)
-  watcher-sees l = readers-see own own
+  unfolding mayRead
+  watcher-sees l = readers-see (Watcher g) (Watcher g) own own
     where
       own : mayRead (Watcher g) g ≡ true
-      unfolding mayRead
       own = and-both (le-leb g 3 l) (eq-eqb g g refl)
 
 -- ---- a role to which the page is not allowed
@@ -87,10 +87,10 @@ unfoldable pub barredRefusal : List ℕ → List ℕ → Refusal
 barredRefusal σ d = unless (deskOk d) 1 (unless (settingsOk σ) 2 (refused 15))
 
 -- so the answer has nothing of the state, and of the desk its length alone
-pub barred : {g : ℕ} {σ : List ℕ} {x : State} {d : List ℕ} {role : Role} → mayRead role g ≡ false → {r : Paged} → PageCalled σ x d role g r
+pub barred : (σ : List ℕ) (x : State) (d : List ℕ) (role : Role) (g : ℕ) → mayRead role g ≡ false → {r : Paged} → PageCalled σ x d role g r
     → r ≡ record { refusal = barredRefusal σ d; page = blankPage }
 unfolding barredRefusal askedRefusal unless
-barred {g} {σ} {x} {d} {role} m v =
+barred σ x d role g m v =
     let e : pageRefusal σ x d role g ≡ barredRefusal σ d = page-barred σ d role g x m ∙ rw m in
     paged-is (v .answers ∙ e) (v .blank (ap accepted e ∙ go (deskOk d) (settingsOk σ)))
   where

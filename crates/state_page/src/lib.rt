@@ -4,6 +4,7 @@ use base_roles::Role;
 use plan_page::Page;
 use plan_seen::Seen;
 use state_planner::State;
+ghost use mathlib.Core.Bool.{true};
 ghost use mathlib.Core.List.{List};
 ghost use mathlib.Core.Path.{_≡_};
 ghost use Prim.Native.Nat.{ℕ};
