@@ -21,7 +21,7 @@ use Rattle.state_planner.specs.States.{sound}
 use Rattle.state_planner.specs.Refusing.{deskOk}
 use Rattle.state_page.specs.declared.Paged.{Paged}
 use Rattle.state_page.specs.Paging.{soundRefusal, PageCalled}
-use Rattle.state_page.specs.Watchers.{Agree, Whole, whole-shown, readers-see}
+use Rattle.state_page.specs.Watchers.{AgreeStates, Whole, whole-shown, readers-see}
 use Rattle.c_state_words.specs.StateWords.{isState}
 use Rattle.c_state.specs.Calls.{stateLent, lengthsOk, entryRefused, called}
 use Rattle.c_state.specs.Barred.{barred, barred-refuses, called-barred, Bars}
@@ -71,7 +71,7 @@ shows-called m w s =
 module _ {role other : ℕ} {settings settings' state state' desk desk' : List ℕ} {g : ℕ} {buffer buffer' : List ℕ} {a b : ℕ} {l m : List ℕ}
     (p : PageCall role settings state desk g buffer a l) (q : PageCall other settings' state' desk' g buffer' b m)
     (h : accepted (pageRefused role settings state desk g buffer) ≡ true) (k : accepted (pageRefused other settings' state' desk' g buffer') ≡ true) where
-  pub same-bytes : Agree g (wordsIn settings) (wordsIn settings') (stateLent state) (stateLent state') (wordsIn desk) (wordsIn desk')
+  pub same-bytes : AgreeStates g (wordsIn settings) (wordsIn settings') (stateLent state) (stateLent state') (wordsIn desk) (wordsIn desk')
       → (a ≡ b) × (l ≡ m)
   same-bytes same =
       let v = p .shown h in
@@ -84,7 +84,7 @@ module _ {role other : ℕ} {settings settings' state state' desk desk' : List �
       (v .answers ∙ sym (w .answers), v .leaves ∙ ap (λ (x : Page). bytesOf (pageWords x)) one ∙ sym (w .leaves))
 
 -- a state agrees with itself
-agree-self : (g : ℕ) (σ : List ℕ) (x : State) (d : List ℕ) → Agree g σ σ x x d d
+agree-self : (g : ℕ) (σ : List ℕ) (x : State) (d : List ℕ) → AgreeStates g σ σ x x d d
 agree-self g σ x d =
     record {
       phases = refl;

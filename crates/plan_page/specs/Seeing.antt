@@ -1,11 +1,9 @@
 -- The page that is told by what was seen of a desk is the page of the desk.
 use Prim.Native.Nat.{ℕ, _<_}
-use mathlib.Core.Bool.{Bool, true, false, cond, not, _&&_}
+use mathlib.Core.Bool.{Bool, true, cond}
 use mathlib.Core.List.{List}
 use mathlib.Core.Logic.{⊎-elim}
-use mathlib.Core.Path.{_≡_, sym, ap, _∙_}
-use native.Mathlib.Omega.{arith}
-use lib.Dec.{eqb}
+use mathlib.Core.Path.{_≡_, ap, _∙_}
 use lib.ListN.{getD}
 use borrow.Author.Tests.{lt-ltb}
 use Rattle.base_laws.specs.Bools.{either}
@@ -13,7 +11,7 @@ use Rattle.base_laws.specs.Picked.{mask-cong}
 use Rattle.base_laws.specs.Tables.{tabulate-cong}
 use Rattle.base_ids.specs.declared.Node.{Node}
 use Rattle.base_ids.specs.declared.Position.{Position}
-use Rattle.settings_values.specs.Settings.{shards, Settings}
+use Rattle.settings_values.specs.Settings.{shards}
 use Rattle.place_groups.specs.Chosen.{ofGroup}
 use Rattle.place_owners.specs.Cases.{group-shard}
 use Rattle.report_views.specs.declared.Layout.{Layout}

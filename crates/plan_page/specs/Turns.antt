@@ -6,7 +6,6 @@ use mathlib.Core.Path.{_≡_, sym, ap, _∙_, subst}
 use lib.Dec.{eqb}
 use Rattle.base_laws.specs.Masks.{with}
 use Rattle.base_laws.specs.Picked.{maskBelow, mask-turn}
-use Rattle.base_ids.specs.declared.Node.{Node}
 use Rattle.base_ids.specs.declared.Position.{Position}
 use Rattle.place_groups.specs.Chosen.{ofGroup}
 use Rattle.place_layout.specs.declared.Offer.{Offer}

@@ -1,7 +1,7 @@
 -- Two worlds that agree on subgroup 0, which has shard 0 alone, and on nothing else: the first has one shard more, the second two, with
 -- other sets, least size, subgroups, needs, masks and runs. The first would be planned, the second waits for nodes; page 0 is the same.
-use Prim.Native.Nat.{ℕ, zero, suc, _+_, _^_, _<_, _≤_}
-use mathlib.Core.Bool.{Bool, true, false, cond, not, _&&_, _||_}
+use Prim.Native.Nat.{ℕ, zero, suc, _+_, _<_, _≤_}
+use mathlib.Core.Bool.{true, false, not, _&&_, _||_}
 use mathlib.Core.List.{List, [], _∷_, _++_}
 use mathlib.Core.Logic.{inl, ⊎-elim}
 use mathlib.Core.Path.{_≡_, refl, sym, ap, _∙_}
@@ -18,9 +18,7 @@ use Rattle.base_laws.specs.Picked.{maskBelow}
 use Rattle.base_laws.specs.Positions.{pairNotAfter}
 use Rattle.base_laws.specs.Tables.{tabulate}
 use Rattle.base_sums.specs.Sums.{sumBelow}
-use Rattle.base_ids.specs.declared.Node.{Node}
-use Rattle.base_ids.specs.declared.Position.{Position}
-use Rattle.settings_values.specs.Settings.{nodes, shards, setOf, subgroup, need, cap, sizesOk, nodesOk, shardOk, shardsOk, settingsOk, Settings}
+use Rattle.settings_values.specs.Settings.{shards, setOf, need, cap, sizesOk, nodesOk, shardOk, shardsOk, settingsOk, Settings}
 use Rattle.settings_values.specs.Laws.{settings-give}
 use Rattle.message_format.specs.Chain.{place, following}
 use Rattle.message_format.specs.Rows.{shardApart}
@@ -29,7 +27,7 @@ use Rattle.place_groups.specs.Placements.{meetsSet, setsIn, shardValid, groupVa
 use Rattle.place_groups.specs.Chosen.{ofGroup, nodesIn, Chosen}
 use Rattle.place_owners.specs.Adding.{masksOf}
 use Rattle.place_owners.specs.Cases.{group-past}
-use Rattle.place_owners.specs.Shards.{ShardPlaced, shard-placed}
+use Rattle.place_owners.specs.Shards.{shard-placed}
 use Rattle.place_layout.specs.Post.{PlacedAlone}
 use Rattle.report_views.specs.declared.Layout.{Layout}
 use Rattle.report_views.specs.declared.Phase.the-variants.{Gathering}
@@ -45,7 +43,7 @@ use Rattle.plan_alike.specs.Choices.{AlikeGroup, chosen-alike}
 use Rattle.plan_page.specs.declared.Page.{Page}
 use Rattle.plan_page.specs.Pages.{shown, holderShown, targetShown, PageOf}
 use Rattle.plan_page.specs.Same.{AgreeOn}
-use Rattle.plan_page_cases.specs.Rows.{node, page3, PageIs, page-is}
+use Rattle.plan_page_cases.specs.Rows.{nodeNamed, page3, PageIs, page-is}
 
 -- three nodes; the first world has shards of subgroups 0 and 1, the second of subgroups 0, 2 and 1
 abbrev pub firstSettings : List ℕ
@@ -76,7 +74,7 @@ secondDesk =
 
 -- page 0: shard 0 has holder 0 and target (7, 2), and node 0 stays
 abbrev pub pairPage : Page
-pairPage = page3 Gathering 7 1 1 (replicate 16 (node 0)) (pos 7 2 ∷ replicate 15 start) true (1 ∷ replicate 15 0) 0
+pairPage = page3 Gathering 7 1 1 (replicate 16 (nodeNamed 0)) (pos 7 2 ∷ replicate 15 start) true (1 ∷ replicate 15 0) 0
 
 pub record PairRows : Type 0 where
   -- the first would be planned: no wait applies, and each subgroup has a placement; the second waits for nodes
@@ -180,18 +178,18 @@ pair-agree =
 
 -- ---- the choice: node 0 stays
 
-abbrev kept : ℕ → ℕ
-kept = masksOf (1 ∷ replicate 15 0)
+abbrev pairMasks : ℕ → ℕ
+pairMasks = masksOf (1 ∷ replicate 15 0)
 
-kept-valid : groupValid firstSettings 3 kept 0 ≡ true
+kept-valid : groupValid firstSettings 3 pairMasks 0 ≡ true
 unfolding allBelow anyBelow ones onesIn countBelow cap meetsSet setsIn shardValid shardApart groupValidAt groupValid
 kept-valid = refl
 
-kept-moves : groupMoves firstSettings (maskAt firstView) kept 0 ≡ 0
+kept-moves : groupMoves firstSettings (maskAt firstView) pairMasks 0 ≡ 0
 unfolding ones onesIn sumBelow groupMoves groupMovesAt
 kept-moves = refl
 
-kept-stays : groupStays firstSettings (maskAt firstView) kept 0 ≡ 1
+kept-stays : groupStays firstSettings (maskAt firstView) pairMasks 0 ≡ 1
 unfolding ones onesIn sumBelow groupStays groupStaysAt
 kept-stays = refl
 
@@ -218,30 +216,30 @@ count-one : count 1 ≡ 1
 unfolding ones onesIn
 count-one = refl
 
-first-chosen : Chosen firstSettings 3 (maskAt firstView) kept 0
+first-chosen : Chosen firstSettings 3 (maskAt firstView) pairMasks 0
 first-chosen =
     record {
       least = record { valid = kept-valid; least = λ other v. omega (arith, kept-moves) };
       most = λ other l. omega (arith, kept-stays, stays-are other, count-one, count-subset (bitAnd (other 0) 1) 1 (and-subset-right (other 0) 1));
       first = λ other l e.
-          inl (record { alike = λ s o. ap nodesIn (at-first (λ i. kept i ≡ other i) (sym (kept-only other (l .valid) (omega (arith, e, kept-stays)))) s o) });
+          inl (record { alike = λ s o. ap nodesIn (at-first (λ i. pairMasks i ≡ other i) (sym (kept-only other (l .valid) (omega (arith, e, kept-stays)))) s o) });
     }
 
-second-chosen : Chosen secondSettings 3 (maskAt secondView) kept 0
+second-chosen : Chosen secondSettings 3 (maskAt secondView) pairMasks 0
 second-chosen =
     chosen-alike (first-right .sizes .shards-to) (second-right .sizes .shards-to) alike 3 (pair-agree .masks) first-chosen
 
-second-moves : groupMoves secondSettings (maskAt secondView) kept 0 ≡ 0
+second-moves : groupMoves secondSettings (maskAt secondView) pairMasks 0 ≡ 0
 unfolding ones onesIn sumBelow groupMoves groupMovesAt
 second-moves = refl
 
 -- past shard 0 a mask is 0
-kept-rest : (s : ℕ) → eqb s 0 ≡ false → kept s ≡ 0
+kept-rest : (s : ℕ) → eqb s 0 ≡ false → pairMasks s ≡ 0
 kept-rest zero e = clash refl e
 kept-rest (suc s) e =
     ⊎-elim (λ m. getD-replicate 15 s 0 0 m) (λ m. List·getD-eq-default (replicate 15 0) 0 {n = s} (omega (arith, length-replicate {A = ℕ} 15 0))) (lt-or-le s 15)
 
-placed-of : (σ : List ℕ) (v : Layout) → Chosen σ 3 (maskAt v) kept 0 → groupMoves σ (maskAt v) kept 0 ≡ 0 → ((s : ℕ) → ofGroup σ 0 s ≡ eqb s 0)
+placed-of : (σ : List ℕ) (v : Layout) → Chosen σ 3 (maskAt v) pairMasks 0 → groupMoves σ (maskAt v) pairMasks 0 ≡ 0 → ((s : ℕ) → ofGroup σ 0 s ≡ eqb s 0)
     → PlacedAlone σ 3 (maskAt v) 0 (record { found = true; masks = 1 ∷ replicate 15 0; moves = 0 })
 placed-of σ v c m own =
     record {

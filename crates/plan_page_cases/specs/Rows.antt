@@ -1,17 +1,15 @@
 -- Pages of case A and of worlds beside it: with a clause of the definition left out or turned round a row would be false.
-use Prim.Native.Nat.{ℕ, zero, suc, _+_, _^_, _<_, _≤_}
-use mathlib.Core.Bool.{Bool, true, false, cond, not, _&&_}
+use Prim.Native.Nat.{ℕ, zero, suc, _^_, _<_, _≤_}
+use mathlib.Core.Bool.{Bool, true, false}
 use mathlib.Core.List.{List, [], _∷_}
 use mathlib.Core.Logic.{⊎-elim}
-use mathlib.Core.Path.{_≡_, refl, sym, ap, _∙_}
+use mathlib.Core.Path.{_≡_, refl, sym}
 use native.Mathlib.Omega.{arith}
 use lib.Count.{ones, onesIn}
-use lib.Dec.{eqb, ltb}
-use lib.ListN.{length, getD, replicate, length-replicate, getD-replicate, List·getD-eq-default}
-use borrow.Author.Tests.{le-ltb}
-use Rattle.base_laws.specs.Bools.{clash, and-fails-left, lt-or-le}
+use lib.Dec.{eqb}
+use lib.ListN.{length, replicate, length-replicate, getD-replicate, List·getD-eq-default}
+use Rattle.base_laws.specs.Bools.{clash, lt-or-le}
 use Rattle.base_laws.specs.Below.{allBelow, anyBelow, countBelow, lowest}
-use Rattle.base_laws.specs.Masks.{has, with}
 use Rattle.base_laws.specs.Picked.{maskBelow}
 use Rattle.base_laws.specs.Positions.{pairNotAfter}
 use Rattle.base_laws.specs.Tables.{tabulate}
@@ -21,14 +19,12 @@ use Rattle.base_ids.specs.declared.Position.{Position}
 use Rattle.settings_values.specs.Settings.{nodes, shards, subgroup, cap, sizesOk, nodesOk, shardOk, shardsOk, settingsOk, Settings}
 use Rattle.settings_values.specs.Laws.{settings-give}
 use Rattle.message_format.specs.Chain.{place, following}
-use Rattle.message_format.specs.Rows.{shardApart}
 use Rattle.message_format.specs.Messages.{bodyWord, bodyOf, contentsOf}
-use Rattle.place_groups.specs.Placements.{meetsSet, setsIn, shardValid, groupValid, groupValidAt, groupMoves, groupMovesAt, Impossible}
-use Rattle.place_groups.specs.Chosen.{ofGroup, Chosen}
+use Rattle.place_groups.specs.Placements.{meetsSet, setsIn, shardValid, groupMoves, groupMovesAt, Impossible}
+use Rattle.place_groups.specs.Chosen.{ofGroup}
 use Rattle.place_owners.specs.Adding.{masksOf}
 use Rattle.place_owners.specs.Cases.{group-shard, group-past}
 use Rattle.place_owners.specs.Choice.{chosen-local, chosen-none, none-moves}
-use Rattle.place_layout.specs.declared.Offer.{Offer}
 use Rattle.place_layout.specs.Post.{PlacedAlone}
 use Rattle.report_views.specs.declared.Layout.{Layout}
 use Rattle.report_views.specs.declared.Termination.{Termination}
@@ -42,19 +38,19 @@ use Rattle.report_views.specs.Quorums.{candidate, greatest, best, target, able,
 use Rattle.report_examples.specs.Kept.{endedAt}
 use Rattle.report_examples.specs.Sound.{planOfCaseA}
 use Rattle.history_cases.specs.Runs.{caseSettings, settingsWith, desk, view7}
-use Rattle.history_cases.specs.Placed.{three, planA, everywhere, OneGroup, placed-at, one-group, a-chosen, i-none}
+use Rattle.history_cases.specs.Placed.{planA, everywhere, OneGroup, placed-at, one-group, a-chosen, i-none}
 use Rattle.plan_page.specs.declared.Page.{Page}
-use Rattle.plan_page.specs.Pages.{shown, holderShown, targetShown, maskShown, Repeats, PlacedAs, PageBy, PageOf}
+use Rattle.plan_page.specs.Pages.{shown, holderShown, targetShown, maskShown, PageOf}
 use Rattle.plan_page.specs.Same.{one-page}
 
 -- ---- pages of three shards
 
 -- node n
-abbrev pub node : ℕ → Node
-node n = record { 0 = n }
+abbrev pub nodeNamed : ℕ → Node
+nodeNamed n = record { 0 = n }
 
 abbrev pub nodes3 : ℕ → ℕ → ℕ → List Node
-nodes3 a b c = node a ∷ node b ∷ node c ∷ replicate 13 (node 0)
+nodes3 a b c = nodeNamed a ∷ nodeNamed b ∷ nodeNamed c ∷ replicate 13 (nodeNamed 0)
 
 -- a target of shard 1, and none of any other
 abbrev pub ends3 : Position → List Position
@@ -186,7 +182,7 @@ splitSettings = 7 ∷ 3 ∷ 4 ∷ 3 ∷ 0 ∷ 0 ∷ 1 ∷ 1 ∷ 1 ∷ 2 ∷ 2 �
 abbrev pub pageA : Phase → Page
 pageA at = page3 at 7 7 7 (nodes3 0 1 5) (ends3 (pos 7 5)) true (masks3 5 50 8) 2
 
-pub record PageRows : Type 0 where
+pub record WorkedPages : Type 0 where
   -- case A: in gathering what decide would place, in every later phase the plan's
   pub gathering : PageIs caseSettings Gathering view7 noTermination 63 desk noPlan 0 (pageA Gathering)
   pub ordered : PageIs caseSettings Ordered view7 noTermination 63 desk planOfCaseA 0 (pageA Ordered)
@@ -284,8 +280,8 @@ unfolding desk ones onesIn allBelow anyBelow lowest tabulate maskBelow pairNotAf
 split-1-page =
     record { phase = refl; view = refl; shards = refl; known = refl; holders = refl; targets = refl; placement = record { found = refl; masks = refl; counted = refl } }
 
-pub page-rows : PageRows
-page-rows =
+pub worked-pages : WorkedPages
+worked-pages =
     record {
       gathering = page-is caseSettings view7 noTermination 63 desk noPlan case-settings (omega arith) desk-whole Gathering gathering-page;
       ordered = page-is caseSettings view7 noTermination 63 desk planOfCaseA case-settings (omega arith) desk-whole Ordered ordered-page;

@@ -1,6 +1,6 @@
 -- The page call: when it is refused, and what it hands back.
 use Prim.Native.Nat.{ℕ}
-use mathlib.Core.Bool.{Bool, true, false}
+use mathlib.Core.Bool.{true, false}
 use mathlib.Core.List.{List}
 use mathlib.Core.Path.{_≡_}
 use Rattle.base_ids.specs.declared.Refusal.{Refusal}

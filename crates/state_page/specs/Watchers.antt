@@ -1,13 +1,11 @@
 -- What a watcher can learn: from what the page call promises alone, so of any program that meets it.
 use Prim.Native.Nat.{ℕ, _^_, _≤_, _<_}
-use mathlib.Core.Bool.{Bool, true, false, _&&_}
+use mathlib.Core.Bool.{Bool, true, false}
 use mathlib.Core.List.{List}
-use mathlib.Core.Path.{_≡_, refl, sym, ap, ap₂, _∙_, subst}
-use native.Mathlib.Omega.{arith}
+use mathlib.Core.Path.{_≡_, refl, sym, ap, _∙_, subst}
 use lib.ListN.{length}
-use lib.Dec.{eqb, leb}
-use borrow.Author.Tests.{eqb-true, eq-eqb, le-leb}
-use Rattle.base_laws.specs.Bools.{either, and-both}
+use borrow.Author.Tests.{eq-eqb, le-leb}
+use Rattle.base_laws.specs.Bools.{and-both}
 use Rattle.base_ids.specs.declared.Refusal.{Refusal}
 use Rattle.base_ids.specs.Refusals.{refused, none, accepted, unless}
 use Rattle.base_roles.specs.declared.Role.{Role}
@@ -25,11 +23,11 @@ use Rattle.state_planner.specs.States.{sound}
 use Rattle.state_planner.specs.Refusing.{deskOk}
 use Rattle.state_planner.specs.Entry.{sound-given}
 use Rattle.state_page.specs.declared.Paged.{Paged}
-use Rattle.state_page.specs.Paging.{soundRefusal, askedRefusal, pageRefusal, PagedAs, PageCalled}
+use Rattle.state_page.specs.Paging.{soundRefusal, askedRefusal, pageRefusal, PageCalled}
 use Rattle.state_page.specs.Steps.{page-barred, page-allowed}
 
 -- two states, each with its settings and desk, agree on all that the page of subgroup g may depend on
-pub record Agree (g : ℕ) (σ τ : List ℕ) (x y : State) (d e : List ℕ) : Type 0 where
+pub record AgreeStates (g : ℕ) (σ τ : List ℕ) (x y : State) (d e : List ℕ) : Type 0 where
   pub phases : x .phase ≡ y .phase
   pub holding : x .held ≡ y .held
   pub parts : AgreeOn g σ τ (x .kept) (y .kept) (x .termination) (y .termination) (x .held) d e (x .plan) (y .plan)
@@ -41,7 +39,7 @@ pub record Whole (σ : List ℕ) (x : State) (d : List ℕ) : Type 0 where
   pub safe : sound σ x d ≡ true
 
 -- two pages that no row refuses
-module _ {g : ℕ} {σ τ : List ℕ} {x y : State} {d e : List ℕ} (a : Whole σ x d) (b : Whole τ y e) (k : Agree g σ τ x y d e) where
+module _ {g : ℕ} {σ τ : List ℕ} {x y : State} {d e : List ℕ} (a : Whole σ x d) (b : Whole τ y e) (k : AgreeStates g σ τ x y d e) where
   pages-same : {p q : Page} → PageOf σ (x .phase) (x .kept) (x .termination) (x .held) d (x .plan) g p
       → PageOf τ (y .phase) (y .kept) (y .termination) (y .held) e (y .plan) g q → p ≡ q
   pages-same {p} {q} v w =
@@ -63,14 +61,15 @@ paged-is : {r q : Paged} → r .refusal ≡ q .refusal → r .page ≡ q .page �
 paged-is a b = λ i. record { refusal = a i; page = b i }
 
 -- two callers to whom the page of subgroup g is allowed get one page from states that agree on it, and neither is refused
-module _ {g : ℕ} {σ τ : List ℕ} {x y : State} {d e : List ℕ} (a : Whole σ x d) (b : Whole τ y e) (k : Agree g σ τ x y d e) where
+module _ {g : ℕ} {σ τ : List ℕ} {x y : State} {d e : List ℕ} (a : Whole σ x d) (b : Whole τ y e) (k : AgreeStates g σ τ x y d e) where
   pub readers-see : (role other : Role) → mayRead role g ≡ true → mayRead other g ≡ true → {r q : Paged} → PageCalled σ x d role g r
       → PageCalled τ y e other g q → (r .refusal ≡ none) × (r ≡ q)
   readers-see role other m n v w =
       let s : pageRefusal σ x d role g ≡ none = whole-shown role g a m in
-      let t : pageRefusal τ y e other g ≡ none = whole-shown other g b n in
-      (v .answers ∙ s,
-      paged-is (v .answers ∙ s ∙ sym (w .answers ∙ t)) (pages-same a b k (v .shows (ap accepted s)) (w .shows (ap accepted t))))
+      let t : pageRefusal τ y e other g ≡ none = whole-shown other g b n in (
+        v .answers ∙ s,
+        paged-is (v .answers ∙ s ∙ sym (w .answers ∙ t)) (pages-same a b k (v .shows (ap accepted s)) (w .shows (ap accepted t))),
+      )
 
   -- in particular the watcher of the subgroup
   pub watcher-sees : g ≤ 3 → {r q : Paged} → PageCalled σ x d (Watcher g) g r → PageCalled τ y e (Watcher g) g q → (r .refusal ≡ none) × (r ≡ q)

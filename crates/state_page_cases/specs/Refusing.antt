@@ -1,6 +1,5 @@
 -- A row for each clause of when the page call is refused, and of what a role learns to which the page is not allowed: with the clause left
 -- out or turned round the row would be false.
-use Prim.Native.Nat.{ℕ}
 use mathlib.Core.Bool.{true, false}
 use mathlib.Core.List.{[]}
 use mathlib.Core.Path.{_≡_, refl}

@@ -1,14 +1,13 @@
 -- Two sound states with their settings and desks that agree on subgroup 0 alone: decide would plan in the first and wait in the second, they
 -- remember different views, and the watcher of subgroup 0 is shown one page. So what the theorem on watchers supposes can be met.
-use Prim.Native.Nat.{ℕ, _≤_}
+use Prim.Native.Nat.{ℕ}
 use mathlib.Core.Bool.{true}
 use mathlib.Core.List.{_∷_}
-use mathlib.Core.Path.{_≡_, refl, sym, _∙_}
+use mathlib.Core.Path.{_≡_, refl}
 use native.Mathlib.Omega.{arith}
 use lib.ListN.{replicate}
 use Rattle.base_laws.specs.Below.{allBelow, anyBelow, lowest}
 use Rattle.base_laws.specs.Tables.{tabulate}
-use Rattle.base_ids.specs.declared.View.{View}
 use Rattle.base_ids.specs.Refusals.{none, unless, unlessAt, firstOf}
 use Rattle.base_roles.specs.declared.Role.the-variants.{Watcher}
 use Rattle.message_format.specs.Chain.{place, following, row5, row8}
@@ -22,13 +21,12 @@ use Rattle.report_views.specs.Slots.{sameView, row12, sameTermination, row13, t
 use Rattle.report_views.specs.Soundness.{layoutTidy, layoutBlank, viewSound, termSoundAt, termSound, nothingKept, keptSound, marksSound, planBlank, planFits}
 use Rattle.report_latest.specs.declared.Latest.{Latest}
 use Rattle.report_latest.specs.Remembered.{recalled, latestSound}
-use Rattle.plan_page.specs.declared.Page.{Page}
-use Rattle.plan_page_cases.specs.Pair.{firstSettings, secondSettings, firstView, secondView, firstDesk, secondDesk, pairPage, pair-rows, first-right, second-right, first-whole, second-whole, pair-agree}
+use Rattle.plan_page_cases.specs.Pair.{firstSettings, secondSettings, firstView, secondView, firstDesk, secondDesk, first-right, second-right, first-whole, second-whole, pair-agree}
 use Rattle.state_planner.specs.declared.State.{State}
 use Rattle.state_planner.specs.States.{ofParts, sound}
 use Rattle.state_page.specs.declared.Paged.{Paged}
 use Rattle.state_page.specs.Paging.{PageCalled}
-use Rattle.state_page.specs.Watchers.{Agree, Whole, watcher-sees}
+use Rattle.state_page.specs.Watchers.{AgreeStates, Whole, watcher-sees}
 
 -- nodes 0 and 1 have reported view 7, and node 2 an older one or none
 abbrev remembered : ℕ → Latest
@@ -54,7 +52,7 @@ first-state = record { right = first-right; desk = first-whole; safe = first-sou
 pub second-state : Whole secondSettings secondState secondDesk
 second-state = record { right = second-right; desk = second-whole; safe = second-sound }
 
-pub states-agree : Agree 0 firstSettings secondSettings firstState secondState firstDesk secondDesk
+pub states-agree : AgreeStates 0 firstSettings secondSettings firstState secondState firstDesk secondDesk
 states-agree = record { phases = refl; holding = refl; parts = pair-agree }
 
 -- the watcher of subgroup 0 is answered alike, whatever program meets the contract

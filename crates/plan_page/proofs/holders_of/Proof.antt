@@ -1,8 +1,8 @@
 -- `plan_page::holders_of` meets its contract. The invariant: the holders of the shards below s are stored. Assumes nothing.
-use Prim.Native.Nat.{ℕ, _≤_, _-_}
-use mathlib.Core.Path.{_≡_, _∙_}
+use Prim.Native.Nat.{_≤_, _-_}
+use mathlib.Core.Path.{_≡_}
 use native.Mathlib.Omega.{arith}
-use lib.ListN.{replicate, getD}
+use lib.ListN.{replicate}
 use borrow.Author.Needs.{needs}
 use Rattle.base_laws.specs.Tables.{filled, fill-start, fill-turn, fill-end}
 use Rattle.base_ids.specs.declared.Node.{Node}

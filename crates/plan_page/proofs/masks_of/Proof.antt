@@ -1,6 +1,6 @@
 -- `plan_page::masks_of` meets its contract. The invariant: the masks of the shards below s are stored. Assumes nothing.
-use Prim.Native.Nat.{ℕ, _≤_, _-_}
-use mathlib.Core.Path.{_≡_, _∙_}
+use Prim.Native.Nat.{_≤_, _-_}
+use mathlib.Core.Path.{_≡_}
 use native.Mathlib.Omega.{arith}
 use lib.ListN.{replicate, getD}
 use borrow.Author.Needs.{needs}

@@ -1,5 +1,5 @@
 -- `plan_page::targets_of` meets its contract. The invariant: the targets of the shards below s are stored. Assumes nothing.
-use Prim.Native.Nat.{ℕ, _≤_, _-_}
+use Prim.Native.Nat.{_≤_, _-_}
 use mathlib.Core.Path.{_≡_, _∙_}
 use native.Mathlib.Omega.{arith}
 use lib.ListN.{replicate, getD}

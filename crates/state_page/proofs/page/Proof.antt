@@ -18,9 +18,10 @@ page-under-requires : tie.Need-page-under-requires
 page-under-requires c κs =
     let a = c .before .before .before .before .before .args in
     let k = c .before .before .call-refusal in
-    let d = wordsIn (a .desk .now) in
-    (passed-settings (a .settings .now) d (a .role) (a .g) (k .result) (k .ensures) (c .if1 .left),
-    desk-bytes (a .desk .now) (passed-desk (a .settings .now) d (a .role) (a .g) (k .result) (k .ensures) (c .if1 .left)))
+    let d = wordsIn (a .desk .now) in (
+      passed-settings (a .settings .now) d (a .role) (a .g) (k .result) (k .ensures) (c .if1 .left),
+      desk-bytes (a .desk .now) (passed-desk (a .settings .now) d (a .role) (a .g) (k .result) (k .ensures) (c .if1 .left)),
+    )
 
 returns-2 : tie.Need-returns-2
 returns-2 c =
