@@ -44,7 +44,14 @@ fn outcome(event: Event, x: State, settings: &[u32], desk: &[u8], node: u32) -> 
 }
 
 // An event that names a node: rows 1, 2, 15, 3, 4, 6 and 14.
-pub fn take(role: u32, event: Event, settings: &[u8], state: &mut [u8], desk: &[u8], node: u32) -> u32
+pub fn take(
+    role: u32,
+    event: Event,
+    settings: &[u8],
+    state: &mut [u8],
+    desk: &[u8],
+    node: u32,
+) -> u32
     ensures answer { λ r. ⌜ r ≡ Events.takeAnswer role event (now (settings .entry)) (now (state .entry)) (now (desk .entry)) node ⌝ }
     ensures bytes { λ r. ⌜ now (state .exit) ≡ Events.takeLeaves role event (now (settings .entry)) (now (state .entry)) (now (desk .entry)) node ⌝ }
 {
