@@ -53,7 +53,6 @@ EXCEPTIONS = {
     "report_latest::latest_sound.views": "a list that is lent; lists of types cannot be",
     "plan_seen::Seen.views": "the list that is lent to it",
     "plan_order::order_contents.cuts": "two words for each shard, a list that is lent",
-    "state_order::write_order.cuts": "the same list",
     "report_views::Reason.NoPlacement": "a subgroup",
 }
 

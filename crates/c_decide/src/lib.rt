@@ -6,11 +6,8 @@ use state_planner::State;
 ghost use mathlib.Core.Path.{_≡_};
 ghost use Prim.Native.Nat.{_≤_};
 ghost use lib.ListN.{length};
-ghost use Rattle.base_lent.specs.Lent.{wordsIn};
 ghost use Rattle.base_lent.specs.Answers.{waitWord};
-ghost use Rattle.settings_values.specs.Settings.{Settings};
 ghost use Rattle.report_views.specs.Quorums.{numberOf, valueOf};
-ghost use Rattle.state_planner.specs.Decide.{Decides};
 ghost use Rattle.c_decide.specs.Decisions as Decisions;
 
 // A wait as an answer.
@@ -33,16 +30,6 @@ fn reason_word(reason: Reason) -> u32
         Reason::NoHolder(shard) => wait_word(4, shard.0),
         Reason::NoPlacement(group) => wait_word(5, group),
     }
-}
-
-// What decide hands back beside a lent desk.
-fn decided(x: State, settings: &[u32], desk: &[u8]) -> Decided
-    requires { ⌜ Settings (now settings) ⌝ }
-    requires { ⌜ length (now desk) ≡ 65536 ⌝ }
-    ensures { λ r. ⌜ Decides (now (settings .entry)) x (wordsIn (now (desk .entry))) r ⌝ }
-{
-    let seen = plan_seen::see(settings, x.kept, x.termination, x.held, desk);
-    x.decide_seen(settings, seen)
 }
 
 // The answer to a decision; the state is stored where a plan was made.
@@ -72,6 +59,6 @@ pub fn decide(role: u32, settings: &[u8], state: &mut [u8], desk: &[u8]) -> u32
     }
     let n = entry.words;
     let own = entry.settings;
-    let o = decided(entry.state, &own[0..n], desk);
+    let o = State::decide_under(entry.state, &own[0..n], desk);
     keep(o, state)
 }

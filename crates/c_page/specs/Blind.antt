@@ -29,7 +29,7 @@ use Rattle.c_page_words.specs.PageWords.{pageWords}
 use Rattle.c_page.specs.PageCalls.{readable, pageRefused, PageAt, ByPage, PageCall}
 
 -- what a call that is not refused was lent
-module _ {role : ℕ} {settings state desk : List ℕ} {g : ℕ} {buffer : List ℕ} (h : accepted (pageRefused role settings state desk g buffer) ≡ true) where
+module _ (role : ℕ) (settings state desk : List ℕ) (g : ℕ) (buffer : List ℕ) (h : accepted (pageRefused role settings state desk g buffer) ≡ true) where
   abbrev before-state : Refusal
   before-state = entryRefused (readable role g) (lengthsOk desk buffer) settings (isState (wordsIn state))
 
@@ -62,10 +62,10 @@ module _ {role : ℕ} {settings state desk : List ℕ} {g : ℕ} {buffer : List 
       }
 
 -- the page call's promise over words, of a page that it shows
-shows-called : {role : ℕ} {σ d : List ℕ} {x : State} {g : ℕ} {p : Page} → readable role g ≡ true → Whole σ x d → PageAt σ x d g p
+shows-called : (role : ℕ) {σ d : List ℕ} {x : State} (g : ℕ) {p : Page} → readable role g ≡ true → Whole σ x d → PageAt σ x d g p
     → PageCalled σ x d (roleOf role) g (record { refusal = none; page = p })
-shows-called m w s =
-    record { answers = sym (whole-shown w m); blank = λ n. clash (ap accepted (whole-shown w m)) n; shows = λ _. s }
+shows-called role g m w s =
+    record { answers = sym (whole-shown (roleOf role) g w m); blank = λ n. clash (ap accepted (whole-shown (roleOf role) g w m)) n; shows = λ _. s }
 
 -- two accepted calls, by whatever roles, whose states agree on all that the subgroup's page may depend on: equal answers and equal bytes
 module _ {role other : ℕ} {settings settings' state state' desk desk' : List ℕ} {g : ℕ} {buffer buffer' : List ℕ} {a b : ℕ} {l m : List ℕ}
@@ -76,11 +76,14 @@ module _ {role other : ℕ} {settings settings' state state' desk desk' : List �
   same-bytes same =
       let v = p .shown h in
       let w = q .shown k in
+      let whole = taken-whole role settings state desk g buffer h in
+      let whole' = taken-whole other settings' state' desk' g buffer' k in
+      let may = taken-role role settings state desk g buffer h in
+      let may' = taken-role other settings' state' desk' g buffer' k in
       let one : v .page ≡ w .page =
       ap (λ (x : Paged). x .page)
-      (readers-see (taken-whole h) (taken-whole k) same (taken-role h) (taken-role k)
-      (shows-called {role} (taken-role h) (taken-whole h) (v .shows))
-      (shows-called {other} (taken-role k) (taken-whole k) (w .shows)) .1) in
+      (readers-see whole whole' same (roleOf role) (roleOf other) may may' (shows-called role g may whole (v .shows))
+      (shows-called other g may' whole' (w .shows)) .1) in
       (v .answers ∙ sym (w .answers), v .leaves ∙ ap (λ (x : Page). bytesOf (pageWords x)) one ∙ sym (w .leaves))
 
 -- a state agrees with itself

@@ -70,16 +70,17 @@ module _ (role : ℕ) (settings state desk : List ℕ) (g : ℕ) (buffer : List 
       pub page-refused : (p .refusal .code ≡ 0 → ⊥) → Call (p .refusal .code) buffer
       page-refused n = refused-by (p .refusal) refusal-is n
 
-      pub page-shown : p .refusal .code ≡ 0 → (words : List ℕ) → words ≡ pageWords (p .page) → Call (withLength 72) (bytesOf words)
-      page-shown n words f =
+      pub page-shown : p .refusal .code ≡ 0 → (words : List ℕ) → words ≡ pageWords (p .page) → (answer : ℕ) (left : List ℕ)
+          → answer ≡ withLength 72 → left ≡ bytesOf words → Call answer left
+      page-shown n words f answer left a l =
           let taken : accepted refusal ≡ true = ap accepted refusal-is ∙ eq-eqb (p .refusal .code) 0 n in
           record {
             refused = λ r. clash taken r;
             shown =
-                λ a. record {
+                λ _. record {
                   page = p .page;
                   shows = here .shows (sym (ap accepted (here .answers)) ∙ eq-eqb (p .refusal .code) 0 n);
-                  answers = refl;
-                  leaves = ap bytesOf f;
+                  answers = a;
+                  leaves = l ∙ ap bytesOf f;
                 };
           }

@@ -7,9 +7,13 @@ use native.Mathlib.Omega.{arith}
 use lib.ListN.{length, getD, replicate, length-replicate, getD-replicate}
 use borrow.Author.Tests.{le-ltb}
 use Rattle.base_laws.specs.Bools.{lt-or-le}
-use Rattle.base_laws.specs.Tables.{tabulate-ext, filled, length-filled, getD-filled, getD-filled-rest}
+use Rattle.base_laws.specs.Tables.{length-tabulate, tabulate-ext, filled, length-filled, getD-filled, getD-filled-rest}
 use Rattle.plan_page.specs.declared.Page.{Page}
 use Rattle.c_page_words.specs.PageWords.{pageWord, pageWords}
+
+pub length-page : (p : Page) → length (pageWords p) ≡ 512
+unfolding pageWords
+length-page p = length-tabulate 512 (pageWord p)
 
 -- 72 words stored in zeros are the page's words
 pub words-stored : (p : Page) (words : List ℕ) (k : ℕ) → k ≤ 72 → 72 ≤ k → words ≡ filled k (pageWord p) (replicate 512 0) → words ≡ pageWords p

@@ -124,7 +124,13 @@ pub extern "C" fn restart_report(
 
 // A node is no longer there: rows 1, 2, 15, 3, 4, 6 and 14.
 #[no_mangle]
-pub extern "C" fn restart_drop(role: u32, settings: &[u8], state: &mut [u8], desk: &[u8], node: u32) -> u32
+pub extern "C" fn restart_drop(
+    role: u32,
+    settings: &[u8],
+    state: &mut [u8],
+    desk: &[u8],
+    node: u32,
+) -> u32
     ensures answer { λ r. ⌜ r ≡ takeAnswer role Event.Drop (now (settings .entry)) (now (state .entry)) (now (desk .entry)) node ⌝ }
     ensures bytes { λ r. ⌜ now (state .exit) ≡ takeLeaves role Event.Drop (now (settings .entry)) (now (state .entry)) (now (desk .entry)) node ⌝ }
 {
@@ -157,7 +163,13 @@ pub extern "C" fn restart_order(
 
 // A node has fetched what it lacked: rows 1, 2, 15, 3, 4, 6 and 14.
 #[no_mangle]
-pub extern "C" fn restart_fetched(role: u32, settings: &[u8], state: &mut [u8], desk: &[u8], node: u32) -> u32
+pub extern "C" fn restart_fetched(
+    role: u32,
+    settings: &[u8],
+    state: &mut [u8],
+    desk: &[u8],
+    node: u32,
+) -> u32
     ensures answer { λ r. ⌜ r ≡ takeAnswer role Event.Fetched (now (settings .entry)) (now (state .entry)) (now (desk .entry)) node ⌝ }
     ensures bytes { λ r. ⌜ now (state .exit) ≡ takeLeaves role Event.Fetched (now (settings .entry)) (now (state .entry)) (now (desk .entry)) node ⌝ }
 {
@@ -166,7 +178,13 @@ pub extern "C" fn restart_fetched(role: u32, settings: &[u8], state: &mut [u8], 
 
 // A node has prepared the new view: rows 1, 2, 15, 3, 4, 6 and 14.
 #[no_mangle]
-pub extern "C" fn restart_prepared(role: u32, settings: &[u8], state: &mut [u8], desk: &[u8], node: u32) -> u32
+pub extern "C" fn restart_prepared(
+    role: u32,
+    settings: &[u8],
+    state: &mut [u8],
+    desk: &[u8],
+    node: u32,
+) -> u32
     ensures answer { λ r. ⌜ r ≡ takeAnswer role Event.Prepared (now (settings .entry)) (now (state .entry)) (now (desk .entry)) node ⌝ }
     ensures bytes { λ r. ⌜ now (state .exit) ≡ takeLeaves role Event.Prepared (now (settings .entry)) (now (state .entry)) (now (desk .entry)) node ⌝ }
 {

@@ -17,17 +17,17 @@ use Rattle.c_events.proofs.take.Tie as tie
 returns : tie.Need-returns
 returns c = take-refused _ _ _ _ _ _ _ ((c .before .before .before .enter-planner) .ensures) ((c .if1) .taken)
 
-sub-outcome-lent : tie.Need-sub-outcome-lent
-sub-outcome-lent c = search needs
+sub-outcome : tie.Need-sub-outcome
+sub-outcome c = search needs
 
-part-outcome-lent-start : tie.Need-part-outcome-lent-start
-part-outcome-lent-start c = omega (arith, settings-few _ _ _ _ _ ((c .before .before .before .before .before .enter-planner) .ensures), settings-long _ _ _ _ _ ((c .before .before .before .before .before .enter-planner) .ensures))
+part-outcome-start : tie.Need-part-outcome-start
+part-outcome-start c = omega (arith, settings-few _ _ _ _ _ ((c .before .before .before .before .before .enter-planner) .ensures), settings-long _ _ _ _ _ ((c .before .before .before .before .before .enter-planner) .ensures))
 
-part-outcome-lent-end : tie.Need-part-outcome-lent-end
-part-outcome-lent-end c = omega (arith, settings-few _ _ _ _ _ ((c .before .before .before .before .before .enter-planner) .ensures), settings-long _ _ _ _ _ ((c .before .before .before .before .before .enter-planner) .ensures))
+part-outcome-end : tie.Need-part-outcome-end
+part-outcome-end c = omega (arith, settings-few _ _ _ _ _ ((c .before .before .before .before .before .enter-planner) .ensures), settings-long _ _ _ _ _ ((c .before .before .before .before .before .enter-planner) .ensures))
 
-outcome-lent-requires : tie.Need-outcome-lent-requires
-outcome-lent-requires c κs =
+outcome-requires : tie.Need-outcome-requires
+outcome-requires c κs =
     let a = (c .before .before .before .before .before .before .before .before .before .before .before) .args in
     let e = (c .before .before .before .before .before .before .enter-planner) .ensures in
     let p = desk-passes (byPlanner (a .role)) (a .settings .now) (a .state .now) (a .desk .now) _ e ((c .before .before .before .if1) .left) in
@@ -44,8 +44,8 @@ returns-2 c =
     let e = (c .before .before .before .before .before .before .before .before .before .before .before .enter-planner) .ensures in
     let p = desk-passes (byPlanner (a .role)) (a .settings .now) (a .state .now) (a .desk .now) _ e ((c .before .before .before .before .before .before .before .before .if1) .left) in
     take-done _ _ _ _ _ _ _ e ((c .before .before .before .before .before .before .before .before .if1) .left) _
-    ((c .before .before .before .before .outcome-lent) .ensures ∙ ap (λ (s : List ℕ). happened (a .event) s ((c .before .before .before .before .before .before .before .before .before .before .before .enter-planner) .result .state) (wordsIn (a .desk .now)) (a .node)) (settings-front _ _ _ _ _ e (p .settings-ok))) ((c .before .before .keep) .ensures)
+    ((c .before .before .before .before .outcome) .ensures ∙ ap (λ (s : List ℕ). happened (a .event) s ((c .before .before .before .before .before .before .before .before .before .before .before .enter-planner) .result .state) (wordsIn (a .desk .now)) (a .node)) (settings-front _ _ _ _ _ e (p .settings-ok))) ((c .before .before .keep) .ensures)
 
 pub take-spec : {M : Type 1} → statement M
 take-spec =
-    tie.close (tie.spec (λ c κs. search needs) (λ c. search needs) returns sub-outcome-lent part-outcome-lent-start part-outcome-lent-end outcome-lent-requires keep-requires (λ c. search needs) returns-2)
+    tie.close (tie.spec (λ c κs. search needs) (λ c. search needs) returns sub-outcome part-outcome-start part-outcome-end outcome-requires keep-requires (λ c. search needs) returns-2)
