@@ -27,33 +27,33 @@ samplePage at found =
     }
 
 -- word k of it
-abbrev wordAt : ℕ → ℕ
-wordAt k = getD (pageWords (samplePage Preparing true)) k 0
+abbrev sampleWord : ℕ → ℕ
+sampleWord k = getD (pageWords (samplePage Preparing true)) k 0
 
 pub record PageRows : Type 0 where
   pub count : length (pageWords (samplePage Gathering true)) ≡ 512
   pub gathering : pageWord (samplePage Gathering true) 0 ≡ 0
   pub ordered : pageWord (samplePage Ordered true) 0 ≡ 1
-  pub preparing : wordAt 0 ≡ 2
+  pub preparing : sampleWord 0 ≡ 2
   pub committed : pageWord (samplePage Committed true) 0 ≡ 3
-  pub view : wordAt 1 ≡ 7
-  pub shards : wordAt 2 ≡ 11
-  pub known : wordAt 3 ≡ 12
-  pub found : wordAt 4 ≡ 1
+  pub view : sampleWord 1 ≡ 7
+  pub shards : sampleWord 2 ≡ 11
+  pub known : sampleWord 3 ≡ 12
+  pub found : sampleWord 4 ≡ 1
   pub not-found : pageWord (samplePage Gathering false) 4 ≡ 0
-  pub moves : wordAt 5 ≡ 13
-  pub sixth : wordAt 6 ≡ 0
-  pub seventh : wordAt 7 ≡ 0
-  pub first-holder : wordAt 8 ≡ 100
-  pub last-holder : wordAt 23 ≡ 115
-  pub first-view : wordAt 24 ≡ 200
-  pub first-k : wordAt 25 ≡ 300
-  pub last-view : wordAt 54 ≡ 215
-  pub last-k : wordAt 55 ≡ 315
-  pub first-mask : wordAt 56 ≡ 400
-  pub last-mask : wordAt 71 ≡ 415
-  pub after : wordAt 72 ≡ 0
-  pub last : wordAt 511 ≡ 0
+  pub moves : sampleWord 5 ≡ 13
+  pub sixth : sampleWord 6 ≡ 0
+  pub seventh : sampleWord 7 ≡ 0
+  pub first-holder : sampleWord 8 ≡ 100
+  pub last-holder : sampleWord 23 ≡ 115
+  pub first-view : sampleWord 24 ≡ 200
+  pub first-k : sampleWord 25 ≡ 300
+  pub last-view : sampleWord 54 ≡ 215
+  pub last-k : sampleWord 55 ≡ 315
+  pub first-mask : sampleWord 56 ≡ 400
+  pub last-mask : sampleWord 71 ≡ 415
+  pub after : sampleWord 72 ≡ 0
+  pub last : sampleWord 511 ≡ 0
 
 pub page-rows : PageRows
 unfolding pageHead pageWord pageWords tabulate

@@ -59,9 +59,9 @@ returns-2 c =
 encode-requires-2 : tie.Need-encode-requires-2
 encode-requires-2 c κs =
     let a = (c .before .before .before .before .before .before .before .before .before .before .before .before .before .before .before .before .before .before .before .before .args) in
-    let may = (c .before .before .before .before .before .before .before .before .before .before .before .before .before .before .may-read .ensures) in
-    let lengths = (c .before .before .before .before .before .before .before .before .before .before .before .before .before .lengths-ok .ensures) in
-    let e = (c .before .before .before .before .before .before .before .before .before .before .before .before .enter .ensures) in
+    let may = (c .before .before .before .before .before .before .before .before .before .before .before .before .before .before .before .may-read .ensures) in
+    let lengths = (c .before .before .before .before .before .before .before .before .before .before .before .before .before .before .lengths-ok .ensures) in
+    let e = (c .before .before .before .before .before .before .before .before .before .before .before .before .before .enter .ensures) in
     let many = ap length ((c .before .before .encode) .ensures) ∙ length-page _ in
     omega (arith, many, buffer-long _ (a .settings .now) (a .state .now) (a .desk .now) (a .buffer .now) _ lengths _ e (c .before .before .before .before .before .before .before .before .before .before .if1 .left))
 
