@@ -1,6 +1,7 @@
 //! Calls written down as the text of a stored case (see `regressions`).
 
 use crate::calls::{self, Asked, Kind, Table, BUFFER_BYTES, DESK_BYTES, STATE_BYTES};
+use reference::roles::PLANNER;
 use reference::words;
 
 /// Writes calls down as the text of a case.
@@ -42,6 +43,9 @@ impl Recorder {
         }
         if asked.buffer.len() != BUFFER_BYTES {
             lines.push(format!("bytes buffer {}", asked.buffer.len()));
+        }
+        if asked.role != PLANNER {
+            lines.push(format!("role {}", asked.role));
         }
         let expected = calls::expected(asked);
         let what = match asked.kind {

@@ -11,9 +11,11 @@
 //! fresh = ANSWER
 //! decide = ANSWER                      check_state alike
 //! drop N = ANSWER                      order, fetched, prepared alike
+//! page SUBGROUP = ANSWER
+//! role WORD                            of the next call, which else is the planner's
 //! set PIECE INDEX WORD                 a word of settings, state or desk
 //! bytes PIECE LENGTH                   for the next call: also message and buffer
-//! word PIECE INDEX WORD                must be so: a word of state, desk or buffer
+//! word PIECE INDEX WORD ..             must be so: words of state, desk or buffer
 //! plan VIEW MOVES                      must be so
 //! shard S holder N target V.K members N ..
 //! cut S V.K                            of the last order
@@ -31,6 +33,7 @@ use crate::library::Planner;
 use reference::message::{
     encode, read_with, Contents, Form, Triple, CUT, MEMBERS, RUN, TERMINATION,
 };
+use reference::roles::PLANNER;
 use reference::{settings, words};
 use std::path::{Path, PathBuf};
 
@@ -110,6 +113,8 @@ struct Player<'a> {
     table: Table,
     /// Lengths in bytes for the next call.
     lengths: Vec<(String, usize)>,
+    /// The role of the next call.
+    role: u32,
     last: Option<Outcome>,
     calls: usize,
 }
@@ -125,6 +130,7 @@ impl Player<'_> {
                 desk: vec![0; DESK_BYTES],
             },
             lengths: Vec::new(),
+            role: PLANNER,
             last: None,
             calls: 0,
         }
@@ -175,10 +181,14 @@ impl Player<'_> {
                 let length = value(length)? as usize;
                 self.lengths.push((piece.to_string(), length));
             }
-            ("word", [piece, index, word]) => {
-                let is = self.word(piece, value(index)? as usize)?;
-                return same(is, value(word)?);
+            ("word", [piece, index, wanted @ ..]) => {
+                let first = value(index)? as usize;
+                for (index, word) in (first..).zip(wanted) {
+                    let said = same(self.word(piece, index)?, value(word)?);
+                    said.map_err(|what| format!("word {index} is {what}"))?;
+                }
             }
+            ("role", [word]) => self.role = value(word)?,
             ("plan", [view, moves]) => {
                 same(self.word("state", 55)?, value(view)?)?;
                 return same(self.word("state", 57)?, value(moves)?);
@@ -233,6 +243,7 @@ impl Player<'_> {
     /// Makes a call, compares it with the reference and with the stored answer.
     fn call(&mut self, first: &str, rest: &[&str], answer: &str) -> Check {
         let mut asked = Asked {
+            role: std::mem::replace(&mut self.role, PLANNER),
             kind: kind(first)?,
             table: self.table.clone(),
             message: Vec::new(),
@@ -267,7 +278,8 @@ impl Player<'_> {
 
 fn kind(name: &str) -> Result<Kind, String> {
     let name = if name == "message" { "report" } else { name };
-    let kind = Kind::ALL.into_iter().find(|kind| kind.name() == name);
+    let mut kinds = Kind::EVENTS.into_iter().chain([Kind::Page]);
+    let kind = kinds.find(|kind| kind.name() == name);
     kind.ok_or(format!("{name} is no call"))
 }
 

@@ -3,6 +3,7 @@
 use crate::inputs::Input;
 use differential::library::{self, Library, Planner};
 use reference::message::{self, Form};
+use reference::roles::{Role, PLANNER};
 use reference::{events, settings, words};
 use std::hint::black_box;
 
@@ -167,14 +168,16 @@ impl Ready {
         // SAFETY: the pointers are to this value's own memory of those lengths.
         unsafe {
             match self.call {
-                Call::Fresh => (planner.fresh)(state, t),
-                Call::CheckState => (planner.check_state)(settings, s, state, t, desk, d),
-                Call::Report => (planner.report)(settings, s, state, t, desk, d, given, g),
-                Call::Drop => (planner.drop)(settings, s, state, t, desk, d, node),
-                Call::Decide => (planner.decide)(settings, s, state, t, desk, d),
-                Call::Order => (planner.order)(settings, s, state, t, desk, d, node, buffer, b),
-                Call::Fetched => (planner.fetched)(settings, s, state, t, desk, d, node),
-                Call::Prepared => (planner.prepared)(settings, s, state, t, desk, d, node),
+                Call::Fresh => (planner.fresh)(PLANNER, state, t),
+                Call::CheckState => (planner.check_state)(PLANNER, settings, s, state, t, desk, d),
+                Call::Report => (planner.report)(PLANNER, settings, s, state, t, desk, d, given, g),
+                Call::Drop => (planner.drop)(PLANNER, settings, s, state, t, desk, d, node),
+                Call::Decide => (planner.decide)(PLANNER, settings, s, state, t, desk, d),
+                Call::Order => {
+                    (planner.order)(PLANNER, settings, s, state, t, desk, d, node, buffer, b)
+                }
+                Call::Fetched => (planner.fetched)(PLANNER, settings, s, state, t, desk, d, node),
+                Call::Prepared => (planner.prepared)(PLANNER, settings, s, state, t, desk, d, node),
                 Call::CheckSettings => (library.check_settings)(settings, s),
                 Call::ReadReport => (library.read_report)(settings, s, given, g, buffer, b),
                 Call::ReadOrder => (library.read_order)(settings, s, given, g, buffer, b),
@@ -196,13 +199,54 @@ pub fn by_reference(call: Call, input: &Input, node: u32) {
     };
     match call {
         Call::Fresh => drop(black_box(reference::state::fresh())),
-        Call::CheckState => drop(black_box(events::check(settings, state, desk))),
-        Call::Report => drop(black_box(events::report(settings, state, desk, given))),
-        Call::Drop => drop(black_box(events::drop_node(settings, state, desk, node))),
-        Call::Decide => drop(black_box(events::decide(settings, state, desk))),
-        Call::Order => drop(black_box(events::order(settings, state, desk, node, 512))),
-        Call::Fetched => drop(black_box(events::fetched(settings, state, desk, node))),
-        Call::Prepared => drop(black_box(events::prepared(settings, state, desk, node))),
+        Call::CheckState => drop(black_box(events::check(
+            Role::Planner,
+            settings,
+            state,
+            desk,
+        ))),
+        Call::Report => drop(black_box(events::report(
+            Role::Planner,
+            settings,
+            state,
+            desk,
+            given,
+        ))),
+        Call::Drop => drop(black_box(events::drop_node(
+            Role::Planner,
+            settings,
+            state,
+            desk,
+            node,
+        ))),
+        Call::Decide => drop(black_box(events::decide(
+            Role::Planner,
+            settings,
+            state,
+            desk,
+        ))),
+        Call::Order => drop(black_box(events::order(
+            Role::Planner,
+            settings,
+            state,
+            desk,
+            node,
+            512,
+        ))),
+        Call::Fetched => drop(black_box(events::fetched(
+            Role::Planner,
+            settings,
+            state,
+            desk,
+            node,
+        ))),
+        Call::Prepared => drop(black_box(events::prepared(
+            Role::Planner,
+            settings,
+            state,
+            desk,
+            node,
+        ))),
         Call::CheckSettings => drop(black_box(settings::parse(settings))),
         Call::ReadReport => read(Form::Report),
         Call::ReadOrder => read(Form::Order),
