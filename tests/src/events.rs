@@ -111,6 +111,11 @@ impl Sequence {
         }
     }
 
+    /// Settings, state and desk as they are now, without faults.
+    pub fn table(&self) -> &Table {
+        &self.table
+    }
+
     fn asked(&mut self, kind: Kind) -> Asked {
         let filling = self.random.word() as u8;
         Asked {

@@ -44,16 +44,17 @@ impl Recorder {
         if asked.buffer.len() != BUFFER_BYTES {
             lines.push(format!("bytes buffer {}", asked.buffer.len()));
         }
-        if asked.role != PLANNER {
-            lines.push(format!("role {}", asked.role));
-        }
         let expected = calls::expected(asked);
         let what = match asked.kind {
             Kind::Report => format!("message {}", joined(&words::whole_words(&message))),
             kind if kind.takes_node() => format!("{} {}", kind.name(), asked.node),
             kind => kind.name().into(),
         };
-        lines.push(format!("{what} = {}", expected.answer()));
+        let role = match asked.role {
+            PLANNER => String::new(),
+            word => format!("as {word} "),
+        };
+        lines.push(format!("{role}{what} = {}", expected.answer()));
         lines.iter().for_each(|line| self.put(line));
         if !expected.answer().refused() {
             self.table.state = expected.state;

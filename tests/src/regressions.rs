@@ -12,13 +12,14 @@
 //! decide = ANSWER                      check_state alike
 //! drop N = ANSWER                      order, fetched, prepared alike
 //! page SUBGROUP = ANSWER
-//! role WORD                            of the next call, which else is the planner's
+//! as WORD LINE                         the call in the role of that word, else the planner's
 //! set PIECE INDEX WORD                 a word of settings, state or desk
 //! bytes PIECE LENGTH                   for the next call: also message and buffer
-//! word PIECE INDEX WORD ..             must be so: words of state, desk or buffer
+//! word PIECE INDEX WORD                must be so: a word of state, desk or buffer
 //! plan VIEW MOVES                      must be so
 //! shard S holder N target V.K members N ..
 //! cut S V.K                            of the last order
+//! shows WORD .. | HOLDER .. | V K .. | MASK ..   the last page from words 0, 8, 24 and 56; all others are zero
 //! each FROM TO LINE                    the line with each number in the place of $
 //! ```
 //!
@@ -33,7 +34,6 @@ use crate::library::Planner;
 use reference::message::{
     encode, read_with, Contents, Form, Triple, CUT, MEMBERS, RUN, TERMINATION,
 };
-use reference::roles::PLANNER;
 use reference::{settings, words};
 use std::path::{Path, PathBuf};
 
@@ -113,8 +113,6 @@ struct Player<'a> {
     table: Table,
     /// Lengths in bytes for the next call.
     lengths: Vec<(String, usize)>,
-    /// The role of the next call.
-    role: u32,
     last: Option<Outcome>,
     calls: usize,
 }
@@ -130,7 +128,6 @@ impl Player<'_> {
                 desk: vec![0; DESK_BYTES],
             },
             lengths: Vec::new(),
-            role: PLANNER,
             last: None,
             calls: 0,
         }
@@ -140,6 +137,10 @@ impl Player<'_> {
         if let Some(rest) = line.strip_prefix("each ") {
             return self.each(rest);
         }
+        let (role, line) = match line.strip_prefix("as ") {
+            Some(rest) => rest.split_once(' ').ok_or("as needs a word and a call")?,
+            None => ("256", line),
+        };
         let (text, answer) = match line.split_once('=') {
             Some((text, answer)) => (text.trim(), Some(answer.trim())),
             None => (line, None),
@@ -147,7 +148,7 @@ impl Player<'_> {
         let parts: Vec<&str> = text.split_whitespace().collect();
         let (first, rest) = parts.split_first().ok_or("an empty line")?;
         match answer {
-            Some(answer) => self.call(first, rest, answer),
+            Some(answer) => self.call(value(role)?, first, rest, answer),
             None => self.change_or_check(first, rest),
         }
     }
@@ -181,14 +182,11 @@ impl Player<'_> {
                 let length = value(length)? as usize;
                 self.lengths.push((piece.to_string(), length));
             }
-            ("word", [piece, index, wanted @ ..]) => {
-                let first = value(index)? as usize;
-                for (index, word) in (first..).zip(wanted) {
-                    let said = same(self.word(piece, index)?, value(word)?);
-                    said.map_err(|what| format!("word {index} is {what}"))?;
-                }
+            ("word", [piece, index, word]) => {
+                let is = self.word(piece, value(index)? as usize)?;
+                return same(is, value(word)?);
             }
-            ("role", [word]) => self.role = value(word)?,
+            ("shows", parts) => return self.shows(parts),
             ("plan", [view, moves]) => {
                 same(self.word("state", 55)?, value(view)?)?;
                 return same(self.word("state", 57)?, value(moves)?);
@@ -228,6 +226,20 @@ impl Player<'_> {
         same(self.word("state", 58 + shard)?, members)
     }
 
+    /// Whether the last page is as told, all 512 words of it.
+    fn shows(&mut self, parts: &[&str]) -> Check {
+        let mut page = vec![0; BUFFER_BYTES / 4];
+        for (part, first) in parts.split(|&part| part == "|").zip([0, 8, 24, 56]) {
+            let own = values(part)?;
+            page[first..first + own.len()].copy_from_slice(&own);
+        }
+        for (index, &wanted) in page.iter().enumerate() {
+            let said = same(self.word("buffer", index)?, wanted);
+            said.map_err(|what| format!("word {index} is {what}"))?;
+        }
+        Ok(())
+    }
+
     /// The cut of a shard in the last order.
     fn cut(&mut self, shard: u32, at: (u32, u32)) -> Check {
         let settings = words::whole_words(&self.table.settings);
@@ -241,9 +253,9 @@ impl Player<'_> {
     }
 
     /// Makes a call, compares it with the reference and with the stored answer.
-    fn call(&mut self, first: &str, rest: &[&str], answer: &str) -> Check {
+    fn call(&mut self, role: u32, first: &str, rest: &[&str], answer: &str) -> Check {
         let mut asked = Asked {
-            role: std::mem::replace(&mut self.role, PLANNER),
+            role,
             kind: kind(first)?,
             table: self.table.clone(),
             message: Vec::new(),
