@@ -166,8 +166,8 @@ fn compare(
     Ok(outcome)
 }
 
-/// Compares the watcher's page of a world with that of another world which
-/// agrees with it, for a subgroup. Nothing is compared where no other is found.
+/// Compares the watchers' pages of a world with those of other worlds that agree
+/// with it, one for each subgroup.
 fn pair(
     planner: &Planner,
     pages: &mut Pages,
@@ -180,23 +180,54 @@ fn pair(
     };
     for subgroup in 0..SUBGROUPS {
         tally.partners.0 += 1;
-        let Some(other) = pairs::partner(random, &world, subgroup) else {
+        let Some(both) = both(random, table, &world, subgroup) else {
             tally.partners.1 += 1;
             continue;
         };
-        let both = [table, &other].map(|table| Asked {
-            role: WATCHER + subgroup,
-            kind: Kind::Page,
-            table: table.clone(),
-            message: Vec::new(),
-            node: subgroup,
-            buffer: vec![random.word() as u8; BUFFER_BYTES],
-        });
         let places = [(); 5].map(|()| place(random));
         same_page(planner, pages, &both, places)?;
-        tally.pair(&world, subgroup, &other);
+        tally.pair(&world, &both[1]);
         for asked in &both {
             compare(planner, pages, random, asked, tally)?;
+        }
+    }
+    Ok(())
+}
+
+/// The watcher's page of a world, and of another one that agrees with it, if one
+/// is found.
+fn both(random: &mut Random, table: &Table, world: &World, subgroup: u32) -> Option<[Asked; 2]> {
+    let other = pairs::partner(random, world, subgroup)?;
+    Some([table, &other].map(|table| Asked {
+        role: WATCHER + subgroup,
+        kind: Kind::Page,
+        table: table.clone(),
+        message: Vec::new(),
+        node: subgroup,
+        buffer: vec![random.word() as u8; BUFFER_BYTES],
+    }))
+}
+
+/// Compares nothing but the pages of pairs of worlds along restart `index`, with
+/// each other and not with the reference.
+pub fn play_pairs(
+    planner: &Planner,
+    pages: &mut Pages,
+    seed: u64,
+    index: u64,
+) -> Result<(), Box<Difference>> {
+    let random = &mut Random::of_input(!seed, index);
+    let mut sequence = events::sequence(seed, index);
+    while let Some(step) = sequence.step() {
+        sequence.go_on(&step.asked, &calls::expected(&step.asked));
+        let world = pairs::world(sequence.table()).filter(|_| random.chance(15));
+        for subgroup in 0..SUBGROUPS {
+            let both = world
+                .as_ref()
+                .and_then(|world| both(random, sequence.table(), world, subgroup));
+            if let Some(both) = both {
+                same_page(planner, pages, &both, [Place::Last; 5])?;
+            }
         }
     }
     Ok(())
@@ -414,9 +445,10 @@ impl Tally {
         }
     }
 
-    fn pair(&mut self, world: &World, subgroup: u32, other: &Table) {
+    fn pair(&mut self, world: &World, other: &Asked) {
         self.pairs += 1;
-        let other = pairs::world(other).expect("both worlds are sound");
+        let subgroup = other.node;
+        let other = pairs::world(&other.table).expect("both worlds are sound");
         for part in pairs::differing(world, &other) {
             self.put(true, &format!("pair with another {part}"));
         }
