@@ -33,6 +33,8 @@ pub const ROLES: [u32; 13] = [
     768,
     u32::MAX,
 ];
+/// Every word up to this one is tried.
+const FIRST_WORDS: u32 = 1030;
 /// Subgroups that have no page.
 const ABOVE: [u32; 8] = [4, 5, 7, 255, 256, 512, 1 << 31, u32::MAX];
 /// A page of up to so many nodes is compared with the search through all
@@ -85,6 +87,38 @@ pub fn play(
     Ok(())
 }
 
+/// Makes every call with each of the first words of a role, and with such as
+/// have more bits, on what restart `index` ends with.
+pub fn every_word(
+    planner: &Planner,
+    pages: &mut Pages,
+    seed: u64,
+    index: u64,
+    tally: &mut Tally,
+) -> Result<(), Box<Difference>> {
+    let random = &mut Random::of_input(!seed, index);
+    let mut sequence = events::sequence(seed, index);
+    while let Some(step) = sequence.step() {
+        sequence.go_on(&step.asked, &calls::expected(&step.asked));
+    }
+    let greater =
+        (11..32).flat_map(|bit| [0, PLANNER, WATCHER, WATCHER + 3].map(|low| (1 << bit) + low));
+    for role in (0..=FIRST_WORDS).chain(greater) {
+        for kind in Kind::EVENTS.into_iter().chain([Kind::Page]) {
+            let asked = Asked {
+                role,
+                kind,
+                table: sequence.table().clone(),
+                message: Vec::new(),
+                node: role % SUBGROUPS,
+                buffer: vec![random.word() as u8; BUFFER_BYTES],
+            };
+            compare(planner, pages, random, &asked, tally)?;
+        }
+    }
+    Ok(())
+}
+
 /// The call, or another one over the same, in any role.
 fn in_a_role(random: &mut Random, asked: &Asked) -> Asked {
     let kind = match random.chance(30) {
@@ -130,10 +164,11 @@ fn page(random: &mut Random, asked: &Asked) -> Asked {
 /// search through all.
 fn choice(asked: &Asked) -> Choice {
     let words = words::whole_words(&asked.table.settings);
-    let few = settings::parse(&words).is_ok_and(|settings| has_few(&settings, asked.node));
-    match few && asked.kind == Kind::Page {
-        true => order::exhaustive,
-        false => order::greedy,
+    match settings::parse(&words) {
+        Ok(settings) if asked.kind == Kind::Page && has_few(&settings, asked.node) => {
+            order::exhaustive
+        }
+        _ => order::greedy,
     }
 }
 
@@ -320,7 +355,7 @@ const WANTED: [(&str, u64); 27] = [
 /// What must be found among a thousand pairs, for each part in which they can
 /// differ.
 const PARTS: u64 = 20;
-/// Pairs with nobody held, while gathering, and outside it, among a thousand.
+/// Pairs in each phase, and of a subgroup without shards, among a thousand.
 const PAIRS: [(&str, u64); 5] = [
     ("pair while Gathering", 100),
     ("pair while Ordered", 50),

@@ -6,7 +6,7 @@
  *
  * It was written from the specification and its requests, not from the library. Where the library
  * gives the first of the placements of least moves and, of those, most stays, the peer gives any of
- * them.
+ * them. It has no pages: roles other than the planner's get number 15 of every event.
  */
 #ifndef PEER_H
 #define PEER_H

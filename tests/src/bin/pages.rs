@@ -1,7 +1,8 @@
 //! Compares calls in every kind of role, and the pages of subgroups, with the
 //! reference: `pages [SEED [COUNT [FIRST]]]`.
 //!
-//! COUNT restarts are played. A restart depends on the seed and its index alone,
+//! COUNT restarts are played, and every call is made with more than a thousand
+//! words as role on what the first ends with. A restart depends on the seed and its index alone,
 //! so `pages SEED 1 INDEX` makes one again.
 
 use differential::calls::{Asked, Pages};
@@ -25,7 +26,10 @@ fn main() -> ExitCode {
     let mut tally = Tally::default();
     for index in first..first + count {
         lent::at_input(index);
-        let played = pages::play(&planner, &mut lent_pages, seed, index, &mut tally);
+        let mut played = pages::play(&planner, &mut lent_pages, seed, index, &mut tally);
+        if index == first && played.is_ok() {
+            played = pages::every_word(&planner, &mut lent_pages, seed, index, &mut tally);
+        }
         if let Err(difference) = played {
             print_difference(seed, index, &difference);
             println!("pages: {} calls compared, 1 differs", tally.calls + 1);
