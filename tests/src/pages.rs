@@ -484,6 +484,7 @@ impl Tally {
         self.pairs += 1;
         let subgroup = other.node;
         let other = pairs::world(&other.table).expect("both worlds are sound");
+        assert!(pairs::agree(world, &other, subgroup), "the worlds agree");
         for part in pairs::differing(world, &other) {
             self.put(true, &format!("pair with another {part}"));
         }

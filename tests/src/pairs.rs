@@ -470,6 +470,46 @@ fn reached(random: &mut Random, reports: &[Contents], nodes: u32, shard: u32) ->
     }
 }
 
+/// Whether two worlds agree on all that a subgroup's page may depend on. Of the
+/// kept view's members, on which it may, it is not asked: no page shows them.
+pub fn agree(one: &World, other: &World, subgroup: u32) -> bool {
+    let of_settings = |world: &World| {
+        let settings = &world.settings;
+        let shards = settings.shards_of(subgroup).into_iter();
+        let shards = shards.map(|shard| (shard, settings.need(shard), settings.cap(shard)));
+        let shards: Vec<(u32, u32, u32)> = shards.collect();
+        (settings.nodes, settings.set_of.clone(), shards)
+    };
+    let own = one.settings.shards_of(subgroup);
+    let masks = |masks: &[u32]| -> Vec<u32> {
+        let shards = own.iter();
+        shards.map(|&shard| masks[shard as usize]).collect()
+    };
+    let of_state = |world: &World| {
+        let state = &world.state;
+        let kept = state.kept.as_ref();
+        let positions = state.termination.as_ref().map(|all| -> Vec<Position> {
+            let shards = own.iter();
+            shards.map(|&shard| all[shard as usize]).collect()
+        });
+        (
+            (state.phase, state.held, positions),
+            kept.map(|view| (view.number, masks(&view.masks))),
+            state.plan.as_ref().map(|plan| masks(&plan.masks)),
+        )
+    };
+    let of_report = |world: &World, report: &Contents| {
+        let logs: Vec<Log> = own.iter().map(|&shard| Log::of(report, shard)).collect();
+        let masks = masks(&report.shard_masks(&world.settings));
+        (report.node, report.view, masks, logs)
+    };
+    let mut reports = one.reports.iter().zip(&other.reports);
+    of_settings(one) == of_settings(other)
+        && of_state(one) == of_state(other)
+        && one.reports.len() == other.reports.len()
+        && reports.all(|(left, right)| of_report(one, left) == of_report(other, right))
+}
+
 /// The parts in which two worlds differ, by name.
 pub fn differing(one: &World, other: &World) -> Vec<&'static str> {
     let plans = |world: &World| world.state.plan.clone();
