@@ -55,6 +55,7 @@ THEN = [
     ("settings and messages against the reference", cargo("tests", "run", "--release", "--bin", "messages"), LIBRARY),
     ("flat reports against the reference", cargo("tests", "run", "--release", "--bin", "flat"), LIBRARY),
     ("events against the reference", cargo("tests", "run", "--release", "--bin", "events"), LIBRARY),
+    ("roles and pages against the reference", cargo("tests", "run", "--release", "--bin", "pages"), LIBRARY),
     ("plans against the reference", cargo("tests", "run", "--release", "--bin", "plans"), LIBRARY),
     ("events against the peer in C and the reference", cargo("bench/events", "run", "--release", "--", "compare", "20000", "1"), LIBRARY),
     ("placements against the reference", cargo("tests/placement", "run", "--release"), PLACEMENT),

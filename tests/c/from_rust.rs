@@ -10,8 +10,9 @@ extern "C" {
     fn restart_get_word(bytes: *const u8, index: usize) -> u32;
     fn restart_open_view(members: u32, known: u32, have: u32, lack: u32, passed: u32) -> u32;
     fn restart_view_of(answer: u32) -> u32;
-    fn restart_fresh(state: *mut u8, state_len: usize) -> u32;
+    fn restart_fresh(role: u32, state: *mut u8, state_len: usize) -> u32;
     fn restart_report(
+        role: u32,
         settings: *const u8,
         settings_len: usize,
         state: *mut u8,
@@ -22,6 +23,7 @@ extern "C" {
         message_len: usize,
     ) -> u32;
     fn restart_decide(
+        role: u32,
         settings: *const u8,
         settings_len: usize,
         state: *mut u8,
@@ -30,6 +32,9 @@ extern "C" {
         desk_len: usize,
     ) -> u32;
 }
+
+/// The role that may call every operation.
+const PLANNER: u32 = 256;
 
 /// The text that the library gives.
 fn text(found: *const c_char) -> String {
@@ -50,10 +55,11 @@ fn main() {
         assert_eq!(text(restart_version_text()), env!("RESTART_VERSION"));
         assert_eq!(text(restart_reason_text(1)), "no machine has reported");
         assert_eq!(restart_view_of(restart_open_view(7, 0, 5, 2, 0)), 2);
-        assert_eq!(restart_fresh(state.as_mut_ptr(), state.len()), 0);
+        assert_eq!(restart_fresh(PLANNER, state.as_mut_ptr(), state.len()), 0);
         for node in 0..2 {
             let message = bytes(&[node, 3, 3, 1, 256, 3, 0, 0]);
             let taken = restart_report(
+                PLANNER,
                 settings.as_ptr(),
                 settings.len(),
                 state.as_mut_ptr(),
@@ -64,7 +70,7 @@ fn main() {
                 message.len(),
             );
             let answer =
-                restart_decide(settings.as_ptr(), settings.len(), state.as_mut_ptr(), state.len(), desk.as_ptr(), desk.len());
+                restart_decide(PLANNER, settings.as_ptr(), settings.len(), state.as_mut_ptr(), state.len(), desk.as_ptr(), desk.len());
             match restart_is_wait(answer) {
                 0 => println!("report {taken}, plan {}", restart_get_word(state.as_ptr(), 55)),
                 _ => println!("report {taken}, wait {}", restart_reason_of(answer)),
