@@ -9,13 +9,13 @@ needs gcc g++ make valgrind pkg-config groff cmake || exit 1
 
 out=target/c
 library=target/librestart.a
-shared_library=target/librestart.so.0
+shared_library=target/librestart.so.1
 log=$out/log
 strict="-D_DEFAULT_SOURCE -Iinclude -Wall -Wextra -Werror -pedantic -Wconversion -g"
 sanitizers="-fsanitize=address,undefined -fno-sanitize-recover=all"
 memcheck="valgrind -q --error-exitcode=9 --leak-check=full --show-leak-kinds=all"
 shared="tests/c/harness.c tests/c/calls.c tests/c/world.c"
-tests="entry_points rows lengths guards cuts remembered caps views flat"
+tests="entry_points rows lengths guards roles page cuts remembered caps views flat"
 passed=0 failed=0
 mkdir -p $out
 
@@ -116,13 +116,13 @@ symbols() {
     sh c/names.sh | sort >$out/declared && sh c/names.sh proved | sort >$out/proved
     nm $library | sed -n 's/^[0-9a-f]* [A-Z] //p' | sort >$out/defined
     nm target/staticlib/libc_planner.a | sed -n 's/^[0-9a-f]* [A-Z] //p' | sort >$out/defined-proved
-    test "$(wc -l <$out/proved)" -ge 16 && diff $out/declared $out/defined && diff $out/proved $out/defined-proved
+    test "$(wc -l <$out/proved)" -ge 17 && diff $out/declared $out/defined && diff $out/proved $out/defined-proved
 }
 
 # The shared library exports the same, under its version and by its soname.
 exports() {
-    nm -D --defined-only $shared_library | sed -n 's/^[0-9a-f]* T \(.*\)@@RESTART_0$/\1/p' | sort >$out/exported
-    diff $out/declared $out/exported && readelf -dW $shared_library | grep -q 'SONAME.*\[librestart.so.0\]'
+    nm -D --defined-only $shared_library | sed -n 's/^[0-9a-f]* T \(.*\)@@RESTART_1$/\1/p' | sort >$out/exported
+    diff $out/declared $out/exported && readelf -dW $shared_library | grep -q 'SONAME.*\[librestart.so.1\]'
 }
 
 # It needs nothing but C's functions on memory, and has no memory of its own that could be written.
@@ -228,7 +228,7 @@ check "the example with a report that was cut off" cut_report
 check "the example without files" service_ends 2 $out/none
 
 fault=0
-for name in lengths entry_points entry_points entry_points guards rows guards rows entry_points guards rows lengths rows cuts rows remembered remembered caps caps views views views flat flat flat rows; do
+for name in lengths entry_points entry_points entry_points guards rows guards rows entry_points guards rows lengths rows cuts rows remembered remembered caps caps views views views flat flat flat rows roles roles roles rows page page page; do
     fault=$((fault + 1))
     check "fault $fault is found by $name" found $fault $name
 done

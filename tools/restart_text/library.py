@@ -9,7 +9,7 @@ from .asking import HERE
 from .encode import settings_words
 from .model import LOCATED, MOST_RECORDS
 
-SONAME = "librestart.so.0"
+SONAME = "librestart.so.1"
 CALLS = ("restart_from_flat", "restart_to_flat")
 CLASS, LENGTH, REFUSAL = 16777216, 1, 0  # an answer is class x 16777216 + rest
 WORD, SIZE = ctypes.c_uint32, ctypes.c_size_t
