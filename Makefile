@@ -129,7 +129,7 @@ PKGCONFIGDIR := $(LIBDIR)/pkgconfig
 CMAKEDIR := $(LIBDIR)/cmake/restart
 # The functions that the header declares: each has a manual page of its own name.
 CALLS := $(shell sh c/names.sh)
-EXAMPLES := service.c settings.bin events.txt output.txt moves.bin moves.txt
+EXAMPLES := service.c settings.bin events.txt publishers.txt output.txt moves.bin moves.txt
 REPORTS := $(notdir $(wildcard examples/reports/*.bin))
 PAGES_1 := restart.1 restart-service.1 mondays.1
 PAGES_7 := restart.7 restart-model.7

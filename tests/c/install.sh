@@ -29,7 +29,7 @@ names() {
     echo share/man/man7/restart.7 share/man/man7/restart-model.7
     sh c/names.sh | sed 's|.*|share/man/man3/&.3|'
     for report in examples/reports/*.bin; do echo "share/restart/example/reports/${report##*/}"; done
-    for name in service.c settings.bin events.txt output.txt moves.bin moves.txt; do echo "share/restart/example/$name"; done
+    for name in service.c settings.bin events.txt publishers.txt output.txt moves.bin moves.txt; do echo "share/restart/example/$name"; done
 }
 
 all_there() { # FOLDER

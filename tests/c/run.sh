@@ -76,7 +76,7 @@ service() { # COMMAND ..
 # So it does when it saves, and when it is started once more it has no event left to take.
 saving_service() { # COMMAND ..
     rm -rf $out/saved && mkdir $out/saved && "$@" examples $out/saved >$out/printed && diff examples/output.txt $out/printed || return
-    "$@" examples $out/saved >$out/printed && printf 'resume: committed, attempt 2, events taken: 31\nend: committed\n' | diff - $out/printed
+    "$@" examples $out/saved >$out/printed && printf 'resume: committed, attempt 2, events taken: 36\nend: committed\n' | diff - $out/printed
 }
 
 # The example with a fault put in by sed: a kill must show it.
@@ -84,6 +84,13 @@ kill_finds() { # EDIT
     sed -e "$1" examples/service.c >$out/service-faulty.c && ! cmp -s examples/service.c $out/service-faulty.c || return
     gcc -std=c11 -Iinclude -o $out/service-faulty $out/service-faulty.c $library || return
     ! python3 tests/c/killed.py $out/service-faulty $out/kill_at.so faulty >/dev/null
+}
+
+# The example with a fault put in by sed: what it prints must show it.
+output_finds() { # EDIT
+    sed -e "$1" examples/service.c >$out/service-faulty.c && ! cmp -s examples/service.c $out/service-faulty.c || return
+    gcc -std=c11 -Iinclude -o $out/service-faulty $out/service-faulty.c $library || return
+    ! service $out/service-faulty >/dev/null
 }
 
 # The example ends with this status on this folder.
@@ -221,6 +228,8 @@ check "orders that leave before they are saved" kill_finds '/^    save(leader);$
 check "a file that is written in its place" kill_finds 's/write_file(fresh, bytes/write_file(path, bytes/; s/rename(fresh, path) != 0/fresh[0] == 0/'
 check "acknowledgements of any attempt" kill_finds 's/number_in(tag) != leader->attempt/number_in(tag) == 0/'
 check "a desk that is not saved" kill_finds '/memcpy(bytes + DESK_AT/d'
+check "publishers in the leader's role" output_finds 's/LENT_AS(role, leader)/LENT(leader)/'
+check "strangers in a publisher's role" output_finds '/^static uint32_t role_of/,/^}/s/return 0;/return restart_watcher(0);/'
 check "other folders" other_folders
 check "the example cut short" service_ends 1 $out/short
 check "the example with wrong settings" service_ends 2 $out/long
