@@ -549,6 +549,7 @@ uint32_t restart_open_view(uint32_t members, uint32_t known, uint32_t have, uint
  *   15  what an order cuts and fetches is written beside the logs until the new view is sure
  *   16  open views are settled (restart_open_view) before anything is reported
  *   17  the running service keeps what is stored; the number of shards stays
+ *   18  a call is made in the role of whoever asked for it; a watcher gets its page and nothing else
  * What is on disk when: restart(3), PERSISTENCE. A leader needs no file.
  */
 
