@@ -228,7 +228,7 @@ check "orders that leave before they are saved" kill_finds '/^    save(leader);$
 check "a file that is written in its place" kill_finds 's/write_file(fresh, bytes/write_file(path, bytes/; s/rename(fresh, path) != 0/fresh[0] == 0/'
 check "acknowledgements of any attempt" kill_finds 's/number_in(tag) != leader->attempt/number_in(tag) == 0/'
 check "a desk that is not saved" kill_finds '/memcpy(bytes + DESK_AT/d'
-check "publishers in the leader's role" output_finds 's/LENT_AS(role, leader)/LENT(leader)/'
+check "publishers in the leader's role" output_finds 's/restart_page(LENT_AS(role, leader)/restart_page(LENT(leader)/'
 check "strangers in a publisher's role" output_finds '/^static uint32_t role_of/,/^}/s/return 0;/return restart_watcher(0);/'
 check "other folders" other_folders
 check "the example cut short" service_ends 1 $out/short
