@@ -182,8 +182,8 @@ too_small() {
     ! $out/stack 16384
 }
 
-page() { # FILE
-    groff -t -man -Tutf8 -ww -z "$1" >$out/page 2>&1 && test ! -s $out/page
+manual_page() { # FILE
+    groff -t -man -Tutf8 -ww -z "$1" >$out/groff 2>&1 && test ! -s $out/groff
 }
 
 check "what the library defines" symbols
@@ -241,7 +241,7 @@ for name in lengths entry_points entry_points entry_points guards rows guards ro
     fault=$((fault + 1))
     check "fault $fault is found by $name" found $fault $name
 done
-for file in man/*; do check "$file" page "$file"; done
+for file in man/*; do check "$file" manual_page "$file"; done
 check "the examples of restart-model(7)" model_example
 check "documents that are not there" no_document_01
 check "make help" help_names_all
