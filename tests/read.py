@@ -19,7 +19,7 @@ import re
 import sys
 
 # The delivered functions of a crate, by how their heads start: the calls for C, the planner's, the run of restart, and every program's.
-ROOTS = {"c_planner": 'pub extern "C" fn ', "state_planner": "pub fn ", "state_order": "pub fn ", "program_run": "pub fn "}
+ROOTS = {"c_planner": 'pub extern "C" fn ', "state_planner": "pub fn ", "state_order": "pub fn ", "state_page": "pub fn ", "program_run": "pub fn "}
 ROOTS.update({path.split("/")[1]: "fn " for path in sorted(glob.glob("crates/*/src/main.rt"))})
 DECIDE = {"state_planner": "pub fn decide"}
 

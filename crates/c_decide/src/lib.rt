@@ -6,11 +6,8 @@ use state_planner::State;
 ghost use mathlib.Core.Path.{_≡_};
 ghost use Prim.Native.Nat.{_≤_};
 ghost use lib.ListN.{length};
-ghost use Rattle.base_lent.specs.Lent.{wordsIn};
 ghost use Rattle.base_lent.specs.Answers.{waitWord};
-ghost use Rattle.settings_values.specs.Settings.{Settings};
 ghost use Rattle.report_views.specs.Quorums.{numberOf, valueOf};
-ghost use Rattle.state_planner.specs.Decide.{Decides};
 ghost use Rattle.c_decide.specs.Decisions as Decisions;
 
 // A wait as an answer.
@@ -35,16 +32,6 @@ fn reason_word(reason: Reason) -> u32
     }
 }
 
-// What decide hands back beside a lent desk.
-fn decided(x: State, settings: &[u32], desk: &[u8]) -> Decided
-    requires { ⌜ Settings (now settings) ⌝ }
-    requires { ⌜ length (now desk) ≡ 65536 ⌝ }
-    ensures { λ r. ⌜ Decides (now (settings .entry)) x (wordsIn (now (desk .entry))) r ⌝ }
-{
-    let seen = plan_seen::see(settings, x.kept, x.termination, x.held, desk);
-    x.decide_seen(settings, seen)
-}
-
 // The answer to a decision; the state is stored where a plan was made.
 fn keep(o: Decided, state: &mut [u8]) -> u32
     requires { ⌜ (length (now state) ≡ 640) × (Decisions.decisionValue (o .decision) ≤ 16) ⌝ }
@@ -61,17 +48,17 @@ fn keep(o: Decided, state: &mut [u8]) -> u32
     }
 }
 
-// Plans a restart, or says why there is none: rows 1 to 4.
-pub fn decide(settings: &[u8], state: &mut [u8], desk: &[u8]) -> u32
-    ensures { λ r. ⌜ Decisions.DecideCall (now (settings .entry)) (now (state .entry)) (now (desk .entry)) r (now (state .exit)) ⌝ }
+// Plans a restart, or says why there is none: rows 1, 2, 15, 3 and 4.
+pub fn decide(role: u32, settings: &[u8], state: &mut [u8], desk: &[u8]) -> u32
+    ensures { λ r. ⌜ Decisions.DecideCall role (now (settings .entry)) (now (state .entry)) (now (desk .entry)) r (now (state .exit)) ⌝ }
 {
-    let entry = c_state::enter(desk.len() == 65536, settings, state);
+    let entry = c_state::enter_planner(role, desk.len() == 65536, settings, state);
     let refusal = entry.refusal;
     if refusal.code != 0 {
         return refusal.code;
     }
     let n = entry.words;
     let own = entry.settings;
-    let o = decided(entry.state, &own[0..n], desk);
+    let o = State::decide_under(entry.state, &own[0..n], desk);
     keep(o, state)
 }

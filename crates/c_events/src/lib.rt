@@ -1,17 +1,11 @@
 // The fresh state, the check of a state, and drop, fetched and prepared, over lent bytes.
 use base_ids::Node;
-use base_ids::Refusal;
-use plan_seen::Seen;
 use state_planner::Outcome;
 use state_planner::State;
-ghost use mathlib.Core.List.{List};
 ghost use mathlib.Core.Path.{_≡_};
-ghost use Prim.Native.Nat.{ℕ};
 ghost use lib.ListN.{length};
 ghost use Rattle.base_lent.specs.Lent.{wordsIn};
 ghost use Rattle.settings_values.specs.Settings.{Settings};
-ghost use Rattle.plan_seen.specs.Sight.{seenOf};
-ghost use Rattle.state_planner.specs.Refusing.{checkRefusal};
 ghost use Rattle.c_events.specs.Events as Events;
 
 // An event that names a node.
@@ -21,11 +15,14 @@ pub enum Event {
     Prepared,
 }
 
-// Stores the fresh state: row 3 where the bytes are not 640.
-pub fn fresh(state: &mut [u8]) -> u32
-    ensures answer { λ r. ⌜ r ≡ Events.freshAnswer (now (state .entry)) ⌝ }
-    ensures bytes { λ r. ⌜ now (state .exit) ≡ Events.freshLeaves (now (state .entry)) ⌝ }
+// Stores the fresh state: row 15, and row 3 where the bytes are not 640.
+pub fn fresh(role: u32, state: &mut [u8]) -> u32
+    ensures answer { λ r. ⌜ r ≡ Events.freshAnswer role (now (state .entry)) ⌝ }
+    ensures bytes { λ r. ⌜ now (state .exit) ≡ Events.freshLeaves role (now (state .entry)) ⌝ }
 {
+    if !c_state::by_planner(role) {
+        return 15;
+    }
     if state.len() != 640 {
         return 3;
     }
@@ -33,65 +30,53 @@ pub fn fresh(state: &mut [u8]) -> u32
     0
 }
 
-// The outcome of an event, beside what the desk tells.
-fn outcome(event: Event, x: State, settings: &[u32], seen: Seen, node: u32) -> Outcome
-    requires { ⌜ Settings (now settings) ⌝ }
-    ensures { λ r. ⌜ ((d : List ℕ) → length d ≡ 16384 → seen ≡ seenOf (now (settings .entry)) (x .kept) (x .termination) (x .held) d → r ≡ Events.happened event (now (settings .entry)) x d node) ⌝ }
-{
-    match event {
-        Event::Drop => x.drop_seen(settings, seen, Node(node)),
-        Event::Fetched => x.fetched_seen(settings, seen, Node(node)),
-        Event::Prepared => x.prepared_seen(settings, seen, Node(node)),
-    }
-}
-
-// The outcome of an event beside a lent desk.
-fn outcome_lent(event: Event, x: State, settings: &[u32], desk: &[u8], node: u32) -> Outcome
+// The outcome of an event, where rows 1 and 2 do not refuse.
+fn outcome(event: Event, x: State, settings: &[u32], desk: &[u8], node: u32) -> Outcome
     requires { ⌜ Settings (now settings) ⌝ }
     requires { ⌜ length (now desk) ≡ 65536 ⌝ }
     ensures { λ r. ⌜ r ≡ Events.happened event (now (settings .entry)) x (wordsIn (now (desk .entry))) node ⌝ }
 {
-    let seen = plan_seen::see(settings, x.kept, x.termination, x.held, desk);
-    outcome(event, x, settings, seen, node)
+    match event {
+        Event::Drop => x.drop_under(settings, desk, Node(node)),
+        Event::Fetched => x.fetched_under(settings, desk, Node(node)),
+        Event::Prepared => x.prepared_under(settings, desk, Node(node)),
+    }
 }
 
-// An event that names a node: rows 1 to 4, 6 and 14.
-pub fn take(event: Event, settings: &[u8], state: &mut [u8], desk: &[u8], node: u32) -> u32
-    ensures answer { λ r. ⌜ r ≡ Events.takeAnswer event (now (settings .entry)) (now (state .entry)) (now (desk .entry)) node ⌝ }
-    ensures bytes { λ r. ⌜ now (state .exit) ≡ Events.takeLeaves event (now (settings .entry)) (now (state .entry)) (now (desk .entry)) node ⌝ }
+// An event that names a node: rows 1, 2, 15, 3, 4, 6 and 14.
+pub fn take(
+    role: u32,
+    event: Event,
+    settings: &[u8],
+    state: &mut [u8],
+    desk: &[u8],
+    node: u32,
+) -> u32
+    ensures answer { λ r. ⌜ r ≡ Events.takeAnswer role event (now (settings .entry)) (now (state .entry)) (now (desk .entry)) node ⌝ }
+    ensures bytes { λ r. ⌜ now (state .exit) ≡ Events.takeLeaves role event (now (settings .entry)) (now (state .entry)) (now (desk .entry)) node ⌝ }
 {
-    let entry = c_state::enter(desk.len() == 65536, settings, state);
+    let entry = c_state::enter_planner(role, desk.len() == 65536, settings, state);
     let refusal = entry.refusal;
     if refusal.code != 0 {
         return refusal.code;
     }
     let n = entry.words;
     let own = entry.settings;
-    let o = outcome_lent(event, entry.state, &own[0..n], desk, node);
+    let o = outcome(event, entry.state, &own[0..n], desk, node);
     c_state::keep(o, state)
 }
 
-// The check of a state beside a lent desk.
-fn check_lent(x: State, settings: &[u32], desk: &[u8]) -> Refusal
-    requires { ⌜ Settings (now settings) ⌝ }
-    requires { ⌜ length (now desk) ≡ 65536 ⌝ }
-    ensures { λ r. ⌜ r ≡ checkRefusal (now (settings .entry)) x (wordsIn (now (desk .entry))) ⌝ }
+// Whether the bytes are a state that is sound with this desk: rows 1, 2, 15 and 3.
+pub fn check_state(role: u32, settings: &[u8], state: &[u8], desk: &[u8]) -> u32
+    ensures { λ r. ⌜ r ≡ Events.checkStateAnswer role (now (settings .entry)) (now (state .entry)) (now (desk .entry)) ⌝ }
 {
-    let seen = plan_seen::see(settings, x.kept, x.termination, x.held, desk);
-    x.check_seen(settings, seen)
-}
-
-// Whether the bytes are a state that is sound with this desk: rows 1 to 3.
-pub fn check_state(settings: &[u8], state: &[u8], desk: &[u8]) -> u32
-    ensures { λ r. ⌜ r ≡ Events.checkStateAnswer (now (settings .entry)) (now (state .entry)) (now (desk .entry)) ⌝ }
-{
-    let lent = c_state::enter(desk.len() == 65536, settings, state);
+    let lent = c_state::enter_planner(role, desk.len() == 65536, settings, state);
     let refusal = lent.refusal;
     if refusal.code != 0 {
         return refusal.code;
     }
     let n = lent.words;
     let own = lent.settings;
-    let check = check_lent(lent.state, &own[0..n], desk);
+    let check = State::check_under(lent.state, &own[0..n], desk);
     check.code
 }

@@ -1,49 +1,22 @@
 // The order event, over lent bytes.
 use base_ids::Node;
-use message_format::Writing;
-use state_planner::State;
-ghost use mathlib.Core.Bool.{_&&_};
 ghost use mathlib.Core.Path.{_≡_};
-ghost use lib.Dec.{eqb};
-ghost use lib.ListN.{length};
-ghost use Rattle.base_lent.specs.Lent.{wordsIn};
-ghost use Rattle.settings_values.specs.Settings.{Settings};
-ghost use Rattle.state_order.specs.Orders.{ordered, orderBuffer};
 ghost use Rattle.c_order.specs.OrderCalls.{orderAnswer, orderLeaves};
 
-// The lengths of desk and buffer in bytes are right.
-fn lengths_ok(desk: usize, buffer: usize) -> bool
-    ensures { λ r. ⌜ r ≡ (eqb desk 65536 && eqb buffer 2048) ⌝ }
+// Writes a node's order into the lent buffer: rows 1 (desk or buffer), 2, 15, 3, 4, 6 and 14.
+pub fn order(
+    role: u32,
+    settings: &[u8],
+    state: &[u8],
+    desk: &[u8],
+    node: u32,
+    buffer: &mut [u8],
+) -> u32
+    ensures answer { λ r. ⌜ r ≡ orderAnswer role (now (settings .entry)) (now (state .entry)) (now (desk .entry)) node (now (buffer .entry)) ⌝ }
+    ensures bytes { λ r. ⌜ now (buffer .exit) ≡ orderLeaves role (now (settings .entry)) (now (state .entry)) (now (desk .entry)) node (now (buffer .entry)) ⌝ }
 {
-    if desk != 65536 {
-        return false;
-    }
-    buffer == 2048
-}
-
-// Writes a node's order into words, beside a lent desk.
-fn order_words(x: State, settings: &[u32], desk: &[u8], node: u32, words: &mut [u32]) -> Writing
-    requires { ⌜ Settings (now settings) ⌝ }
-    requires { ⌜ length (now desk) ≡ 65536 ⌝ }
-    ensures answer { λ r. ⌜ r ≡ ordered (now (settings .entry)) x (wordsIn (now (desk .entry))) node (now (words .entry)) ⌝ }
-    ensures words { λ r. ⌜ now (words .exit) ≡ orderBuffer (now (settings .entry)) x (wordsIn (now (desk .entry))) node (now (words .entry)) ⌝ }
-{
-    let seen = plan_seen::see(settings, x.kept, x.termination, x.held, desk);
-    let refusal = state_order::order_refusal_seen(settings, x, seen, Node(node), words);
-    if refusal.code != 0 {
-        return Writing { refusal, length: 0 };
-    }
-    let cuts = plan_order::cuts_of(settings, x.plan, desk, Node(node));
-    state_order::write_order(settings, x, &cuts, Node(node), words)
-}
-
-// Writes a node's order into the lent buffer: rows 1 (desk or buffer), 2 to 4, 6 and 14.
-pub fn order(settings: &[u8], state: &[u8], desk: &[u8], node: u32, buffer: &mut [u8]) -> u32
-    ensures answer { λ r. ⌜ r ≡ orderAnswer (now (settings .entry)) (now (state .entry)) (now (desk .entry)) node (now (buffer .entry)) ⌝ }
-    ensures bytes { λ r. ⌜ now (buffer .exit) ≡ orderLeaves (now (settings .entry)) (now (state .entry)) (now (desk .entry)) node (now (buffer .entry)) ⌝ }
-{
-    let lengths = lengths_ok(desk.len(), buffer.len());
-    let entry = c_state::enter(lengths, settings, state);
+    let lengths = c_state::lengths_ok(desk.len(), buffer.len());
+    let entry = c_state::enter_planner(role, lengths, settings, state);
     let first = entry.refusal;
     if first.code != 0 {
         return first.code;
@@ -51,7 +24,7 @@ pub fn order(settings: &[u8], state: &[u8], desk: &[u8], node: u32, buffer: &mut
     let mut words = [0u32; 512];
     let n = entry.words;
     let own = entry.settings;
-    let written = order_words(entry.state, &own[0..n], desk, node, &mut words);
+    let written = state_order::order_under(&own[0..n], entry.state, desk, Node(node), &mut words);
     let refusal = written.refusal;
     if refusal.code != 0 {
         return refusal.code;

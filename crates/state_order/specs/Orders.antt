@@ -3,12 +3,19 @@ use Prim.Native.Nat.{ℕ}
 use mathlib.Core.Bool.{cond}
 use mathlib.Core.List.{List}
 use mathlib.Core.Path.{_≡_}
-use Rattle.base_ids.specs.Refusals.{none, accepted}
+use lib.Dec.{eqb}
+use lib.ListN.{length}
+use Rattle.base_ids.specs.declared.Refusal.{Refusal}
+use Rattle.base_ids.specs.Refusals.{none, unless, accepted}
 use Rattle.message_format.specs.declared.Writing.{Writing}
 use Rattle.message_format.specs.Messages.{messageLength, messageOf}
 use Rattle.plan_order.specs.Orders.{cutsOf, orderContents}
 use Rattle.state_planner.specs.declared.State.{State}
-use Rattle.state_planner.specs.Refusing.{orderRefusal}
+use Rattle.state_planner.specs.Refusing.{callRefusal, orderRefusal}
+
+-- rows 1 and 2: the buffer's length and the desk's, and the settings
+unfoldable pub callRefuses : List ℕ → List ℕ → List ℕ → Refusal
+callRefuses σ d buffer = unless (eqb (length buffer) 512) 1 (callRefusal σ d)
 
 -- what the call answers: the length of the message, or 0 beside a refusal
 unfoldable pub ordered : List ℕ → State → List ℕ → ℕ → List ℕ → Writing

@@ -3,16 +3,17 @@
 use Prim.Native.Nat.{ℕ, _<_}
 use mathlib.Core.Bool.{Bool, true, false, _&&_}
 use mathlib.Core.List.{List, _++_}
+use mathlib.Core.Logic.{⊎-elim}
 use mathlib.Core.Path.{_≡_, refl, sym, ap, _∙_}
 use lib.Dec.{eqb}
 use lib.ListN.{length}
 use borrow.Author.Tests.{eqb-true, ne-eqb}
-use Rattle.base_laws.specs.Bools.{clash, and-left, and-right, and-fails-right}
+use Rattle.base_laws.specs.Bools.{either, clash, and-left, and-right, and-fails-right}
 use Rattle.base_laws.specs.Masks.{has}
 use Rattle.settings_values.specs.Settings.{shards, settingsOk, Settings}
 use Rattle.settings_values.specs.Laws.{settings-give}
 use Rattle.base_ids.specs.declared.Refusal.{Refusal}
-use Rattle.base_ids.specs.Refusals.{refused, none, unless-false, first-refused}
+use Rattle.base_ids.specs.Refusals.{refused, none, unless-true, unless-false, unless-ok, unless-rest, first-refused}
 use Rattle.message_format.specs.declared.Form.the-variants.{Order}
 use Rattle.message_format.specs.declared.Writing.{Writing}
 use Rattle.message_format.specs.Messages.{writeRefusal, writingOf, bufferAfter}
@@ -30,9 +31,9 @@ use Rattle.plan_order.specs.Readable.{ReadableSlot, Holders}
 use Rattle.plan_order_laws.specs.Accepted.{planned-holders, held-readable, order-restored, order-accepted}
 use Rattle.state_planner.specs.declared.State.{State}
 use Rattle.state_planner.specs.Refusing.{isOrdered, deskOk, callRefusal, entryRefusal, eventRefusal, orderRefusal}
-use Rattle.state_planner.specs.CallLaws.{call-event}
+use Rattle.state_planner.specs.CallLaws.{called-desk, called-settings, call-event}
 use Rattle.state_planner.specs.Entry.{Sound, sound-given, node-given}
-use Rattle.state_order.specs.Orders.{ordered, orderBuffer}
+use Rattle.state_order.specs.Orders.{callRefuses, ordered, orderBuffer}
 
 module _ (σ : List ℕ) (x : State) (d : List ℕ) (n : ℕ) (buffer : List ℕ) where
   -- row 1 for the buffer: a wrong length is refused before all else, and a right one leaves the rows of any event that names a node
@@ -54,6 +55,31 @@ module _ (σ : List ℕ) (x : State) (d : List ℕ) (n : ℕ) (buffer : List ℕ
   -- rows 1 and 2 of desk and settings, beside a buffer of the right length
   pub call-refuses : eqb (length buffer) 512 ≡ true → (r : Refusal) → r ≡ callRefusal σ d → (r .code ≡ 0 → ⊥) → r ≡ orderRefusal σ x d n buffer
   call-refuses h r e k = call-event σ d r e k x (isOrdered (x .phase)) n (has (x .held) n) ∙ sym (buffer-right h)
+
+  pub called-refuses : (r : Refusal) → r ≡ callRefuses σ d buffer → (r .code ≡ 0 → ⊥) → r ≡ orderRefusal σ x d n buffer
+  unfolding callRefuses
+  called-refuses r e k =
+      ⊎-elim (λ h. call-refuses h r (e ∙ unless-true (eqb (length buffer) 512) 1 (callRefusal σ d) h) k)
+      (λ h. e ∙ unless-false (eqb (length buffer) 512) 1 (callRefusal σ d) h ∙ sym (buffer-wrong h)) (either (eqb (length buffer) 512))
+
+-- rows 1 and 2 do not refuse: r is what the code found of them
+module _ (σ d buffer : List ℕ) (r : Refusal) (e : r ≡ callRefuses σ d buffer) (h : r .code ≡ 0) where
+  calls : callRefuses σ d buffer ≡ none
+  calls = sym e ∙ ap refused h
+
+  passed : callRefusal σ d ≡ none
+  unfolding callRefuses
+  passed = unless-rest (eqb (length buffer) 512) 0 _ calls
+
+  pub called-buffer : length buffer ≡ 512
+  unfolding callRefuses
+  called-buffer = eqb-true (length buffer) 512 (unless-ok (eqb (length buffer) 512) 0 _ calls)
+
+  pub called-words : length d ≡ 16384
+  called-words = called-desk σ d (callRefusal σ d) refl (ap (λ (q : Refusal). q .code) passed)
+
+  pub called-right : Settings σ
+  called-right = called-settings σ d (callRefusal σ d) refl (ap (λ (q : Refusal). q .code) passed)
 
 -- a state that is ordered has a sound plan
 ordered-plan : (phase : Phase) (σ : List ℕ) (v : Layout) (t : Termination) (held : ℕ) (d : List ℕ) (p : Plan) → isOrdered phase ≡ true

@@ -3,59 +3,17 @@ use base_ids::Node;
 use base_ids::Refusal;
 use message_format::Form;
 use message_format::Writing;
-use plan_seen::Seen;
 use report_views::Layout;
 use report_views::Plan;
 use state_planner::State;
-ghost use mathlib.Core.List.{List};
 ghost use mathlib.Core.Path.{_≡_};
-ghost use Prim.Native.Nat.{ℕ};
 ghost use lib.ListN.{length};
 ghost use Rattle.base_lent.specs.Lent.{wordsIn};
 ghost use Rattle.settings_values.specs.Settings.{Sizes, Settings};
-ghost use Rattle.plan_seen.specs.Sight.{seenOf};
-ghost use Rattle.state_planner.specs.Refusing.{orderRefusal};
-ghost use Rattle.state_order.specs.Orders.{ordered, orderBuffer, OrderWritten};
-
-// Rows 3, 4, 6 and 14, beside what the desk tells, and of row 1 the buffer's length.
-pub fn order_refusal_seen(
-    settings: &[u32],
-    x: State,
-    seen: Seen,
-    node: Node,
-    buffer: &[u32],
-) -> Refusal
-    requires { ⌜ Settings (now settings) ⌝ }
-    ensures { λ r. ⌜ ((d : List ℕ) → length d ≡ 16384 → seen ≡ seenOf (now (settings .entry)) (x .kept) (x .termination) (x .held) d → r ≡ orderRefusal (now (settings .entry)) x d (node .0) (now (buffer .entry))) ⌝ }
-{
-    if buffer.len() != 512 {
-        return Refusal { code: 1 };
-    }
-    let phase = x.phase;
-    let in_phase = state_rows::is_ordered(phase);
-    let known = base_masks::has(x.held, node.0 as usize);
-    state_planner::event_refusal_seen(settings, x, seen, in_phase, node, known)
-}
-
-// Rows 1 to 4, 6 and 14. The buffer's length and the desk's make row 1.
-fn order_refusal(settings: &[u32], x: State, desk: &[u8], node: Node, buffer: &[u32]) -> Refusal
-    ensures { λ r. ⌜ r ≡ orderRefusal (now (settings .entry)) x (wordsIn (now (desk .entry))) (node .0) (now (buffer .entry)) ⌝ }
-{
-    if buffer.len() != 512 {
-        return Refusal { code: 1 };
-    }
-    if desk.len() != 65536 {
-        return Refusal { code: 1 };
-    }
-    if !settings_check::check(settings) {
-        return Refusal { code: 2 };
-    }
-    let seen = plan_seen::see(settings, x.kept, x.termination, x.held, desk);
-    order_refusal_seen(settings, x, seen, node, buffer)
-}
+ghost use Rattle.state_order.specs.Orders.{callRefuses, ordered, orderBuffer, OrderWritten};
 
 // Writes the node's order, given its cuts, for an event that is not refused.
-pub fn write_order(
+fn write_order(
     settings: &[u32],
     x: State,
     cuts: &[u32; 32],
@@ -69,15 +27,55 @@ pub fn write_order(
     message_writer::write(Form::Order, settings, c, buffer)
 }
 
-// Writes the node's order into 512 lent words, and answers its length; a refusal leaves the words as they were.
-pub fn order(settings: &[u32], x: State, desk: &[u8], node: Node, buffer: &mut [u32]) -> Writing
+// Writes the node's order into 512 lent words, where rows 1 and 2 do not refuse: rows 3, 4, 6 and 14.
+pub fn order_under(
+    settings: &[u32],
+    x: State,
+    desk: &[u8],
+    node: Node,
+    buffer: &mut [u32],
+) -> Writing
+    requires { ⌜ Settings (now settings) ⌝ }
+    requires { ⌜ length (now desk) ≡ 65536 ⌝ }
+    requires { ⌜ length (now buffer) ≡ 512 ⌝ }
     ensures answer { λ r. ⌜ r ≡ ordered (now (settings .entry)) x (wordsIn (now (desk .entry))) (node .0) (now (buffer .entry)) ⌝ }
     ensures words { λ r. ⌜ now (buffer .exit) ≡ orderBuffer (now (settings .entry)) x (wordsIn (now (desk .entry))) (node .0) (now (buffer .entry)) ⌝ }
 {
-    let refusal = order_refusal(settings, x, desk, node, buffer);
+    let phase = x.phase;
+    let in_phase = state_rows::is_ordered(phase);
+    let known = base_masks::has(x.held, node.0 as usize);
+    let refusal = state_planner::event_refusal(settings, x, desk, in_phase, node, known);
     if refusal.code != 0 {
         return Writing { refusal, length: 0 };
     }
     let cuts = plan_order::cuts_of(settings, x.plan, desk, node);
     write_order(settings, x, &cuts, node, buffer)
+}
+
+// Rows 1 and 2. The buffer's length and the desk's make row 1.
+fn call_refusal(settings: &[u32], desk: &[u8], buffer: &[u32]) -> Refusal
+    ensures { λ r. ⌜ r ≡ callRefuses (now (settings .entry)) (wordsIn (now (desk .entry))) (now (buffer .entry)) ⌝ }
+{
+    if buffer.len() != 512 {
+        return Refusal { code: 1 };
+    }
+    if desk.len() != 65536 {
+        return Refusal { code: 1 };
+    }
+    if !settings_check::check(settings) {
+        return Refusal { code: 2 };
+    }
+    Refusal { code: 0 }
+}
+
+// Writes the node's order into 512 lent words, and answers its length; a refusal leaves the words as they were.
+pub fn order(settings: &[u32], x: State, desk: &[u8], node: Node, buffer: &mut [u32]) -> Writing
+    ensures answer { λ r. ⌜ r ≡ ordered (now (settings .entry)) x (wordsIn (now (desk .entry))) (node .0) (now (buffer .entry)) ⌝ }
+    ensures words { λ r. ⌜ now (buffer .exit) ≡ orderBuffer (now (settings .entry)) x (wordsIn (now (desk .entry))) (node .0) (now (buffer .entry)) ⌝ }
+{
+    let refusal = call_refusal(settings, desk, buffer);
+    if refusal.code != 0 {
+        return Writing { refusal, length: 0 };
+    }
+    order_under(settings, x, desk, node, buffer)
 }

@@ -102,18 +102,20 @@ fn entry_refusal(settings: &[u32], x: State, seen: Seen, in_phase: bool) -> Refu
     )
 }
 
-// Rows 3, 4, 6 and 14, beside what the desk tells: the refusal of an event that names a node.
-pub fn event_refusal_seen(
+// The refusal of an event that names a node, where rows 1 and 2 do not refuse: rows 3, 4, 6 and 14.
+pub fn event_refusal(
     settings: &[u32],
     x: State,
-    seen: Seen,
+    desk: &[u8],
     in_phase: bool,
     node: Node,
     ok: bool,
 ) -> Refusal
     requires { ⌜ Settings (now settings) ⌝ }
-    ensures { λ r. ⌜ ((d : List ℕ) → length d ≡ 16384 → seen ≡ seenOf (now (settings .entry)) (x .kept) (x .termination) (x .held) d → r ≡ Refusing.eventRefusal (Refusing.deskOk d) (now (settings .entry)) x d in_phase (node .0) ok) ⌝ }
+    requires { ⌜ length (now desk) ≡ 65536 ⌝ }
+    ensures { λ r. ⌜ r ≡ Refusing.eventRefusal (Refusing.deskOk (wordsIn (now (desk .entry)))) (now (settings .entry)) x (wordsIn (now (desk .entry))) in_phase (node .0) ok ⌝ }
 {
+    let seen = plan_seen::see(settings, x.kept, x.termination, x.held, desk);
     let phase = x.phase;
     state_rows::event_refusal(
         settings,
@@ -348,15 +350,16 @@ impl State {
         State::report_under(self, settings, desk, message)
     }
 
-    // A node is no longer there, beside what the desk tells.
-    pub fn drop_seen(self, settings: &[u32], seen: Seen, node: Node) -> Outcome
+    // A node is no longer there, where rows 1 and 2 do not refuse.
+    pub fn drop_under(self, settings: &[u32], desk: &[u8], node: Node) -> Outcome
         requires { ⌜ Settings (now settings) ⌝ }
-        ensures { λ r. ⌜ ((d : List ℕ) → length d ≡ 16384 → seen ≡ seenOf (now (settings .entry)) (self .kept) (self .termination) (self .held) d → r ≡ Events.dropped (now (settings .entry)) self d (node .0)) ⌝ }
+        requires { ⌜ length (now desk) ≡ 65536 ⌝ }
+        ensures { λ r. ⌜ r ≡ Events.dropped (now (settings .entry)) self (wordsIn (now (desk .entry))) (node .0) ⌝ }
     {
         let phase = self.phase;
         let in_phase = !state_rows::is_committed(phase);
         let known = base_masks::has(self.held, node.0 as usize);
-        let refusal = event_refusal_seen(settings, self, seen, in_phase, node, known);
+        let refusal = event_refusal(settings, self, desk, in_phase, node, known);
         if refusal.code != 0 {
             return refuse(self, refusal);
         }
@@ -371,19 +374,19 @@ impl State {
         if refusal.code != 0 {
             return refuse(self, refusal);
         }
-        let seen = plan_seen::see(settings, self.kept, self.termination, self.held, desk);
-        State::drop_seen(self, settings, seen, node)
+        State::drop_under(self, settings, desk, node)
     }
 
-    // A node has fetched what it lacked, beside what the desk tells.
-    pub fn fetched_seen(self, settings: &[u32], seen: Seen, node: Node) -> Outcome
+    // A node has fetched what it lacked, where rows 1 and 2 do not refuse.
+    pub fn fetched_under(self, settings: &[u32], desk: &[u8], node: Node) -> Outcome
         requires { ⌜ Settings (now settings) ⌝ }
-        ensures { λ r. ⌜ ((d : List ℕ) → length d ≡ 16384 → seen ≡ seenOf (now (settings .entry)) (self .kept) (self .termination) (self .held) d → r ≡ Events.fetchedOf (now (settings .entry)) self d (node .0)) ⌝ }
+        requires { ⌜ length (now desk) ≡ 65536 ⌝ }
+        ensures { λ r. ⌜ r ≡ Events.fetchedOf (now (settings .entry)) self (wordsIn (now (desk .entry))) (node .0) ⌝ }
     {
         let phase = self.phase;
         let in_phase = state_rows::is_ordered(phase);
         let known = state_rows::lacks(self.held, self.fetched, node);
-        let refusal = event_refusal_seen(settings, self, seen, in_phase, node, known);
+        let refusal = event_refusal(settings, self, desk, in_phase, node, known);
         if refusal.code != 0 {
             return refuse(self, refusal);
         }
@@ -398,19 +401,19 @@ impl State {
         if refusal.code != 0 {
             return refuse(self, refusal);
         }
-        let seen = plan_seen::see(settings, self.kept, self.termination, self.held, desk);
-        State::fetched_seen(self, settings, seen, node)
+        State::fetched_under(self, settings, desk, node)
     }
 
-    // A node has prepared the new view, beside what the desk tells.
-    pub fn prepared_seen(self, settings: &[u32], seen: Seen, node: Node) -> Outcome
+    // A node has prepared the new view, where rows 1 and 2 do not refuse.
+    pub fn prepared_under(self, settings: &[u32], desk: &[u8], node: Node) -> Outcome
         requires { ⌜ Settings (now settings) ⌝ }
-        ensures { λ r. ⌜ ((d : List ℕ) → length d ≡ 16384 → seen ≡ seenOf (now (settings .entry)) (self .kept) (self .termination) (self .held) d → r ≡ Events.preparedOf (now (settings .entry)) self d (node .0)) ⌝ }
+        requires { ⌜ length (now desk) ≡ 65536 ⌝ }
+        ensures { λ r. ⌜ r ≡ Events.preparedOf (now (settings .entry)) self (wordsIn (now (desk .entry))) (node .0) ⌝ }
     {
         let phase = self.phase;
         let in_phase = state_rows::is_preparing(phase);
         let known = state_rows::lacks(self.held, self.prepared, node);
-        let refusal = event_refusal_seen(settings, self, seen, in_phase, node, known);
+        let refusal = event_refusal(settings, self, desk, in_phase, node, known);
         if refusal.code != 0 {
             return refuse(self, refusal);
         }
@@ -425,15 +428,16 @@ impl State {
         if refusal.code != 0 {
             return refuse(self, refusal);
         }
-        let seen = plan_seen::see(settings, self.kept, self.termination, self.held, desk);
-        State::prepared_seen(self, settings, seen, node)
+        State::prepared_under(self, settings, desk, node)
     }
 
-    // A plan for the held nodes, or the first reason to wait, beside what the desk tells.
-    pub fn decide_seen(self, settings: &[u32], seen: Seen) -> Decided
+    // A plan for the held nodes, or the first reason to wait, where rows 1 and 2 do not refuse.
+    pub fn decide_under(self, settings: &[u32], desk: &[u8]) -> Decided
         requires { ⌜ Settings (now settings) ⌝ }
-        ensures { λ r. ⌜ ((d : List ℕ) → length d ≡ 16384 → seen ≡ seenOf (now (settings .entry)) (self .kept) (self .termination) (self .held) d → Decide.Decides (now (settings .entry)) self d r) ⌝ }
+        requires { ⌜ length (now desk) ≡ 65536 ⌝ }
+        ensures { λ r. ⌜ Decide.Decides (now (settings .entry)) self (wordsIn (now (desk .entry))) r ⌝ }
     {
+        let seen = plan_seen::see(settings, self.kept, self.termination, self.held, desk);
         let phase = self.phase;
         let in_phase = state_rows::is_gathering(phase);
         let refusal = entry_refusal(settings, self, seen, in_phase);
@@ -458,15 +462,16 @@ impl State {
                 decision: Decision::Refused(refusal),
             };
         }
-        let seen = plan_seen::see(settings, self.kept, self.termination, self.held, desk);
-        State::decide_seen(self, settings, seen)
+        State::decide_under(self, settings, desk)
     }
 
-    // Whether the state is sound beside these settings and what the desk tells, in whatever phase it is: row 3.
-    pub fn check_seen(self, settings: &[u32], seen: Seen) -> Refusal
+    // Whether the state is sound beside these settings and this desk, where rows 1 and 2 do not refuse: row 3.
+    pub fn check_under(self, settings: &[u32], desk: &[u8]) -> Refusal
         requires { ⌜ Settings (now settings) ⌝ }
-        ensures { λ r. ⌜ ((d : List ℕ) → length d ≡ 16384 → seen ≡ seenOf (now (settings .entry)) (self .kept) (self .termination) (self .held) d → r ≡ Refusing.checkRefusal (now (settings .entry)) self d) ⌝ }
+        requires { ⌜ length (now desk) ≡ 65536 ⌝ }
+        ensures { λ r. ⌜ r ≡ Refusing.checkRefusal (now (settings .entry)) self (wordsIn (now (desk .entry))) ⌝ }
     {
+        let seen = plan_seen::see(settings, self.kept, self.termination, self.held, desk);
         entry_refusal(settings, self, seen, true)
     }
 
@@ -478,7 +483,6 @@ impl State {
         if refusal.code != 0 {
             return refusal;
         }
-        let seen = plan_seen::see(settings, self.kept, self.termination, self.held, desk);
-        State::check_seen(self, settings, seen)
+        State::check_under(self, settings, desk)
     }
 }

@@ -7,13 +7,13 @@ enum-told : tie.Need-enum-told
 enum-told c = search needs
 
 returns : tie.Need-returns
-returns c = λ d l e. simp (c .before .enum-told .given .1) (c .drop-seen .ensures d l e)
+returns c = simp (c .before .enum-told .given .1) (c .drop-under .ensures)
 
 returns-2 : tie.Need-returns-2
-returns-2 c = λ d l e. simp (c .before .enum-told2 .given .1) (c .fetched-seen .ensures d l e)
+returns-2 c = simp (c .before .enum-told2 .given .1) (c .fetched-under .ensures)
 
 returns-3 : tie.Need-returns-3
-returns-3 c = λ d l e. simp (c .before .enum-told3 .given .1) (c .prepared-seen .ensures d l e)
+returns-3 c = simp (c .before .enum-told3 .given .1) (c .prepared-under .ensures)
 
 pub outcome-spec : {M : Type 1} → statement M
 outcome-spec =

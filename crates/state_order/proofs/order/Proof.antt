@@ -1,33 +1,28 @@
--- `state_order::order` meets its contract. Both answers and the lent words after each follow from what `order_refusal` ensures: a
--- refusal leaves the words as they were, and where there is none the writer takes the order. Assumes nothing.
+-- `state_order::order` meets its contract: rows 1 and 2, then the rest. Assumes nothing.
 use borrow.Author.Needs.{needs}
-use Rattle.state_order.specs.Taken.{taken-settings, taken-node, taken-holders, refused-answer, refused-words, not-refused}
+use Rattle.base_lent.specs.Lent.{wordsIn}
+use Rattle.report_desk.specs.Bytes.{desk-bytes}
+use Rattle.state_order.specs.Taken.{called-refuses, called-buffer, called-words, called-right, refused-answer, refused-words}
 use Rattle.state_order.proofs.order.Statement.{statement}
 use Rattle.state_order.proofs.order.Tie as tie
 
 returns : tie.Need-returns
 returns c =
-    let e = c .before .before .order-refusal .ensures in
+    let a = c .before .before .before .before .before .before .before .args in
+    let r = c .before .before .call-refusal in
+    let e = called-refuses (a .settings .now) (a .x) (wordsIn (a .desk .now)) (a .node .0) (a .buffer .now) (r .result) (r .ensures) (c .if1 .taken) in
     (refused-answer _ _ _ _ _ _ e (c .if1 .taken), refused-words _ _ _ _ _ _ e (c .if1 .taken))
 
-cuts-of-requires : tie.Need-cuts-of-requires
-cuts-of-requires c κs =
-    let h = not-refused _ _ _ _ _ _ (c .before .before .order-refusal .ensures) (c .if1 .left) in
-    (taken-settings _ _ _ _ _ h .sizes, (taken-node _ _ _ _ _ h, taken-holders _ _ _ _ _ h))
-
-write-order-requires : tie.Need-write-order-requires
-write-order-requires c κs =
-    taken-settings _ _ _ _ _
-    (not-refused _ _ _ _ _ _ (c .before .before .before .before .before .order-refusal .ensures) (c .before .before .before .if1 .left)) .sizes
+order-under-requires : tie.Need-order-under-requires
+order-under-requires c κs =
+    let a = c .before .before .before .before .before .before .before .before .args in
+    let r = c .before .before .before .call-refusal in (
+      called-right _ _ _ (r .result) (r .ensures) (c .before .if1 .left),
+      (desk-bytes (a .desk .now) (called-words _ _ _ (r .result) (r .ensures) (c .before .if1 .left)), called-buffer _ _ _ (r .result) (r .ensures) (c .before .if1 .left)),
+    )
 
 returns-2 : tie.Need-returns-2
-returns-2 c =
-    let h = not-refused _ _ _ _ _ _ (c .before .before .before .before .before .before .before .before .order-refusal .ensures) (c .before .before .before .before .before .before .if1 .left) in
-    let w = c .before .before .write-order .ensures in
-    let e = c .before .before .before .before .before .cuts-of .ensures in
-    (w .answers _ e h, w .leaves _ e h)
+returns-2 c = c .before .before .order-under .ensures
 
 pub order-spec : {M : Type 1} → statement M
-order-spec =
-    tie.close
-    (tie.spec (λ c κs. search needs) (λ c. search needs) returns cuts-of-requires write-order-requires (λ c. search needs) returns-2)
+order-spec = tie.close (tie.spec (λ c κs. search needs) (λ c. search needs) returns order-under-requires (λ c. search needs) returns-2)

@@ -1,4 +1,4 @@
--- `state_planner::State::check` meets its contract: rows 1 and 2, then the rest beside what the desk tells. Assumes nothing.
+-- `state_planner::State::check` meets its contract: rows 1 and 2, then the rest. Assumes nothing.
 use mathlib.Core.Bool.{true}
 use Rattle.state_planner.specs.Refusing.{checkRefusal}
 use Rattle.state_planner.specs.CallLaws.{called-settings, called-desk, call-entry}
@@ -15,21 +15,18 @@ returns c =
     let r = c .before .before .call-refusal in
     call-entry (a .settings .now) (wordsIn (a .desk .now)) (r .result) (r .ensures) (c .if1 .taken) (a .self) true
 
-see-requires : tie.Need-see-requires
-see-requires c κs = (
-  called-settings (c .before .before .before .before .before .args .settings .now) (wordsIn (c .before .before .before .before .before .args .desk .now)) (c .before .before .call-refusal .result) (c .before .before .call-refusal .ensures) (c .if1 .left),
-  desk-bytes (c .before .before .before .before .before .args .desk .now) (called-desk (c .before .before .before .before .before .args .settings .now) (wordsIn (c .before .before .before .before .before .args .desk .now)) (c .before .before .call-refusal .result) (c .before .before .call-refusal .ensures) (c .if1 .left)),
-)
-
-check-seen-requires : tie.Need-check-seen-requires
-check-seen-requires c κs =
-    called-settings (c .before .before .before .before .before .before .args .settings .now) (wordsIn (c .before .before .before .before .before .before .args .desk .now)) (c .before .before .before .call-refusal .result) (c .before .before .before .call-refusal .ensures) (c .before .if1 .left)
+check-under-requires : tie.Need-check-under-requires
+check-under-requires c κs =
+    let a = c .before .before .before .before .before .args in
+    let r = c .before .before .call-refusal in (
+      called-settings (a .settings .now) (wordsIn (a .desk .now)) (r .result) (r .ensures) (c .if1 .left),
+      desk-bytes (a .desk .now) (called-desk (a .settings .now) (wordsIn (a .desk .now)) (r .result) (r .ensures) (c .if1 .left)),
+    )
 
 returns-2 : tie.Need-returns-2
-returns-2 c =
-    c .check-seen .ensures (wordsIn (c .before .before .before .before .before .before .before .args .desk .now)) (called-desk (c .before .before .before .before .before .before .before .args .settings .now) (wordsIn (c .before .before .before .before .before .before .before .args .desk .now)) (c .before .before .before .before .call-refusal .result) (c .before .before .before .before .call-refusal .ensures) (c .before .before .if1 .left)) (c .before .see .ensures)
+returns-2 c = c .check-under .ensures
 
 pub check-spec : {M : Type 1} → statement M
 check-spec =
     tie.close
-    (tie.spec (λ c κs. search needs) returns see-requires check-seen-requires returns-2)
+    (tie.spec (λ c κs. search needs) returns check-under-requires returns-2)

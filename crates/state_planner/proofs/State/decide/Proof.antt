@@ -1,4 +1,4 @@
--- `state_planner::State::decide` meets its contract: rows 1 and 2, then the event beside what the desk tells. Assumes nothing.
+-- `state_planner::State::decide` meets its contract: rows 1 and 2, then the rest. Assumes nothing.
 use mathlib.Core.Path.{_≡_, sym, ap, _∙_}
 use borrow.Author.Tests.{ne-eqb}
 use Rattle.base_ids.specs.declared.Refusal.{Refusal}
@@ -23,21 +23,18 @@ returns c =
     call-entry (a .settings .now) (wordsIn (a .desk .now)) (r .result) (r .ensures) (c .if1 .taken) (a .self) (isGathering (a .self .phase)) in
     decides-refused (a .settings .now) (a .self) (wordsIn (a .desk .now)) _ (sym (ap accepted f) ∙ ne-eqb _ _ (c .if1 .taken)) (ap (λ (k : Refusal). still (a .self) (Decision.Refused k)) f)
 
-see-requires : tie.Need-see-requires
-see-requires c κs = (
-  called-settings (c .before .before .before .before .before .args .settings .now) (wordsIn (c .before .before .before .before .before .args .desk .now)) (c .before .before .call-refusal .result) (c .before .before .call-refusal .ensures) (c .if1 .left),
-  desk-bytes (c .before .before .before .before .before .args .desk .now) (called-desk (c .before .before .before .before .before .args .settings .now) (wordsIn (c .before .before .before .before .before .args .desk .now)) (c .before .before .call-refusal .result) (c .before .before .call-refusal .ensures) (c .if1 .left)),
-)
-
-decide-seen-requires : tie.Need-decide-seen-requires
-decide-seen-requires c κs =
-    called-settings (c .before .before .before .before .before .before .args .settings .now) (wordsIn (c .before .before .before .before .before .before .args .desk .now)) (c .before .before .before .call-refusal .result) (c .before .before .before .call-refusal .ensures) (c .before .if1 .left)
+decide-under-requires : tie.Need-decide-under-requires
+decide-under-requires c κs =
+    let a = c .before .before .before .before .before .args in
+    let r = c .before .before .call-refusal in (
+      called-settings (a .settings .now) (wordsIn (a .desk .now)) (r .result) (r .ensures) (c .if1 .left),
+      desk-bytes (a .desk .now) (called-desk (a .settings .now) (wordsIn (a .desk .now)) (r .result) (r .ensures) (c .if1 .left)),
+    )
 
 returns-2 : tie.Need-returns-2
-returns-2 c =
-    c .decide-seen .ensures (wordsIn (c .before .before .before .before .before .before .before .args .desk .now)) (called-desk (c .before .before .before .before .before .before .before .args .settings .now) (wordsIn (c .before .before .before .before .before .before .before .args .desk .now)) (c .before .before .before .before .call-refusal .result) (c .before .before .before .before .call-refusal .ensures) (c .before .before .if1 .left)) (c .before .see .ensures)
+returns-2 c = c .decide-under .ensures
 
 pub decide-spec : {M : Type 1} → statement M
 decide-spec =
     tie.close
-    (tie.spec (λ c κs. search needs) returns see-requires decide-seen-requires returns-2)
+    (tie.spec (λ c κs. search needs) returns decide-under-requires returns-2)

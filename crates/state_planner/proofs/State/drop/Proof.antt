@@ -1,4 +1,4 @@
--- `state_planner::State::drop` meets its contract: rows 1 and 2, then the event beside what the desk tells. Assumes nothing.
+-- `state_planner::State::drop` meets its contract: rows 1 and 2, then the rest. Assumes nothing.
 use mathlib.Core.Bool.{not}
 use Rattle.base_laws.specs.Masks.{has}
 use mathlib.Core.Path.{_∙_}
@@ -22,21 +22,18 @@ returns c =
     (call-event (a .settings .now) (wordsIn (a .desk .now)) (r .result) (r .ensures) (c .before .if1 .taken) (a .self) (not (isCommitted (a .self .phase))) (a .node .0) (has (a .self .held) (a .node .0)))
     (a .self) (afterDrop (a .self) (a .node .0)) (c .before .if1 .taken)
 
-see-requires : tie.Need-see-requires
-see-requires c κs = (
-  called-settings (c .before .before .before .before .before .args .settings .now) (wordsIn (c .before .before .before .before .before .args .desk .now)) (c .before .before .call-refusal .result) (c .before .before .call-refusal .ensures) (c .if1 .left),
-  desk-bytes (c .before .before .before .before .before .args .desk .now) (called-desk (c .before .before .before .before .before .args .settings .now) (wordsIn (c .before .before .before .before .before .args .desk .now)) (c .before .before .call-refusal .result) (c .before .before .call-refusal .ensures) (c .if1 .left)),
-)
-
-drop-seen-requires : tie.Need-drop-seen-requires
-drop-seen-requires c κs =
-    called-settings (c .before .before .before .before .before .before .args .settings .now) (wordsIn (c .before .before .before .before .before .before .args .desk .now)) (c .before .before .before .call-refusal .result) (c .before .before .before .call-refusal .ensures) (c .before .if1 .left)
+drop-under-requires : tie.Need-drop-under-requires
+drop-under-requires c κs =
+    let a = c .before .before .before .before .before .args in
+    let r = c .before .before .call-refusal in (
+      called-settings (a .settings .now) (wordsIn (a .desk .now)) (r .result) (r .ensures) (c .if1 .left),
+      desk-bytes (a .desk .now) (called-desk (a .settings .now) (wordsIn (a .desk .now)) (r .result) (r .ensures) (c .if1 .left)),
+    )
 
 returns-2 : tie.Need-returns-2
-returns-2 c =
-    c .drop-seen .ensures (wordsIn (c .before .before .before .before .before .before .before .args .desk .now)) (called-desk (c .before .before .before .before .before .before .before .args .settings .now) (wordsIn (c .before .before .before .before .before .before .before .args .desk .now)) (c .before .before .before .before .call-refusal .result) (c .before .before .before .before .call-refusal .ensures) (c .before .before .if1 .left)) (c .before .see .ensures)
+returns-2 c = c .drop-under .ensures
 
 pub drop-spec : {M : Type 1} → statement M
 drop-spec =
     tie.close
-    (tie.spec (λ c κs. search needs) (λ c κs. search needs) returns see-requires drop-seen-requires returns-2)
+    (tie.spec (λ c κs. search needs) (λ c κs. search needs) returns drop-under-requires returns-2)

@@ -1,0 +1,60 @@
+-- `state_planner::State::decide_under` meets its contract: the refusal is the definition's, and else the verdict gives state and answer. Assumes nothing.
+use mathlib.Core.Bool.{Bool, true}
+use mathlib.Core.Path.{_≡_, sym, ap, _∙_, subst⁻¹}
+use borrow.Author.Tests.{eq-eqb, ne-eqb}
+use Rattle.base_ids.specs.declared.Refusal.{Refusal}
+use Rattle.base_ids.specs.Refusals.{accepted}
+use Rattle.plan_restart.specs.Kept.{held-below, number-to}
+use Rattle.state_planner.specs.declared.Decision.{Decision}
+use Rattle.state_planner.specs.declared.Decided.{Decided}
+use Rattle.state_planner.specs.Refusing.{entryRefusal, deskOk, decideRefusal}
+use Rattle.state_planner.specs.Decide.{still, Decides}
+use Rattle.state_planner.specs.DecideLaws.{decides-refused, decide-kept, decide-slots, decides-by}
+use Rattle.base_lent.specs.Lent.{wordsIn}
+use Rattle.report_desk.specs.Bytes.{desk-length}
+use borrow.Author.Needs.{needs}
+use Rattle.state_planner.proofs.State.decide_under.Statement.{statement}
+use Rattle.state_planner.proofs.State.decide_under.Tie as tie
+
+returns : tie.Need-returns
+unfolding decideRefusal
+returns c =
+    let s = c .before .before .before .before .before .before .before in
+    let a = s .args in
+    let g = c .before .before .before .is-gathering in
+    let k = c .before .before .entry-refusal in
+    let d = wordsIn (a .desk .now) in
+    let l = desk-length (a .desk .now) (s .pre .1) in
+    let e = c .before .before .before .before .see .ensures in
+    let f : k .result ≡ decideRefusal (a .settings .now) (a .self) d =
+    k .ensures .0 d l e ∙ ap (λ (p : Bool). entryRefusal (deskOk d) (a .settings .now) (a .self) d p) (g .ensures) in
+    decides-refused (a .settings .now) (a .self) d _ (sym (ap accepted f) ∙ ne-eqb _ _ (c .if1 .taken)) (ap (λ (r : Refusal). still (a .self) (Decision.Refused r)) f)
+
+restart-requires : tie.Need-restart-requires
+restart-requires c κs =
+    let s = c .before .before .before .before .before .before .before in
+    let a = s .args in
+    let h = c .before .before .entry-refusal .ensures .1 (c .if1 .left) in
+    (s .pre .0, (number-to (a .settings .now) (a .self .kept) (a .self .termination) (a .self .held) h, held-below (a .settings .now) (a .self .kept) (a .self .termination) (a .self .held) h))
+
+returns-2 : tie.Need-returns-2
+unfolding decideRefusal
+returns-2 c =
+    let s = c .before .before .before .before .before .before .before .before .before in
+    let a = s .args in
+    let g = c .before .before .before .before .before .is-gathering in
+    let k = c .before .before .before .before .entry-refusal in
+    let d = wordsIn (a .desk .now) in
+    let l = desk-length (a .desk .now) (s .pre .1) in
+    let e = c .before .before .before .before .before .before .see .ensures in
+    let f : k .result ≡ decideRefusal (a .settings .now) (a .self) d =
+    k .ensures .0 d l e ∙ ap (λ (p : Bool). entryRefusal (deskOk d) (a .settings .now) (a .self) d p) (g .ensures) in
+    let t : accepted (decideRefusal (a .settings .now) (a .self) d) ≡ true = sym (ap accepted f) ∙ eq-eqb _ _ (c .before .before .if1 .left) in
+    subst⁻¹ (λ (r : Decided). Decides (a .settings .now) (a .self) d r) (c .after-verdict .ensures)
+    (decides-by (a .settings .now) (a .self) d t (c .before .restart .result)
+    (c .before .restart .ensures (a .self .termination) d (decide-kept (a .settings .now) (a .self) d t) (decide-slots (a .settings .now) (a .self) d t) e))
+
+pub decide-under-spec : {M : Type 1} → statement M
+decide-under-spec =
+    tie.close
+    (tie.spec (λ c κs. search needs) (λ c κs. search needs) (λ c κs. search needs) returns restart-requires (λ c κs. search needs) returns-2)

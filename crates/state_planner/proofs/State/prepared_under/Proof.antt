@@ -1,0 +1,33 @@
+-- `state_planner::State::prepared_under` meets its contract: the refusal is the definition's, and the state follows. Assumes nothing.
+use mathlib.Core.Path.{refl, _∙_}
+use Rattle.state_planner.specs.Refusing.{preparedRefusal}
+use Rattle.state_planner.specs.Events.{afterPrepared, preparedOf}
+use Rattle.state_planner.specs.EventLaws.{settles-refused, settles-accepted, event-settles}
+use Rattle.base_lent.specs.Lent.{wordsIn}
+use borrow.Author.Needs.{needs}
+use Rattle.state_planner.proofs.State.prepared_under.Statement.{statement}
+use Rattle.state_planner.proofs.State.prepared_under.Tie as tie
+
+returns : tie.Need-returns
+unfolding preparedOf preparedRefusal
+returns c =
+    let a = c .before .before .before .before .before .before .before .before .args in
+    let d = wordsIn (a .desk .now) in
+    c .refuse .ensures
+    ∙ event-settles (a .settings .now) (a .self) d _ (a .node .0) _ (c .before .before .before .before .before .is-preparing .ensures) (c .before .before .before .before .lacks .ensures) (afterPrepared (a .self) (a .node .0)) (afterPrepared (a .self) (a .node .0))
+    (settles-refused (c .before .before .before .event-refusal .ensures) (a .self) (afterPrepared (a .self) (a .node .0)) (c .before .if1 .taken)) (λ h. refl)
+
+returns-2 : tie.Need-returns-2
+unfolding preparedOf preparedRefusal
+returns-2 c =
+    let a = c .before .before .before .before .before .before .before .before .before .args in
+    let y = c .before .after-prepared in
+    let d = wordsIn (a .desk .now) in
+    c .accept .ensures
+    ∙ event-settles (a .settings .now) (a .self) d _ (a .node .0) _ (c .before .before .before .before .before .before .is-preparing .ensures) (c .before .before .before .before .before .lacks .ensures) (y .result) (afterPrepared (a .self) (a .node .0))
+    (settles-accepted (c .before .before .before .before .event-refusal .ensures) (a .self) (y .result) (c .before .before .if1 .left)) (c .before .after-prepared .ensures)
+
+pub prepared-under-spec : {M : Type 1} → statement M
+prepared-under-spec =
+    tie.close
+    (tie.spec (λ c κs. search needs) (λ c κs. search needs) (λ c κs. search needs) (λ c κs. search needs) returns (λ c κs. search needs) (λ c κs. search needs) returns-2)
