@@ -48,7 +48,7 @@ THEN = [
     (LIBRARY, ["make", "--no-print-directory", "lib"], None),
     ("the reference's own tests", cargo("reference", "test", "--release"), None),
     ("tests of the comparison itself", cargo("tests", "test", "--release", "--features", "mock"), None),
-    ("texts and explanations for operators", ["python3", "tools/tests/run.py", "target/bin/restart", "target/bin/mondays", "target/librestart.so.0"], LIBRARY),
+    ("texts and explanations for operators", ["python3", "tools/tests/run.py", "target/bin/restart", "target/bin/mondays", "target/librestart.so.1"], LIBRARY),
     (PLACEMENT, ["rt", "staticlib", "c_placement"], LIBRARY),
     ("the program restart against the reference", cargo("tests", "run", "--release", "--bin", "runs", "--", "target/bin/restart", "1", "20000"), LIBRARY),
     ("the program mondays against the reference", cargo("tests", "run", "--release", "--bin", "mondays", "--", "target/bin/mondays", "1"), LIBRARY),

@@ -10,6 +10,8 @@ extern "C" {
     fn restart_get_word(bytes: *const u8, index: usize) -> u32;
     fn restart_open_view(members: u32, known: u32, have: u32, lack: u32, passed: u32) -> u32;
     fn restart_view_of(answer: u32) -> u32;
+    fn restart_watcher(subgroup: u32) -> u32;
+    fn restart_length_of(answer: u32) -> u32;
     fn restart_fresh(role: u32, state: *mut u8, state_len: usize) -> u32;
     fn restart_report(
         role: u32,
@@ -31,9 +33,20 @@ extern "C" {
         desk: *const u8,
         desk_len: usize,
     ) -> u32;
+    fn restart_page(
+        role: u32,
+        settings: *const u8,
+        settings_len: usize,
+        state: *const u8,
+        state_len: usize,
+        desk: *const u8,
+        desk_len: usize,
+        subgroup: u32,
+        buffer: *mut u8,
+        buffer_len: usize,
+    ) -> u32;
 }
 
-/// The role that may call every operation.
 const PLANNER: u32 = 256;
 
 /// The text that the library gives.
@@ -50,6 +63,7 @@ fn main() {
     let settings = bytes(&[2, 2, 1, 1, 0, 1, 1]);
     let mut state = [0u8; 640];
     let mut desk = vec![0u8; 65536];
+    let mut page = [0u8; 2048];
     // Every piece is lent with its own length, and none overlaps another.
     unsafe {
         assert_eq!(text(restart_version_text()), env!("RESTART_VERSION"));
@@ -69,12 +83,37 @@ fn main() {
                 message.as_ptr(),
                 message.len(),
             );
-            let answer =
-                restart_decide(PLANNER, settings.as_ptr(), settings.len(), state.as_mut_ptr(), state.len(), desk.as_ptr(), desk.len());
+            let answer = restart_decide(
+                PLANNER,
+                settings.as_ptr(),
+                settings.len(),
+                state.as_mut_ptr(),
+                state.len(),
+                desk.as_ptr(),
+                desk.len(),
+            );
             match restart_is_wait(answer) {
                 0 => println!("report {taken}, plan {}", restart_get_word(state.as_ptr(), 55)),
                 _ => println!("report {taken}, wait {}", restart_reason_of(answer)),
             }
         }
+        let mut read = |role: u32, subgroup: u32| {
+            restart_page(
+                role,
+                settings.as_ptr(),
+                settings.len(),
+                state.as_ptr(),
+                state.len(),
+                desk.as_ptr(),
+                desk.len(),
+                subgroup,
+                page.as_mut_ptr(),
+                page.len(),
+            )
+        };
+        assert_eq!(read(restart_watcher(0), 1), 15);
+        assert_eq!(read(0, 0), 15);
+        let length = restart_length_of(read(restart_watcher(0), 0));
+        println!("page of {length} words, placed {}", restart_get_word(page.as_ptr(), 56));
     }
 }
