@@ -15,7 +15,7 @@ use lib.ListN.{length}
 use borrow.Author.Tests.{eqb-true, eq-eqb, ltb-true}
 use Rattle.base_laws.specs.Bools.{either, clash}
 use Rattle.base_laws.specs.Masks.{count}
-use Rattle.base_lent.specs.Lent.{wordsIn, wordsWithin}
+use Rattle.base_lent.specs.Lent.{wordsIn}
 use Rattle.base_ids.specs.declared.Refusal.{Refusal}
 use Rattle.base_ids.specs.Refusals.{accepted}
 use Rattle.settings_values.specs.Settings.{settingsOk, shards, least}
@@ -35,7 +35,7 @@ use Rattle.state_planner.specs.Refusing.{decideRefusal}
 use Rattle.state_planner.specs.Decide.{still, Stuck, Decides}
 use Rattle.c_state.specs.declared.Entry.{Entry}
 use Rattle.c_state.specs.Calls.{byPlanner, entry}
-use Rattle.c_state.specs.CallLaws.{settings-whole, desk-entry, desk-passes}
+use Rattle.c_state.specs.CallLaws.{desk-entry, desk-passes}
 use Rattle.c_decide.specs.Decisions.{decisionWord, decisionValue, decisionLeaves, decideEntry, DecideCall}
 
 same-reason : (r reason : Reason) → Short r ≡ Short reason → valueOf r ≤ 16 → valueOf reason ≤ 16

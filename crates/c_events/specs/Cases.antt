@@ -3,7 +3,7 @@
 -- ---- the check of a state
 -- ---- an event that names a node
 -- the words that are looked at are those that were lent
-use mathlib.Core.Path.{_≡_, refl, sym, ap, ap₂, _∙_, subst}
+use mathlib.Core.Path.{_≡_, refl, sym, ap, _∙_, subst}
 use mathlib.Core.Bool.{true, false}
 use mathlib.Core.List.{List}
 use Prim.Native.Nat.{ℕ}
@@ -11,11 +11,10 @@ use lib.Dec.{eqb}
 use lib.ListN.{length}
 use borrow.Author.Tests.{eq-eqb, ne-eqb}
 use Rattle.base_bytes.specs.Words.{bytesOf}
-use Rattle.base_lent.specs.Lent.{wordsIn, wordsWithin}
+use Rattle.base_lent.specs.Lent.{wordsIn}
 use Rattle.base_lent.specs.Answers.{Told, told-refused, told-accepted}
 use Rattle.base_ids.specs.declared.Refusal.{Refusal}
 use Rattle.base_ids.specs.Refusals.{none, refused, accepted, unless-true, unless-false, first-refused}
-use Rattle.settings_values.specs.Settings.{settingsOk}
 use Rattle.state_planner.specs.declared.State.{State}
 use Rattle.state_planner.specs.declared.Outcome.{Outcome}
 use Rattle.state_planner.specs.States as States
@@ -23,7 +22,7 @@ use Rattle.state_planner.specs.Refusing.{deskOk, checkRefusal}
 use Rattle.c_state_words.specs.StateWords.{stateWords, isState}
 use Rattle.c_state.specs.declared.Entry.{Entry}
 use Rattle.c_state.specs.Calls.{byPlanner, stateLent, entryRefused, called, entry, refusalOf}
-use Rattle.c_state.specs.CallLaws.{settings-whole, desk-entry, desk-passes, event-refused, event-done}
+use Rattle.c_state.specs.CallLaws.{desk-entry, desk-passes, event-refused, event-done}
 use Rattle.c_events.specs.declared.Event.{Event}
 use Rattle.c_events.specs.Events.{freshRefused, freshAnswer, freshLeaves, checkStateAnswer, happened, taken, takeAnswer, takeLeaves}
 

@@ -4,16 +4,15 @@
 -- an order has few words
 -- ---- the cases
 use Prim.Native.Nat.{ℕ, _≤_}
-use mathlib.Core.Bool.{Bool, true, _&&_}
+use mathlib.Core.Bool.{Bool, _&&_}
 use mathlib.Core.List.{List}
-use mathlib.Core.Path.{_≡_, sym, ap, ap₂, _∙_}
+use mathlib.Core.Path.{_≡_, sym, ap, _∙_}
 use native.Mathlib.Omega.{arith}
 use lib.Dec.{eqb, leb}
 use lib.ListN.{length}
-use borrow.Author.Tests.{eqb-true, eq-eqb, ne-eqb, leb-true}
-use Rattle.base_laws.specs.Bools.{and-left, and-right}
+use borrow.Author.Tests.{eq-eqb, ne-eqb, leb-true}
 use Rattle.base_bytes.specs.Words.{bytesOf}
-use Rattle.base_lent.specs.Lent.{wordsIn, wordsWithin, bytes-of-words, length-test}
+use Rattle.base_lent.specs.Lent.{wordsIn}
 use Rattle.base_lent.specs.Answers.{withLength, Told, told-refused, told-accepted}
 use Rattle.base_ids.specs.Refusals.{none, accepted-none, unless-ok, unless-rest}
 use Rattle.settings_values.specs.Settings.{settingsOk}
@@ -22,7 +21,7 @@ use Rattle.message_format.specs.declared.Writing.{Writing}
 use Rattle.message_format.specs.Messages.{contentsRefusal, writeRefusal}
 use Rattle.plan_order.specs.Orders.{orderContents}
 use Rattle.state_planner.specs.declared.State.{State}
-use Rattle.state_planner.specs.Refusing.{deskOk, orderRefusal}
+use Rattle.state_planner.specs.Refusing.{orderRefusal}
 use Rattle.state_order.specs.Orders.{ordered, orderBuffer}
 use Rattle.state_order.specs.Taken.{writer-takes}
 use Rattle.c_state.specs.declared.Entry.{Entry}

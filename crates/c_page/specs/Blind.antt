@@ -1,10 +1,9 @@
 -- Nothing but the subgroup shows, byte for byte: from what the call promises alone, so of any program that meets it.
 use Prim.Native.Nat.{ℕ}
-use mathlib.Core.Bool.{Bool, true, false, _&&_}
+use mathlib.Core.Bool.{Bool, true, false}
 use mathlib.Core.List.{List}
 use mathlib.Core.Logic.{⊎-elim}
 use mathlib.Core.Path.{_≡_, refl, sym, ap, _∙_}
-use lib.Dec.{eqb}
 use lib.ListN.{length}
 use borrow.Author.Tests.{eqb-true}
 use Rattle.base_laws.specs.Bools.{either, clash, and-left}
@@ -26,7 +25,7 @@ use Rattle.c_state_words.specs.StateWords.{isState}
 use Rattle.c_state.specs.Calls.{stateLent, lengthsOk, entryRefused, called}
 use Rattle.c_state.specs.Barred.{barred, barred-refuses, called-barred, Bars}
 use Rattle.c_page_words.specs.PageWords.{pageWords}
-use Rattle.c_page.specs.PageCalls.{readable, pageRefused, PageAt, ByPage, PageCall}
+use Rattle.c_page.specs.PageCalls.{readable, pageRefused, PageAt, PageCall}
 
 -- what a call that is not refused was lent
 module _ (role : ℕ) (settings state desk : List ℕ) (g : ℕ) (buffer : List ℕ) (h : accepted (pageRefused role settings state desk g buffer) ≡ true) where

@@ -20,7 +20,7 @@ use Rattle.c_state.specs.declared.Entry.{Entry}
 use Rattle.c_state.specs.Calls.{stateLent, lengthsOk, entryRefused, called, entry}
 use Rattle.c_state.specs.CallLaws.{buffer-entry, buffer-passes}
 use Rattle.c_page_words.specs.PageWords.{pageWords}
-use Rattle.c_page.specs.PageCalls.{readable, pageRefused, PageAt, PageCall}
+use Rattle.c_page.specs.PageCalls.{readable, pageRefused, PageCall}
 
 module _ (role : ℕ) (settings state desk : List ℕ) (g : ℕ) (buffer : List ℕ) where
   abbrev Call : ℕ → List ℕ → Type 0

@@ -1,7 +1,6 @@
 -- A row for each clause of a page's words: with the clause left out or turned round the row would be false.
 use Prim.Native.Nat.{ℕ, _+_}
 use mathlib.Core.Bool.{Bool, true, false}
-use mathlib.Core.List.{List}
 use mathlib.Core.Path.{_≡_, refl}
 use lib.ListN.{length, getD}
 use Rattle.base_laws.specs.Tables.{tabulate}

@@ -4,7 +4,7 @@ use mathlib.Core.List.{List}
 use mathlib.Core.Logic.{⊎-elim}
 use mathlib.Core.Path.{_≡_, ap, _∙_}
 use native.Mathlib.Omega.{arith}
-use lib.ListN.{length, getD, replicate, length-replicate, getD-replicate}
+use lib.ListN.{length, getD, replicate, getD-replicate}
 use borrow.Author.Tests.{le-ltb}
 use Rattle.base_laws.specs.Bools.{lt-or-le}
 use Rattle.base_laws.specs.Tables.{length-tabulate, tabulate-ext, filled, length-filled, getD-filled, getD-filled-rest}

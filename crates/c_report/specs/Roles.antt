@@ -5,7 +5,7 @@ use mathlib.Core.List.{List}
 use mathlib.Core.Path.{_≡_}
 use Rattle.base_lent.specs.Lent.{wordsIn}
 use Rattle.state_planner.specs.Refusing.{deskOk}
-use Rattle.c_state.specs.Calls.{byPlanner, eventRefused, eventAnswer, eventLeaves}
+use Rattle.c_state.specs.Calls.{byPlanner, eventRefused}
 use Rattle.c_state.specs.Barred.{Bars, told-barred, event-barred}
 use Rattle.c_report.specs.ReportCalls.{reportTaken, reportAnswer, reportLeaves, reportDesk}
 

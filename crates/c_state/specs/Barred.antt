@@ -3,7 +3,7 @@
 use Prim.Native.Nat.{ℕ}
 use mathlib.Core.Bool.{Bool, true, false}
 use mathlib.Core.List.{List}
-use mathlib.Core.Path.{_≡_, refl, ap, _∙_}
+use mathlib.Core.Path.{_≡_, refl, ap}
 use Rattle.base_lent.specs.Lent.{wordsIn}
 use Rattle.base_lent.specs.Answers.{answerWord, bytesLeft}
 use Rattle.base_ids.specs.declared.Refusal.{Refusal}

@@ -7,7 +7,6 @@ use mathlib.Core.Path.{_≡_, ap, _∙_}
 use lib.ListN.{getD}
 use borrow.Author.Tests.{lt-ltb}
 use Rattle.base_laws.specs.Bools.{either}
-use Rattle.base_laws.specs.Picked.{mask-cong}
 use Rattle.base_laws.specs.Tables.{tabulate-cong}
 use Rattle.base_ids.specs.declared.Node.{Node}
 use Rattle.base_ids.specs.declared.Position.{Position}
@@ -27,6 +26,7 @@ use Rattle.plan_seen.specs.declared.Seen.{Seen}
 use Rattle.plan_seen.specs.Sight.{seenOf, seen-holders, seen-targets}
 use Rattle.plan_page.specs.declared.Page.{Page}
 use Rattle.plan_page.specs.Pages.{shown, holderShown, targetShown, PageBy, PageOf, PageSeen}
+use Rattle.plan_page.specs.Turns.{mask-cong}
 
 -- the same holders and targets of the subgroup's shards give the same page
 module _ (σ : List ℕ) (g : ℕ) (a b : ℕ → ℕ) (x y : ℕ → Position) (nodes : (s : ℕ) → s < 16 → ofGroup σ g s ≡ true → a s ≡ b s)

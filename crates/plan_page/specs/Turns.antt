@@ -1,8 +1,9 @@
 -- What is shown of one shard, by the tests that the code makes.
-use Prim.Native.Nat.{ℕ, _+_}
+use Prim.Native.Nat.{ℕ, zero, suc, _+_, _<_}
 use mathlib.Core.Bool.{Bool, true, false, cond, not}
 use mathlib.Core.List.{List}
-use mathlib.Core.Path.{_≡_, sym, ap, _∙_, subst}
+use mathlib.Core.Path.{_≡_, refl, sym, ap, _∙_, subst}
+use native.Mathlib.Omega.{arith}
 use lib.Dec.{eqb}
 use Rattle.base_laws.specs.Masks.{with}
 use Rattle.base_laws.specs.Picked.{maskBelow, mask-turn}
@@ -14,6 +15,12 @@ use Rattle.report_views.specs.declared.Plan.{Plan}
 use Rattle.report_views.specs.declared.Phase.{Phase}
 use Rattle.report_views.specs.Logs.{start}
 use Rattle.plan_page.specs.Pages.{shown, holderShown, targetShown, maskShown, PlacedAs}
+
+-- masks of the same members
+pub mask-cong : (n : ℕ) (f g : ℕ → Bool) → ((k : ℕ) → k < n → f k ≡ g k) → maskBelow n f ≡ maskBelow n g
+unfolding maskBelow
+mask-cong zero f g h = refl
+mask-cong (suc n) f g h = rw (h n (omega arith), mask-cong n f g (λ k l. h k (omega arith)))
 
 -- a turn of a loop that makes a mask
 pub mask-grown : (n m r : ℕ) (f : ℕ → Bool) (b : Bool) → m ≡ maskBelow n f → r ≡ cond b (with m n) m → b ≡ f n → r ≡ maskBelow (n + 1) f

@@ -1,6 +1,6 @@
 -- Two worlds that agree on subgroup 0, which has shard 0 alone, and on nothing else: the first has one shard more, the second two, with
 -- other sets, least size, subgroups, needs, masks and runs. The first would be planned, the second waits for nodes; page 0 is the same.
-use Prim.Native.Nat.{ℕ, zero, suc, _+_, _<_, _≤_}
+use Prim.Native.Nat.{ℕ, zero, suc, _<_, _≤_}
 use mathlib.Core.Bool.{true, false, not, _&&_, _||_}
 use mathlib.Core.List.{List, [], _∷_, _++_}
 use mathlib.Core.Logic.{inl, ⊎-elim}
@@ -18,7 +18,7 @@ use Rattle.base_laws.specs.Picked.{maskBelow}
 use Rattle.base_laws.specs.Positions.{pairNotAfter}
 use Rattle.base_laws.specs.Tables.{tabulate}
 use Rattle.base_sums.specs.Sums.{sumBelow}
-use Rattle.settings_values.specs.Settings.{shards, setOf, need, cap, sizesOk, nodesOk, shardOk, shardsOk, settingsOk, Settings}
+use Rattle.settings_values.specs.Settings.{setOf, need, cap, sizesOk, nodesOk, shardOk, shardsOk, settingsOk, Settings}
 use Rattle.settings_values.specs.Laws.{settings-give}
 use Rattle.message_format.specs.Chain.{place, following}
 use Rattle.message_format.specs.Rows.{shardApart}

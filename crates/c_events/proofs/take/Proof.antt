@@ -1,12 +1,12 @@
 -- Each return is a case of what the call answers and leaves.
-use mathlib.Core.Path.{_≡_, sym, ap, _∙_, subst}
+use mathlib.Core.Path.{sym, ap, _∙_, subst}
 use mathlib.Core.List.{List}
 use Prim.Native.Nat.{ℕ}
 use Rattle.settings_values.specs.Settings.{Settings}
 use Rattle.settings_values.specs.Laws.{settings-give}
 use Rattle.base_lent.specs.Lent.{wordsIn}
 use Rattle.c_state.specs.Calls.{byPlanner}
-use Rattle.c_state.specs.CallLaws.{desk-entry, desk-passes, desk-long, settings-few, settings-long, settings-front}
+use Rattle.c_state.specs.CallLaws.{desk-passes, desk-long, settings-few, settings-long, settings-front}
 use Rattle.c_events.specs.Events.{happened}
 use Rattle.c_events.specs.Cases.{take-refused, take-done}
 use native.Mathlib.Omega.{arith}

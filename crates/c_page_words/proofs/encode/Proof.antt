@@ -2,7 +2,7 @@
 use Prim.Native.Nat.{_-_, _≤_}
 use native.Mathlib.Omega.{arith}
 use mathlib.Core.Path.{_≡_, sym, ap, _∙_}
-use lib.ListN.{length, replicate, length-replicate}
+use lib.ListN.{length, replicate}
 use Rattle.base_laws.specs.Tables.{filled, filled-none, filled-turn, length-filled}
 use Rattle.c_page_words.specs.PageWords.{pageWord}
 use Rattle.c_page_words.specs.Stored.{words-stored}
