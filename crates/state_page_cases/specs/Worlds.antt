@@ -1,5 +1,5 @@
--- Two sound states with their settings and desks that agree on subgroup 0 alone: decide would plan in the first and wait in the second, they
--- remember different views, and the watcher of subgroup 0 is shown one page. So what the theorem on watchers supposes can be met.
+-- Two sound states with their settings and desks that agree on subgroup 0 alone: decide would plan in the first and wait in the second,
+-- they remember different views, and the watcher of subgroup 0 is shown one page. So what the theorem on watchers supposes can be met.
 use Prim.Native.Nat.{ℕ}
 use mathlib.Core.Bool.{true}
 use mathlib.Core.List.{_∷_}
