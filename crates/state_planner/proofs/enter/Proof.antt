@@ -14,7 +14,7 @@ use Rattle.state_planner.proofs.enter.Tie as tie
 returns : tie.Need-returns
 unfolding entryRefusal
 returns c =
-    let s = c .before .before .before .before .before .before .before in
+    let s = c .before .before .before .before .before .before in
     let a = s .args in
     let d = wordsIn (a .desk .now) in
     let k = c .before .is-sound in
@@ -22,14 +22,13 @@ returns c =
     let t = c .before .before .before .tables-of .ensures in (
       row-3 (sound (a .settings .now) (a .x) d) (a .in-phase) (sym (k .ensures d e) ∙ not-true (k .result) (c .if1 .taken))
           ∙ rows-passed (sound (a .settings .now) (a .x) d) (a .in-phase) (deskOk d) (a .settings .now) (eq-eqb (length d) 16384 (desk-length (a .desk .now) (s .pre .1))) (s .pre .0),
-      e,
-      t,
+      (e, t),
     )
 
 returns-2 : tie.Need-returns-2
 unfolding entryRefusal
 returns-2 c =
-    let s = c .before .before .before .before .before .before .before .before in
+    let s = c .before .before .before .before .before .before .before in
     let a = s .args in
     let d = wordsIn (a .desk .now) in
     let k = c .before .before .is-sound in
@@ -37,14 +36,13 @@ returns-2 c =
     let t = c .before .before .before .before .tables-of .ensures in (
       row-4 (sound (a .settings .now) (a .x) d) (a .in-phase) (sym (k .ensures d e) ∙ not-false (k .result) (c .before .if1 .left)) (not-true (a .in-phase) (c .if2 .taken))
           ∙ rows-passed (sound (a .settings .now) (a .x) d) (a .in-phase) (deskOk d) (a .settings .now) (eq-eqb (length d) 16384 (desk-length (a .desk .now) (s .pre .1))) (s .pre .0),
-      e,
-      t,
+      (e, t),
     )
 
 returns-3 : tie.Need-returns-3
 unfolding entryRefusal
 returns-3 c =
-    let s = c .before .before .before .before .before .before .before .before in
+    let s = c .before .before .before .before .before .before .before in
     let a = s .args in
     let d = wordsIn (a .desk .now) in
     let k = c .before .before .is-sound in
@@ -52,8 +50,7 @@ returns-3 c =
     let t = c .before .before .before .before .tables-of .ensures in (
       no-row (sound (a .settings .now) (a .x) d) (a .in-phase) (sym (k .ensures d e) ∙ not-false (k .result) (c .before .if1 .left)) (not-false (a .in-phase) (c .if2 .left))
           ∙ rows-passed (sound (a .settings .now) (a .x) d) (a .in-phase) (deskOk d) (a .settings .now) (eq-eqb (length d) 16384 (desk-length (a .desk .now) (s .pre .1))) (s .pre .0),
-      e,
-      t,
+      (e, t),
     )
 
 pub enter-spec : {M : Type 1} → statement M
