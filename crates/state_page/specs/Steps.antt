@@ -11,7 +11,7 @@ use Rattle.base_ids.specs.Refusals.{refused, none, accepted, accepted-none, unl
 use Rattle.base_roles.specs.declared.Role.{Role}
 use Rattle.base_roles.specs.Roles.{mayRead}
 use Rattle.settings_values.specs.Settings.{settingsOk, Settings}
-use Rattle.settings_values.specs.Laws.{settings-give}
+use Rattle.settings_values.specs.Laws.{settings-give, settings-of}
 use Rattle.plan_seen.specs.declared.Seen.{Seen}
 use Rattle.plan_seen.specs.Sight.{seenOf}
 use Rattle.plan_page.specs.declared.Page.{Page}
@@ -19,7 +19,7 @@ use Rattle.plan_page.specs.Pages.{PageSeen, blankPage}
 use Rattle.plan_page.specs.Seeing.{page-seen}
 use Rattle.state_planner.specs.declared.State.{State}
 use Rattle.state_planner.specs.States.{sound}
-use Rattle.state_planner.specs.Refusing.{deskOk}
+use Rattle.state_planner.specs.Refusing.{deskOk, entryRefusal}
 use Rattle.state_planner.specs.Entry.{Sound, sound-given}
 use Rattle.state_page.specs.declared.Paged.{Paged}
 use Rattle.state_page.specs.Paging.{soundRefusal, askedRefusal, pageRefusal, PagedAs, PageCalled, PageUnder}
@@ -85,6 +85,11 @@ module _ (σ d : List ℕ) (role : Role) (g : ℕ) (r : Refusal) (e : r ≡ aske
       go true false f z = z
       go true true false z = z
       go true true true z = absurd (h (ap (λ (q : Refusal). q .code) z))
+
+-- row 3 as an event finds it, in whatever phase, where rows 1 and 2 do not refuse
+pub sound-entry : (σ : List ℕ) (x : State) (d : List ℕ) → length d ≡ 16384 → Settings σ → entryRefusal (deskOk d) σ x d true ≡ soundRefusal σ x d
+unfolding entryRefusal soundRefusal unless
+sound-entry σ x d l right = rw (eq-eqb (length d) 16384 l, settings-of σ right)
 
 -- beside a refusal k
 pub paged-refused : (σ : List ℕ) (x : State) (d : List ℕ) (g : ℕ) (k : Refusal) {r : Paged} {refusal : Refusal} → k ≡ refusal → (k .code ≡ 0 → ⊥)

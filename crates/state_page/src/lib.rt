@@ -2,19 +2,13 @@
 use base_ids::Refusal;
 use base_roles::Role;
 use plan_page::Page;
-use plan_seen::Seen;
 use state_planner::State;
-ghost use mathlib.Core.Bool.{true};
-ghost use mathlib.Core.List.{List};
 ghost use mathlib.Core.Path.{_≡_};
-ghost use Prim.Native.Nat.{ℕ};
 ghost use lib.ListN.{length};
 ghost use Rattle.base_lent.specs.Lent.{wordsIn};
 ghost use Rattle.settings_values.specs.Settings.{Settings};
 ghost use Rattle.plan_page.specs.Pages.{blankPage};
-ghost use Rattle.plan_seen.specs.Sight.{seenOf};
-ghost use Rattle.report_views.specs.Soundness.{keptSound};
-ghost use Rattle.state_page.specs.Paging.{soundRefusal, askedRefusal, PageCalled, PageUnder};
+ghost use Rattle.state_page.specs.Paging.{askedRefusal, PageCalled, PageUnder};
 
 // What the page call hands back. Beside a refusal the page tells nothing.
 pub struct Paged {
@@ -32,40 +26,19 @@ fn refuse(refusal: Refusal) -> Paged
     }
 }
 
-// Row 3, beside what was seen of the desk; where it does not refuse, what is kept is sound.
-fn sound_refusal(settings: &[u32], x: State, seen: Seen) -> Refusal
-    requires { ⌜ Settings (now settings) ⌝ }
-    ensures refusal { λ r. ⌜ ((d : List ℕ) → seen ≡ seenOf (now (settings .entry)) (x .kept) (x .termination) (x .held) d → r ≡ soundRefusal (now (settings .entry)) x d) ⌝ }
-    ensures kept { λ r. ⌜ (r .code ≡ 0 → keptSound (now (settings .entry)) (x .kept) (x .termination) (x .held) ≡ true) ⌝ }
-{
-    let phase = x.phase;
-    state_rows::sound_refusal(
-        settings,
-        seen,
-        true,
-        phase,
-        x.kept,
-        x.termination,
-        x.held,
-        x.fetched,
-        x.prepared,
-        x.plan,
-        x.latest,
-    )
-}
-
 // The page of subgroup g, where rows 1, 2 and 15 do not refuse.
 pub fn page_under(settings: &[u32], x: State, desk: &[u8], g: u32) -> Paged
     requires { ⌜ Settings (now settings) ⌝ }
     requires { ⌜ length (now desk) ≡ 65536 ⌝ }
     ensures { λ r. ⌜ PageUnder (now (settings .entry)) x (wordsIn (now (desk .entry))) g r ⌝ }
 {
-    let seen = plan_seen::see(settings, x.kept, x.termination, x.held, desk);
-    let refusal = sound_refusal(settings, x, seen);
+    let entry = state_planner::enter(settings, x, desk, true);
+    let refusal = entry.refusal;
     if refusal.code != 0 {
         return refuse(refusal);
     }
     let phase = x.phase;
+    let seen = entry.seen;
     Paged {
         refusal,
         page: plan_page::page_seen(settings, phase, x.kept, x.held, seen, x.plan, g),
