@@ -135,6 +135,7 @@ class Tree:
         for file in self.files:
             if file.kind == "specs":
                 self.declare(file)
+        self.pass_on()
 
     def of(self, kind, crate=None):
         return [file for file in self.files if file.kind == kind and crate in (None, file.crate)]
@@ -223,6 +224,16 @@ class Tree:
                 built = re.match(r"\s+(?:pub )?(\S+)\s*:", line)
                 if built:
                     names.setdefault(built.group(1), item)
+
+    def pass_on(self):
+        """The names that a file hands on (`pub use`) stand for what they stand for in the file that they come from."""
+        for file in self.of("specs"):
+            for use in (Used(0, text[len("pub ") :]) for text in file.texts if text.startswith("pub use ")):
+                module = MODULE.fullmatch(use.path)
+                if module and not module.group(3):
+                    own = self.items.get(module.groups()[:2], {})
+                    handed = self.items.setdefault((file.crate, file.inside[: -len(".antt")]), {})
+                    handed.update((here, own[name]) for name, here in use.names if name in own)
 
     def scope(self, file):
         """What the names of a file stand for, and what its aliases of modules do."""

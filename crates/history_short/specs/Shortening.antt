@@ -20,7 +20,8 @@ use Rattle.report_views.specs.declared.Termination.{Termination}
 use Rattle.report_views.specs.Logs.{pos, start, isStart, runsOf, hasUpdate}
 use Rattle.report_views.specs.LogLaws.{held-end}
 use Rattle.report_views.specs.Ends.{end-legal}
-use Rattle.report_views.specs.Updates.{updatesAt, onePosition, sharedStretch, lastAfter, upTo, beyond}
+use Rattle.report_views.specs.Slots.{samePosition}
+use Rattle.report_views.specs.Updates.{updatesAt, sharedStretch, lastAfter, upTo, beyond}
 use Rattle.report_views.specs.Stretches.{one-refl, risesAfter, parted, last-append, shared-up, shared-both, those-append, among, among-those, last-among}
 use Rattle.report_views.specs.UpdateLaws.{log-rises, runs-rises, holds-runs, end-runs}
 use Rattle.report_views.specs.RunLaws as runs
@@ -49,7 +50,7 @@ short-last v base (p ∷ ps) all =
     let one : lastAfter start (base ++ p ∷ ps) ≡ lastAfter p ps = last-append start base (p ∷ ps) in
     let view : lastAfter p ps .view .0 ≡ v .number .0 =
     ⊎-elim (λ e. ap (λ (x : Position). x .view .0) e ∙ all p (or-left (among p ps) (one-refl p)))
-    (λ e. all (lastAfter p ps) (or-right (onePosition p (lastAfter p ps)) e)) (last-among p ps) in
+    (λ e. all (lastAfter p ps) (or-right (samePosition p (lastAfter p ps)) e)) (last-among p ps) in
     record { told = inr (ap (λ (x : Position). x .view .0) one ∙ view, sym one) }
 
 module _ (σ : List ℕ) (v : Layout) (t u : Termination) (held : ℕ) (d e : List ℕ) (few : shards σ ≤ 16) (slots : slotsOk σ v t held d ≡ true)

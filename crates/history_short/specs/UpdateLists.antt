@@ -8,7 +8,8 @@ use Rattle.base_laws.specs.Bools.{either, clash, same, no-true, or-left, or-rig
 use Rattle.base_laws.specs.Positions.{not-after-refl, not-after-total}
 use Rattle.base_ids.specs.declared.Position.{Position}
 use Rattle.base_ids.specs.Order.{notAfter, order-trans}
-use Rattle.report_views.specs.Updates.{updatesAfter, updatesIn, onePosition, lastAfter, thoseOf}
+use Rattle.report_views.specs.Slots.{samePosition}
+use Rattle.report_views.specs.Updates.{updatesAfter, updatesIn, lastAfter, thoseOf}
 use Rattle.report_views.specs.Stretches.{one-same, one-refl, risesAfter, rises-first, rises-rest, rises-on, rises-sooner, last-no-earlier, last-append, among}
 use Rattle.report_views.specs.UpdateLaws.{logAbove, log-count, log-rest, run-ends}
 
@@ -17,12 +18,12 @@ rises-above : (a p : Position) (ps : List Position) → risesAfter a ps ≡ true
 unfolding among
 rises-above a p [] h m = clash m refl
 rises-above a p (x ∷ ps) h m =
-    go (λ r. rises-above x p ps (rises-rest a x ps h) r) (or-holds (onePosition x p) (among p ps) m)
+    go (λ r. rises-above x p ps (rises-rest a x ps h) r) (or-holds (samePosition x p) (among p ps) m)
   where
     first : notAfter x a ≡ false
     first = rises-first a x ps h
 
-    go : (among p ps ≡ true → notAfter p x ≡ false) → (onePosition x p ≡ true) ⊎ (among p ps ≡ true) → notAfter p a ≡ false
+    go : (among p ps ≡ true → notAfter p x ≡ false) → (samePosition x p ≡ true) ⊎ (among p ps ≡ true) → notAfter p a ≡ false
     go on (inl e) = subst (λ (z : Position). notAfter z a ≡ false) (one-same x p e) first
     go on (inr e) =
         let up : notAfter a x ≡ true = ⊎-elim (λ z. clash z first) (λ z. z) (not-after-total (x .view .0) (x .k) (a .view .0) (a .k)) in
@@ -36,26 +37,26 @@ rising-same a [] [] h g e = refl
 rising-same a [] (q ∷ qs) h g e = clash (or-left (among q qs) (one-refl q)) (sym (e q))
 rising-same a (p ∷ ps) [] h g e = clash (or-left (among p ps) (one-refl p)) (e p)
 rising-same a (p ∷ ps) (q ∷ qs) h g e =
-    go (λ z f. rising-same p ps qs (rises-rest a p ps h) z f) (or-holds (onePosition q p) (among p qs)
+    go (λ z f. rising-same p ps qs (rises-rest a p ps h) z f) (or-holds (samePosition q p) (among p qs)
     (sym (e p) ∙ or-left (among p ps) (one-refl p)))
-    (or-holds (onePosition p q) (among q ps) (e q ∙ or-left (among q qs) (one-refl q)))
+    (or-holds (samePosition p q) (among q ps) (e q ∙ or-left (among q qs) (one-refl q)))
   where
     tails : p ≡ q → (x : Position) → among x ps ≡ among x qs
     tails d x =
         same (among x ps) (among x qs)
         (λ m. ⊎-elim (λ o. clash (not-after-refl (p .view .0) (p .k)) (lower o m)) (λ o. o)
-        (or-holds (onePosition q x) (among x qs) (sym (e x) ∙ or-right (onePosition p x) m)))
+        (or-holds (samePosition q x) (among x qs) (sym (e x) ∙ or-right (samePosition p x) m)))
         (λ m. ⊎-elim (λ o. clash (not-after-refl (q .view .0) (q .k)) (upper o m)) (λ o. o)
-        (or-holds (onePosition p x) (among x ps) (e x ∙ or-right (onePosition q x) m)))
+        (or-holds (samePosition p x) (among x ps) (e x ∙ or-right (samePosition q x) m)))
       where
-        lower : onePosition q x ≡ true → among x ps ≡ true → notAfter p p ≡ false
+        lower : samePosition q x ≡ true → among x ps ≡ true → notAfter p p ≡ false
         lower o m = subst (λ (z : Position). notAfter z p ≡ false) (sym (one-same q x o) ∙ sym d) (rises-above p x ps (rises-rest a p ps h) m)
 
-        upper : onePosition p x ≡ true → among x qs ≡ true → notAfter q q ≡ false
+        upper : samePosition p x ≡ true → among x qs ≡ true → notAfter q q ≡ false
         upper o m = subst (λ (z : Position). notAfter z q ≡ false) (sym (one-same p x o) ∙ d) (rises-above q x qs (rises-rest a q qs g) m)
 
     go : (risesAfter p qs ≡ true → ((x : Position) → among x ps ≡ among x qs) → ps ≡ qs)
-        → (onePosition q p ≡ true) ⊎ (among p qs ≡ true) → (onePosition p q ≡ true) ⊎ (among q ps ≡ true) → p ∷ ps ≡ q ∷ qs
+        → (samePosition q p ≡ true) ⊎ (among p qs ≡ true) → (samePosition p q ≡ true) ⊎ (among q ps ≡ true) → p ∷ ps ≡ q ∷ qs
     go on (inl o) k =
         let d : p ≡ q = sym (one-same q p o) in
         ap₂ (λ (x : Position) (xs : List Position). x ∷ xs) d (on (subst (λ (z : Position). risesAfter z qs ≡ true) (sym d) (rises-rest a q qs g))
@@ -88,18 +89,18 @@ last-greatest a p [] h m = clash m refl
 last-greatest a p (x ∷ ps) h m =
     ⊎-elim (λ e. subst (λ (z : Position). notAfter z (lastAfter x ps) ≡ true) (one-same x p e) (last-no-earlier x ps (rises-rest a x ps h)))
     (λ e. last-greatest x p ps (rises-rest a x ps h) e)
-    (or-holds (onePosition x p) (among p ps) m)
+    (or-holds (samePosition x p) (among p ps) m)
 
 pub all-those : (f : Position → Bool) (ps : List Position) → ((p : Position) → among p ps ≡ true → f p ≡ true) → thoseOf f ps ≡ ps
 unfolding thoseOf among
 all-those f [] h = refl
 all-those f (p ∷ ps) h =
-    rw (h p (or-left (among p ps) (one-refl p))) (ap (λ (xs : List Position). p ∷ xs) (all-those f ps (λ q m. h q (or-right (onePosition p q) m))))
+    rw (h p (or-left (among p ps) (one-refl p))) (ap (λ (xs : List Position). p ∷ xs) (all-those f ps (λ q m. h q (or-right (samePosition p q) m))))
 
 pub none-those : (f : Position → Bool) (ps : List Position) → ((p : Position) → among p ps ≡ true → f p ≡ false) → thoseOf f ps ≡ []
 unfolding thoseOf among
 none-those f [] h = refl
-none-those f (p ∷ ps) h = rw (h p (or-left (among p ps) (one-refl p))) (none-those f ps (λ q m. h q (or-right (onePosition p q) m)))
+none-those f (p ∷ ps) h = rw (h p (or-left (among p ps) (one-refl p))) (none-those f ps (λ q m. h q (or-right (samePosition p q) m)))
 
 -- the last update of a log is its last run
 pub last-updates : (a : Position) (v : ℕ) (rs : List Position) → logAbove v rs ≡ true → lastAfter a (updatesIn rs) ≡ lastAfter a rs

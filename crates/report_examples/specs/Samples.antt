@@ -21,12 +21,15 @@ reportUnder view node runs =
 abbrev pub caseReport : ℕ → List ℕ → List ℕ
 caseReport node runs = reportUnder 7 node runs
 
--- no runs, and a run of shard 1
+-- no runs, a run of shard 1, and two of them
 abbrev pub noRuns : List ℕ
 noRuns = 0 ∷ []
 
 abbrev pub run1 : ℕ → ℕ → List ℕ
 run1 view count = 4 ∷ 769 ∷ view ∷ count ∷ 0 ∷ []
+
+abbrev pub twoRuns1 : ℕ → ℕ → ℕ → ℕ → List ℕ
+twoRuns1 view count view' count' = 4 ∷ 769 ∷ view ∷ count ∷ 5 ∷ 769 ∷ view' ∷ count' ∷ 0 ∷ []
 
 -- the slot of a message: the message, then zeros
 abbrev pub slotOf : List ℕ → List ℕ
@@ -39,10 +42,19 @@ sixSlots report1 report3 report4 report5 rest =
     ++ slotOf report5
     ++ rest
 
--- its slots of nodes 0 to 5 alone
+-- a desk on which nodes 0 to 5 have reported
+abbrev pub deskWithReports : List ℕ → List ℕ → List ℕ → List ℕ → List ℕ
+deskWithReports report1 report3 report4 report5 = sixSlots report1 report3 report4 report5 (replicate 13312 0)
+
+-- the slots of nodes 0 to 5 in case A: logs are empty but for shard 1 of nodes 1 and 4
 unfoldable pub caseSlots : List ℕ
 caseSlots = sixSlots (caseReport 1 (run1 7 5)) (caseReport 3 noRuns) (caseReport 4 (run1 7 4)) (caseReport 5 noRuns) []
 
 -- view 7 of the runs
 abbrev pub view7 : Layout
 view7 = record { number = record { 0 = 7 }; members = 127; masks = 5 ∷ 82 ∷ 32 ∷ replicate 13 0 }
+
+-- contents with two runs of shard 0, or one, or none
+abbrev pub logOf : ℕ → List ℕ → Contents
+logOf len runs =
+    record { node = record { 0 = 0 }; view = record { 0 = 7 }; members = 1; len = len; body = runs }

@@ -5,7 +5,7 @@ use mathlib.Core.Bool.{true, not, _||_}
 use mathlib.Core.List.{List}
 use mathlib.Core.Logic.{⊎-elim}
 use mathlib.Core.Path.{_≡_, refl}
-use Rattle.base_laws.specs.Bools.{either, clash, or-left, or-right, not-of-false}
+use Rattle.base_laws.specs.Bools.{either, clash, and-both, or-left, or-right, not-of-false}
 use Rattle.base_laws.specs.Below.{all-of}
 use Rattle.base_laws.specs.Masks.{has}
 use Rattle.base_ids.specs.Refusals.{none, unless-ok, unless-rest, first-left, first-right}
@@ -17,13 +17,34 @@ use Rattle.report_views.specs.declared.Plan.{Plan}
 use Rattle.report_views.specs.declared.Phase.{Phase}
 use Rattle.report_views.specs.declared.Phase.the-variants.{Gathering, Ordered, Preparing, Committed}
 use Rattle.report_views.specs.Slots.{row12, row13, slotOk, slotsOk}
-use Rattle.report_views.specs.Soundness.{marksSound, planFits}
+use Rattle.report_views.specs.Soundness.{viewSound, nothingKept, keptSound, marksSound, planFits}
 use Rattle.report_latest.specs.Remembered.{row18}
 use Rattle.report_kept.specs.Reports.{keptRefusal, refusalBeside}
+use Rattle.plan_restart.specs.Kept.{nothing-number}
 use Rattle.state_planner.specs.declared.State.{State}
+use Rattle.state_planner.specs.States.{sound}
 use Rattle.state_planner.specs.Refusing.{isGathering, isOrdered, isPreparing, deskOk, entryRefusal, reportRefusal}
-pub use Rattle.plan_restart.specs.Kept.{KeptSound, kept-given, kept-test, kept-view}
-pub use Rattle.state_planner.specs.Entry.{Sound, sound-given, sound-test, Entered, entry-given, NodeTaken, node-given}
+pub use Rattle.plan_restart.specs.Kept.{KeptSound, kept-given}
+pub use Rattle.state_planner.specs.Entry.{Sound, sound-given, Entered, entry-given, NodeTaken, node-given}
+
+-- ---- what is kept, and the whole state
+
+module _ (σ : List ℕ) (v : Layout) (t : Termination) (held : ℕ) where
+  pub kept-test : KeptSound σ v t held → keptSound σ v t held ≡ true
+  unfolding keptSound
+  kept-test p =
+      and-both
+      (and-both (⊎-elim (λ e. or-left (viewSound σ v) e) (λ e. or-right (nothingKept v t held) e) (p .view-kept)) (p .term-sound))
+      (p .held-within)
+
+  -- a view with a number is kept soundly
+  pub kept-view : KeptSound σ v t held → (v .number .0 ≡ 0 → ⊥) → viewSound σ v ≡ true
+  kept-view p other = ⊎-elim (λ e. absurd (other (nothing-number σ v t held e))) (λ e. e) (p .view-kept)
+
+pub sound-test : (σ : List ℕ) (x : State) (d : List ℕ) → Sound σ x d → sound σ x d ≡ true
+unfolding sound
+sound-test σ x d p =
+    and-both (and-both (and-both (and-both (p .kept-sound) (p .slots-ok)) (p .marks-sound)) (p .latest-sound)) (p .plan-fits)
 
 -- ---- the held slots
 
