@@ -228,7 +228,7 @@ class Tree:
     def pass_on(self):
         """The names that a file hands on (`pub use`) stand for what they stand for in the file that they come from."""
         for file in self.of("specs"):
-            for use in (Used(0, text[len("pub ") :]) for text in file.texts if text.startswith("pub use ")):
+            for use in (Used(0, text.split("pub ", 1)[1]) for text in file.texts if re.match("(unfoldable )?pub use ", text)):
                 module = MODULE.fullmatch(use.path)
                 if module and not module.group(3):
                     own = self.items.get(module.groups()[:2], {})

@@ -29,7 +29,7 @@ use Rattle.report_views.specs.Slots.{sameView, row12, sameTermination, row13, t
 use Rattle.report_views.specs.Quorums.{candidate, greatest, best, target, able, holder}
 use Rattle.report_views.specs.Meets.{QuorumMet}
 use Rattle.report_views.specs.Cuts.{runsTo, sharedAfter, cutFrom}
-use Rattle.report_views.specs.Updates.{updatesAfter, updatesIn, thoseOf, onePosition}
+use Rattle.report_views.specs.Updates.{updatesAfter, updatesIn, thoseOf}
 use Rattle.report_views.specs.Stretches.{among}
 use Rattle.history_claims.specs.History.{History, KeepsRule, Full, viewAt}
 use Rattle.history_cases.specs.Told.{toldBy, implies, implies-at, rule-of, full-of, reportsTest}
@@ -239,7 +239,7 @@ othersPlan =
     (none-ended (settingsFor 131073) noTermination oneStored refl)
 
 log-one : allBelow 1 (λ s. sameLog (plannedLog onePlan s) (getD ((pos 1 1 ∷ []) ∷ []) s [])) ≡ true
-unfolding deskOfFour allBelow anyBelow lowest tabulate pairNotAfter place following bodyWord bodyOf contentsOf slot reportOf runsFrom runsOf updatesAfter updatesIn thoseOf onePosition sameLog
+unfolding deskOfFour allBelow anyBelow lowest tabulate pairNotAfter place following bodyWord bodyOf contentsOf slot reportOf runsFrom runsOf updatesAfter updatesIn thoseOf sameLog
 log-one = planned-of onePlan refl (pos 1 1 ∷ []) (pos 1 1) 0 target-four holder-four refl
 
 pub record MostNeeded : Type 0 where
@@ -263,11 +263,11 @@ pub record MostNeeded : Type 0 where
 
 ordered-one : (s : ℕ) → s < 1 → (n : ℕ) → n < 32 → has (maskAt (viewWith 2 13 1) s) n ≡ true → has 1 n ≡ true
     → (q : Position) → holdsAt deskOfFour s q n ≡ asOrdered (viewWith 1 15 3) noTermination 13 deskOfFour n s q
-unfolding deskOfFour allBelow anyBelow lowest tabulate place following bodyWord bodyOf contentsOf slot reportOf runsFrom runsOf updatesAfter updatesIn onePosition among ofEvery sameLog
+unfolding deskOfFour allBelow anyBelow lowest tabulate place following bodyWord bodyOf contentsOf slot reportOf runsFrom runsOf updatesAfter updatesIn among ofEvery sameLog
 ordered-one = ordered-of onePlan ((pos 1 1 ∷ []) ∷ []) log-one 1 deskOfFour refl
 
 keeps-one : (s : ℕ) → s < 1 → (p : Position) → Settled oneAfter s p → Settled oneStored s p
-unfolding deskOfFour deskOfOne allBelow anyBelow lowest tabulate place following bodyWord bodyOf contentsOf slot reportOf runsFrom runsOf updatesAfter updatesIn onePosition among ofEvery sameLog
+unfolding deskOfFour deskOfOne allBelow anyBelow lowest tabulate place following bodyWord bodyOf contentsOf slot reportOf runsFrom runsOf updatesAfter updatesIn among ofEvery sameLog
 keeps-one = keeps-of 1 oneViews (15 ∷ 1 ∷ []) deskOfFour oneViews (15 ∷ 1 ∷ []) deskOfOne 0 (omega arith) refl
 
 logged-one : implies (has 1) (λ n. holdsAt deskOfOne 0 (pos 2 1) n) ≡ true
@@ -369,7 +369,7 @@ pub record OrderedNeeded : Type 0 where
   pub lost : holdsAt deskUnfetched 0 (pos 1 1) (holder (viewWith 2 13 5) noTermination 12 deskUnfetched 0) ≡ false
 
 log-four : allBelow 1 (λ s. sameLog (plannedLog fourPlan s) (getD ((pos 1 1 ∷ []) ∷ []) s [])) ≡ true
-unfolding deskOfFour allBelow anyBelow lowest tabulate pairNotAfter place following bodyWord bodyOf contentsOf slot reportOf runsFrom runsOf updatesAfter updatesIn thoseOf onePosition sameLog
+unfolding deskOfFour allBelow anyBelow lowest tabulate pairNotAfter place following bodyWord bodyOf contentsOf slot reportOf runsFrom runsOf updatesAfter updatesIn thoseOf sameLog
 log-four = planned-of fourPlan refl (pos 1 1 ∷ []) (pos 1 1) 0 target-four holder-four refl
 
 logged-four : implies (has 3) (λ n. holdsAt deskOfFour 0 (pos 1 1) n) ≡ true
@@ -381,7 +381,7 @@ unfolding deskUnfetched allBelow anyBelow lowest tabulate place following bodyWo
 lacks-four = refl
 
 unordered-four : CarriedOut (settingsFor 131073) (viewWith 1 15 3) noTermination 13 deskOfFour (viewWith 2 13 5) fourBefore unfetched → ⊥
-unfolding among onePosition
+unfolding among
 unordered-four c =
     clash
     (c .ordered 0 (omega arith) 2 (omega arith) refl refl (pos 1 1)
@@ -389,7 +389,7 @@ unordered-four c =
     lacks-four
 
 pub ordered-needed : OrderedNeeded
-unfolding deskOfFour deskUnfetched ones onesIn allBelow anyBelow lowest tabulate place following bodyWord bodyOf contentsOf reaches holds slot reportOf onePosition among
+unfolding deskOfFour deskUnfetched ones onesIn allBelow anyBelow lowest tabulate place following bodyWord bodyOf contentsOf reaches holds slot reportOf among
 ordered-needed =
     record {
       orderly = first-orderly (viewWith 1 15 3) (fourBefore .logged) (fourBefore .updated);
@@ -510,7 +510,7 @@ abbrev partedLog : List (List Position)
 partedLog = (pos 5 1 ∷ pos 5 2 ∷ pos 5 3 ∷ pos 6 1 ∷ pos 6 2 ∷ []) ∷ []
 
 log-parted : allBelow 1 (λ s. sameLog (plannedLog partedPlan s) (getD partedLog s [])) ≡ true
-unfolding deskParted allBelow anyBelow lowest tabulate pairNotAfter place following bodyWord bodyOf contentsOf slot reportOf runsFrom runsOf updatesAfter updatesIn thoseOf onePosition sameLog
+unfolding deskParted allBelow anyBelow lowest tabulate pairNotAfter place following bodyWord bodyOf contentsOf slot reportOf runsFrom runsOf updatesAfter updatesIn thoseOf sameLog
 log-parted = planned-of partedPlan refl (getD partedLog 0 []) (pos 6 2) 0 target-parted holder-parted refl
 
 logged-parted : implies (has 3) (λ n. holdsAt deskParted 0 (pos 6 2) n) ≡ true
@@ -518,11 +518,11 @@ unfolding deskParted allBelow anyBelow lowest tabulate place following bodyWord 
 logged-parted = refl
 
 others-cut : (n : ℕ) → (n ≡ 1 → ⊥) → (q : Position) → holdsAt deskCut 0 q n ≡ holdsAt deskParted 0 q n
-unfolding deskParted deskCut allBelow anyBelow lowest tabulate place following bodyWord bodyOf contentsOf slot reportOf runsFrom runsOf updatesAfter updatesIn onePosition among ofEvery sameLog
+unfolding deskParted deskCut allBelow anyBelow lowest tabulate place following bodyWord bodyOf contentsOf slot reportOf runsFrom runsOf updatesAfter updatesIn among ofEvery sameLog
 others-cut = others-alike deskParted deskCut 0 1 2 refl refl
 
 kept-cut : (q : Position) → holdsAt deskCut 0 q 1 ≡ (notAfter q (pos 5 2) && holdsAt deskParted 0 q 1)
-unfolding deskParted deskCut allBelow anyBelow lowest tabulate place following bodyWord bodyOf contentsOf slot reportOf runsFrom runsOf updatesAfter updatesIn onePosition among ofEvery sameLog pairNotAfter thoseOf
+unfolding deskParted deskCut allBelow anyBelow lowest tabulate place following bodyWord bodyOf contentsOf slot reportOf runsFrom runsOf updatesAfter updatesIn among ofEvery sameLog pairNotAfter thoseOf
 kept-cut = kept-alike deskParted deskCut 0 1 (pos 5 2) refl
 
 had-cut : holdsAt deskParted 0 (pos 6 2) 1 ≡ true
@@ -534,14 +534,14 @@ unfolding deskCut allBelow anyBelow lowest tabulate place following bodyWord bod
 lacks-cut = refl
 
 unlike-cut : GivenUp (settingsFor 131073) (viewWith 7 7 3) noTermination 3 deskParted (viewWith 8 3 3) parted halfDone → ⊥
-unfolding among onePosition
+unfolding among
 unlike-cut g =
     ⊎-elim (λ e. clash (e (pos 6 2) ∙ had-cut) lacks-cut)
     (λ e. clash (e .1 (pos 6 2) ∙ asked-of partedPlan partedLog log-parted 0 (omega arith) 1 (omega arith) refl (pos 6 2)) lacks-cut)
     (g .updated 0 (omega arith) 1 (omega arith))
 
 pub updated-needed : UpdatedNeeded
-unfolding deskParted deskCut ones onesIn allBelow anyBelow lowest tabulate place following bodyWord bodyOf contentsOf reaches holds slot reportOf onePosition among runsFrom runsOf runsTo sharedAfter cutFrom
+unfolding deskParted deskCut ones onesIn allBelow anyBelow lowest tabulate place following bodyWord bodyOf contentsOf reaches holds slot reportOf among runsFrom runsOf runsTo sharedAfter cutFrom
 updated-needed =
     record {
       orderly = first-orderly (viewWith 7 7 3) (parted .logged) (parted .updated);

@@ -22,11 +22,11 @@ use Rattle.report_views.specs.declared.Layout.{Layout}
 use Rattle.report_views.specs.declared.Termination.{Termination}
 use Rattle.report_views.specs.Logs.{holds}
 use Rattle.report_views.specs.Reports.{slot, reportOf, viewOf, holdsAt, maskAt, positionAt}
-use Rattle.report_views.specs.Slots.{slotsOk}
+use Rattle.report_views.specs.Slots.{samePosition, slotsOk}
 use Rattle.report_views.specs.Quorums.{target, holder}
 use Rattle.report_views.specs.Meets.{QuorumMet, slot-given, report-records, candidate-given, holder-given, able-candidate}
 use Rattle.report_views.specs.Cuts.{cut}
-use Rattle.report_views.specs.Updates.{updatesAt, upTo, onePosition}
+use Rattle.report_views.specs.Updates.{updatesAt, upTo}
 use Rattle.report_views.specs.Stretches.{among, among-those, one-same}
 use Rattle.report_views.specs.UpdateLaws.{holds-runs}
 use Rattle.report_views.specs.RunLaws as runs
@@ -49,14 +49,14 @@ every-at f [] h p e = clash e refl
 every-at f (q ∷ ps) h p e =
     ⊎-elim (λ o. subst (λ (x : Position). f x ≡ true) (one-same q p o) (and-left (f q) (ofEvery f ps) h))
     (every-at f ps (and-right (f q) (ofEvery f ps) h) p)
-    (or-holds (onePosition q p) (among p ps) e)
+    (or-holds (samePosition q p) (among p ps) e)
 
 -- two lists are one
 unfoldable pub sameLog : List Position → List Position → Bool
 sameLog [] [] = true
 sameLog [] (q ∷ qs) = false
 sameLog (p ∷ ps) [] = false
-sameLog (p ∷ ps) (q ∷ qs) = onePosition p q && sameLog ps qs
+sameLog (p ∷ ps) (q ∷ qs) = samePosition p q && sameLog ps qs
 
 same-log : (ps qs : List Position) → sameLog ps qs ≡ true → ps ≡ qs
 unfolding sameLog
@@ -64,7 +64,7 @@ same-log [] [] h = refl
 same-log [] (q ∷ qs) h = clash h refl
 same-log (p ∷ ps) [] h = clash h refl
 same-log (p ∷ ps) (q ∷ qs) h =
-    ap₂ _∷_ (one-same p q (and-left (onePosition p q) (sameLog ps qs) h)) (same-log ps qs (and-right (onePosition p q) (sameLog ps qs) h))
+    ap₂ _∷_ (one-same p q (and-left (samePosition p q) (sameLog ps qs) h)) (same-log ps qs (and-right (samePosition p q) (sameLog ps qs) h))
 
 -- logs that are one list hold the same
 same-holds : (d e : List ℕ) (s n : ℕ) → sameLog (updatesAt e s n) (updatesAt d s n) ≡ true → (q : Position) → holdsAt e s q n ≡ holdsAt d s q n

@@ -34,7 +34,7 @@ use Rattle.report_views.specs.Reports.{slot, reportOf, holdsAt, maskAt}
 use Rattle.report_views.specs.Slots.{sameView, row12, sameTermination, row13, termKept, slotOk, slotsOk}
 use Rattle.report_views.specs.Quorums.{candidate, greatest, best, target, able, holder, majority, firstUnheld, quorumOf, numberOf}
 use Rattle.report_views.specs.Meets.{QuorumMet}
-use Rattle.report_views.specs.Updates.{updatesAfter, updatesIn, thoseOf, onePosition}
+use Rattle.report_views.specs.Updates.{updatesAfter, updatesIn, thoseOf}
 use Rattle.report_views.specs.Stretches.{among}
 use Rattle.history_claims.specs.History.{History, KeepsRule, True, numberAt}
 use Rattle.history_cases.specs.Told.{toldBy, implies, implies-at, rule-of, full-of, trueTest, true-somewhere, reportsTest, reports-of}
@@ -127,12 +127,12 @@ otherPlan =
     (none-ended (settingsFor 2) noTermination fiveBefore refl)
 
 log-other : allBelow 1 (λ s. sameLog (plannedLog otherPlan s) (getD ((pos 2 1 ∷ []) ∷ []) s [])) ≡ true
-unfolding deskOfFive allBelow anyBelow lowest tabulate pairNotAfter place following bodyWord bodyOf contentsOf slot reportOf runsFrom runsOf updatesAfter updatesIn thoseOf onePosition sameLog
+unfolding deskOfFive allBelow anyBelow lowest tabulate pairNotAfter place following bodyWord bodyOf contentsOf slot reportOf runsFrom runsOf updatesAfter updatesIn thoseOf sameLog
 log-other = planned-of otherPlan refl (pos 2 1 ∷ []) (pos 2 1) 1 target-other holder-other refl
 
 ordered-other : (s : ℕ) → s < 1 → (n : ℕ) → n < 32 → has (maskAt (viewWith 3 11 10) s) n ≡ true → has 11 n ≡ true
     → (q : Position) → holdsAt deskOfBoth s q n ≡ asOrdered (viewWith 2 31 6) noTermination 11 deskOfFive n s q
-unfolding deskOfBoth allBelow anyBelow lowest tabulate place following bodyWord bodyOf contentsOf slot reportOf runsFrom runsOf updatesAfter updatesIn onePosition among ofEvery sameLog
+unfolding deskOfBoth allBelow anyBelow lowest tabulate place following bodyWord bodyOf contentsOf slot reportOf runsFrom runsOf updatesAfter updatesIn among ofEvery sameLog
 ordered-other = ordered-of otherPlan ((pos 2 1 ∷ []) ∷ []) log-other 11 deskOfBoth refl
 
 pub carried-other : CarriedOut (settingsFor 2) (viewWith 2 31 6) noTermination 11 deskOfFive (viewWith 3 11 10) fiveBefore otherAfter
@@ -148,7 +148,7 @@ carried-other =
     }
 
 keeps-other : (s : ℕ) → s < 1 → (p : Position) → Settled otherAfter s p → Settled otherStored s p
-unfolding deskOfBoth deskBothStored allBelow anyBelow lowest tabulate place following bodyWord bodyOf contentsOf slot reportOf runsFrom runsOf updatesAfter updatesIn onePosition among ofEvery sameLog
+unfolding deskOfBoth deskBothStored allBelow anyBelow lowest tabulate place following bodyWord bodyOf contentsOf slot reportOf runsFrom runsOf updatesAfter updatesIn among ofEvery sameLog
 keeps-other = keeps-of 1 otherViews (31 ∷ 11 ∷ []) deskOfBoth otherViews (31 ∷ 11 ∷ []) deskBothStored 1 (omega arith) refl
 
 pub served-other : Serves 1 otherAfter otherStored
@@ -335,11 +335,11 @@ stalePlan =
     (none-ended (settingsFor 2) noTermination staleBefore refl)
 
 log-stale : allBelow 1 (λ s. sameLog (plannedLog stalePlan s) (getD ((pos 1 1 ∷ pos 2 1 ∷ []) ∷ []) s [])) ≡ true
-unfolding deskOfStale allBelow anyBelow lowest tabulate pairNotAfter place following bodyWord bodyOf contentsOf slot reportOf runsFrom runsOf updatesAfter updatesIn thoseOf onePosition sameLog
+unfolding deskOfStale allBelow anyBelow lowest tabulate pairNotAfter place following bodyWord bodyOf contentsOf slot reportOf runsFrom runsOf updatesAfter updatesIn thoseOf sameLog
 log-stale = planned-of stalePlan refl (pos 1 1 ∷ pos 2 1 ∷ []) (pos 2 1) 2 target-stale holder-stale refl
 
 given-up-stale : GivenUp (settingsFor 2) (viewWith 2 14 6) noTermination 13 deskOfStale (viewWith 3 13 5) staleBefore staleAhead
-unfolding deskOfStale deskAhead allBelow anyBelow lowest tabulate place following bodyWord bodyOf contentsOf slot reportOf runsFrom runsOf updatesAfter updatesIn onePosition among ofEvery sameLog
+unfolding deskOfStale deskAhead allBelow anyBelow lowest tabulate place following bodyWord bodyOf contentsOf slot reportOf runsFrom runsOf updatesAfter updatesIn among ofEvery sameLog
 given-up-stale = given-up-of staleViews (15 ∷ 14 ∷ []) deskOfStale stalePlan ((pos 1 1 ∷ pos 2 1 ∷ []) ∷ []) log-stale 1 deskAhead refl refl
 
 reports-ahead : reportsTest (settingsFor 2) staleViews (15 ∷ 14 ∷ []) deskAhead 1 [] ≡ true

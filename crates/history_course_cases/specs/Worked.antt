@@ -31,7 +31,7 @@ use Rattle.report_views.specs.Slots.{sameView, row12, sameTermination, row13, t
 use Rattle.report_views.specs.Quorums.{candidate, greatest, best, target, able, holder}
 use Rattle.report_views.specs.Meets.{QuorumMet}
 use Rattle.report_views.specs.Cuts.{runsTo, sharedAfter, cutFrom}
-use Rattle.report_views.specs.Updates.{updatesAfter, updatesIn, thoseOf, onePosition}
+use Rattle.report_views.specs.Updates.{updatesAfter, updatesIn, thoseOf}
 use Rattle.report_views.specs.Stretches.{among}
 use Rattle.place_groups.specs.Placements.{meetsSet, setsIn, shardValid, groupValidAt, groupValid, groupMovesAt, groupMoves}
 use Rattle.history_claims.specs.History.{History, Full}
@@ -119,7 +119,7 @@ abbrev pub firstLog : List (List Position)
 firstLog = (pos 1 1 ∷ pos 1 2 ∷ []) ∷ []
 
 log-first : allBelow 1 (λ s. sameLog (plannedLog givenUpPlan s) (getD firstLog s [])) ≡ true
-unfolding deskAtFirst allBelow anyBelow lowest tabulate pairNotAfter place following bodyWord bodyOf contentsOf slot reportOf runsFrom runsOf updatesAfter updatesIn thoseOf onePosition sameLog
+unfolding deskAtFirst allBelow anyBelow lowest tabulate pairNotAfter place following bodyWord bodyOf contentsOf slot reportOf runsFrom runsOf updatesAfter updatesIn thoseOf sameLog
 log-first = planned-of givenUpPlan refl (pos 1 1 ∷ pos 1 2 ∷ []) (pos 1 2) 2 target-first holder-first refl
 
 -- it is given up when node 0 has fetched update 2 and nobody has logged view 2
@@ -130,7 +130,7 @@ abbrev pub afterGivenUp : History
 afterGivenUp = toldBy firstViews (7 ∷ []) deskGivenUp
 
 pub given-up : GivenUp courseSettings (viewOfAll 1 7) noTermination 5 deskAtFirst (viewOfAll 2 5) atFirst afterGivenUp
-unfolding deskAtFirst deskGivenUp allBelow anyBelow lowest tabulate place following bodyWord bodyOf contentsOf slot reportOf runsFrom runsOf updatesAfter updatesIn onePosition among ofEvery sameLog
+unfolding deskAtFirst deskGivenUp allBelow anyBelow lowest tabulate place following bodyWord bodyOf contentsOf slot reportOf runsFrom runsOf updatesAfter updatesIn among ofEvery sameLog
 given-up = given-up-of firstViews (7 ∷ []) deskAtFirst givenUpPlan firstLog log-first 1 deskGivenUp refl refl
 
 -- ---- nodes 0 and 1 are restarted: node 1 is the holder, node 0 keeps two updates and fetches the third
@@ -171,7 +171,7 @@ abbrev pub secondLog : List (List Position)
 secondLog = (pos 1 1 ∷ pos 1 2 ∷ pos 1 3 ∷ []) ∷ []
 
 log-second : allBelow 1 (λ s. sameLog (plannedLog carriedPlan s) (getD secondLog s [])) ≡ true
-unfolding deskGivenUp allBelow anyBelow lowest tabulate pairNotAfter place following bodyWord bodyOf contentsOf slot reportOf runsFrom runsOf updatesAfter updatesIn thoseOf onePosition sameLog
+unfolding deskGivenUp allBelow anyBelow lowest tabulate pairNotAfter place following bodyWord bodyOf contentsOf slot reportOf runsFrom runsOf updatesAfter updatesIn thoseOf sameLog
 log-second = planned-of carriedPlan refl (pos 1 1 ∷ pos 1 2 ∷ pos 1 3 ∷ []) (pos 1 3) 1 target-second holder-second refl
 
 -- it is carried out: both have logged view 2
@@ -186,7 +186,7 @@ afterCarried = toldBy laterViews (7 ∷ 3 ∷ []) deskCarried
 
 pub ordered-second : (s : ℕ) → s < 1 → (n : ℕ) → n < 32 → has (maskAt (viewOfAll 2 3) s) n ≡ true → has 3 n ≡ true
     → (q : Position) → holdsAt deskCarried s q n ≡ asOrdered (viewOfAll 1 7) noTermination 3 deskGivenUp n s q
-unfolding deskCarried allBelow anyBelow lowest tabulate place following bodyWord bodyOf contentsOf slot reportOf runsFrom runsOf updatesAfter updatesIn onePosition among ofEvery sameLog
+unfolding deskCarried allBelow anyBelow lowest tabulate place following bodyWord bodyOf contentsOf slot reportOf runsFrom runsOf updatesAfter updatesIn among ofEvery sameLog
 ordered-second = ordered-of carriedPlan secondLog log-second 3 deskCarried refl
 
 pub remembered-second : (n i : ℕ) → i < 1 → has (getD (7 ∷ []) i 0) n ≡ true → has (getD (7 ∷ 3 ∷ []) i 0) n ≡ true
@@ -216,7 +216,7 @@ unfolding allBelow anyBelow ones onesIn
 orderly-run = orderly-of afterRun (3 ∷ []) refl refl refl
 
 pub served : Serves 1 afterCarried afterRun
-unfolding deskCarried deskServed allBelow anyBelow lowest tabulate place following bodyWord bodyOf contentsOf slot reportOf runsFrom runsOf updatesAfter updatesIn onePosition among ofEvery sameLog
+unfolding deskCarried deskServed allBelow anyBelow lowest tabulate place following bodyWord bodyOf contentsOf slot reportOf runsFrom runsOf updatesAfter updatesIn among ofEvery sameLog
 served =
     record {
       begun = full-second;
@@ -259,7 +259,7 @@ next-last = next-of courseSettings (viewOfAll 2 3) 7 thirdView refl refl refl
 
 -- the termination ends the shard where node 0's log ends
 pub covers-last : Covers courseSettings endOfRun afterRun
-unfolding deskServed pairNotAfter allBelow anyBelow lowest tabulate place following bodyWord bodyOf contentsOf slot reportOf runsFrom runsOf updatesAfter updatesIn onePosition among ofEvery sameLog
+unfolding deskServed pairNotAfter allBelow anyBelow lowest tabulate place following bodyWord bodyOf contentsOf slot reportOf runsFrom runsOf updatesAfter updatesIn among ofEvery sameLog
 covers-last = covers-of courseSettings endOfRun laterViews (7 ∷ 3 ∷ []) deskServed 0 (omega arith) refl
 
 abbrev pub lastPlan : Restart 1 afterRun
@@ -318,7 +318,7 @@ pub record CourseRows : Type 0 where
   pub log-last : allBelow 1 (λ s. sameLog (plannedLog lastPlan s) (getD lastLog s [])) ≡ true
 
 pub course-rows : CourseRows
-unfolding deskGivenUp deskServed sizesOk nodesOk cap shardOk shardsOk settingsOk meetsSet setsIn shardValid groupValidAt groupValid groupMovesAt groupMoves countBelow sumBelow ones onesIn allBelow anyBelow lowest tabulate pairNotAfter place following bodyWord bodyOf contentsOf slot reportOf runsFrom runsOf updatesAfter updatesIn thoseOf onePosition sameLog runsTo sharedAfter cutFrom shardApart
+unfolding deskGivenUp deskServed sizesOk nodesOk cap shardOk shardsOk settingsOk meetsSet setsIn shardValid groupValidAt groupValid groupMovesAt groupMoves countBelow sumBelow ones onesIn allBelow anyBelow lowest tabulate pairNotAfter place following bodyWord bodyOf contentsOf slot reportOf runsFrom runsOf updatesAfter updatesIn thoseOf sameLog runsTo sharedAfter cutFrom shardApart
 course-rows =
     record {
       settings = refl;

@@ -2,6 +2,7 @@
 use Prim.Native.Nat.{ℕ, _-_}
 use mathlib.Core.List.{List, [], _∷_, _++_}
 use lib.ListN.{length, replicate}
+use Rattle.message_format.specs.declared.Contents.{Contents}
 use Rattle.report_views.specs.declared.Layout.{Layout}
 
 -- settings with a least group size and the needs of the three shards
@@ -46,13 +47,21 @@ sixSlots report1 report3 report4 report5 rest =
 abbrev pub deskWithReports : List ℕ → List ℕ → List ℕ → List ℕ → List ℕ
 deskWithReports report1 report3 report4 report5 = sixSlots report1 report3 report4 report5 (replicate 13312 0)
 
--- the slots of nodes 0 to 5 in case A: logs are empty but for shard 1 of nodes 1 and 4
+-- the desk of case A: logs are empty but for shard 1 of nodes 1 and 4
+unfoldable pub desk : List ℕ
+desk = deskWithReports (caseReport 1 (run1 7 5)) (caseReport 3 noRuns) (caseReport 4 (run1 7 4)) (caseReport 5 noRuns)
+
+-- its slots of nodes 0 to 5 alone
 unfoldable pub caseSlots : List ℕ
 caseSlots = sixSlots (caseReport 1 (run1 7 5)) (caseReport 3 noRuns) (caseReport 4 (run1 7 4)) (caseReport 5 noRuns) []
 
 -- view 7 of the runs
 abbrev pub view7 : Layout
 view7 = record { number = record { 0 = 7 }; members = 127; masks = 5 ∷ 82 ∷ 32 ∷ replicate 13 0 }
+
+-- a view of six members
+abbrev pub sixMembers : Layout
+sixMembers = record { number = record { 0 = 7 }; members = 63; masks = 5 ∷ 18 ∷ 32 ∷ replicate 13 0 }
 
 -- contents with two runs of shard 0, or one, or none
 abbrev pub logOf : ℕ → List ℕ → Contents
