@@ -3,7 +3,7 @@
 # make case-a            proves and builds the program restart, says how far it is, and runs it on that example
 # make test              proves every crate, tries the wrong programs of the gate and runs every test
 # make wrong-programs    tries the other wrong programs, of all crates or of CRATE=NAME
-# make lib               target/librestart.a and target/librestart.so.0, the proved library for C
+# make lib               target/librestart.a and target/librestart.so.1, the proved library for C
 # make example           target/c/service, the example service over it
 # make test-c            the tests in C: plainly, under valgrind, with sanitizers and as an installed library
 # make fuzz SECONDS=60   compares library and program with the reference on fresh seeds for that time
@@ -45,7 +45,7 @@ performance:
 # ---- The operators' tool: its program, its package and its page
 
 TOOLDIR ?= $(PREFIX)/share/restart
-SCHEMAS := explain.schema.json convert.schema.json
+SCHEMAS := explain.schema.json convert.schema.json publisher.schema.json
 TOOL_FILES := $(patsubst tools/%,%,$(wildcard tools/restart_text/*.py tools/restart_text/*/*.py))
 
 .PHONY: install-tool uninstall-tool
@@ -68,8 +68,9 @@ uninstall-tool:
 # ---- The library for C and what is built over it
 
 VERSION := $(shell sed -n 's/^\#define RESTART_VERSION "\(.*\)"/\1/p' include/restart.h)
-# The number in the shared library's name, raised when what was linked before would no longer run.
-SONUMBER := 0
+# The number in the shared library's name, raised when what was linked before would no longer run, and the first version that had it.
+SONUMBER := 1
+SINCE := 0.5.0
 SHARED := librestart.so.$(VERSION)
 ARCHIVE ?= target/staticlib/libc_planner.a
 PROGRAM ?= target/bin/restart
@@ -128,7 +129,7 @@ PKGCONFIGDIR := $(LIBDIR)/pkgconfig
 CMAKEDIR := $(LIBDIR)/cmake/restart
 # The functions that the header declares: each has a manual page of its own name.
 CALLS := $(shell sh c/names.sh)
-EXAMPLES := service.c settings.bin events.txt output.txt moves.bin moves.txt
+EXAMPLES := service.c settings.bin events.txt publishers.txt output.txt moves.bin moves.txt
 REPORTS := $(notdir $(wildcard examples/reports/*.bin))
 PAGES_1 := restart.1 restart-service.1 mondays.1
 PAGES_7 := restart.7 restart-model.7
@@ -143,7 +144,7 @@ $(CONFIGS:%=target/%): HERE = $(CMAKEDIR)
 $(MADE): target/%: c/%.in
 	mkdir -p $(@D)
 	sed -e 's|@PREFIX@|$(call from,$(HERE),$(PREFIX))|; s|@INCLUDEDIR@|$(call from,$(HERE),$(INCLUDEDIR))|' \
-	    -e 's|@VERSION@|$(VERSION)|; s|@SONUMBER@|$(SONUMBER)|' $< > $@
+	    -e 's|@VERSION@|$(VERSION)|; s|@SONUMBER@|$(SONUMBER)|; s|@SINCE@|$(SINCE)|' $< > $@
 
 .PHONY: $(MADE)
 install: lib target/c/service $(MADE) $(PROGRAM) $(MONDAYS)

@@ -26,7 +26,7 @@ static const char numbers[][WIDTH] = {
     "another view has the kept number",
     "another termination of the kept view",
     "the machine is not held, or marked already",
-    "unknown number", /* 15 */
+    "not allowed to this role",
     "a record names an unknown shard",
     "a record is out of sequence, missing or surplus",
     "the machine has reported a later view before",

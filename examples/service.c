@@ -6,13 +6,17 @@
  *
  * reads FOLDER/settings.bin, FOLDER/events.txt and the reports FOLDER/reports/NAME.bin. A line of
  * the events is `report NAME A`, `lost N`, `fetched N A` or `prepared N A`, where A is the attempt
- * that the machine's message belongs to. With SAVED, a folder, the leader saves after each event
- * and goes on from there when it is started again. Ends with 0 if the restart was committed, with 1
- * if not, with 2 if a file cannot be used.
+ * that the machine's message belongs to, or `page NAME G`: a publisher asks for the page of subgroup
+ * G. FOLDER/publishers.txt says which subgroup each publisher rents. With SAVED, a folder, the
+ * leader saves after each event and goes on from there when it is started again. Ends with 0 if the
+ * restart was committed, with 1 if not, with 2 if a file cannot be used.
  *
  * Every message of a restart carries the attempt's number, which rises whenever a plan is given up,
  * so that a late message is known and put aside. The number must never come again. It stands in the
  * saved file; a leader that can lose that file would start it at the clock's time.
+ *
+ * Every call over the state is made in a role. The leader's own events are the planner's. A request
+ * of a publisher is made in that publisher's role, and the library alone says what it may see.
  */
 #define _POSIX_C_SOURCE 200809L
 #include <restart.h>
@@ -36,10 +40,13 @@ struct leader {
     uint8_t desk[RESTART_DESK_BYTES];
 };
 
-/* What an event is lent. */
-#define LENT(leader)                                                                               \
-    (leader)->settings, (leader)->settings_len, (leader)->state, sizeof(leader)->state,            \
+/* What a call in this role is lent. */
+#define LENT_AS(role, leader)                                                                      \
+    role, (leader)->settings, (leader)->settings_len, (leader)->state, sizeof(leader)->state,      \
         (leader)->desk, sizeof(leader)->desk
+
+/* What the leader's own events are lent. */
+#define LENT(leader) LENT_AS(RESTART_PLANNER, leader)
 
 static uint32_t state_word(const struct leader *leader, size_t index)
 {
@@ -345,8 +352,8 @@ static void on_report(struct leader *leader, const char *report)
     decide(leader);
 }
 
-typedef uint32_t event(const uint8_t *, size_t, uint8_t *, size_t, const uint8_t *, size_t,
-                       uint32_t);
+typedef uint32_t event(uint32_t, const uint8_t *, size_t, uint8_t *, size_t, const uint8_t *,
+                       size_t, uint32_t);
 
 /* An event that names a machine. Where it gives a plan up, a new attempt begins. */
 static void on_machine(struct leader *leader, event *call, uint32_t node)
@@ -366,6 +373,72 @@ static void on_machine(struct leader *leader, event *call, uint32_t node)
     } else {
         printf("  accepted: all have, and the restart is %s\n", restart_phase_text(after));
     }
+}
+
+/* ---- Publishers ----
+ * A publisher rents a subgroup and may follow its restart: it gets that subgroup's page and nothing
+ * else. Who a request comes from is for the service to know: here by the name in the request, in a
+ * network by the connection, and never by a role that the caller names.
+ */
+
+/* The role that a publisher's requests are made in: that of a watcher of the subgroup that it rents.
+ * Whoever is not in the list has a word that is nobody's. */
+static uint32_t role_of(const struct leader *leader, const char *name)
+{
+    static char text[4096];
+    char who[64];
+    uint32_t subgroup;
+    int length = 0;
+    size_t count = read_file(leader->folder, "publishers.txt", (uint8_t *)text, sizeof text - 1);
+    text[count] = '\0';
+    for (const char *at = text; sscanf(at, "%63s %" SCNu32 "%n", who, &subgroup, &length) == 2;
+         at += length)
+        if (strcmp(who, name) == 0)
+            return restart_watcher(subgroup);
+    return 0;
+}
+
+/* What the publisher is sent, in words. It is made of the page alone. */
+static void print_page(const uint8_t *page)
+{
+    uint32_t found = restart_get_word(page, RESTART_PAGE_FOUND);
+    printf("  %s, view %" PRIu32 " is kept\n",
+           restart_phase_text(restart_get_word(page, RESTART_PAGE_PHASE)),
+           restart_get_word(page, RESTART_PAGE_VIEW));
+    for (uint32_t shard = 0; shard < RESTART_SHARDS; shard++) {
+        if (!(restart_get_word(page, RESTART_PAGE_SHARDS) >> shard & 1))
+            continue;
+        printf("    shard %" PRIu32, shard);
+        if (found) {
+            printf(" on machines");
+            print_nodes(restart_get_word(page, RESTART_PAGE_MASKS + shard));
+        }
+        printf(found ? ", " : ": ");
+        if (restart_get_word(page, RESTART_PAGE_KNOWN) >> shard & 1)
+            printf("log of machine %" PRIu32 " up to (%" PRIu32 ", %" PRIu32 ")\n",
+                   restart_get_word(page, RESTART_PAGE_HOLDERS + shard),
+                   restart_get_word(page, RESTART_PAGE_TARGETS + 2 * shard),
+                   restart_get_word(page, RESTART_PAGE_TARGETS + 2 * shard + 1));
+        else
+            printf("no machine that is back has its log\n");
+    }
+    if (found)
+        printf("    %" PRIu32 " moves\n", restart_get_word(page, RESTART_PAGE_MOVES));
+    else
+        printf("    the machines that are back cannot carry this subgroup\n");
+}
+
+/* A publisher asks for a page. State and desk are only read. */
+static void on_page(const struct leader *leader, const char *name, uint32_t subgroup)
+{
+    uint8_t page[RESTART_BUFFER_BYTES];
+    uint32_t role = role_of(leader, name);
+    uint32_t answer = restart_page(LENT_AS(role, leader), subgroup, page, sizeof page);
+    printf("page of subgroup %" PRIu32 " for %s\n", subgroup, name);
+    if (restart_is_refusal(answer))
+        print_refusal(answer);
+    else
+        print_page(page);
 }
 
 /* ---- Events from the file ---- */
@@ -404,7 +477,9 @@ static void take(struct leader *leader, const char *line)
     char what[16], argument[64], tag[16];
     uint32_t before = state_word(leader, RESTART_PHASE);
     int words = sscanf(line, "%15s %63s %15s", what, argument, tag);
-    if (words == 3) {
+    if (words == 3 && strcmp(what, "page") == 0) {
+        on_page(leader, argument, number_in(tag));
+    } else if (words == 3) {
         take_message(leader, what, argument, tag);
     } else if (words == 2 && strcmp(what, "lost") == 0) {
         printf("lost %s\n", argument);
@@ -444,7 +519,7 @@ static void begin(struct leader *leader)
         if (state_word(leader, RESTART_PHASE) == RESTART_ORDERED)
             send_orders(leader);
     } else {
-        restart_fresh(leader->state, sizeof leader->state);
+        restart_fresh(RESTART_PLANNER, leader->state, sizeof leader->state);
         leader->attempt = 1;
         printf("start\n");
         decide(leader);

@@ -14,14 +14,18 @@
  *
  * Every call answers with a word: see "Answers". A refused call changes no lent byte, and its
  * number says why: of those that are named at the call the first that applies, in the order of
- * enum restart_number. That order is 1, 2, 3, 4, 19, 20, 21, 5, 6, 7, 8, 9, 16, 17, 10, 11, 18, 12,
- * 13, 14, not the order of their size.
+ * enum restart_number. That order is 1, 2, 15, 3, 4, 19, 20, 21, 5, 6, 7, 8, 9, 16, 17, 10, 11, 18,
+ * 12, 13, 14, not the order of their size.
  *
- * What is proved: the calls under "Settings and messages", "Open views" and "Events" are proved
- * functions. For any bytes whatever they end, touch nothing but what was lent, and answer and leave
- * what their definitions say. The functions under "Answers", "Words in lent bytes" and "Versions and
- * texts" are plain C beside them (c/restart_extra.c): tested, not proved, and never called by a
- * proved one.
+ * Every call over a restart's state has the caller's role as its first argument: see "Roles". The
+ * planner may make every call; a watcher of one subgroup may read that subgroup's page and nothing
+ * else (restart_page), and gets number 15 from every other call.
+ *
+ * What is proved: the calls under "Settings and messages", "Open views", "Events" and "Pages" are
+ * proved functions. For any bytes whatever they end, touch nothing but what was lent, and answer and
+ * leave what their definitions say. The functions under "Roles", "Answers", "Words in lent bytes"
+ * and "Versions and texts" are plain C beside them (c/restart_extra.c): tested, not proved, and never
+ * called by a proved one.
  *
  * Stack: a call needs up to RESTART_STACK_BYTES of it. No call allocates memory.
  *
@@ -46,10 +50,10 @@ extern "C" {
 /* ---- Version ---- */
 
 #define RESTART_VERSION_MAJOR 0
-#define RESTART_VERSION_MINOR 4
-#define RESTART_VERSION_PATCH 3
-#define RESTART_VERSION "0.4.3"
-#define RESTART_VERSION_NUMBER 403 /* major * 10000 + minor * 100 + patch */
+#define RESTART_VERSION_MINOR 5
+#define RESTART_VERSION_PATCH 0
+#define RESTART_VERSION "0.5.0"
+#define RESTART_VERSION_NUMBER 500 /* major * 10000 + minor * 100 + patch */
 
 /* Of the settings, the messages and the state. It is raised when any of their words changes its
  * meaning; save it beside a state, and start fresh where it differs. */
@@ -57,7 +61,7 @@ extern "C" {
 
 /* ---- What the compiler can check ----
  * No pointer is null, and every answer is looked at; restart_fresh alone cannot be refused where
- * its length is right.
+ * the role is the planner's and the length is right.
  */
 
 #if defined(__GNUC__) || defined(__clang__)
@@ -89,6 +93,7 @@ extern "C" {
 #define RESTART_SLOT_WORDS 512
 #define RESTART_BUFFER_WORDS 512   /* a buffer that a message is written to */
 #define RESTART_CONTENTS_WORDS 512 /* a buffer that contents are written to */
+#define RESTART_PAGE_WORDS 72      /* a subgroup's page; its buffer has 512 words */
 
 #define RESTART_SETTINGS_BYTES 208
 #define RESTART_STATE_BYTES 640
@@ -108,6 +113,26 @@ extern "C" {
  * has exactly as many nodes as it needs. A greater cap lets old members stay that are not needed.
  */
 
+/* ---- Roles ----
+ * Who a call is made for, as a word: kind * 256 + subgroup. Every other word, 0 among them, is
+ * nobody's and gets number 15 from every call that takes a role. The library believes the word: the
+ * service knows who asks it, and passes on to each caller's calls that caller's own word.
+ */
+
+enum restart_role {
+    /* every call, and the page of every subgroup */
+    RESTART_PLANNER = 256,
+    /* + subgroup: the page of this subgroup and nothing else */
+    RESTART_WATCHER = 512
+};
+
+/* The role of a watcher of a subgroup; of a subgroup above 3 a word that is nobody's. */
+RESTART_INLINE uint32_t restart_watcher(uint32_t subgroup)
+{
+    return (uint32_t)RESTART_WATCHER +
+           (subgroup < RESTART_SUBGROUPS ? subgroup : (uint32_t)RESTART_SUBGROUPS);
+}
+
 /* ---- Numbers of refusals, in the order in which they are checked ----
  * Numbers 8, 9, 16 and 17 have an index, that of the record looked at (restart_has_index). Within
  * one number the first bad record on the chain is told.
@@ -118,6 +143,8 @@ enum restart_number {
     RESTART_WRONG_LENT = 1,
     /* the settings, or their length; also a cap that is neither 0 nor from the need to 16 */
     RESTART_WRONG_SETTINGS = 2,
+    /* the role may not make this call or read this page; a page of a subgroup above 3 */
+    RESTART_NOT_ALLOWED = 15,
     /* state not 640 bytes, words that are no state, or one that settings and desk contradict */
     RESTART_UNSOUND_STATE = 3,
     /* the event is not for this phase */
@@ -233,6 +260,33 @@ enum restart_phase {
     RESTART_ORDERED = 1,
     RESTART_PREPARING = 2,
     RESTART_COMMITTED = 3
+};
+
+/* ---- The words of a subgroup's page ----
+ * What is not there is zero, and so are the places of shards that are not the subgroup's and the
+ * words that have no name, up to 512.
+ */
+
+enum restart_page_word {
+    /* one of enum restart_phase */
+    RESTART_PAGE_PHASE = 0,
+    /* number of the kept view; 0: none */
+    RESTART_PAGE_VIEW = 1,
+    /* mask of the subgroup's shards: bit s for shard s */
+    RESTART_PAGE_SHARDS = 2,
+    /* mask of those that have a holder */
+    RESTART_PAGE_KNOWN = 3,
+    /* 1 if a placement of the subgroup exists, else 0 */
+    RESTART_PAGE_FOUND = 4,
+    /* its moves */
+    RESTART_PAGE_MOVES = 5,
+    /* 16 words: for each shard that has a holder the node whose log is taken */
+    RESTART_PAGE_HOLDERS = 8,
+    /* 32 words: for each shard that has a holder the target, up to which that log is taken, view
+     * and k */
+    RESTART_PAGE_TARGETS = 24,
+    /* 16 words: each shard's members mask in the placement */
+    RESTART_PAGE_MASKS = 56
 };
 
 /* ---- Records of a message: word 0 of a record after the head is kind * 256 + shard ---- */
@@ -495,25 +549,26 @@ uint32_t restart_open_view(uint32_t members, uint32_t known, uint32_t have, uint
  *   15  what an order cuts and fetches is written beside the logs until the new view is sure
  *   16  open views are settled (restart_open_view) before anything is reported
  *   17  the running service keeps what is stored; the number of shards stays
+ *   18  a call is made in the role of whoever asked for it; a watcher gets its page and nothing else
  * What is on disk when: restart(3), PERSISTENCE. A leader needs no file.
  */
 
 /*
  * Stores the fresh state: gathering, nothing held, no view kept, none remembered of any node.
- * Answers 0, or number 3 (state not 640 bytes).
+ * Answers 0, or one of the numbers 15, 3 (state not 640 bytes).
  * Changes the state.
  */
-uint32_t restart_fresh(uint8_t *state, size_t state_len) RESTART_NONNULL;
+uint32_t restart_fresh(uint32_t role, uint8_t *state, size_t state_len) RESTART_NONNULL;
 
 /*
  * Whether the bytes are a state that is sound with these settings and this desk, in whatever phase
  * it is. Every event asks the same of its state first; a leader that takes up what it has saved can
  * ask before anything else.
- * Answers 0, or one of the numbers 1 to 3.
+ * Answers 0, or one of the numbers 1, 2, 15, 3.
  * Changes nothing.
  */
-uint32_t restart_check_state(const uint8_t *settings, size_t settings_len, const uint8_t *state,
-                             size_t state_len, const uint8_t *desk,
+uint32_t restart_check_state(uint32_t role, const uint8_t *settings, size_t settings_len,
+                             const uint8_t *state, size_t state_len, const uint8_t *desk,
                              size_t desk_len) RESTART_NONNULL RESTART_CHECKED;
 
 /*
@@ -522,10 +577,10 @@ uint32_t restart_check_state(const uint8_t *settings, size_t settings_len, const
  * view, with its termination or none; an equal one adds its termination if none is kept. The
  * greatest view that the node has reported is remembered, and a report of a smaller one is refused
  * with number 18.
- * Answers 0, or one of the numbers 1 to 9, 16, 17, 10, 11, 18, 12, 13.
+ * Answers 0, or one of the numbers 1, 2, 15, 3 to 9, 16, 17, 10, 11, 18, 12, 13.
  * Changes state and desk.
  */
-uint32_t restart_report(const uint8_t *settings, size_t settings_len, uint8_t *state,
+uint32_t restart_report(uint32_t role, const uint8_t *settings, size_t settings_len, uint8_t *state,
                         size_t state_len, uint8_t *desk, size_t desk_len, const uint8_t *message,
                         size_t message_len) RESTART_NONNULL RESTART_CHECKED;
 
@@ -533,10 +588,10 @@ uint32_t restart_report(const uint8_t *settings, size_t settings_len, uint8_t *s
  * Gives up a held node. While gathering the node is no longer held. While ordered or preparing
  * nothing is held any more, the plan and all marks go and gathering starts again: every machine
  * has to report anew. Kept view and termination remain, and so do the views that are remembered.
- * Answers 0, or one of the numbers 1 to 4, 6, 14.
+ * Answers 0, or one of the numbers 1, 2, 15, 3, 4, 6, 14.
  * Changes the state.
  */
-uint32_t restart_drop(const uint8_t *settings, size_t settings_len, uint8_t *state,
+uint32_t restart_drop(uint32_t role, const uint8_t *settings, size_t settings_len, uint8_t *state,
                       size_t state_len, const uint8_t *desk, size_t desk_len,
                       uint32_t node) RESTART_NONNULL RESTART_CHECKED;
 
@@ -548,10 +603,10 @@ uint32_t restart_drop(const uint8_t *settings, size_t settings_len, uint8_t *sta
  * ascending, the smaller list in dictionary order wins at the first shard that differs, and a list
  * comes before those that go on from it. So the same settings, kept view, termination and held
  * reports give the same plan.
- * Answers class 2 (a plan) or class 3 (a wait), or one of the numbers 1 to 4.
+ * Answers class 2 (a plan) or class 3 (a wait), or one of the numbers 1, 2, 15, 3, 4.
  * Changes the state where there is a plan.
  */
-uint32_t restart_decide(const uint8_t *settings, size_t settings_len, uint8_t *state,
+uint32_t restart_decide(uint32_t role, const uint8_t *settings, size_t settings_len, uint8_t *state,
                         size_t state_len, const uint8_t *desk,
                         size_t desk_len) RESTART_NONNULL RESTART_CHECKED;
 
@@ -560,34 +615,56 @@ uint32_t restart_decide(const uint8_t *settings, size_t settings_len, uint8_t *s
  * and target, and for each shard that the node carries the holder and the node's cut. The node
  * keeps its log up to the cut and fetches what the holder has after it, up to the target. The cut
  * is the end of what its log and the holder's, up to the target, share from their beginning.
- * Answers class 1 with the order's length in words, or one of the numbers 1 (desk or buffer) to 4,
- * 6, 14.
+ * Answers class 1 with the order's length in words, or one of the numbers 1 (desk or buffer), 2, 15,
+ * 3, 4, 6, 14.
  * Changes the buffer: the order, then zeros.
  */
-uint32_t restart_order(const uint8_t *settings, size_t settings_len, const uint8_t *state,
-                       size_t state_len, const uint8_t *desk, size_t desk_len, uint32_t node,
-                       uint8_t *buffer, size_t buffer_len) RESTART_NONNULL RESTART_CHECKED;
+uint32_t restart_order(uint32_t role, const uint8_t *settings, size_t settings_len,
+                       const uint8_t *state, size_t state_len, const uint8_t *desk, size_t desk_len,
+                       uint32_t node, uint8_t *buffer,
+                       size_t buffer_len) RESTART_NONNULL RESTART_CHECKED;
 
 /*
  * Marks a held node as having fetched what its order names, while ordered. When all held nodes are
  * marked, preparing follows.
- * Answers 0, or one of the numbers 1 to 4, 6, 14.
+ * Answers 0, or one of the numbers 1, 2, 15, 3, 4, 6, 14.
  * Changes the state.
  */
-uint32_t restart_fetched(const uint8_t *settings, size_t settings_len, uint8_t *state,
-                         size_t state_len, const uint8_t *desk, size_t desk_len,
+uint32_t restart_fetched(uint32_t role, const uint8_t *settings, size_t settings_len,
+                         uint8_t *state, size_t state_len, const uint8_t *desk, size_t desk_len,
                          uint32_t node) RESTART_NONNULL RESTART_CHECKED;
 
 /*
  * Marks a held node as prepared (the new view and all that was fetched are on its disk), while
  * preparing. When all held nodes are marked, the new view is committed; a committed state takes no
  * event.
- * Answers 0, or one of the numbers 1 to 4, 6, 14.
+ * Answers 0, or one of the numbers 1, 2, 15, 3, 4, 6, 14.
  * Changes the state.
  */
-uint32_t restart_prepared(const uint8_t *settings, size_t settings_len, uint8_t *state,
-                          size_t state_len, const uint8_t *desk, size_t desk_len,
+uint32_t restart_prepared(uint32_t role, const uint8_t *settings, size_t settings_len,
+                          uint8_t *state, size_t state_len, const uint8_t *desk, size_t desk_len,
                           uint32_t node) RESTART_NONNULL RESTART_CHECKED;
+
+/* ---- Pages ---- */
+
+/*
+ * Writes the page of a subgroup, in any phase: how far the restart is, and for each shard of the
+ * subgroup its holder and target, or neither where nobody who is held can be its holder; then the
+ * subgroup's placement and its moves, or that none exists. Outside gathering the placement is the
+ * plan's. While gathering it is the one that restart_decide would give the subgroup from the
+ * reports that are held, whether restart_decide waits or not.
+ * The page is for the planner and for a watcher of this subgroup. It depends on nothing but the
+ * settings' nodes, sets and the subgroup's shards, the phase, the kept view's number and members,
+ * the held mask, the views that held nodes reported, whether a termination is kept, and the
+ * subgroup's masks, termination positions, runs and plan: where two restarts agree on these, answer
+ * and all 2048 bytes are the same, whatever else differs.
+ * Answers class 1 with RESTART_PAGE_WORDS, or one of the numbers 1 (desk or buffer), 2, 15, 3.
+ * Changes the buffer: the words of enum restart_page_word, then zeros.
+ */
+uint32_t restart_page(uint32_t role, const uint8_t *settings, size_t settings_len,
+                      const uint8_t *state, size_t state_len, const uint8_t *desk, size_t desk_len,
+                      uint32_t subgroup, uint8_t *buffer,
+                      size_t buffer_len) RESTART_NONNULL RESTART_CHECKED;
 
 #ifdef __cplusplus
 }

@@ -1,7 +1,7 @@
 """The worked examples of restart-model(7) are what the planner does: model.py PAGE PROGRAM LIBRARY
 
 The example's text, turned into words, gives PROGRAM's answer as it stands in the page, and waits 2 before the last report; the report's
-words are those of the text; the order's words are those that LIBRARY writes; with a termination the target is its position. The two logs
+words are those of the text; the order's words and the page's are those that LIBRARY writes; with a termination the target is its position. The two logs
 of the page's cut, reported by two machines, give an order with that cut; the page's shards get the members that it names, with a cap and
 without. The last line is `N passed, M failed`."""
 import ctypes
@@ -14,6 +14,7 @@ import sys
 
 TOOL = os.path.join(os.path.dirname(os.path.abspath(__file__)), "..", "tools", "restart-text")
 COUNTS = {True: 0, False: 0}
+PLANNER, WATCHER = 256, 512
 
 
 def check(what, found, expected):
@@ -46,21 +47,45 @@ def answer(program, given):
     return subprocess.run([program], input=data, stdout=subprocess.PIPE, check=True).stdout.decode()
 
 
+class Restart:
+    """A restart in the library: these reports are taken."""
+
+    def __init__(self, path, settings, messages):
+        self.library, self.settings = ctypes.CDLL(os.path.abspath(path)), settings
+        self.state, self.desk = (ctypes.create_string_buffer(size) for size in (640, 65536))
+        self.call("fresh", PLANNER, self.state)
+        for message in messages:
+            check("a report is taken", self.call("report", PLANNER, *self.lent, message), 0)
+
+    @property
+    def lent(self):
+        return self.settings, self.state, self.desk
+
+    def call(self, name, *arguments):
+        pairs = [part for piece in arguments for part in ((piece, ctypes.c_size_t(len(piece))) if not isinstance(piece, int) else (piece,))]
+        return getattr(self.library, "restart_" + name)(*pairs)
+
+    def written(self, name, role, number):
+        """The words that a call writes, for a node or of a subgroup."""
+        buffer = ctypes.create_string_buffer(2048)
+        length = self.library.restart_length_of(self.call(name, role, *self.lent, number, buffer))
+        return list(struct.unpack_from("<%dI" % length, buffer.raw))
+
+
 def order(path, settings, messages, node):
     """The words of the order that the library writes for a node."""
-    library = ctypes.CDLL(os.path.abspath(path))
-    state, desk, buffer = (ctypes.create_string_buffer(size) for size in (640, 65536, 2048))
+    restart = Restart(path, settings, messages)
+    check("a plan", restart.library.restart_is_plan(restart.call("decide", PLANNER, *restart.lent)), 1)
+    return restart.written("order", PLANNER, node)
 
-    def call(name, *arguments):
-        pairs = [part for piece in arguments for part in ((piece, ctypes.c_size_t(len(piece))) if not isinstance(piece, int) else (piece,))]
-        return getattr(library, "restart_" + name)(*pairs)
 
-    call("fresh", state)
-    for message in messages:
-        check("a report is taken", call("report", settings, state, desk, message), 0)
-    check("a plan", library.restart_is_plan(call("decide", settings, state, desk)), 1)
-    length = library.restart_length_of(call("order", settings, state, desk, node, buffer))
-    return list(struct.unpack_from("<%dI" % length, buffer.raw))
+def page_words(lines):
+    """The words of the page that these lines tell of; all others are 0."""
+    words = [0] * 72
+    for line in lines.splitlines():
+        place, numbers = re.match(r"words (\d+) \D+\d+ +((?:\d+ )+) ", line).groups()
+        words[int(place) : int(place) + len(numbers.split())] = map(int, numbers.split())
+    return words
 
 
 def terminated(text):
@@ -119,6 +144,7 @@ def main():
     last = list(struct.unpack("<%dI" % (len(messages[-1]) // 4), messages[-1]))
     check("the report", record_words(example(page, "report")), last)
     check("the order", record_words(example(page, "order")), order(library, settings, messages, 1))
+    check("the page", page_words(example(page, "page")), Restart(library, settings, messages).written("page", WATCHER, 0))
     with_termination = list(blocks(terminated(text)))
     check("the target with a termination", "shard 0 holder 2 target 4 1 members 1 2" in answer(program, with_termination).splitlines(), True)
     thrown_out = order(library, with_termination[0], with_termination[1:], 2)

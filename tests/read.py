@@ -19,8 +19,10 @@ import re
 import sys
 
 # The delivered functions of a crate, by how their heads start: the calls for C, the planner's, the run of restart, and every program's.
-ROOTS = {"c_planner": 'pub extern "C" fn ', "state_planner": "pub fn ", "state_order": "pub fn ", "program_run": "pub fn "}
+ROOTS = {"c_planner": 'pub extern "C" fn ', "state_planner": "pub fn ", "state_order": "pub fn ", "state_page": "pub fn ", "program_run": "pub fn "}
 ROOTS.update({path.split("/")[1]: "fn " for path in sorted(glob.glob("crates/*/src/main.rt"))})
+# Not delivered: public for the page call alone, which has a promise of its own.
+INNER = {"state_planner::enter"}
 DECIDE = {"state_planner": "pub fn decide"}
 
 NAME = r'[^\s(){}.;,@"]+'
@@ -355,6 +357,8 @@ def delivered(roots):
             if signature.count("fn ") != 1 or not clauses:
                 sys.exit("not read: a function of %s without a contract: %s" % (crate, signature))
             name, parameters = re.search(r"fn (\w+)\(([^)]*)\)", signature).groups()
+            if "%s::%s" % (crate, name) in INNER:
+                continue
             made = Definition(crate, "src", name, functools.partial(scope_of, crate))
             bound = re.findall(r"(\w+):", parameters)
             made.texts = [("type", re.findall(r"\b[A-Z]\w*", signature.split("(", 1)[1]), [])]

@@ -21,7 +21,7 @@ OTHERS = {
     "a kind of record": "kind k",
     "a mask, of nodes or of shards, or one for each shard": "members held fetched prepared marks mask masks old known have lack passed",
     "a subgroup": "g group",
-    "how many words, records, shards or moves": "len hlen length total count",
+    "how many words, records, shards or moves": "len hlen length total moves count",
     "a slot's words, one by one or two by two": "w b",
     "a flat report's lent bytes": "flat",
     "where each shard's last run stands": "last",
@@ -46,6 +46,7 @@ GIVEN = {
 
 # What OTHERS and GIVEN do not cover, by its place, and why it is right.
 EXCEPTIONS = {
+    "plan_page::Page.shards": "a mask of the subgroup's shards",
     "report_cuts::cut.holder": "the words of the holder's report, not its number",
     "report_walk::told.positions": "the pairs of records, not positions",
     "report_walk::end_at.s": "an index into the list of last runs",

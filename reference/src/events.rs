@@ -1,8 +1,8 @@
-//! The events (document 01, section "State, desk, events"; document 02, request
-//! Eight).
+//! The events (document 01, section "State, desk, events"; document 02, requests
+//! Two and Eight).
 //!
-//! Each event takes settings, state and desk as words and gives what follows,
-//! or the number of the first row that holds. Rows that concern an event are
+//! Each event takes the caller's role, and settings, state and desk as words; it
+//! gives what follows, or the number of the first row that holds. Rows that concern an event are
 //! asked in the order of document 01's table.
 
 use crate::desk::{self, DESK_WORDS};
@@ -12,9 +12,10 @@ use crate::message::{self, Contents, Form, Triple, CUT, HOLDER, MEMBERS, TERMINA
 use crate::number::{self, refuse_if, Number, Refusal};
 use crate::order::{self, Choice};
 use crate::quorum::{Reports, Wait};
+use crate::roles::Role;
 use crate::settings::{self, Settings};
 use crate::soundness::{self, gathered, row_12, row_13};
-use crate::state::{self, Phase, Plan, State};
+use crate::state::{self, Phase, Plan, State, STATE_WORDS};
 
 /// What decide says.
 #[derive(Clone, Copy, Debug, PartialEq, Eq)]
@@ -25,16 +26,23 @@ pub enum Decision {
 }
 
 /// Settings, state and the held reports, after rows 1 to 3.
-struct Opened {
-    settings: Settings,
-    state: State,
-    reports: Reports,
+pub struct Opened {
+    pub settings: Settings,
+    pub state: State,
+    pub reports: Reports,
 }
 
-/// Rows 1 to 3: the desk's length, the settings, the state's soundness.
-fn open(settings: &[u32], state: &[u32], desk: &[u32]) -> Result<Opened, Number> {
+/// Rows 1 to 3: the desk's length, the settings, whether the role is allowed
+/// what it asks for (number 15), the state's soundness.
+pub fn open(
+    allowed: bool,
+    settings: &[u32],
+    state: &[u32],
+    desk: &[u32],
+) -> Result<Opened, Number> {
     refuse_if(desk.len() != DESK_WORDS, number::LENT_LENGTH)?;
     let settings = settings::parse(settings)?;
+    refuse_if(!allowed, number::ROLE)?;
     let state = state::decode(&settings, state).ok_or(number::STATE)?;
     let reports = soundness::sound(&settings, &state, desk).ok_or(number::STATE)?;
     Ok(Opened {
@@ -44,13 +52,21 @@ fn open(settings: &[u32], state: &[u32], desk: &[u32]) -> Result<Opened, Number>
     })
 }
 
+/// The fresh state, in the place of so many words.
+pub fn fresh(role: Role, state_words: usize) -> Result<Vec<u32>, Number> {
+    refuse_if(!role.may_plan(), number::ROLE)?;
+    refuse_if(state_words != STATE_WORDS, number::STATE)?;
+    Ok(state::encode(&state::fresh()))
+}
+
 /// Whether the state is sound with this desk, in whatever phase it is.
-pub fn check(settings: &[u32], state: &[u32], desk: &[u32]) -> Result<(), Number> {
-    open(settings, state, desk).map(|_| ())
+pub fn check(role: Role, settings: &[u32], state: &[u32], desk: &[u32]) -> Result<(), Number> {
+    open(role.may_plan(), settings, state, desk).map(|_| ())
 }
 
 /// A report: the next state and the next desk.
 pub fn report(
+    role: Role,
     settings: &[u32],
     state: &[u32],
     desk: &[u32],
@@ -58,7 +74,7 @@ pub fn report(
 ) -> Result<(Vec<u32>, Vec<u32>), Refusal> {
     let Opened {
         settings, state, ..
-    } = open(settings, state, desk)?;
+    } = open(role.may_plan(), settings, state, desk)?;
     refuse_if(state.phase != Phase::Gathering, number::PHASE)?;
     let report = message::read_with(Form::Report, &settings, message)?;
     refuse_if(row_18(&state, &report), number::WENT_BACK)?;
@@ -102,6 +118,7 @@ fn check_held(settings: &Settings, state: &State, node: u32) -> Result<(), Numbe
 /// Drop: in gathering the node is no longer held; while ordered or preparing,
 /// gathering starts again with nothing held. What is remembered remains.
 pub fn drop_node(
+    role: Role,
     settings: &[u32],
     state: &[u32],
     desk: &[u32],
@@ -109,7 +126,7 @@ pub fn drop_node(
 ) -> Result<Vec<u32>, Number> {
     let Opened {
         settings, state, ..
-    } = open(settings, state, desk)?;
+    } = open(role.may_plan(), settings, state, desk)?;
     refuse_if(state.phase == Phase::Committed, number::PHASE)?;
     check_held(&settings, &state, node)?;
     let held = match state.phase {
@@ -128,21 +145,23 @@ pub fn drop_node(
 
 /// Decide: what it says, and the next state.
 pub fn decide(
+    role: Role,
     settings: &[u32],
     state: &[u32],
     desk: &[u32],
 ) -> Result<(Decision, Vec<u32>), Number> {
-    decide_by(order::greedy, settings, state, desk)
+    decide_by(order::greedy, role, settings, state, desk)
 }
 
 /// Decide, where `choice` finds each subgroup's placement.
 pub fn decide_by(
     choice: Choice,
+    role: Role,
     settings: &[u32],
     state: &[u32],
     desk: &[u32],
 ) -> Result<(Decision, Vec<u32>), Number> {
-    let opened = open(settings, state, desk)?;
+    let opened = open(role.may_plan(), settings, state, desk)?;
     refuse_if(opened.state.phase != Phase::Gathering, number::PHASE)?;
     match plan(&opened, choice) {
         Err(wait) => Ok((Decision::Wait(wait), state.to_vec())),
@@ -183,6 +202,7 @@ fn plan(opened: &Opened, choice: Choice) -> Result<Plan, Wait> {
 /// Order: the words of one held node's order. `buffer_words` is the length of
 /// the buffer to be written.
 pub fn order(
+    role: Role,
     settings: &[u32],
     state: &[u32],
     desk: &[u32],
@@ -190,7 +210,7 @@ pub fn order(
     buffer_words: usize,
 ) -> Result<Vec<u32>, Refusal> {
     refuse_if(buffer_words != message::MOST_WORDS, number::LENT_LENGTH)?;
-    let opened = open(settings, state, desk)?;
+    let opened = open(role.may_plan(), settings, state, desk)?;
     refuse_if(opened.state.phase != Phase::Ordered, number::PHASE)?;
     check_held(&opened.settings, &opened.state, node)?;
     let plan = opened.state.plan.as_ref().ok_or(number::STATE)?;
@@ -241,6 +261,7 @@ fn cut(plan: &Plan, reports: &Reports, node: u32, shard: u32) -> Position {
 
 /// Fetched: marks the node; when all held nodes are marked, preparing follows.
 pub fn fetched(
+    role: Role,
     settings: &[u32],
     state: &[u32],
     desk: &[u32],
@@ -250,7 +271,7 @@ pub fn fetched(
         settings,
         mut state,
         ..
-    } = open(settings, state, desk)?;
+    } = open(role.may_plan(), settings, state, desk)?;
     refuse_if(state.phase != Phase::Ordered, number::PHASE)?;
     check_held(&settings, &state, node)?;
     refuse_if(mask::has(state.fetched, node), number::NOT_HELD)?;
@@ -263,6 +284,7 @@ pub fn fetched(
 
 /// Prepared: marks the node; when all held nodes are marked, committed follows.
 pub fn prepared(
+    role: Role,
     settings: &[u32],
     state: &[u32],
     desk: &[u32],
@@ -272,7 +294,7 @@ pub fn prepared(
         settings,
         mut state,
         ..
-    } = open(settings, state, desk)?;
+    } = open(role.may_plan(), settings, state, desk)?;
     refuse_if(state.phase != Phase::Preparing, number::PHASE)?;
     check_held(&settings, &state, node)?;
     refuse_if(mask::has(state.prepared, node), number::NOT_HELD)?;

@@ -20,7 +20,9 @@
 //! - `quorum`: candidates, targets, holders and waits
 //! - `soundness`: when a state is sound
 //! - `open_view`: what is known of a view that a machine has on disk as open
+//! - `roles`: who calls, and what that allows
 //! - `events`: report, drop, decide, order, fetched and prepared
+//! - `page`: what a subgroup's watcher may read
 //! - `program`: what the program `restart` prints
 //! - `mondays`: what the program `mondays` prints
 
@@ -39,9 +41,11 @@ pub mod mondays;
 pub mod number;
 pub mod open_view;
 pub mod order;
+pub mod page;
 pub mod placement;
 pub mod program;
 pub mod quorum;
+pub mod roles;
 pub mod settings;
 pub mod soundness;
 pub mod state;

@@ -46,6 +46,9 @@ impl fmt::Display for Refusal {
 pub const LENT_LENGTH: Number = Number(1);
 /// Row 2: the settings.
 pub const SETTINGS: Number = Number(2);
+/// Request Two, after row 2: an operation or a page that is not allowed to the
+/// role, or a subgroup above 3.
+pub const ROLE: Number = Number(15);
 /// Row 3: the state is unsound.
 pub const STATE: Number = Number(3);
 /// Row 4: the event is not in its phase.

@@ -6,6 +6,7 @@ use crate::events::{self, Decision};
 use crate::mask;
 use crate::number::Refusal;
 use crate::quorum::Wait;
+use crate::roles::Role;
 use crate::settings::{self, Settings};
 use crate::state::{self, Plan, State};
 use crate::words;
@@ -59,9 +60,9 @@ pub fn decide(input: &[u8]) -> Result<Ended, Refusal> {
     let mut state = state::encode(&state::fresh());
     let mut desk = vec![0; DESK_WORDS];
     while let Some(message) = blocks.next() {
-        (state, desk) = events::report(&words, &state, &desk, &message)?;
+        (state, desk) = events::report(Role::Planner, &words, &state, &desk, &message)?;
     }
-    let (decision, state) = events::decide(&words, &state, &desk)?;
+    let (decision, state) = events::decide(Role::Planner, &words, &state, &desk)?;
     let settings = settings::parse(&words)?;
     let state = state::decode(&settings, &state).expect("decide leaves a state");
     Ok(Ended {

@@ -1,6 +1,8 @@
 /* The entry points behind one signature, so that a test can go through them. */
 #include "harness.h"
 
+uint32_t caller = RESTART_PLANNER;
+
 #define PIECE(i) p[i].bytes, p[i].length
 
 static uint32_t call_check_settings(const struct piece *p, uint32_t node)
@@ -55,45 +57,50 @@ static uint32_t call_open_view(const struct piece *p, uint32_t node)
 static uint32_t call_fresh(const struct piece *p, uint32_t node)
 {
     (void)node;
-    return restart_fresh(PIECE(0));
+    return restart_fresh(caller, PIECE(0));
 }
 
 static uint32_t call_check_state(const struct piece *p, uint32_t node)
 {
     (void)node;
-    return restart_check_state(PIECE(0), PIECE(1), PIECE(2));
+    return restart_check_state(caller, PIECE(0), PIECE(1), PIECE(2));
 }
 
 static uint32_t call_report(const struct piece *p, uint32_t node)
 {
     (void)node;
-    return restart_report(PIECE(0), PIECE(1), PIECE(2), PIECE(3));
+    return restart_report(caller, PIECE(0), PIECE(1), PIECE(2), PIECE(3));
 }
 
 static uint32_t call_drop(const struct piece *p, uint32_t node)
 {
-    return restart_drop(PIECE(0), PIECE(1), PIECE(2), node);
+    return restart_drop(caller, PIECE(0), PIECE(1), PIECE(2), node);
 }
 
 static uint32_t call_decide(const struct piece *p, uint32_t node)
 {
     (void)node;
-    return restart_decide(PIECE(0), PIECE(1), PIECE(2));
+    return restart_decide(caller, PIECE(0), PIECE(1), PIECE(2));
 }
 
 static uint32_t call_order(const struct piece *p, uint32_t node)
 {
-    return restart_order(PIECE(0), PIECE(1), PIECE(2), node, PIECE(3));
+    return restart_order(caller, PIECE(0), PIECE(1), PIECE(2), node, PIECE(3));
 }
 
 static uint32_t call_fetched(const struct piece *p, uint32_t node)
 {
-    return restart_fetched(PIECE(0), PIECE(1), PIECE(2), node);
+    return restart_fetched(caller, PIECE(0), PIECE(1), PIECE(2), node);
 }
 
 static uint32_t call_prepared(const struct piece *p, uint32_t node)
 {
-    return restart_prepared(PIECE(0), PIECE(1), PIECE(2), node);
+    return restart_prepared(caller, PIECE(0), PIECE(1), PIECE(2), node);
+}
+
+static uint32_t call_page(const struct piece *p, uint32_t subgroup)
+{
+    return restart_page(caller, PIECE(0), PIECE(1), PIECE(2), subgroup, PIECE(3));
 }
 
 const struct entry check_settings = {"restart_check_settings", 1, 0, call_check_settings};
@@ -112,8 +119,9 @@ const struct entry decide = {"restart_decide", 3, 1u << 1, call_decide};
 const struct entry order = {"restart_order", 4, 1u << 3, call_order};
 const struct entry fetched = {"restart_fetched", 3, 1u << 1, call_fetched};
 const struct entry prepared = {"restart_prepared", 3, 1u << 1, call_prepared};
+const struct entry page = {"restart_page", 4, 1u << 3, call_page};
 
-const struct entry *const entries[] = {&check_settings, &read_report, &read_order, &write_report,
-                                       &write_order,    &from_flat,   &to_flat,    &open_view,
-                                       &fresh,          &check_state, &report,     &drop,
-                                       &decide,         &order,       &fetched,    &prepared};
+const struct entry *const entries[] = {
+    &check_settings, &read_report, &read_order, &write_report, &write_order, &from_flat,
+    &to_flat,        &open_view,   &fresh,      &check_state,  &report,      &drop,
+    &decide,         &order,       &fetched,    &prepared,     &page};

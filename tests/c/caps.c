@@ -27,7 +27,8 @@ static void put_settings(uint32_t shard)
 static void reported(uint32_t shard, uint32_t nodes, uint32_t had)
 {
     put_settings(shard);
-    check_word("the fresh state", restart_fresh(state, sizeof state), RESTART_ACCEPTED);
+    check_word("the fresh state", restart_fresh(RESTART_PLANNER, state, sizeof state),
+               RESTART_ACCEPTED);
     for (uint32_t node = 0; node < 6; node++) {
         const uint32_t words[8] = {node, 7, 63, 1, 256, had, 0, 0};
         pieces[3] = (struct piece){message, put_words(message, words, 8)};

@@ -50,7 +50,7 @@ static const uint32_t settings_words[] = {2, 2, 1, 3, 0, 1, 2, 256 + 2, 512 + 2}
 static uint8_t settings[sizeof settings_words], state[RESTART_STATE_BYTES];
 static uint8_t desk[RESTART_DESK_BYTES];
 
-#define LENT settings, sizeof settings, state, sizeof state, desk, sizeof desk
+#define LENT RESTART_PLANNER, settings, sizeof settings, state, sizeof state, desk, sizeof desk
 
 struct message {
     uint8_t bytes[RESTART_MESSAGE_BYTES];
@@ -117,7 +117,8 @@ static void check_cut(const char *what, const struct log *holder, struct positio
 {
     uint8_t buffer[RESTART_BUFFER_BYTES], contents[RESTART_CONTENTS_BYTES];
     put_words(settings, settings_words, COUNT(settings_words));
-    check_word("the fresh state", restart_fresh(state, sizeof state), RESTART_ACCEPTED);
+    check_word("the fresh state", restart_fresh(RESTART_PLANNER, state, sizeof state),
+               RESTART_ACCEPTED);
     take_report(0, KEPT, holder, same(target, end_of(holder)) ? NULL : &target);
     take_report(1, view, node, NULL);
     check_word("a plan", restart_decide(LENT), 33554432);

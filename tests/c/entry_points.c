@@ -20,6 +20,21 @@ static void sizes(void)
     check_word("buffer bytes", RESTART_BUFFER_BYTES, 4 * RESTART_BUFFER_WORDS);
     check_word("contents bytes", RESTART_CONTENTS_BYTES, 4 * RESTART_CONTENTS_WORDS);
     check_word("message bytes", RESTART_MESSAGE_BYTES, 4 * RESTART_RECORD_WORDS * RESTART_RECORDS);
+    check_word("targets of a page", RESTART_PAGE_TARGETS, RESTART_PAGE_HOLDERS + RESTART_SHARDS);
+    check_word("masks of a page", RESTART_PAGE_MASKS, RESTART_PAGE_TARGETS + 2 * RESTART_SHARDS);
+    check_word("page words", RESTART_PAGE_WORDS, RESTART_PAGE_MASKS + RESTART_SHARDS);
+}
+
+/* The words of roles. A subgroup above 3 has none, also where the sum would come round to the
+ * planner's. */
+static void roles(void)
+{
+    static const uint32_t none[4] = {4, 256, 4294967040, 4294967295};
+    check_word("the planner", RESTART_PLANNER, 256);
+    for (uint32_t subgroup = 0; subgroup < RESTART_SUBGROUPS; subgroup++)
+        check_word("a watcher", restart_watcher(subgroup), 512 + subgroup);
+    for (size_t i = 0; i < sizeof none / sizeof none[0]; i++)
+        check_word("nobody", restart_watcher(none[i]), 516);
 }
 
 /* An answer, and what the header's functions must say of it. */
@@ -105,7 +120,7 @@ static void texts(void)
     check_text("phase 3", restart_phase_text(RESTART_COMMITTED), "committed");
     check_text("number 17", restart_number_text(RESTART_WRONG_SEQUENCE),
                "a record is out of sequence, missing or surplus");
-    check_text("number 15", restart_number_text(15), "unknown number");
+    check_text("number 15", restart_number_text(RESTART_NOT_ALLOWED), "not allowed to this role");
     check_text("number 18", restart_number_text(RESTART_EARLIER_VIEW),
                "the machine has reported a later view before");
     check_text("number 19", restart_number_text(RESTART_FLAT_LENGTH),
@@ -123,7 +138,7 @@ static void texts(void)
     check_text("finding 5", restart_view_text(RESTART_VIEW_CONTRADICTED + 1), "unknown finding");
     check_text("the last number", restart_number_text(UINT32_MAX), "unknown number");
     for (uint32_t one = 0; one <= RESTART_FLAT_RECORDS; one++)
-        for (uint32_t other = one + 1; one != 15 && other <= RESTART_FLAT_RECORDS + 1; other++)
+        for (uint32_t other = one + 1; other <= RESTART_FLAT_RECORDS + 1; other++)
             check_word("two numbers have two texts",
                        strcmp(restart_number_text(one), restart_number_text(other)) != 0, 1);
     for (uint32_t one = 0; one <= RESTART_VIEW_CONTRADICTED; one++)
@@ -257,8 +272,8 @@ static void expect_state(const char *what, const struct world *world, enum resta
 }
 
 #define LENT                                                                                       \
-    world->settings, sizeof world->settings, world->state, sizeof world->state, world->desk,       \
-        sizeof world->desk
+    RESTART_PLANNER, world->settings, sizeof world->settings, world->state, sizeof world->state,   \
+        world->desk, sizeof world->desk
 
 static void reporting(struct world *world)
 {
@@ -347,6 +362,50 @@ static void caps(struct world *world)
     check_word("but not under a lower one", restart_check_state(LENT), RESTART_UNSOUND_STATE);
 }
 
+/* ---- Pages ---- */
+
+/* The page of case A's subgroup, which is all of it: as decide would have it, and then as the plan
+ * has it. Subgroup 1 has no shards. A watcher gets its own page and nothing else. */
+static void pages(struct world *world)
+{
+    static const uint32_t head[6] = {0, 7, 7, 7, 1, 2};
+    static const uint32_t holders[3] = {0, 1, 5};
+    static const uint32_t targets[6] = {0, 0, 7, 5, 0, 0};
+    static const uint32_t masks[3] = {5, 50, 8};
+    uint8_t buffer[RESTART_BUFFER_BYTES], expected[RESTART_BUFFER_BYTES];
+    memset(expected, 0, sizeof expected);
+    put_words(expected, head, 6);
+    put_words(expected + 4 * RESTART_PAGE_HOLDERS, holders, 3);
+    put_words(expected + 4 * RESTART_PAGE_TARGETS, targets, 6);
+    put_words(expected + 4 * RESTART_PAGE_MASKS, masks, 3);
+
+    world_gathered(world);
+    memset(buffer, 0xEE, sizeof buffer);
+    check_word("a page", restart_page(LENT, 0, buffer, sizeof buffer), 16777216 + 72);
+    check_bytes("the page of case A", buffer, expected, sizeof expected);
+    world_ordered(world);
+    restart_put_word(expected, RESTART_PAGE_PHASE, RESTART_ORDERED);
+    check_word("a page while ordered", restart_page(LENT, 0, buffer, sizeof buffer), 16777216 + 72);
+    check_bytes("the page of case A's plan", buffer, expected, sizeof expected);
+
+#define WATCHED                                                                                    \
+    restart_watcher(0), world->settings, sizeof world->settings, world->state,                     \
+        sizeof world->state, world->desk, sizeof world->desk
+    memset(buffer, 0xEE, sizeof buffer);
+    check_word("the watcher's page", restart_page(WATCHED, 0, buffer, sizeof buffer),
+               16777216 + 72);
+    check_bytes("the same page", buffer, expected, sizeof expected);
+    check_word("another page", restart_page(WATCHED, 1, buffer, sizeof buffer),
+               RESTART_NOT_ALLOWED);
+    check_bytes("nothing written", buffer, expected, sizeof expected);
+    check_word("a watcher marks", restart_fetched(WATCHED, 3), RESTART_NOT_ALLOWED);
+    expect_state("no mark", world, RESTART_ORDERED, 63, 63, 0, 0);
+    check_word("a watcher starts afresh",
+               restart_fresh(restart_watcher(0), world->state, sizeof world->state),
+               RESTART_NOT_ALLOWED);
+    expect_state("the same state", world, RESTART_ORDERED, 63, 63, 0, 0);
+}
+
 /* ---- Open views ---- */
 
 /* A view of nodes 0, 1 and 2: one answer of each kind; views.c has the others. */
@@ -362,6 +421,7 @@ int main(void)
 {
     static struct world world;
     sizes();
+    roles();
     answers();
     words();
     texts();
@@ -370,5 +430,6 @@ int main(void)
     reporting(&world);
     carrying_out(&world);
     caps(&world);
+    pages(&world);
     return summary();
 }

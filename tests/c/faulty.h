@@ -8,8 +8,11 @@
 
 #define SETTINGS const uint8_t *settings, size_t settings_len
 #define STATE uint8_t *state, size_t state_len
-#define EVENT SETTINGS, STATE, const uint8_t *desk, size_t desk_len
-#define PASSED_ON settings, settings_len, state, state_len, desk, desk_len
+#define ROLE uint32_t role
+#define DESK const uint8_t *desk, size_t desk_len
+#define EVENT ROLE, SETTINGS, STATE, DESK
+#define ONLY_READ ROLE, SETTINGS, const uint8_t *state, size_t state_len, DESK
+#define PASSED_ON role, settings, settings_len, state, state_len, desk, desk_len
 #define CONVERSION                                                                                 \
     SETTINGS, const uint8_t *input, size_t input_len, uint8_t *output, size_t output_len
 
@@ -36,17 +39,17 @@ static inline uint32_t faulty(CONVERSION)
 #define restart_write_report faulty
 
 #elif FAULT == 4 /* the last word of the fresh state is left */
-static inline uint32_t faulty(STATE)
+static inline uint32_t faulty(ROLE, STATE)
 {
     uint32_t last = restart_get_word(state, RESTART_STATE_WORDS - 1);
-    uint32_t answer = restart_fresh(state, state_len);
+    uint32_t answer = restart_fresh(role, state, state_len);
     restart_put_word(state, RESTART_STATE_WORDS - 1, last);
     return answer;
 }
 #define restart_fresh faulty
 
 #elif FAULT == 5 /* a byte after the message is read */
-static inline uint32_t faulty(SETTINGS, STATE, uint8_t *desk, size_t desk_len,
+static inline uint32_t faulty(ROLE, SETTINGS, STATE, uint8_t *desk, size_t desk_len,
                               const uint8_t *message, size_t message_len)
 {
     (void)*(const volatile uint8_t *)(message + message_len);
@@ -71,8 +74,7 @@ static inline uint32_t faulty(EVENT)
 #define restart_decide faulty
 
 #elif FAULT == 8 /* a refused order clears the buffer */
-static inline uint32_t faulty(SETTINGS, const uint8_t *state, size_t state_len, const uint8_t *desk,
-                              size_t desk_len, uint32_t node, uint8_t *buffer, size_t buffer_len)
+static inline uint32_t faulty(ONLY_READ, uint32_t node, uint8_t *buffer, size_t buffer_len)
 {
     uint32_t answer = restart_order(PASSED_ON, node, buffer, buffer_len);
     if (restart_is_refusal(answer))
@@ -112,14 +114,13 @@ static inline uint32_t faulty(EVENT)
 #elif FAULT == 12 /* any desk that is long enough is taken */
 static inline uint32_t faulty(EVENT)
 {
-    return restart_decide(settings, settings_len, state, state_len, desk,
+    return restart_decide(role, settings, settings_len, state, state_len, desk,
                           desk_len > RESTART_DESK_BYTES ? RESTART_DESK_BYTES : desk_len);
 }
 #define restart_decide faulty
 
 #elif FAULT == 13 /* whatever is a state is sound */
-static inline uint32_t faulty(SETTINGS, const uint8_t *state, size_t state_len, const uint8_t *desk,
-                              size_t desk_len)
+static inline uint32_t faulty(ONLY_READ)
 {
     uint32_t answer = restart_check_state(PASSED_ON);
     int is_state =
@@ -129,8 +130,7 @@ static inline uint32_t faulty(SETTINGS, const uint8_t *state, size_t state_len, 
 #define restart_check_state faulty
 
 #elif FAULT == 14 /* logs with one end are taken for the same */
-static inline uint32_t faulty(SETTINGS, const uint8_t *state, size_t state_len, const uint8_t *desk,
-                              size_t desk_len, uint32_t node, uint8_t *buffer, size_t buffer_len)
+static inline uint32_t faulty(ONLY_READ, uint32_t node, uint8_t *buffer, size_t buffer_len)
 {
     uint32_t answer = restart_order(PASSED_ON, node, buffer, buffer_len);
     const uint8_t *slot = desk + node * (size_t)RESTART_SLOT_BYTES;
@@ -170,7 +170,7 @@ static inline uint32_t faulty(EVENT, uint32_t node)
 #define restart_drop faulty
 
 #elif FAULT == 17 /* a report of the same view is refused as well */
-static inline uint32_t faulty(SETTINGS, STATE, uint8_t *desk, size_t desk_len,
+static inline uint32_t faulty(ROLE, SETTINGS, STATE, uint8_t *desk, size_t desk_len,
                               const uint8_t *message, size_t message_len)
 {
     if (message_len >= 8 && state_len == RESTART_STATE_BYTES) {
@@ -206,7 +206,7 @@ static inline uint32_t faulty(EVENT)
     memcpy(copy, settings, settings_len);
     for (size_t at = 4 + restart_get_word(copy, 0); at < settings_len / 4; at++)
         restart_put_word(copy, at, restart_get_word(copy, at) & 65535);
-    return restart_decide(copy, settings_len, state, state_len, desk, desk_len);
+    return restart_decide(role, copy, settings_len, state, state_len, desk, desk_len);
 }
 #define restart_decide faulty
 
@@ -295,4 +295,76 @@ static inline uint32_t faulty(CONVERSION)
     return few ? answer : (uint32_t)RESTART_FLAT_RECORDS;
 }
 #define restart_from_flat faulty
+
+#elif FAULT == 27 /* a call does not look at the role */
+static inline uint32_t faulty(EVENT, uint32_t node)
+{
+    (void)role;
+    return restart_fetched(RESTART_PLANNER, settings, settings_len, state, state_len, desk,
+                           desk_len, node);
+}
+#define restart_fetched faulty
+
+#elif FAULT == 28 /* a role that was never set is the planner's */
+static inline uint32_t faulty(ROLE, STATE)
+{
+    return restart_fresh(role == 0 ? (uint32_t)RESTART_PLANNER : role, state, state_len);
+}
+#define restart_fresh faulty
+
+#elif FAULT == 29 /* every watcher reads every page */
+static inline uint32_t faulty(ONLY_READ, uint32_t subgroup, uint8_t *buffer, size_t buffer_len)
+{
+    return restart_page(role / 4 == RESTART_WATCHER / 4 ? (uint32_t)RESTART_PLANNER : role,
+                        settings, settings_len, state, state_len, desk, desk_len, subgroup, buffer,
+                        buffer_len);
+}
+#define restart_page faulty
+
+#elif FAULT == 30 /* row 15 after row 3 */
+static inline uint32_t faulty(ONLY_READ, uint32_t subgroup, uint8_t *buffer, size_t buffer_len)
+{
+    uint32_t answer = restart_page(PASSED_ON, subgroup, buffer, buffer_len);
+    if (answer != RESTART_NOT_ALLOWED)
+        return answer;
+    uint32_t sound = restart_check_state(RESTART_PLANNER, settings, settings_len, state, state_len,
+                                         desk, desk_len);
+    return restart_is_refusal(sound) ? sound : answer;
+}
+#define restart_page faulty
+
+#elif FAULT == 31 /* a page shows in a word without a name how many nodes have fetched */
+static inline uint32_t faulty(ONLY_READ, uint32_t subgroup, uint8_t *buffer, size_t buffer_len)
+{
+    uint32_t answer = restart_page(PASSED_ON, subgroup, buffer, buffer_len);
+    if (!restart_is_refusal(answer))
+        restart_put_word(buffer, RESTART_PAGE_MOVES + 1, restart_get_word(state, RESTART_FETCHED));
+    return answer;
+}
+#define restart_page faulty
+
+#elif FAULT == 32 /* a page has the moves of the whole plan */
+static inline uint32_t faulty(ONLY_READ, uint32_t subgroup, uint8_t *buffer, size_t buffer_len)
+{
+    uint32_t answer = restart_page(PASSED_ON, subgroup, buffer, buffer_len);
+    if (!restart_is_refusal(answer) && restart_get_word(buffer, RESTART_PAGE_PHASE) != 0)
+        restart_put_word(buffer, RESTART_PAGE_MOVES, restart_get_word(state, RESTART_PLAN_MOVES));
+    return answer;
+}
+#define restart_page faulty
+
+#elif FAULT == 33 /* a page has a placement only where no wait applies */
+static inline uint32_t faulty(ONLY_READ, uint32_t subgroup, uint8_t *buffer, size_t buffer_len)
+{
+    uint8_t copy[RESTART_STATE_BYTES];
+    uint32_t answer = restart_page(PASSED_ON, subgroup, buffer, buffer_len);
+    if (restart_is_refusal(answer) || restart_get_word(buffer, RESTART_PAGE_PHASE) != 0)
+        return answer;
+    memcpy(copy, state, sizeof copy);
+    if (restart_is_wait(restart_decide(RESTART_PLANNER, settings, settings_len, copy, sizeof copy,
+                                       desk, desk_len)))
+        memset(buffer + 4 * RESTART_PAGE_FOUND, 0, 8);
+    return answer;
+}
+#define restart_page faulty
 #endif

@@ -328,7 +328,7 @@ static void fed(void)
     size_t length = put_words(flat, words, COUNT(words));
     turn(&from_flat, flat, length, written, LENGTH(20));
     check_word("a report that was flat",
-               restart_report(world.settings, sizeof world.settings, world.state,
+               restart_report(RESTART_PLANNER, world.settings, sizeof world.settings, world.state,
                               sizeof world.state, world.desk, sizeof world.desk, written, 4 * 20),
                RESTART_ACCEPTED);
     check_bytes("its slot", world.desk + RESTART_SLOT_BYTES, written, RESTART_SLOT_BYTES);

@@ -8,7 +8,8 @@ import subprocess
 import sys
 
 HERE = os.path.dirname(os.path.abspath(__file__))
-STATE, DESK, WORD = 640, 65536, ctypes.c_uint32
+STATE, DESK, BUFFER, WORD = 640, 65536, 2048, ctypes.c_uint32
+PLANNER = 256
 library = ctypes.CDLL(os.path.abspath(sys.argv[1]))
 for name in ("version_text", "number_text", "reason_text", "phase_text", "view_text"):
     getattr(library, "restart_" + name).restype = ctypes.c_char_p
@@ -20,9 +21,11 @@ def words(*numbers):
     return ctypes.create_string_buffer(data, len(data))
 
 
-def call(name, *pieces):
-    """Calls with these pieces, each followed by its length, and hands the answer back."""
-    arguments = [argument for piece in pieces for argument in (piece, ctypes.c_size_t(len(piece)))]
+def call(name, *given):
+    """Calls with these words and pieces, each piece followed by its length, and hands the answer back."""
+    arguments = []
+    for one in given:
+        arguments += [WORD(one)] if isinstance(one, int) else [one, ctypes.c_size_t(len(one))]
     return WORD(getattr(library, "restart_" + name)(*arguments)).value
 
 
@@ -54,6 +57,7 @@ def small_functions():
     assert helper("number_text", 14) == b"the machine is not held, or marked already"
     assert helper("reason_text", 5) == b"a subgroup cannot be laid out"
     assert [helper("phase_text", phase) for phase in range(4)] == [b"gathering", b"ordered", b"preparing", b"committed"]
+    assert helper("number_text", 15) == b"not allowed to this role"
     assert helper("number_text", 16) == b"a record names an unknown shard"
     assert helper("number_text", 18) == b"the machine has reported a later view before"
     assert helper("number_text", 20) == b"a run of the flat report has count 0"
@@ -67,6 +71,7 @@ def small_functions():
     assert [helper("has_index", number) for number in (7, 8, 10, 16, 17, 18)] == [0, 1, 0, 1, 1, 0]
     assert helper("length_of", 16777216 + 512) == 512
     assert [helper("view_of", helper("open_view", *masks)) for masks in ((7, 8, 0, 0, 0), (7, 0, 5, 0, 8), (7, 0, 5, 8, 0))] == [1, 2, 3]
+    assert [helper("watcher", subgroup) for subgroup in (0, 3, 4, 4294967295)] == [512, 515, 516, 516]
     lent = words(1, 2, 3)
     library.restart_put_word(lent, ctypes.c_size_t(1), WORD(4026531841))
     assert WORD(library.restart_get_word(lent, ctypes.c_size_t(1))).value == 4026531841 and lent.raw[4:8] == b"\1\0\0\xf0"
@@ -75,14 +80,18 @@ def small_functions():
 def restart():
     settings, state, desk = words(2, 2, 1, 1, 0, 1, 1), ctypes.create_string_buffer(STATE), ctypes.create_string_buffer(DESK)
     assert call("check_settings", settings) == 0
-    assert call("fresh", state) == 0
+    assert call("fresh", PLANNER, state) == 0
     for node in range(2):
-        print("report %d, " % call("report", settings, state, desk, words(node, 3, 3, 1, 256, 3, 0, 0)), end="")
-        answer = call("decide", settings, state, desk)
+        print("report %d, " % call("report", PLANNER, settings, state, desk, words(node, 3, 3, 1, 256, 3, 0, 0)), end="")
+        answer = call("decide", PLANNER, settings, state, desk)
         if helper("is_wait", answer):
             print("wait %d" % helper("reason_of", answer))
         else:
             print("plan %d" % WORD(library.restart_get_word(state, ctypes.c_size_t(55))).value)
+    watcher, page = helper("watcher", 0), ctypes.create_string_buffer(BUFFER)
+    length = helper("length_of", call("page", watcher, settings, state, desk, 0, page))
+    print("page of %d words, placed %d" % (length, WORD(library.restart_get_word(page, ctypes.c_size_t(56))).value))
+    assert call("page", watcher, settings, state, desk, 1, page) == call("drop", watcher, settings, state, desk, 0) == 15
 
 
 is_there()

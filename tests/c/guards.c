@@ -53,6 +53,16 @@ static void both(const struct entry *entry, const struct piece *pieces, uint32_t
     restart_put_word(pieces[0].bytes, 0, nodes);
 }
 
+/* And refused because of the role. */
+static void with_role(const struct entry *entry, const struct piece *pieces, uint32_t node,
+                      uint32_t expected)
+{
+    both(entry, pieces, node, expected);
+    caller = restart_watcher(3);
+    everywhere(entry, pieces, node, RESTART_NOT_ALLOWED);
+    caller = RESTART_PLANNER;
+}
+
 static void messages(struct world *world)
 {
     static const uint32_t contents_words[] = {4, 7,   127, 256, 5,   0, 257, 82,
@@ -90,19 +100,23 @@ static void events(struct world *world)
     lend_world(pieces, world);
     world_gathered(world);
     everywhere(&fresh, &state, 0, RESTART_ACCEPTED);
-    both(&check_state, pieces, 0, RESTART_ACCEPTED);
+    caller = restart_watcher(3);
+    everywhere(&fresh, &state, 0, RESTART_NOT_ALLOWED);
+    caller = RESTART_PLANNER;
+    with_role(&check_state, pieces, 0, RESTART_ACCEPTED);
     pieces[3].bytes = message;
     pieces[3].length = put_report(message, 4);
-    both(&report, pieces, 0, RESTART_ACCEPTED);
-    both(&drop, pieces, 5, RESTART_ACCEPTED);
-    both(&decide, pieces, 0, 33554432);
+    with_role(&report, pieces, 0, RESTART_ACCEPTED);
+    with_role(&drop, pieces, 5, RESTART_ACCEPTED);
+    with_role(&decide, pieces, 0, 33554432);
     world_ordered(world);
     pieces[3].bytes = buffer;
     pieces[3].length = sizeof buffer;
-    both(&order, pieces, 5, 16777216 + 36);
-    both(&fetched, pieces, 5, RESTART_ACCEPTED);
+    with_role(&order, pieces, 5, 16777216 + 36);
+    with_role(&page, pieces, 0, 16777216 + 72);
+    with_role(&fetched, pieces, 5, RESTART_ACCEPTED);
     world_preparing(world);
-    both(&prepared, pieces, 5, RESTART_ACCEPTED);
+    with_role(&prepared, pieces, 5, RESTART_ACCEPTED);
 }
 
 /* ---- The guards themselves: calls that touch what was not lent must end the program ---- */

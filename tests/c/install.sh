@@ -23,13 +23,13 @@ check() { # WHAT COMMAND ..
 # What must stand under the prefix.
 names() {
     echo bin/restart bin/mondays bin/restart-service include/restart.h lib/librestart.a lib/pkgconfig/restart.pc
-    echo "lib/librestart.so lib/librestart.so.0 lib/librestart.so.$version"
+    echo "lib/librestart.so lib/librestart.so.1 lib/librestart.so.$version"
     echo lib/cmake/restart/restart-config.cmake lib/cmake/restart/restart-config-version.cmake
     echo share/man/man1/restart.1 share/man/man1/restart-service.1 share/man/man1/mondays.1 share/man/man3/restart.3
     echo share/man/man7/restart.7 share/man/man7/restart-model.7
     sh c/names.sh | sed 's|.*|share/man/man3/&.3|'
     for report in examples/reports/*.bin; do echo "share/restart/example/reports/${report##*/}"; done
-    for name in service.c settings.bin events.txt output.txt moves.bin moves.txt; do echo "share/restart/example/$name"; done
+    for name in service.c settings.bin events.txt publishers.txt output.txt moves.bin moves.txt; do echo "share/restart/example/$name"; done
 }
 
 all_there() { # FOLDER
@@ -40,12 +40,12 @@ all_there() { # FOLDER
 
 # The operators' tool.
 tool_names() {
-    echo bin/restart-text share/man/man1/restart-text.1 share/restart/explain.schema.json share/restart/convert.schema.json
+    echo bin/restart-text share/man/man1/restart-text.1 share/restart/explain.schema.json share/restart/convert.schema.json share/restart/publisher.schema.json
     (cd tools && find restart_text -name '*.py' | sed 's|^|share/restart/|')
 }
 
 expected_output() {
-    printf 'report 0, wait 2\nreport 0, plan 4\n' | diff - "$1"
+    printf 'report 0, wait 2\nreport 0, plan 4\npage of 72 words, placed 1\n' | diff - "$1"
 }
 
 # Builds the program in a folder of its own, with the flags of pkg-config under this sysroot, and runs it over the shared library; then
@@ -61,7 +61,7 @@ outside() { # COMPILER STANDARD LIBRARY-FOLDER SYSROOT
         LD_LIBRARY_PATH=$3 ./program >printed && expected_output printed || return
         readelf -dW program >needed
         case $way in
-        -lrestart) grep -q 'NEEDED.*\[librestart.so.0\]' needed || return ;;
+        -lrestart) grep -q 'NEEDED.*\[librestart.so.1\]' needed || return ;;
         *) ! grep -q 'NEEDED.*librestart' needed || return ;;
         esac
     done
@@ -82,7 +82,7 @@ told() { # LIBRARY-FOLDER
 }
 
 from_python() { # LIBRARY-FOLDER
-    python3 "$root/tests/c/from_python.py" "$1/librestart.so.0" >"$room/printed" && expected_output "$room/printed"
+    python3 "$root/tests/c/from_python.py" "$1/librestart.so.1" >"$room/printed" && expected_output "$room/printed"
 }
 
 from_rust() { # LIBRARY-FOLDER

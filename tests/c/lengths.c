@@ -37,7 +37,7 @@ static void add(const uint8_t *bytes, size_t length)
     right.pieces++;
 }
 
-/* The call with one piece of another length. Node 3 is used where a node is. */
+/* The call with one piece of another length. Node 3 or subgroup 3 is used where one is. */
 static void check_length(unsigned piece, size_t length, uint32_t expected)
 {
     static uint8_t bytes[MOST_PIECES][ROOM];
@@ -244,6 +244,13 @@ static void events(void)
 
     world_ordered(&world);
     take_event(&order, 16777216 + 36, &world);
+    add(buffer, sizeof buffer);
+    settings_lengths();
+    state_lengths(1);
+    desk_lengths();
+    buffer_lengths(3);
+
+    take_event(&page, 16777216 + 72, &world);
     add(buffer, sizeof buffer);
     settings_lengths();
     state_lengths(1);

@@ -1,6 +1,7 @@
 /*
  * A program outside the repository, over the installed header and library: it reports one of two
- * machines, is told to wait for a majority, reports the other and has a plan.
+ * machines, is told to wait for a majority, reports the other and has a plan; then it reads the page
+ * of subgroup 0 as its watcher, who may do nothing else.
  */
 #include <restart.h>
 #include <stdio.h>
@@ -12,25 +13,34 @@ int main(void)
     /* Two machines in two failure sets, at least one for a group; one shard that needs one. */
     const uint32_t words[7] = {2, 2, 1, 1, 0, 1, 1};
     uint8_t settings[sizeof words], state[RESTART_STATE_BYTES], message[32];
+    uint8_t page[RESTART_BUFFER_BYTES];
+    const uint32_t watcher = restart_watcher(0);
     uint32_t answer;
     size_t i;
 
     for (i = 0; i < 7; i++)
         restart_put_word(settings, i, words[i]);
-    restart_fresh(state, sizeof state);
+    restart_fresh(RESTART_PLANNER, state, sizeof state);
     for (i = 0; i < 2; i++) {
         const uint32_t report[8] = {(uint32_t)i, 3, 3, 1, 256, 3, 0, 0};
         size_t k;
         for (k = 0; k < 8; k++)
             restart_put_word(message, k, report[k]);
-        answer = restart_report(settings, sizeof settings, state, sizeof state, desk, sizeof desk,
-                                message, sizeof message);
+        answer = restart_report(RESTART_PLANNER, settings, sizeof settings, state, sizeof state,
+                                desk, sizeof desk, message, sizeof message);
         printf("report %lu, ", (unsigned long)answer);
-        answer = restart_decide(settings, sizeof settings, state, sizeof state, desk, sizeof desk);
+        answer = restart_decide(RESTART_PLANNER, settings, sizeof settings, state, sizeof state,
+                                desk, sizeof desk);
         printf("%s %lu\n", restart_is_wait(answer) ? "wait" : "plan",
                (unsigned long)(restart_is_wait(answer)
                                    ? restart_reason_of(answer)
                                    : restart_get_word(state, RESTART_PLAN_VIEW)));
     }
-    return restart_is_plan(answer) ? 0 : 1;
+    answer = restart_page(watcher, settings, sizeof settings, state, sizeof state, desk,
+                          sizeof desk, 0, page, sizeof page);
+    printf("page of %lu words, placed %lu\n", (unsigned long)restart_length_of(answer),
+           (unsigned long)restart_get_word(page, RESTART_PAGE_MASKS));
+    answer =
+        restart_drop(watcher, settings, sizeof settings, state, sizeof state, desk, sizeof desk, 0);
+    return restart_number_of(answer) == RESTART_NOT_ALLOWED ? 0 : 1;
 }

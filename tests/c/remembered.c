@@ -78,7 +78,8 @@ static void views(void)
     check_call(&report, pieces, 0, 11);
     reported(1, 6, 18, 7);
     /* A fresh state remembers nothing. */
-    check_word("the fresh state", restart_fresh(world.state, sizeof world.state), RESTART_ACCEPTED);
+    check_word("the fresh state", restart_fresh(RESTART_PLANNER, world.state, sizeof world.state),
+               RESTART_ACCEPTED);
     reported(0, 6, RESTART_ACCEPTED, 6);
 }
 
@@ -165,7 +166,8 @@ static void earlier_release(void)
         check_call(&fetched, pieces, 3, 3);
         check_call(&prepared, pieces, 3, 3);
         /* What is left to do: start fresh, and every machine reports again. The desk may stay. */
-        check_word("the fresh state", restart_fresh(world.state, sizeof world.state),
+        check_word("the fresh state",
+                   restart_fresh(RESTART_PLANNER, world.state, sizeof world.state),
                    RESTART_ACCEPTED);
         for (uint32_t node = 0; node < 6; node++)
             reported(node, 7, RESTART_ACCEPTED, 7);

@@ -272,7 +272,8 @@ static void told_records(void)
 
 typedef void phase(struct world *);
 
-/* Rows 1 to 3: the desk's length, the settings, and a held node from N up. */
+/* Rows 1, 2, 15 and 3: the desk's length, the settings, a role that may not, and a held node from N
+ * up. The page is asked of a subgroup that is not the watcher's. */
 static void entry_rows(const struct entry *entry, phase *own, uint32_t node)
 {
     own(&world);
@@ -281,10 +282,13 @@ static void entry_rows(const struct entry *entry, phase *own, uint32_t node)
     pieces[2].length -= 4;
     restart_put_word(world.settings, 0, 0);
     restart_put_word(world.state, RESTART_HELD, held | 512);
+    caller = restart_watcher(1);
     check_call(entry, pieces, node, 1);
     pieces[2].length += 4;
     check_call(entry, pieces, node, 2);
     restart_put_word(world.settings, 0, 7);
+    check_call(entry, pieces, node, 15);
+    caller = RESTART_PLANNER;
     check_call(entry, pieces, node, 3);
     own(&world);
 }
@@ -317,8 +321,8 @@ static void terminated(struct world *to)
     uint8_t message[sizeof words];
     world_fresh(to);
     check_word("a report with a termination",
-               restart_report(to->settings, sizeof to->settings, to->state, sizeof to->state,
-                              to->desk, sizeof to->desk, message,
+               restart_report(RESTART_PLANNER, to->settings, sizeof to->settings, to->state,
+                              sizeof to->state, to->desk, sizeof to->desk, message,
                               put_words(message, words, COUNT(words))),
                RESTART_ACCEPTED);
 }
@@ -410,6 +414,33 @@ static void orders(void)
     node_rows(&order, 16777216 + 36);
 }
 
+/* A page in every phase: no row 4. Its own watcher climbs from 2 to 3 with no 15 between. */
+static void pages(void)
+{
+    static phase *const phases[] = {world_fresh, world_gathered, world_ordered, world_preparing,
+                                    world_committed};
+    memset(buffer, 0xEE, sizeof buffer);
+    pieces[3] = (struct piece){buffer, sizeof buffer};
+    for (size_t i = 0; i < COUNT(phases); i++) {
+        entry_rows(&page, phases[i], 0);
+        restart_put_word(world.settings, 0, 0);
+        restart_put_word(world.state, RESTART_STATE_ZEROS, 1);
+        caller = restart_watcher(0);
+        pieces[3].length -= 4;
+        check_call(&page, pieces, 1, 1);
+        pieces[3].length += 4;
+        check_call(&page, pieces, 1, 2);
+        restart_put_word(world.settings, 0, 7);
+        check_call(&page, pieces, 1, 15);
+        check_call(&page, pieces, 0, 3);
+        restart_put_word(world.state, RESTART_STATE_ZEROS, 0);
+        check_call(&page, pieces, 0, 16777216 + 72);
+        caller = RESTART_PLANNER;
+        check_call(&page, pieces, 4, 15);
+        check_call(&page, pieces, 3, 16777216 + 72);
+    }
+}
+
 static void marks(void)
 {
     first_rows(&fetched, world_gathered, world_ordered, 7);
@@ -463,6 +494,7 @@ int main(void)
     reports();
     drops();
     orders();
+    pages();
     marks();
     decisions();
     return summary();

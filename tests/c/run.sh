@@ -9,13 +9,13 @@ needs gcc g++ make valgrind pkg-config groff cmake || exit 1
 
 out=target/c
 library=target/librestart.a
-shared_library=target/librestart.so.0
+shared_library=target/librestart.so.1
 log=$out/log
 strict="-D_DEFAULT_SOURCE -Iinclude -Wall -Wextra -Werror -pedantic -Wconversion -g"
 sanitizers="-fsanitize=address,undefined -fno-sanitize-recover=all"
 memcheck="valgrind -q --error-exitcode=9 --leak-check=full --show-leak-kinds=all"
 shared="tests/c/harness.c tests/c/calls.c tests/c/world.c"
-tests="entry_points rows lengths guards cuts remembered caps views flat"
+tests="entry_points rows lengths guards roles page cuts remembered caps views flat"
 passed=0 failed=0
 mkdir -p $out
 
@@ -76,7 +76,7 @@ service() { # COMMAND ..
 # So it does when it saves, and when it is started once more it has no event left to take.
 saving_service() { # COMMAND ..
     rm -rf $out/saved && mkdir $out/saved && "$@" examples $out/saved >$out/printed && diff examples/output.txt $out/printed || return
-    "$@" examples $out/saved >$out/printed && printf 'resume: committed, attempt 2, events taken: 31\nend: committed\n' | diff - $out/printed
+    "$@" examples $out/saved >$out/printed && printf 'resume: committed, attempt 2, events taken: 36\nend: committed\n' | diff - $out/printed
 }
 
 # The example with a fault put in by sed: a kill must show it.
@@ -84,6 +84,13 @@ kill_finds() { # EDIT
     sed -e "$1" examples/service.c >$out/service-faulty.c && ! cmp -s examples/service.c $out/service-faulty.c || return
     gcc -std=c11 -Iinclude -o $out/service-faulty $out/service-faulty.c $library || return
     ! python3 tests/c/killed.py $out/service-faulty $out/kill_at.so faulty >/dev/null
+}
+
+# The example with a fault put in by sed: what it prints must show it.
+output_finds() { # EDIT
+    sed -e "$1" examples/service.c >$out/service-faulty.c && ! cmp -s examples/service.c $out/service-faulty.c || return
+    gcc -std=c11 -Iinclude -o $out/service-faulty $out/service-faulty.c $library || return
+    ! service $out/service-faulty >/dev/null
 }
 
 # The example ends with this status on this folder.
@@ -116,13 +123,13 @@ symbols() {
     sh c/names.sh | sort >$out/declared && sh c/names.sh proved | sort >$out/proved
     nm $library | sed -n 's/^[0-9a-f]* [A-Z] //p' | sort >$out/defined
     nm target/staticlib/libc_planner.a | sed -n 's/^[0-9a-f]* [A-Z] //p' | sort >$out/defined-proved
-    test "$(wc -l <$out/proved)" -ge 16 && diff $out/declared $out/defined && diff $out/proved $out/defined-proved
+    test "$(wc -l <$out/proved)" -ge 17 && diff $out/declared $out/defined && diff $out/proved $out/defined-proved
 }
 
 # The shared library exports the same, under its version and by its soname.
 exports() {
-    nm -D --defined-only $shared_library | sed -n 's/^[0-9a-f]* T \(.*\)@@RESTART_0$/\1/p' | sort >$out/exported
-    diff $out/declared $out/exported && readelf -dW $shared_library | grep -q 'SONAME.*\[librestart.so.0\]'
+    nm -D --defined-only $shared_library | sed -n 's/^[0-9a-f]* T \(.*\)@@RESTART_1$/\1/p' | sort >$out/exported
+    diff $out/declared $out/exported && readelf -dW $shared_library | grep -q 'SONAME.*\[librestart.so.1\]'
 }
 
 # It needs nothing but C's functions on memory, and has no memory of its own that could be written.
@@ -175,8 +182,8 @@ too_small() {
     ! $out/stack 16384
 }
 
-page() { # FILE
-    groff -t -man -Tutf8 -ww -z "$1" >$out/page 2>&1 && test ! -s $out/page
+manual_page() { # FILE
+    groff -t -man -Tutf8 -ww -z "$1" >$out/groff 2>&1 && test ! -s $out/groff
 }
 
 check "what the library defines" symbols
@@ -221,6 +228,8 @@ check "orders that leave before they are saved" kill_finds '/^    save(leader);$
 check "a file that is written in its place" kill_finds 's/write_file(fresh, bytes/write_file(path, bytes/; s/rename(fresh, path) != 0/fresh[0] == 0/'
 check "acknowledgements of any attempt" kill_finds 's/number_in(tag) != leader->attempt/number_in(tag) == 0/'
 check "a desk that is not saved" kill_finds '/memcpy(bytes + DESK_AT/d'
+check "publishers in the leader's role" output_finds 's/restart_page(LENT_AS(role, leader)/restart_page(LENT(leader)/'
+check "strangers in a publisher's role" output_finds '/^static uint32_t role_of/,/^}/s/return 0;/return restart_watcher(0);/'
 check "other folders" other_folders
 check "the example cut short" service_ends 1 $out/short
 check "the example with wrong settings" service_ends 2 $out/long
@@ -228,11 +237,11 @@ check "the example with a report that was cut off" cut_report
 check "the example without files" service_ends 2 $out/none
 
 fault=0
-for name in lengths entry_points entry_points entry_points guards rows guards rows entry_points guards rows lengths rows cuts rows remembered remembered caps caps views views views flat flat flat rows; do
+for name in lengths entry_points entry_points entry_points guards rows guards rows entry_points guards rows lengths rows cuts rows remembered remembered caps caps views views views flat flat flat rows roles roles roles rows page page page; do
     fault=$((fault + 1))
     check "fault $fault is found by $name" found $fault $name
 done
-for file in man/*; do check "$file" page "$file"; done
+for file in man/*; do check "$file" manual_page "$file"; done
 check "the examples of restart-model(7)" model_example
 check "documents that are not there" no_document_01
 check "make help" help_names_all

@@ -205,12 +205,24 @@ static void gather(void)
     }
 }
 
+/* The page of each subgroup, as its watcher. */
+static void made_pages(const struct piece *lent)
+{
+    for (uint32_t subgroup = 0; subgroup < RESTART_SUBGROUPS; subgroup++) {
+        caller = restart_watcher(subgroup);
+        made(&page, lent, subgroup, RESTART_LENGTH);
+    }
+    caller = RESTART_PLANNER;
+}
+
 static void restart_once(void)
 {
     const struct piece lent[4] = {on_settings, on_state, on_desk, on_buffer};
     gather();
+    made_pages(lent);
     made(&decide, lent, 0, RESTART_PLAN);
     made(&check_state, lent, 0, RESTART_PLAIN);
+    made_pages(lent);
     for (uint32_t node = 0; node < HELD; node++)
         made(&order, lent, node, RESTART_LENGTH);
     memcpy(message, buffer, sizeof message);
@@ -226,13 +238,13 @@ static void restart_once(void)
 
 /* ---- The same on a thread ---- */
 
-#define LENT settings, sizeof settings, state, sizeof state, desk, sizeof desk
+#define LENT RESTART_PLANNER, settings, sizeof settings, state, sizeof state, desk, sizeof desk
 
 /* Gathers, decides and writes an order; what is answered last. */
 static void *on_thread(void *answer)
 {
     uint32_t *last = (uint32_t *)answer;
-    *last = restart_fresh(state, sizeof state);
+    *last = restart_fresh(RESTART_PLANNER, state, sizeof state);
     for (uint32_t node = 0; node < HELD && *last == RESTART_ACCEPTED; node++) {
         put_report(node);
         *last = restart_report(LENT, message, sizeof message);

@@ -20,23 +20,25 @@ struct work {
     struct world world;                           /* this thread's own */
     uint8_t orders[ORDERS][RESTART_BUFFER_BYTES]; /* of the shared state */
     uint8_t flat[ORDERS][RESTART_BUFFER_BYTES];   /* of the shared messages */
+    uint8_t page[RESTART_BUFFER_BYTES];           /* of the shared state */
     int good;
 };
 
 /* The state, desk and settings that all threads read. */
-#define SHARED                                                                                     \
-    alone->settings, sizeof alone->settings, alone->state, sizeof alone->state, alone->desk,       \
+#define SHARED(role)                                                                               \
+    role, alone->settings, sizeof alone->settings, alone->state, sizeof alone->state, alone->desk, \
         sizeof alone->desk
 /* Shared settings with a state and desk of the thread's own. */
 #define OWN(work)                                                                                  \
-    alone->settings, sizeof alone->settings, (work)->world.state, sizeof(work)->world.state,       \
-        (work)->world.desk, sizeof(work)->world.desk
+    RESTART_PLANNER, alone->settings, sizeof alone->settings, (work)->world.state,                 \
+        sizeof(work)->world.state, (work)->world.desk, sizeof(work)->world.desk
 
 /* Case A once more, up to the plan. */
 static int plans(struct work *work)
 {
     memset(work->world.desk, 0xEE, sizeof work->world.desk);
-    if (restart_fresh(work->world.state, sizeof work->world.state) != RESTART_ACCEPTED)
+    if (restart_fresh(RESTART_PLANNER, work->world.state, sizeof work->world.state) !=
+        RESTART_ACCEPTED)
         return 0;
     for (uint32_t node = 0; node < ORDERS; node++)
         if (restart_report(OWN(work), messages[node], lengths[node]) != RESTART_ACCEPTED)
@@ -46,13 +48,20 @@ static int plans(struct work *work)
 
 static int writes_orders(struct work *work)
 {
-    if (restart_check_state(SHARED) != RESTART_ACCEPTED)
+    if (restart_check_state(SHARED(RESTART_PLANNER)) != RESTART_ACCEPTED)
         return 0;
     for (uint32_t node = 0; node < ORDERS; node++)
-        if (restart_is_refusal(
-                restart_order(SHARED, node, work->orders[node], RESTART_BUFFER_BYTES)))
+        if (restart_is_refusal(restart_order(SHARED(RESTART_PLANNER), node, work->orders[node],
+                                             RESTART_BUFFER_BYTES)))
             return 0;
     return 1;
+}
+
+/* Reads the page of the shared state as its watcher. */
+static int reads_page(struct work *work)
+{
+    return restart_length_of(restart_page(SHARED(restart_watcher(0)), 0, work->page,
+                                          sizeof work->page)) == RESTART_PAGE_WORDS;
 }
 
 /* Makes a flat report of each shared message, and the message of that. */
@@ -75,7 +84,7 @@ static int turns(struct work *work)
 static void *run(void *given)
 {
     struct work *work = (struct work *)given;
-    work->good = plans(work) && writes_orders(work) && turns(work);
+    work->good = plans(work) && writes_orders(work) && reads_page(work) && turns(work);
     return NULL;
 }
 
@@ -102,6 +111,7 @@ int main(void)
         check_bytes("its desk", works[i].world.desk, world.desk, sizeof world.desk);
         check_bytes("its orders", works[i].orders[0], one.orders[0], sizeof one.orders);
         check_bytes("its flat reports", works[i].flat[0], one.flat[0], sizeof one.flat);
+        check_bytes("its page", works[i].page, one.page, sizeof one.page);
     }
     return summary();
 }

@@ -45,13 +45,13 @@ void world_fresh(struct world *world)
     put_words(world->settings, settings_words, 14);
     memset(world->state, 0xEE, sizeof world->state);
     memset(world->desk, 0xEE, sizeof world->desk);
-    check_word("the fresh state", restart_fresh(world->state, sizeof world->state),
+    check_word("the fresh state", restart_fresh(RESTART_PLANNER, world->state, sizeof world->state),
                RESTART_ACCEPTED);
 }
 
 #define LENT                                                                                       \
-    world->settings, sizeof world->settings, world->state, sizeof world->state, world->desk,       \
-        sizeof world->desk
+    RESTART_PLANNER, world->settings, sizeof world->settings, world->state, sizeof world->state,   \
+        world->desk, sizeof world->desk
 
 void world_gathered(struct world *world)
 {

@@ -6,9 +6,11 @@ use crate::library::{Answer, Planner, ACCEPTED, PLAN, WAIT};
 use reference::desk::DESK_WORDS;
 use reference::events::{self, Decision};
 use reference::message::MOST_WORDS;
-use reference::number::{self, Refusal};
+use reference::number::Refusal;
 use reference::order::{self, Choice};
-use reference::state::{self, STATE_WORDS};
+use reference::page;
+use reference::roles::Role;
+use reference::state::STATE_WORDS;
 use reference::words;
 
 pub const STATE_BYTES: usize = 4 * STATE_WORDS;
@@ -25,10 +27,12 @@ pub enum Kind {
     Order,
     Fetched,
     Prepared,
+    Page,
 }
 
 impl Kind {
-    pub const ALL: [Kind; 8] = [
+    /// The operations, which are the planner's.
+    pub const EVENTS: [Kind; 8] = [
         Kind::Fresh,
         Kind::CheckState,
         Kind::Report,
@@ -49,13 +53,15 @@ impl Kind {
             Kind::Order => "order",
             Kind::Fetched => "fetched",
             Kind::Prepared => "prepared",
+            Kind::Page => "page",
         }
     }
 
+    /// Whether the call takes a node, or a page's subgroup.
     pub fn takes_node(self) -> bool {
         matches!(
             self,
-            Kind::Drop | Kind::Order | Kind::Fetched | Kind::Prepared
+            Kind::Drop | Kind::Order | Kind::Fetched | Kind::Prepared | Kind::Page
         )
     }
 }
@@ -71,9 +77,12 @@ pub struct Table {
 /// A call. What its kind does not take stays unused.
 #[derive(Clone, Debug)]
 pub struct Asked {
+    /// The word of the caller's role.
+    pub role: u32,
     pub kind: Kind,
     pub table: Table,
     pub message: Vec<u8>,
+    /// The node, or the subgroup of a page.
     pub node: u32,
     /// What the buffer holds before the call.
     pub buffer: Vec<u8>,
@@ -131,34 +140,38 @@ fn whole(bytes: &[u8]) -> Vec<u32> {
 }
 
 fn put_expected(choice: Choice, asked: &Asked, outcome: &mut Outcome) -> Result<(), Refusal> {
-    if asked.kind == Kind::Fresh {
-        number::refuse_if(asked.table.state.len() != STATE_BYTES, number::STATE)?;
-        outcome.state = words::to_bytes(&state::encode(&state::fresh()));
-        return Ok(());
-    }
+    let role = Role::of(asked.role);
     let settings = &whole(&asked.table.settings);
     let state = &whole(&asked.table.state);
     let desk = &whole(&asked.table.desk);
     let next = match asked.kind {
-        Kind::CheckState => return Ok(events::check(settings, state, desk)?),
+        Kind::Fresh => events::fresh(role, state.len())?,
+        Kind::CheckState => return Ok(events::check(role, settings, state, desk)?),
         Kind::Report => {
             let message = whole(&asked.message);
-            let (state, desk) = events::report(settings, state, desk, &message)?;
+            let (state, desk) = events::report(role, settings, state, desk, &message)?;
             outcome.desk = words::to_bytes(&desk);
             state
         }
-        Kind::Drop => events::drop_node(settings, state, desk, asked.node)?,
-        Kind::Fetched => events::fetched(settings, state, desk, asked.node)?,
-        Kind::Prepared => events::prepared(settings, state, desk, asked.node)?,
+        Kind::Drop => events::drop_node(role, settings, state, desk, asked.node)?,
+        Kind::Fetched => events::fetched(role, settings, state, desk, asked.node)?,
+        Kind::Prepared => events::prepared(role, settings, state, desk, asked.node)?,
         Kind::Order => {
             let buffer = whole(&asked.buffer).len();
-            let order = events::order(settings, state, desk, asked.node, buffer)?;
+            let order = events::order(role, settings, state, desk, asked.node, buffer)?;
             outcome.answer = ACCEPTED + order.len() as u32;
             outcome.buffer = words::to_bytes(&words::padded(&order, MOST_WORDS));
             return Ok(());
         }
-        Kind::Decide | Kind::Fresh => {
-            let (decision, state) = events::decide_by(choice, settings, state, desk)?;
+        Kind::Page => {
+            let buffer = whole(&asked.buffer).len();
+            let page = page::page_by(choice, role, settings, state, desk, asked.node, buffer)?;
+            outcome.answer = ACCEPTED + page.len() as u32;
+            outcome.buffer = words::to_bytes(&words::padded(&page, MOST_WORDS));
+            return Ok(());
+        }
+        Kind::Decide => {
+            let (decision, state) = events::decide_by(choice, role, settings, state, desk)?;
             outcome.answer = match decision {
                 Decision::Plan => PLAN,
                 Decision::Wait(wait) => wait_word(wait.reason(), wait.value()),
@@ -224,7 +237,7 @@ impl Pages {
     fn constant(&mut self, kind: Kind) -> Vec<&mut Lent> {
         let [settings, state, desk, message, _] = self.all();
         let mut constant = vec![settings, message];
-        if matches!(kind, Kind::CheckState | Kind::Order) {
+        if matches!(kind, Kind::CheckState | Kind::Order | Kind::Page) {
             constant.push(state);
         }
         if kind != Kind::Report {
@@ -248,7 +261,7 @@ pub fn call(
         let constant = pages.constant(asked.kind);
         constant.into_iter().for_each(Lent::seal);
     }
-    let answer = call_lent(planner, pages, asked.kind, asked.node);
+    let answer = call_lent(planner, pages, asked);
     if strict {
         let constant = pages.constant(asked.kind);
         constant.into_iter().for_each(Lent::unseal);
@@ -272,7 +285,8 @@ pub fn call(
     Ok(outcome)
 }
 
-fn call_lent(planner: &Planner, pages: &mut Pages, kind: Kind, node: u32) -> u32 {
+fn call_lent(planner: &Planner, pages: &mut Pages, asked: &Asked) -> u32 {
+    let Asked { role, node, .. } = *asked;
     let [settings, state, desk, message, buffer] =
         pages.all().map(|lent| (lent.pointer(), lent.length()));
     let (settings, s) = settings;
@@ -282,15 +296,16 @@ fn call_lent(planner: &Planner, pages: &mut Pages, kind: Kind, node: u32) -> u32
     let (buffer, b) = buffer;
     // SAFETY: the pointers are to lent memory of those lengths, disjoint.
     unsafe {
-        match kind {
-            Kind::Fresh => (planner.fresh)(state, t),
-            Kind::CheckState => (planner.check_state)(settings, s, state, t, desk, d),
-            Kind::Report => (planner.report)(settings, s, state, t, desk, d, message, m),
-            Kind::Drop => (planner.drop)(settings, s, state, t, desk, d, node),
-            Kind::Decide => (planner.decide)(settings, s, state, t, desk, d),
-            Kind::Order => (planner.order)(settings, s, state, t, desk, d, node, buffer, b),
-            Kind::Fetched => (planner.fetched)(settings, s, state, t, desk, d, node),
-            Kind::Prepared => (planner.prepared)(settings, s, state, t, desk, d, node),
+        match asked.kind {
+            Kind::Fresh => (planner.fresh)(role, state, t),
+            Kind::CheckState => (planner.check_state)(role, settings, s, state, t, desk, d),
+            Kind::Report => (planner.report)(role, settings, s, state, t, desk, d, message, m),
+            Kind::Drop => (planner.drop)(role, settings, s, state, t, desk, d, node),
+            Kind::Decide => (planner.decide)(role, settings, s, state, t, desk, d),
+            Kind::Order => (planner.order)(role, settings, s, state, t, desk, d, node, buffer, b),
+            Kind::Fetched => (planner.fetched)(role, settings, s, state, t, desk, d, node),
+            Kind::Prepared => (planner.prepared)(role, settings, s, state, t, desk, d, node),
+            Kind::Page => (planner.page)(role, settings, s, state, t, desk, d, node, buffer, b),
         }
     }
 }

@@ -14,6 +14,7 @@ use crate::recorder::Recorder;
 use crate::sequences::{self, Event};
 use crate::world::{self, World};
 use crate::{damage, unsound};
+use reference::roles::PLANNER;
 use reference::state::{self, Phase, State, STATE_WORDS};
 use reference::words;
 
@@ -110,9 +111,15 @@ impl Sequence {
         }
     }
 
+    /// Settings, state and desk as they are now, without faults.
+    pub fn table(&self) -> &Table {
+        &self.table
+    }
+
     fn asked(&mut self, kind: Kind) -> Asked {
         let filling = self.random.word() as u8;
         Asked {
+            role: PLANNER,
             kind,
             table: self.table.clone(),
             message: Vec::new(),

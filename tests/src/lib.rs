@@ -23,6 +23,8 @@
 //! - `events`: the sequences of the `events` program
 //! - `situations`, `tally`: what the sequences came to, and how often
 //! - `plans`: the cases of the `plans` program, layouts that decide places
+//! - `pages`: the inputs of the `pages` program: roles and the pages of subgroups
+//! - `pairs`: worlds that agree on a subgroup and differ in the rest
 //! - `regressions`, `recorder`: stored sequences of calls, read and written
 //! - `runs`: whole runs of the program `restart`
 //! - `moves`: moves files, the inputs of the program `mondays`
@@ -48,6 +50,8 @@ pub mod mock;
 pub mod mondays;
 pub mod moves;
 pub mod open_views;
+pub mod pages;
+pub mod pairs;
 pub mod plans;
 pub mod random;
 pub mod recorder;

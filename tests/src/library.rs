@@ -1,5 +1,6 @@
 //! The C interface of the proved library, as tables of functions: one for
-//! settings, messages and open views, one for the planner's events.
+//! settings, messages and open views, one for the planner's events and the pages
+//! of subgroups.
 //!
 //! Every slice is a pointer and then a length in bytes. Every answer is a word
 //! whose highest byte is its class, see `Answer`.
@@ -93,21 +94,33 @@ pub type Convert = unsafe extern "C" fn(*const u8, usize, *const u8, usize, *mut
 /// A function of the five masks of a question on an open view.
 pub type OpenView = unsafe extern "C" fn(u32, u32, u32, u32, u32) -> u32;
 
-/// A function of a state to be made.
-pub type Fresh = unsafe extern "C" fn(*mut u8, usize) -> u32;
-/// A function of settings, state and desk, which are only read.
+/// A function of a role and a state to be made.
+pub type Fresh = unsafe extern "C" fn(u32, *mut u8, usize) -> u32;
+/// A function of a role, and settings, state and desk, which are only read.
 pub type CheckState =
-    unsafe extern "C" fn(*const u8, usize, *const u8, usize, *const u8, usize) -> u32;
-/// A function of settings, state and desk, both written, and a message.
-pub type Report =
-    unsafe extern "C" fn(*const u8, usize, *mut u8, usize, *mut u8, usize, *const u8, usize) -> u32;
-/// A function of settings, state, which is written, and desk.
-pub type Decide = unsafe extern "C" fn(*const u8, usize, *mut u8, usize, *const u8, usize) -> u32;
-/// A function of settings, state, which is written, desk and node.
+    unsafe extern "C" fn(u32, *const u8, usize, *const u8, usize, *const u8, usize) -> u32;
+/// A function of a role, settings, state and desk, both written, and a message.
+pub type Report = unsafe extern "C" fn(
+    u32,
+    *const u8,
+    usize,
+    *mut u8,
+    usize,
+    *mut u8,
+    usize,
+    *const u8,
+    usize,
+) -> u32;
+/// A function of a role, settings, state, which is written, and desk.
+pub type Decide =
+    unsafe extern "C" fn(u32, *const u8, usize, *mut u8, usize, *const u8, usize) -> u32;
+/// A function of a role, settings, state, which is written, desk and node.
 pub type OfNode =
-    unsafe extern "C" fn(*const u8, usize, *mut u8, usize, *const u8, usize, u32) -> u32;
-/// A function of settings, state, desk, node and a buffer to be written.
-pub type Order = unsafe extern "C" fn(
+    unsafe extern "C" fn(u32, *const u8, usize, *mut u8, usize, *const u8, usize, u32) -> u32;
+/// A function of a role, settings, state, desk, a node or subgroup, and a buffer
+/// to be written.
+pub type Write = unsafe extern "C" fn(
+    u32,
     *const u8,
     usize,
     *const u8,
@@ -119,7 +132,7 @@ pub type Order = unsafe extern "C" fn(
     usize,
 ) -> u32;
 
-/// The planner's events.
+/// The planner's events, and the pages of subgroups.
 #[derive(Clone, Copy)]
 pub struct Planner {
     pub fresh: Fresh,
@@ -127,9 +140,10 @@ pub struct Planner {
     pub report: Report,
     pub drop: OfNode,
     pub decide: Decide,
-    pub order: Order,
+    pub order: Write,
     pub fetched: OfNode,
     pub prepared: OfNode,
+    pub page: Write,
 }
 
 /// The functions on settings, messages and open views.
@@ -204,8 +218,9 @@ mod linked {
             lack: u32,
             passed: u32,
         ) -> u32;
-        pub fn restart_fresh(state: *mut u8, state_len: usize) -> u32;
+        pub fn restart_fresh(role: u32, state: *mut u8, state_len: usize) -> u32;
         pub fn restart_check_state(
+            role: u32,
             settings: *const u8,
             settings_len: usize,
             state: *const u8,
@@ -214,6 +229,7 @@ mod linked {
             desk_len: usize,
         ) -> u32;
         pub fn restart_report(
+            role: u32,
             settings: *const u8,
             settings_len: usize,
             state: *mut u8,
@@ -224,6 +240,7 @@ mod linked {
             message_len: usize,
         ) -> u32;
         pub fn restart_drop(
+            role: u32,
             settings: *const u8,
             settings_len: usize,
             state: *mut u8,
@@ -233,6 +250,7 @@ mod linked {
             node: u32,
         ) -> u32;
         pub fn restart_decide(
+            role: u32,
             settings: *const u8,
             settings_len: usize,
             state: *mut u8,
@@ -241,6 +259,7 @@ mod linked {
             desk_len: usize,
         ) -> u32;
         pub fn restart_order(
+            role: u32,
             settings: *const u8,
             settings_len: usize,
             state: *const u8,
@@ -252,6 +271,7 @@ mod linked {
             buffer_len: usize,
         ) -> u32;
         pub fn restart_fetched(
+            role: u32,
             settings: *const u8,
             settings_len: usize,
             state: *mut u8,
@@ -261,6 +281,7 @@ mod linked {
             node: u32,
         ) -> u32;
         pub fn restart_prepared(
+            role: u32,
             settings: *const u8,
             settings_len: usize,
             state: *mut u8,
@@ -268,6 +289,18 @@ mod linked {
             desk: *const u8,
             desk_len: usize,
             node: u32,
+        ) -> u32;
+        pub fn restart_page(
+            role: u32,
+            settings: *const u8,
+            settings_len: usize,
+            state: *const u8,
+            state_len: usize,
+            desk: *const u8,
+            desk_len: usize,
+            subgroup: u32,
+            buffer: *mut u8,
+            buffer_len: usize,
         ) -> u32;
     }
 }
@@ -305,6 +338,7 @@ pub fn tested_planner() -> Planner {
         order: linked::restart_order,
         fetched: linked::restart_fetched,
         prepared: linked::restart_prepared,
+        page: linked::restart_page,
     }
 }
 

@@ -113,6 +113,7 @@ pub fn planner<B: Behaviour>() -> Planner {
         order: order::<B>,
         fetched: fetched::<B>,
         prepared: prepared::<B>,
+        page: page::<B>,
     }
 }
 
@@ -122,10 +123,11 @@ type Piece = (*const u8, usize);
 const NONE: Piece = (std::ptr::dangling(), 0);
 
 /// A call with its pieces: settings, state, desk, message and buffer.
-unsafe fn event<B: Behaviour>(kind: Kind, pieces: [Piece; 5], node: u32) -> u32 {
+unsafe fn event<B: Behaviour>(role: u32, kind: Kind, pieces: [Piece; 5], node: u32) -> u32 {
     let bytes = |(at, length): Piece| from_raw_parts(at, length).to_vec();
     let [settings, state, desk, message, buffer] = pieces.map(bytes);
     let asked = Asked {
+        role,
         kind,
         table: Table {
             settings,
@@ -151,11 +153,13 @@ unsafe fn leave((at, _): Piece, before: &[u8], after: &[u8]) {
     }
 }
 
-unsafe extern "C" fn fresh<B: Behaviour>(state: *mut u8, state_len: usize) -> u32 {
-    event::<B>(Kind::Fresh, [NONE, (state, state_len), NONE, NONE, NONE], 0)
+unsafe extern "C" fn fresh<B: Behaviour>(role: u32, state: *mut u8, state_len: usize) -> u32 {
+    let pieces = [NONE, (state.cast_const(), state_len), NONE, NONE, NONE];
+    event::<B>(role, Kind::Fresh, pieces, 0)
 }
 
 unsafe extern "C" fn check_state<B: Behaviour>(
+    role: u32,
     settings: *const u8,
     settings_len: usize,
     state: *const u8,
@@ -165,10 +169,11 @@ unsafe extern "C" fn check_state<B: Behaviour>(
 ) -> u32 {
     let (settings, state) = ((settings, settings_len), (state, state_len));
     let pieces = [settings, state, (desk, desk_len), NONE, NONE];
-    event::<B>(Kind::CheckState, pieces, 0)
+    event::<B>(role, Kind::CheckState, pieces, 0)
 }
 
 unsafe extern "C" fn report<B: Behaviour>(
+    role: u32,
     settings: *const u8,
     settings_len: usize,
     state: *mut u8,
@@ -180,10 +185,16 @@ unsafe extern "C" fn report<B: Behaviour>(
 ) -> u32 {
     let (settings, state) = ((settings, settings_len), (state.cast_const(), state_len));
     let (desk, message) = ((desk.cast_const(), desk_len), (message, message_len));
-    event::<B>(Kind::Report, [settings, state, desk, message, NONE], 0)
+    event::<B>(
+        role,
+        Kind::Report,
+        [settings, state, desk, message, NONE],
+        0,
+    )
 }
 
 unsafe extern "C" fn decide<B: Behaviour>(
+    role: u32,
     settings: *const u8,
     settings_len: usize,
     state: *mut u8,
@@ -193,29 +204,38 @@ unsafe extern "C" fn decide<B: Behaviour>(
 ) -> u32 {
     let (settings, state) = ((settings, settings_len), (state.cast_const(), state_len));
     let pieces = [settings, state, (desk, desk_len), NONE, NONE];
-    event::<B>(Kind::Decide, pieces, 0)
+    event::<B>(role, Kind::Decide, pieces, 0)
 }
 
-unsafe extern "C" fn order<B: Behaviour>(
-    settings: *const u8,
-    settings_len: usize,
-    state: *const u8,
-    state_len: usize,
-    desk: *const u8,
-    desk_len: usize,
-    node: u32,
-    buffer: *mut u8,
-    buffer_len: usize,
-) -> u32 {
-    let (settings, state) = ((settings, settings_len), (state, state_len));
-    let buffer = (buffer.cast_const(), buffer_len);
-    let pieces = [settings, state, (desk, desk_len), NONE, buffer];
-    event::<B>(Kind::Order, pieces, node)
+macro_rules! written {
+    ($name:ident, $kind:expr) => {
+        unsafe extern "C" fn $name<B: Behaviour>(
+            role: u32,
+            settings: *const u8,
+            settings_len: usize,
+            state: *const u8,
+            state_len: usize,
+            desk: *const u8,
+            desk_len: usize,
+            number: u32,
+            buffer: *mut u8,
+            buffer_len: usize,
+        ) -> u32 {
+            let (settings, state) = ((settings, settings_len), (state, state_len));
+            let buffer = (buffer.cast_const(), buffer_len);
+            let pieces = [settings, state, (desk, desk_len), NONE, buffer];
+            event::<B>(role, $kind, pieces, number)
+        }
+    };
 }
+
+written!(order, Kind::Order);
+written!(page, Kind::Page);
 
 macro_rules! of_node {
     ($name:ident, $kind:expr) => {
         unsafe extern "C" fn $name<B: Behaviour>(
+            role: u32,
             settings: *const u8,
             settings_len: usize,
             state: *mut u8,
@@ -226,7 +246,7 @@ macro_rules! of_node {
         ) -> u32 {
             let (settings, state) = ((settings, settings_len), (state.cast_const(), state_len));
             let pieces = [settings, state, (desk, desk_len), NONE, NONE];
-            event::<B>($kind, pieces, node)
+            event::<B>(role, $kind, pieces, node)
         }
     };
 }

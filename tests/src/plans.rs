@@ -15,6 +15,7 @@ use crate::{damage, generate, unsound};
 use reference::desk::SLOT_WORDS;
 use reference::log::Position;
 use reference::order::{self, Choice, Layout};
+use reference::roles::PLANNER;
 use reference::settings::{self, Settings, SUBGROUPS};
 use reference::state::{self, State, View};
 use reference::{mask, words};
@@ -85,6 +86,7 @@ pub fn case(seed: u64, size: Size, index: u64) -> Case {
     let world = world(random, words, &view);
     let (held, stale) = held(random, &settings, &view);
     let mut asked = Asked {
+        role: PLANNER,
         kind: Kind::Decide,
         table: table(random, &world, &view, held, stale),
         message: Vec::new(),

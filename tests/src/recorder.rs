@@ -1,6 +1,7 @@
 //! Calls written down as the text of a stored case (see `regressions`).
 
 use crate::calls::{self, Asked, Kind, Table, BUFFER_BYTES, DESK_BYTES, STATE_BYTES};
+use reference::roles::PLANNER;
 use reference::words;
 
 /// Writes calls down as the text of a case.
@@ -49,7 +50,11 @@ impl Recorder {
             kind if kind.takes_node() => format!("{} {}", kind.name(), asked.node),
             kind => kind.name().into(),
         };
-        lines.push(format!("{what} = {}", expected.answer()));
+        let role = match asked.role {
+            PLANNER => String::new(),
+            word => format!("as {word} "),
+        };
+        lines.push(format!("{role}{what} = {}", expected.answer()));
         lines.iter().for_each(|line| self.put(line));
         if !expected.answer().refused() {
             self.table.state = expected.state;

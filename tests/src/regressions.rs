@@ -11,12 +11,15 @@
 //! fresh = ANSWER
 //! decide = ANSWER                      check_state alike
 //! drop N = ANSWER                      order, fetched, prepared alike
+//! page SUBGROUP = ANSWER
+//! as WORD LINE                         the call in the role of that word, else the planner's
 //! set PIECE INDEX WORD                 a word of settings, state or desk
 //! bytes PIECE LENGTH                   for the next call: also message and buffer
 //! word PIECE INDEX WORD                must be so: a word of state, desk or buffer
 //! plan VIEW MOVES                      must be so
 //! shard S holder N target V.K members N ..
 //! cut S V.K                            of the last order
+//! shows WORD .. | HOLDER .. | V K .. | MASK ..   the last page from words 0, 8, 24 and 56; all others are zero
 //! each FROM TO LINE                    the line with each number in the place of $
 //! ```
 //!
@@ -134,6 +137,10 @@ impl Player<'_> {
         if let Some(rest) = line.strip_prefix("each ") {
             return self.each(rest);
         }
+        let (role, line) = match line.strip_prefix("as ") {
+            Some(rest) => rest.split_once(' ').ok_or("as needs a word and a call")?,
+            None => ("256", line),
+        };
         let (text, answer) = match line.split_once('=') {
             Some((text, answer)) => (text.trim(), Some(answer.trim())),
             None => (line, None),
@@ -141,7 +148,7 @@ impl Player<'_> {
         let parts: Vec<&str> = text.split_whitespace().collect();
         let (first, rest) = parts.split_first().ok_or("an empty line")?;
         match answer {
-            Some(answer) => self.call(first, rest, answer),
+            Some(answer) => self.call(value(role)?, first, rest, answer),
             None => self.change_or_check(first, rest),
         }
     }
@@ -179,6 +186,7 @@ impl Player<'_> {
                 let is = self.word(piece, value(index)? as usize)?;
                 return same(is, value(word)?);
             }
+            ("shows", parts) => return self.shows(parts),
             ("plan", [view, moves]) => {
                 same(self.word("state", 55)?, value(view)?)?;
                 return same(self.word("state", 57)?, value(moves)?);
@@ -218,6 +226,20 @@ impl Player<'_> {
         same(self.word("state", 58 + shard)?, members)
     }
 
+    /// Whether the last page is as told, all 512 words of it.
+    fn shows(&mut self, parts: &[&str]) -> Check {
+        let mut page = vec![0; BUFFER_BYTES / 4];
+        for (part, first) in parts.split(|&part| part == "|").zip([0, 8, 24, 56]) {
+            let own = values(part)?;
+            page[first..first + own.len()].copy_from_slice(&own);
+        }
+        for (index, &wanted) in page.iter().enumerate() {
+            let said = same(self.word("buffer", index)?, wanted);
+            said.map_err(|what| format!("word {index} is {what}"))?;
+        }
+        Ok(())
+    }
+
     /// The cut of a shard in the last order.
     fn cut(&mut self, shard: u32, at: (u32, u32)) -> Check {
         let settings = words::whole_words(&self.table.settings);
@@ -231,8 +253,9 @@ impl Player<'_> {
     }
 
     /// Makes a call, compares it with the reference and with the stored answer.
-    fn call(&mut self, first: &str, rest: &[&str], answer: &str) -> Check {
+    fn call(&mut self, role: u32, first: &str, rest: &[&str], answer: &str) -> Check {
         let mut asked = Asked {
+            role,
             kind: kind(first)?,
             table: self.table.clone(),
             message: Vec::new(),
@@ -267,7 +290,8 @@ impl Player<'_> {
 
 fn kind(name: &str) -> Result<Kind, String> {
     let name = if name == "message" { "report" } else { name };
-    let kind = Kind::ALL.into_iter().find(|kind| kind.name() == name);
+    let mut kinds = Kind::EVENTS.into_iter().chain([Kind::Page]);
+    let kind = kinds.find(|kind| kind.name() == name);
     kind.ok_or(format!("{name} is no call"))
 }
 

@@ -5,6 +5,7 @@ use crate::world::World;
 use reference::events::{self, Decision};
 use reference::mask;
 use reference::number::Refusal;
+use reference::roles::Role;
 use reference::state::{self, Phase, State};
 
 #[derive(Clone, Debug)]
@@ -52,19 +53,33 @@ impl Table {
         let mut given = Given::Nothing;
         match event {
             Event::Report(message) => {
-                (next.state, next.desk) = events::report(settings, state, desk, message)?;
+                (next.state, next.desk) =
+                    events::report(Role::Planner, settings, state, desk, message)?;
             }
-            Event::Drop(node) => next.state = events::drop_node(settings, state, desk, *node)?,
+            Event::Drop(node) => {
+                next.state = events::drop_node(Role::Planner, settings, state, desk, *node)?
+            }
             Event::Decide => {
-                let (decision, state) = events::decide(settings, state, desk)?;
+                let (decision, state) = events::decide(Role::Planner, settings, state, desk)?;
                 next.state = state;
                 given = Given::Decision(decision);
             }
             Event::Order(node) => {
-                given = Given::Order(events::order(settings, state, desk, *node, 512)?);
+                given = Given::Order(events::order(
+                    Role::Planner,
+                    settings,
+                    state,
+                    desk,
+                    *node,
+                    512,
+                )?);
             }
-            Event::Fetched(node) => next.state = events::fetched(settings, state, desk, *node)?,
-            Event::Prepared(node) => next.state = events::prepared(settings, state, desk, *node)?,
+            Event::Fetched(node) => {
+                next.state = events::fetched(Role::Planner, settings, state, desk, *node)?
+            }
+            Event::Prepared(node) => {
+                next.state = events::prepared(Role::Planner, settings, state, desk, *node)?
+            }
         }
         Ok((next, given))
     }

@@ -46,6 +46,7 @@ fn wanted(kind: Kind) -> Vec<String> {
         ),
         Kind::Order => (&["length"], &[1, 2, 3, 4, 6, 14]),
         Kind::Drop | Kind::Fetched | Kind::Prepared => (&["accepted"], &[1, 2, 3, 4, 6, 14]),
+        Kind::Page => (&["length"], &[1, 2, 3, 15]),
     };
     let numbers = numbers.iter().map(|number| format!("number {number}"));
     let good = good.iter().map(|answer| answer.to_string());
@@ -103,7 +104,7 @@ impl Tally {
     /// What is too rare for the calls to show much.
     pub fn rare(&self) -> Vec<String> {
         let mut rare = Vec::new();
-        for kind in Kind::ALL {
+        for kind in Kind::EVENTS {
             for answer in wanted(kind) {
                 let times = self.answers.get(&(kind, answer.clone()));
                 let times = times.copied().unwrap_or(0);

@@ -3,7 +3,7 @@ import argparse
 import sys
 
 from .answers import BadAnswer
-from .commands import convert, diff, draw, explain, join, page, split, text, watch, windows, words
+from .commands import convert, diff, draw, explain, join, page, publisher, split, text, watch, windows, words
 from .files import Trouble, Unfit
 from .lines import BadText
 from .model import Refused
@@ -19,6 +19,7 @@ COMMANDS = [
     ("explain", explain, "explain what restart answers to an input, and say which machines to switch on"),
     ("draw", draw, "draw what restart answers to an input, a plan or a wait, as SVG"),
     ("page", page, "write drawing, table and explanation as one file of HTML"),
+    ("publisher", publisher, "say what a subgroup's publisher may see of a restart, as text or as one file of HTML"),
     ("watch", watch, "explain anew whenever a report appears in a folder"),
     ("diff", diff, "compare two answers"),
     ("windows", windows, "draw the windows that mondays prints for a moves file, as SVG"),

@@ -95,10 +95,15 @@ def read_input(path, names=None):
 
 def read_names(path):
     """The names that the settings of a text give."""
+    return read_named(path).names
+
+
+def read_named(path):
+    """The settings of a text, which can have the machines' names."""
     data = read(path)
     if not is_text(data):
         raise Unfit("%s is no text; names stand in the settings of a text, as in 'node 3 set 1 name rack2-a'" % name_of(path))
-    return settings_in_text(path, data).names
+    return settings_in_text(path, data)
 
 
 def settings_in_text(path, data):

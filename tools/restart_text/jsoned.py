@@ -1,12 +1,14 @@
-"""An explanation and a conversion as values for JSON; docs/explain.schema.json and docs/convert.schema.json say what they have."""
+"""An explanation, a conversion and a page as values for JSON; docs/explain.schema.json, docs/convert.schema.json and
+docs/publisher.schema.json say what they have."""
 from .answers import Plan, Wait
 from .converting import last_lines
 from .explaining import stale
 from .gathering import holding, waits
 from .planning import log_of, moves, not_kept
+from .publishing import lines as page_lines
 from .waiting import wait_lines
 
-SCHEMA = CONVERT_SCHEMA = 1
+SCHEMA = CONVERT_SCHEMA = PUBLISHER_SCHEMA = 1
 
 
 def json_of(given, told):
@@ -124,3 +126,15 @@ def reading_value(reading):
 
 def place_value(place):
     return {"part": place.part, "number": place.number, "word": place.first, "words": list(place.words)}
+
+
+def published_value(page):
+    return {"schema": PUBLISHER_SCHEMA, "subgroup": page.subgroup, "phase": page.phase, "view": page.view or None, "ready": page.ready,
+            "moves": page.moves, "shards": [shown_value(shard) for shard in page.shards],
+            "machines": [{"node": node, "name": page.machines.named(node)} for node in page.spoken_of], "text": page_lines(page)}
+
+
+def shown_value(shard):
+    return {"shard": shard.number, "needs": shard.wanted.needs if shard.wanted else None, "cap": shard.wanted.cap if shard.wanted else None,
+            "holder": shard.holder, "target": position(shard.target) if shard.target else None,
+            "machines": None if shard.members is None else sorted(shard.members)}

@@ -1,4 +1,4 @@
-"""Asking the library for C: which one it is, and its calls that convert reports."""
+"""Asking the library for C: which one it is, its calls that convert reports, and a restart of its own up to a subgroup's page."""
 import ctypes
 import os
 import sys
@@ -9,10 +9,15 @@ from .asking import HERE
 from .encode import settings_words
 from .model import LOCATED, MOST_RECORDS
 
-SONAME = "librestart.so.0"
-CALLS = ("restart_from_flat", "restart_to_flat")
+SONAME = "librestart.so.1"
+# The calls, each with its arguments: n is a number, r a piece that is read, w one that is written.
+CONVERTING = {"restart_from_flat": "rrw", "restart_to_flat": "rrw"}
+WATCHING = {"restart_page": "nrrrnw", "restart_watcher": "n", "restart_fresh": "nw", "restart_report": "nrwwr"}
 CLASS, LENGTH, REFUSAL = 16777216, 1, 0  # an answer is class x 16777216 + rest
+PLANNER = 256
+STATE_BYTES, DESK_BYTES, BUFFER_BYTES = 640, 65536, 16 * MOST_RECORDS
 WORD, SIZE = ctypes.c_uint32, ctypes.c_size_t
+ARGUMENTS = {"n": [WORD], "r": [ctypes.c_char_p, SIZE], "w": [ctypes.c_void_p, SIZE]}
 
 
 def default_library():
@@ -23,21 +28,48 @@ def default_library():
     return next((os.path.normpath(place) for place in places if os.path.exists(place)), SONAME)
 
 
+def loaded(path, calls, what):
+    """The library with these calls; of one that lacks a call it is said `what` its release does not do."""
+    named = os.path.abspath(path) if path and os.path.exists(path) else path or default_library()
+    try:
+        library = ctypes.CDLL(named)
+    except OSError as error:
+        raise BadAnswer("cannot load the library: %s%s" % (error, "" if path else "; give --library PATH")) from None
+    for name, kinds in calls.items():
+        if not hasattr(library, name):
+            raise BadAnswer("the library %s has no %s, so it is of a release that does not %s; --library PATH names another"
+                            % (named, name, what))
+        call = getattr(library, name)
+        call.argtypes, call.restype = [argument for kind in kinds for argument in ARGUMENTS[kind]], WORD
+    return library
+
+
+def lent(*given):
+    """The arguments of a call: each piece with its length."""
+    return [part for one in given for part in ([one] if isinstance(one, int) else [one, len(one)])]
+
+
+def taken(name, answer, buffer):
+    """The words that a call has written, or the Number by which it refused."""
+    kind, rest = divmod(answer, CLASS)
+    if kind == LENGTH and 0 < rest <= len(buffer) // 4:
+        return words.from_bytes(buffer.raw[: 4 * rest])
+    return refusal(name, answer)
+
+
+def refusal(name, answer):
+    kind, rest = divmod(answer, CLASS)
+    index, number = divmod(rest, 256)
+    if kind != REFUSAL or not number or (index and number not in LOCATED):
+        raise BadAnswer("%s answers %d, which is neither a length nor a number" % (name, answer))
+    return Number(number, index if number in LOCATED else None)
+
+
 class Library:
-    """The library, with what it answers for these settings."""
+    """The library, with what it converts under these settings."""
 
     def __init__(self, path, settings):
-        named = os.path.abspath(path) if path and os.path.exists(path) else path or default_library()
-        try:
-            self.calls = ctypes.CDLL(named)
-        except OSError as error:
-            raise BadAnswer("cannot load the library: %s%s" % (error, "" if path else "; give --library PATH")) from None
-        for name in CALLS:
-            if not hasattr(self.calls, name):
-                raise BadAnswer("the library %s has no %s, so it is of a release that does not convert flat reports; --library PATH names"
-                                " another" % (named, name))
-            call = getattr(self.calls, name)
-            call.argtypes, call.restype = [ctypes.c_char_p, SIZE] * 2 + [ctypes.c_void_p, SIZE], WORD
+        self.calls = loaded(path, CONVERTING, "convert flat reports")
         self.settings = words.to_bytes(settings_words(settings))
 
     def from_flat(self, flat):
@@ -49,12 +81,29 @@ class Library:
         return self.turned("restart_to_flat", message)
 
     def turned(self, name, data):
-        buffer = ctypes.create_string_buffer(16 * MOST_RECORDS)
-        answer = getattr(self.calls, name)(self.settings, len(self.settings), data, len(data), buffer, len(buffer))
-        kind, rest = divmod(answer, CLASS)
-        if kind == LENGTH and 0 < rest <= len(buffer) // 4:
-            return words.from_bytes(buffer.raw[: 4 * rest])
-        index, number = divmod(rest, 256)
-        if kind != REFUSAL or not number or (index and number not in LOCATED):
-            raise BadAnswer("%s answers %d, which is neither a length nor a number" % (name, answer))
-        return Number(number, index if number in LOCATED else None)
+        buffer = ctypes.create_string_buffer(BUFFER_BYTES)
+        return taken(name, getattr(self.calls, name)(*lent(self.settings, data, buffer)), buffer)
+
+
+class Restart:
+    """A restart in the library, from the fresh state on: the planner reports, a subgroup's watcher reads its page."""
+
+    def __init__(self, path, settings):
+        self.calls = loaded(path, WATCHING, "have pages")
+        self.settings = words.to_bytes(settings)
+        self.state, self.desk = (ctypes.create_string_buffer(size) for size in (STATE_BYTES, DESK_BYTES))
+        if self.calls.restart_fresh(*lent(PLANNER, self.state)):
+            raise BadAnswer("restart_fresh refuses a state of %d bytes" % STATE_BYTES)
+
+    def report(self, message):
+        """Takes a report; the Number by which it is refused, or None."""
+        data = words.to_bytes(message)
+        answer = self.calls.restart_report(*lent(PLANNER, self.settings, self.state, self.desk, data))
+        return refusal("restart_report", answer) if answer else None
+
+    def page(self, subgroup):
+        """The words of a subgroup's page, as its watcher reads it, or the Number by which it is refused."""
+        buffer = ctypes.create_string_buffer(BUFFER_BYTES)
+        role = self.calls.restart_watcher(subgroup)
+        answer = self.calls.restart_page(*lent(role, self.settings, self.state, self.desk, subgroup, buffer))
+        return taken("restart_page", answer, buffer)

@@ -6,6 +6,7 @@ from .flat import LOOKS_FLAT, looks_flat
 TABLE = {
     1: "desk not 16,384 words, buffer to be written not 512",
     2: "settings",
+    15: "operation or page not allowed to the role, or a subgroup above 3",
     3: "state unsound",
     4: "event not in its phase",
     19: "flat report whose counts do not explain its length, or with a termination word above 1",

@@ -26,7 +26,7 @@ def program(name="restart"):
 
 def library():
     """The library under test: named by RESTART_LIBRARY, else the one that has been built."""
-    found = os.environ.get("RESTART_LIBRARY") or os.path.join(ROOT, "target", "librestart.so.0")
+    found = os.environ.get("RESTART_LIBRARY") or os.path.join(ROOT, "target", "librestart.so.1")
     if not os.path.exists(found):
         sys.exit("no library to test: make lib, or name it after the programs, as in tools/tests/run.py RESTART MONDAYS LIBRARY")
     return os.path.abspath(found)

@@ -155,7 +155,7 @@ class Arguments(unittest.TestCase):
         status, printed, _ = command("--help")
         self.assertEqual(status, 0)
         for name, _, help_text in COMMANDS:
-            self.assertIn("    %s " % name, printed.decode())
+            self.assertRegex(printed.decode(), "(?m)^    %s( |$)" % name)
         self.assertIn("0 a plan", printed.decode())
 
     def test_statuses(self):

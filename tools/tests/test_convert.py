@@ -562,7 +562,7 @@ class Libraries(test_command.Programs):
 
     def test_installed(self):
         tool = self.installed()
-        self.place("lib", "librestart.so.0")
+        self.place("lib", "librestart.so.1")
         status, lines = self.convert(tool, "--drop-empty")
         self.assertEqual((status, lines[-1]), (2, "4 files: 2 converted, 1 ours already, 1 refused."))
         for schema in ("explain.schema.json", "convert.schema.json"):
@@ -573,7 +573,7 @@ class Libraries(test_command.Programs):
             os.makedirs(os.path.join(self.folder, os.path.dirname(name)), exist_ok=True)
             copy = shutil.copytree if os.path.isdir(os.path.join(support.ROOT, name)) else shutil.copy
             copy(os.path.join(support.ROOT, name), os.path.join(self.folder, name))
-        self.place("target", "librestart.so.0")
+        self.place("target", "librestart.so.1")
         self.assertEqual(self.convert(os.path.join(self.folder, "tools", "restart-text"))[0], 2)
 
     def test_none(self):

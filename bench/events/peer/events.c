@@ -2,15 +2,17 @@
 #include "parts.h"
 #include "peer.h"
 
-/* Rows 1 to 3; 0 if they pass. */
-static uint32_t opened(struct restart *restart, const uint8_t *settings, size_t settings_len,
-                       const uint8_t *state, size_t state_len, const uint8_t *desk, size_t desk_len,
-                       int deciding)
+/* Rows 1 to 3, with number 15 before 3; 0 if they pass. */
+static uint32_t opened(struct restart *restart, uint32_t role, const uint8_t *settings,
+                       size_t settings_len, const uint8_t *state, size_t state_len,
+                       const uint8_t *desk, size_t desk_len, int deciding)
 {
     if (desk_len != DESK_BYTES)
         return 1;
     if (!read_settings(&restart->settings, settings, settings_len))
         return 2;
+    if (role != PLANNER)
+        return 15;
     restart->state = state;
     restart->desk = desk;
     return state_len == STATE_BYTES && is_sound(restart, deciding) ? 0 : 3;
@@ -24,19 +26,22 @@ static uint32_t not_held(const struct restart *restart, uint32_t node)
     return has(restart->held, node) ? 0 : 14;
 }
 
-uint32_t peer_fresh(uint8_t *state, size_t state_len)
+uint32_t peer_fresh(uint32_t role, uint8_t *state, size_t state_len)
 {
+    if (role != PLANNER)
+        return 15;
     if (state_len != STATE_BYTES)
         return 3;
     memset(state, 0, STATE_BYTES);
     return 0;
 }
 
-uint32_t peer_check_state(const uint8_t *settings, size_t settings_len, const uint8_t *state,
-                          size_t state_len, const uint8_t *desk, size_t desk_len)
+uint32_t peer_check_state(uint32_t role, const uint8_t *settings, size_t settings_len,
+                          const uint8_t *state, size_t state_len, const uint8_t *desk,
+                          size_t desk_len)
 {
     struct restart restart;
-    return opened(&restart, settings, settings_len, state, state_len, desk, desk_len, 0);
+    return opened(&restart, role, settings, settings_len, state, state_len, desk, desk_len, 0);
 }
 
 /* The positions of a report without gaps, or NULL. */
@@ -129,12 +134,13 @@ static uint32_t other_report(const struct restart *restart, uint8_t *state, uint
     return store(restart, state, desk, message, length);
 }
 
-uint32_t peer_report(const uint8_t *settings, size_t settings_len, uint8_t *state, size_t state_len,
-                     uint8_t *desk, size_t desk_len, const uint8_t *message, size_t message_len)
+uint32_t peer_report(uint32_t role, const uint8_t *settings, size_t settings_len, uint8_t *state,
+                     size_t state_len, uint8_t *desk, size_t desk_len, const uint8_t *message,
+                     size_t message_len)
 {
     struct restart restart;
     uint32_t refusal =
-        opened(&restart, settings, settings_len, state, state_len, desk, desk_len, 0);
+        opened(&restart, role, settings, settings_len, state, state_len, desk, desk_len, 0);
     if (refusal)
         return refusal;
     if (restart.phase != GATHERING)
@@ -149,12 +155,12 @@ uint32_t peer_report(const uint8_t *settings, size_t settings_len, uint8_t *stat
     return other_report(&restart, state, desk, message, message_len);
 }
 
-uint32_t peer_drop(const uint8_t *settings, size_t settings_len, uint8_t *state, size_t state_len,
-                   const uint8_t *desk, size_t desk_len, uint32_t node)
+uint32_t peer_drop(uint32_t role, const uint8_t *settings, size_t settings_len, uint8_t *state,
+                   size_t state_len, const uint8_t *desk, size_t desk_len, uint32_t node)
 {
     struct restart restart;
     uint32_t refusal =
-        opened(&restart, settings, settings_len, state, state_len, desk, desk_len, 0);
+        opened(&restart, role, settings, settings_len, state, state_len, desk, desk_len, 0);
     if (refusal)
         return refusal;
     if (restart.phase == COMMITTED)
@@ -170,12 +176,13 @@ uint32_t peer_drop(const uint8_t *settings, size_t settings_len, uint8_t *state,
     return 0;
 }
 
-uint32_t peer_decide(const uint8_t *settings, size_t settings_len, uint8_t *state, size_t state_len,
-                     const uint8_t *desk, size_t desk_len)
+uint32_t peer_decide(uint32_t role, const uint8_t *settings, size_t settings_len, uint8_t *state,
+                     size_t state_len, const uint8_t *desk, size_t desk_len)
 {
     struct restart restart;
     uint32_t masks[SHARDS], moves = 0, answer;
-    if ((answer = opened(&restart, settings, settings_len, state, state_len, desk, desk_len, 1)))
+    if ((answer =
+             opened(&restart, role, settings, settings_len, state, state_len, desk, desk_len, 1)))
         return answer;
     if (restart.phase != GATHERING)
         return 4;
@@ -201,15 +208,16 @@ uint32_t peer_decide(const uint8_t *settings, size_t settings_len, uint8_t *stat
     return A_PLAN;
 }
 
-uint32_t peer_order(const uint8_t *settings, size_t settings_len, const uint8_t *state,
-                    size_t state_len, const uint8_t *desk, size_t desk_len, uint32_t node,
-                    uint8_t *buffer, size_t buffer_len)
+uint32_t peer_order(uint32_t role, const uint8_t *settings, size_t settings_len,
+                    const uint8_t *state, size_t state_len, const uint8_t *desk, size_t desk_len,
+                    uint32_t node, uint8_t *buffer, size_t buffer_len)
 {
     struct restart restart;
     uint32_t refusal;
     if (buffer_len != BUFFER_BYTES)
         return 1;
-    if ((refusal = opened(&restart, settings, settings_len, state, state_len, desk, desk_len, 0)))
+    if ((refusal =
+             opened(&restart, role, settings, settings_len, state, state_len, desk, desk_len, 0)))
         return refusal;
     if (restart.phase != ORDERED)
         return 4;
@@ -219,13 +227,13 @@ uint32_t peer_order(const uint8_t *settings, size_t settings_len, const uint8_t 
 }
 
 /* Marks a node in its mask; when all held nodes are marked, the next phase follows. */
-static uint32_t mark(const uint8_t *settings, size_t settings_len, uint8_t *state, size_t state_len,
-                     const uint8_t *desk, size_t desk_len, uint32_t node, uint32_t phase,
-                     uint32_t place)
+static uint32_t mark(uint32_t role, const uint8_t *settings, size_t settings_len, uint8_t *state,
+                     size_t state_len, const uint8_t *desk, size_t desk_len, uint32_t node,
+                     uint32_t phase, uint32_t place)
 {
     struct restart restart;
     uint32_t refusal =
-        opened(&restart, settings, settings_len, state, state_len, desk, desk_len, 0);
+        opened(&restart, role, settings, settings_len, state, state_len, desk, desk_len, 0);
     if (refusal)
         return refusal;
     if (restart.phase != phase)
@@ -242,15 +250,16 @@ static uint32_t mark(const uint8_t *settings, size_t settings_len, uint8_t *stat
     return 0;
 }
 
-uint32_t peer_fetched(const uint8_t *settings, size_t settings_len, uint8_t *state,
+uint32_t peer_fetched(uint32_t role, const uint8_t *settings, size_t settings_len, uint8_t *state,
                       size_t state_len, const uint8_t *desk, size_t desk_len, uint32_t node)
 {
-    return mark(settings, settings_len, state, state_len, desk, desk_len, node, ORDERED, FETCHED);
+    return mark(role, settings, settings_len, state, state_len, desk, desk_len, node, ORDERED,
+                FETCHED);
 }
 
-uint32_t peer_prepared(const uint8_t *settings, size_t settings_len, uint8_t *state,
+uint32_t peer_prepared(uint32_t role, const uint8_t *settings, size_t settings_len, uint8_t *state,
                        size_t state_len, const uint8_t *desk, size_t desk_len, uint32_t node)
 {
-    return mark(settings, settings_len, state, state_len, desk, desk_len, node, PREPARING,
+    return mark(role, settings, settings_len, state, state_len, desk, desk_len, node, PREPARING,
                 PREPARED);
 }

@@ -13,6 +13,7 @@
 enum { NODES = 32, SETS = 16, SHARDS = 16, GROUPS = 4, RECORDS = 128, MOST_CAP = 16 };
 enum { STATE_BYTES = 640, DESK_BYTES = 65536, SLOT_BYTES = 2048, BUFFER_BYTES = 2048 };
 enum { GATHERING, ORDERED, PREPARING, COMMITTED };
+enum { PLANNER = 256 }; /* the role's word that may call events */
 enum { MEMBERS = 1, POSITION, RUN, HOLDER, CUT };
 
 /* Words of the state. */

@@ -6,7 +6,7 @@
  *
  * It was written from the specification and its requests, not from the library. Where the library
  * gives the first of the placements of least moves and, of those, most stays, the peer gives any of
- * them.
+ * them. It has no pages: roles other than the planner's get number 15 of every event.
  */
 #ifndef PEER_H
 #define PEER_H
@@ -14,21 +14,23 @@
 #include <stddef.h>
 #include <stdint.h>
 
-uint32_t peer_fresh(uint8_t *state, size_t state_len);
-uint32_t peer_check_state(const uint8_t *settings, size_t settings_len, const uint8_t *state,
-                          size_t state_len, const uint8_t *desk, size_t desk_len);
-uint32_t peer_report(const uint8_t *settings, size_t settings_len, uint8_t *state, size_t state_len,
-                     uint8_t *desk, size_t desk_len, const uint8_t *message, size_t message_len);
-uint32_t peer_drop(const uint8_t *settings, size_t settings_len, uint8_t *state, size_t state_len,
-                   const uint8_t *desk, size_t desk_len, uint32_t node);
-uint32_t peer_decide(const uint8_t *settings, size_t settings_len, uint8_t *state, size_t state_len,
-                     const uint8_t *desk, size_t desk_len);
-uint32_t peer_order(const uint8_t *settings, size_t settings_len, const uint8_t *state,
-                    size_t state_len, const uint8_t *desk, size_t desk_len, uint32_t node,
-                    uint8_t *buffer, size_t buffer_len);
-uint32_t peer_fetched(const uint8_t *settings, size_t settings_len, uint8_t *state,
+uint32_t peer_fresh(uint32_t role, uint8_t *state, size_t state_len);
+uint32_t peer_check_state(uint32_t role, const uint8_t *settings, size_t settings_len,
+                          const uint8_t *state, size_t state_len, const uint8_t *desk,
+                          size_t desk_len);
+uint32_t peer_report(uint32_t role, const uint8_t *settings, size_t settings_len, uint8_t *state,
+                     size_t state_len, uint8_t *desk, size_t desk_len, const uint8_t *message,
+                     size_t message_len);
+uint32_t peer_drop(uint32_t role, const uint8_t *settings, size_t settings_len, uint8_t *state,
+                   size_t state_len, const uint8_t *desk, size_t desk_len, uint32_t node);
+uint32_t peer_decide(uint32_t role, const uint8_t *settings, size_t settings_len, uint8_t *state,
+                     size_t state_len, const uint8_t *desk, size_t desk_len);
+uint32_t peer_order(uint32_t role, const uint8_t *settings, size_t settings_len,
+                    const uint8_t *state, size_t state_len, const uint8_t *desk, size_t desk_len,
+                    uint32_t node, uint8_t *buffer, size_t buffer_len);
+uint32_t peer_fetched(uint32_t role, const uint8_t *settings, size_t settings_len, uint8_t *state,
                       size_t state_len, const uint8_t *desk, size_t desk_len, uint32_t node);
-uint32_t peer_prepared(const uint8_t *settings, size_t settings_len, uint8_t *state,
+uint32_t peer_prepared(uint32_t role, const uint8_t *settings, size_t settings_len, uint8_t *state,
                        size_t state_len, const uint8_t *desk, size_t desk_len, uint32_t node);
 
 #endif

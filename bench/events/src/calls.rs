@@ -3,7 +3,8 @@
 use crate::inputs::Input;
 use differential::library::{self, Library, Planner};
 use reference::message::{self, Form};
-use reference::{events, settings, words};
+use reference::roles::{Role, PLANNER};
+use reference::{events, page, settings, words};
 use std::hint::black_box;
 
 #[derive(Clone, Copy, Debug, PartialEq, Eq)]
@@ -16,6 +17,7 @@ pub enum Call {
     Order,
     Fetched,
     Prepared,
+    Page,
     CheckSettings,
     ReadReport,
     ReadOrder,
@@ -44,6 +46,7 @@ impl Call {
     pub fn all() -> Vec<Call> {
         let mut all = vec![Call::Fresh];
         all.extend(Call::EVENTS);
+        all.push(Call::Page);
         all.extend(Call::MESSAGES);
         all
     }
@@ -59,6 +62,7 @@ impl Call {
             Call::Order => "order",
             Call::Fetched => "fetched",
             Call::Prepared => "prepared",
+            Call::Page => "page",
             Call::CheckSettings => "check_settings",
             Call::ReadReport => "read_report",
             Call::ReadOrder => "read_order",
@@ -96,6 +100,7 @@ pub const CALLS: usize = 8;
 /// A call of a planner with memory of its own.
 pub struct Ready {
     call: Call,
+    /// The node, or the subgroup of a page.
     node: u32,
     planner: Planner,
     library: Library,
@@ -164,17 +169,21 @@ impl Ready {
         let (given, g) = (self.given.as_ptr(), self.given.len());
         let (buffer, b) = (self.buffer.as_mut_ptr(), self.buffer.len());
         let (planner, library, node) = (&self.planner, &self.library, self.node);
+        let role = PLANNER;
         // SAFETY: the pointers are to this value's own memory of those lengths.
         unsafe {
             match self.call {
-                Call::Fresh => (planner.fresh)(state, t),
-                Call::CheckState => (planner.check_state)(settings, s, state, t, desk, d),
-                Call::Report => (planner.report)(settings, s, state, t, desk, d, given, g),
-                Call::Drop => (planner.drop)(settings, s, state, t, desk, d, node),
-                Call::Decide => (planner.decide)(settings, s, state, t, desk, d),
-                Call::Order => (planner.order)(settings, s, state, t, desk, d, node, buffer, b),
-                Call::Fetched => (planner.fetched)(settings, s, state, t, desk, d, node),
-                Call::Prepared => (planner.prepared)(settings, s, state, t, desk, d, node),
+                Call::Fresh => (planner.fresh)(role, state, t),
+                Call::CheckState => (planner.check_state)(role, settings, s, state, t, desk, d),
+                Call::Report => (planner.report)(role, settings, s, state, t, desk, d, given, g),
+                Call::Drop => (planner.drop)(role, settings, s, state, t, desk, d, node),
+                Call::Decide => (planner.decide)(role, settings, s, state, t, desk, d),
+                Call::Order => {
+                    (planner.order)(role, settings, s, state, t, desk, d, node, buffer, b)
+                }
+                Call::Fetched => (planner.fetched)(role, settings, s, state, t, desk, d, node),
+                Call::Prepared => (planner.prepared)(role, settings, s, state, t, desk, d, node),
+                Call::Page => (planner.page)(role, settings, s, state, t, desk, d, node, buffer, b),
                 Call::CheckSettings => (library.check_settings)(settings, s),
                 Call::ReadReport => (library.read_report)(settings, s, given, g, buffer, b),
                 Call::ReadOrder => (library.read_order)(settings, s, given, g, buffer, b),
@@ -189,6 +198,7 @@ impl Ready {
 pub fn by_reference(call: Call, input: &Input, node: u32) {
     let (settings, state, desk) = (&input.settings, call.state(input), &input.desk);
     let given = call.given(input, node);
+    let role = Role::Planner;
     let read = |form| drop(black_box(message::read(form, settings, given)));
     let write = |form| {
         let contents = differential::expected::words_contents(given).expect("contents");
@@ -196,13 +206,27 @@ pub fn by_reference(call: Call, input: &Input, node: u32) {
     };
     match call {
         Call::Fresh => drop(black_box(reference::state::fresh())),
-        Call::CheckState => drop(black_box(events::check(settings, state, desk))),
-        Call::Report => drop(black_box(events::report(settings, state, desk, given))),
-        Call::Drop => drop(black_box(events::drop_node(settings, state, desk, node))),
-        Call::Decide => drop(black_box(events::decide(settings, state, desk))),
-        Call::Order => drop(black_box(events::order(settings, state, desk, node, 512))),
-        Call::Fetched => drop(black_box(events::fetched(settings, state, desk, node))),
-        Call::Prepared => drop(black_box(events::prepared(settings, state, desk, node))),
+        Call::CheckState => drop(black_box(events::check(role, settings, state, desk))),
+        Call::Report => drop(black_box(events::report(
+            role, settings, state, desk, given,
+        ))),
+        Call::Drop => drop(black_box(events::drop_node(
+            role, settings, state, desk, node,
+        ))),
+        Call::Decide => drop(black_box(events::decide(role, settings, state, desk))),
+        Call::Order => drop(black_box(events::order(
+            role, settings, state, desk, node, 512,
+        ))),
+        Call::Fetched => drop(black_box(events::fetched(
+            role, settings, state, desk, node,
+        ))),
+        Call::Prepared => drop(black_box(events::prepared(
+            role, settings, state, desk, node,
+        ))),
+        Call::Page => {
+            let page = page::page(role, settings, state, desk, node, 512);
+            drop(black_box(page));
+        }
         Call::CheckSettings => drop(black_box(settings::parse(settings))),
         Call::ReadReport => read(Form::Report),
         Call::ReadOrder => read(Form::Order),

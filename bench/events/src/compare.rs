@@ -141,7 +141,7 @@ impl Seen {
     /// How often each event came to each phase, and each answer.
     fn times(&self) -> Vec<(u64, String)> {
         let mut all = vec![(self.plans, "a plan".into())];
-        for kind in Kind::ALL {
+        for kind in Kind::EVENTS {
             for phase in PHASES.into_iter().filter(|_| kind != Kind::Fresh) {
                 let times = self.events.get(&(kind, phase as usize));
                 let name = format!("{} while {phase:?}", kind.name());
@@ -177,7 +177,7 @@ fn with_kind(step: &Step, kind: Kind) -> Step {
 /// differs. Each call of a sequence is also made as another event, from which
 /// the sequence does not go on.
 fn play(two: &mut Two, seed: u64, count: u64, seen: &mut Seen) -> Result<(), String> {
-    let mut kinds = Kind::ALL.into_iter().cycle();
+    let mut kinds = Kind::EVENTS.into_iter().cycle();
     for index in 0.. {
         lent::at_input(index);
         let mut sequence = events::sequence(seed, index);

@@ -7,6 +7,7 @@ use differential::random::Random;
 use reference::desk::DESK_WORDS;
 use reference::events::{self, Decision};
 use reference::message::{encode, Contents, Form, Triple, MEMBERS, RUN, TERMINATION};
+use reference::roles::Role;
 use reference::{mask, message, settings, state, words};
 
 const SEED: u64 = 1;
@@ -50,17 +51,19 @@ pub fn input(size: Size, index: u64) -> Input {
     let mut gathered = state::encode(&state::fresh());
     let mut desk = vec![0; DESK_WORDS];
     for message in &messages {
-        let next = events::report(&settings, &gathered, &desk, message);
+        let next = events::report(Role::Planner, &settings, &gathered, &desk, message);
         (gathered, desk) = next.expect("a good report");
     }
-    let (decision, ordered) = events::decide(&settings, &gathered, &desk).expect("a good state");
+    let (decision, ordered) =
+        events::decide(Role::Planner, &settings, &gathered, &desk).expect("a good state");
     assert_eq!(decision, Decision::Plan);
     let mut preparing = ordered.clone();
     for node in 0..size.nodes {
-        let next = events::fetched(&settings, &preparing, &desk, node);
+        let next = events::fetched(Role::Planner, &settings, &preparing, &desk, node);
         preparing = next.expect("a held node");
     }
-    let order = events::order(&settings, &ordered, &desk, 0, 512).expect("a held node");
+    let order =
+        events::order(Role::Planner, &settings, &ordered, &desk, 0, 512).expect("a held node");
     let contents = |form, words: &[u32]| {
         let contents = message::read(form, &settings, words);
         contents_words(&contents.expect("a good message"))

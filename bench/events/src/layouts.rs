@@ -9,6 +9,7 @@ use differential::lent::Place;
 use differential::library::Planner;
 use differential::random::Random;
 use reference::message::{encode, Contents, Triple, MEMBERS};
+use reference::roles::PLANNER;
 use reference::words;
 
 const VIEW: u32 = 7;
@@ -32,6 +33,7 @@ struct Layout {
 pub fn decide(planner: &Planner, pages: &mut Pages, random: &mut Random) -> Asked {
     let layout = layout(random);
     let mut asked = Asked {
+        role: PLANNER,
         kind: Kind::Report,
         table: Table {
             settings: words::to_bytes(&layout.settings),

@@ -4,8 +4,9 @@ use differential::library::Planner;
 
 mod linked {
     extern "C" {
-        pub fn peer_fresh(state: *mut u8, state_len: usize) -> u32;
+        pub fn peer_fresh(role: u32, state: *mut u8, state_len: usize) -> u32;
         pub fn peer_check_state(
+            role: u32,
             settings: *const u8,
             settings_len: usize,
             state: *const u8,
@@ -14,6 +15,7 @@ mod linked {
             desk_len: usize,
         ) -> u32;
         pub fn peer_report(
+            role: u32,
             settings: *const u8,
             settings_len: usize,
             state: *mut u8,
@@ -24,6 +26,7 @@ mod linked {
             message_len: usize,
         ) -> u32;
         pub fn peer_drop(
+            role: u32,
             settings: *const u8,
             settings_len: usize,
             state: *mut u8,
@@ -33,6 +36,7 @@ mod linked {
             node: u32,
         ) -> u32;
         pub fn peer_decide(
+            role: u32,
             settings: *const u8,
             settings_len: usize,
             state: *mut u8,
@@ -41,6 +45,7 @@ mod linked {
             desk_len: usize,
         ) -> u32;
         pub fn peer_order(
+            role: u32,
             settings: *const u8,
             settings_len: usize,
             state: *const u8,
@@ -52,6 +57,7 @@ mod linked {
             buffer_len: usize,
         ) -> u32;
         pub fn peer_fetched(
+            role: u32,
             settings: *const u8,
             settings_len: usize,
             state: *mut u8,
@@ -61,6 +67,7 @@ mod linked {
             node: u32,
         ) -> u32;
         pub fn peer_prepared(
+            role: u32,
             settings: *const u8,
             settings_len: usize,
             state: *mut u8,
@@ -70,6 +77,22 @@ mod linked {
             node: u32,
         ) -> u32;
     }
+}
+
+/// The peer has no pages: no call answers with this word.
+unsafe extern "C" fn no_page(
+    _role: u32,
+    _settings: *const u8,
+    _settings_len: usize,
+    _state: *const u8,
+    _state_len: usize,
+    _desk: *const u8,
+    _desk_len: usize,
+    _subgroup: u32,
+    _buffer: *mut u8,
+    _buffer_len: usize,
+) -> u32 {
+    u32::MAX
 }
 
 pub fn planner() -> Planner {
@@ -82,5 +105,6 @@ pub fn planner() -> Planner {
         order: linked::peer_order,
         fetched: linked::peer_fetched,
         prepared: linked::peer_prepared,
+        page: no_page,
     }
 }

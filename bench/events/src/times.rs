@@ -3,6 +3,7 @@
 use crate::calls::{by_reference, Call, Ready};
 use crate::inputs::{input, Input, Size, FULL};
 use crate::ratios;
+use reference::settings::SUBGROUPS;
 use std::time::Instant;
 
 /// A time is the least of so many runs of the same call.
@@ -50,11 +51,12 @@ fn library_time(ready: &mut Ready) -> f64 {
 }
 
 /// Some nodes of an input, the first and the last among them; one for a call
-/// that takes no node.
+/// that takes no node, and for a page the subgroups.
 pub fn nodes(call: Call, input: &Input) -> Vec<u32> {
     let last = input.nodes - 1;
     match call {
         Call::Decide => vec![0],
+        Call::Page => (0..SUBGROUPS).collect(),
         _ => vec![0, last / 3, last / 2, last],
     }
 }
@@ -144,7 +146,10 @@ pub fn print(count: u64) {
     let (own, reference) = whole_restart(&medians);
     println!("\nA whole restart (32 reports, decide, 32 orders, 32 fetched, 32 prepared): {own:.2} ms, the reference {reference:.1} ms.\n");
     ratios::print(&full, count);
-    println!("### Settings and messages at full size\n");
+    println!("### Pages at full size\n");
+    println!("While gathering, each of the four subgroups; microseconds.\n");
+    calls_table(&[Call::Page], &full);
+    println!("\n### Settings and messages at full size\n");
     println!("A report of 128 records, the order of a node; microseconds.\n");
     calls_table(&Call::MESSAGES, &full);
     println!("\n### Growth\n\nMedians in microseconds.\n");

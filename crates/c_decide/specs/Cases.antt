@@ -34,7 +34,7 @@ use Rattle.state_planner.specs.States.{planned}
 use Rattle.state_planner.specs.Refusing.{decideRefusal}
 use Rattle.state_planner.specs.Decide.{still, Stuck, Decides}
 use Rattle.c_state.specs.declared.Entry.{Entry}
-use Rattle.c_state.specs.Calls.{entry}
+use Rattle.c_state.specs.Calls.{byPlanner, entry}
 use Rattle.c_state.specs.CallLaws.{desk-entry, desk-passes}
 use Rattle.c_decide.specs.Decisions.{decisionWord, decisionValue, decisionLeaves, decideEntry, DecideCall}
 
@@ -89,31 +89,31 @@ decision-small σ x d o ok decides = ⊎-elim accepting refusing (either (accept
     accepting : accepted (decideRefusal σ x d) ≡ true → decisionValue (o .decision) ≤ 16
     accepting h = by h (quorumOf σ (x .kept) (x .termination) (x .held) d) refl
 
-module _ (settings state desk : List ℕ) (e : Entry) (given : e ≡ entry (eqb (length desk) 65536) settings state) where
-  refusal-is : e .refusal ≡ decideEntry settings state desk
+module _ (role : ℕ) (settings state desk : List ℕ) (e : Entry) (given : e ≡ entry (byPlanner role) (eqb (length desk) 65536) settings state) where
+  refusal-is : e .refusal ≡ decideEntry role settings state desk
   unfolding entry decideEntry
-  refusal-is = ap (λ (x : Entry). x .refusal) (desk-entry settings state desk e given)
+  refusal-is = ap (λ (x : Entry). x .refusal) (desk-entry (byPlanner role) settings state desk e given)
 
-  pub decide-refused : (e .refusal .code ≡ 0 → ⊥) → DecideCall settings state desk (e .refusal .code) state
+  pub decide-refused : (e .refusal .code ≡ 0 → ⊥) → DecideCall role settings state desk (e .refusal .code) state
   decide-refused h =
       record {
         refused = λ n. (ap (λ (r : Refusal). r .code) refusal-is, refl);
-        decided = λ a. absurd (h (ap (λ (r : Refusal). r .code) refusal-is ∙ eqb-true (decideEntry settings state desk .code) 0 a));
+        decided = λ a. absurd (h (ap (λ (r : Refusal). r .code) refusal-is ∙ eqb-true (decideEntry role settings state desk .code) 0 a));
       }
 
   pub decide-done : e .refusal .code ≡ 0 → (o : Decided) → Decides (wordsIn settings) (e .state) (wordsIn desk) o
       → (answer : ℕ) (left : List ℕ) → answer ≡ decisionWord (o .decision) → left ≡ decisionLeaves (o .decision) (o .state) state
-      → DecideCall settings state desk answer left
+      → DecideCall role settings state desk answer left
   decide-done h o decides answer left f g =
       record {
         refused =
-            λ n. clash (eq-eqb (decideEntry settings state desk .code) 0 (sym (ap (λ (r : Refusal). r .code) refusal-is) ∙ h)) n;
+            λ n. clash (eq-eqb (decideEntry role settings state desk .code) 0 (sym (ap (λ (r : Refusal). r .code) refusal-is) ∙ h)) n;
         decided =
             λ a. record {
               outcome = o;
               decides =
                   subst (λ (x : State). Decides (wordsIn settings) x (wordsIn desk) o)
-                  (desk-passes settings state desk e given h .state-is) decides;
+                  (desk-passes (byPlanner role) settings state desk e given h .state-is) decides;
               answers = f;
               leaves = g;
             };

@@ -1,4 +1,4 @@
--- What the call decide answers, and the state's bytes afterwards: what the outcome of decide says, of which there is one.
+-- What the call decide answers to a role, and the state's bytes afterwards: what the outcome of decide says, of which there is one.
 use Prim.Native.Nat.{ℕ}
 use mathlib.Core.Bool.{true, false}
 use mathlib.Core.List.{List}
@@ -16,7 +16,7 @@ use Rattle.state_planner.specs.declared.Decided.{Decided}
 use Rattle.state_planner.specs.Refusing.{deskOk}
 use Rattle.state_planner.specs.Decide.{Decides}
 use Rattle.c_state_words.specs.StateWords.{stateWords, isState}
-use Rattle.c_state.specs.Calls.{stateLent, entryRefused}
+use Rattle.c_state.specs.Calls.{byPlanner, stateLent, entryRefused}
 
 -- the answer to a decision
 abbrev pub decisionWord : Decision → ℕ
@@ -36,9 +36,9 @@ decisionLeaves Planned x state = bytesOf (stateWords x)
 decisionLeaves (Wait reason) x state = state
 decisionLeaves (Refused r) x state = state
 
--- rows 1 to 3 before the state is looked at
-unfoldable pub decideEntry : List ℕ → List ℕ → List ℕ → Refusal
-decideEntry settings state desk = entryRefused (deskOk (wordsIn desk)) settings (isState (wordsIn state))
+-- rows 1, 2, 15 and 3 before the state is looked at
+unfoldable pub decideEntry : ℕ → List ℕ → List ℕ → List ℕ → Refusal
+decideEntry role settings state desk = entryRefused (byPlanner role) (deskOk (wordsIn desk)) settings (isState (wordsIn state))
 
 -- the answer and the bytes are those of decide's outcome
 pub record ByOutcome (settings state desk : List ℕ) (answer : ℕ) (left : List ℕ) : Type 0 where
@@ -47,6 +47,6 @@ pub record ByOutcome (settings state desk : List ℕ) (answer : ℕ) (left : Lis
   pub answers : answer ≡ decisionWord (outcome .decision)
   pub leaves : left ≡ decisionLeaves (outcome .decision) (outcome .state) state
 
-pub record DecideCall (settings state desk : List ℕ) (answer : ℕ) (left : List ℕ) : Type 0 where
-  pub refused : accepted (decideEntry settings state desk) ≡ false → (answer ≡ decideEntry settings state desk .code) × (left ≡ state)
-  pub decided : accepted (decideEntry settings state desk) ≡ true → ByOutcome settings state desk answer left
+pub record DecideCall (role : ℕ) (settings state desk : List ℕ) (answer : ℕ) (left : List ℕ) : Type 0 where
+  pub refused : accepted (decideEntry role settings state desk) ≡ false → (answer ≡ decideEntry role settings state desk .code) × (left ≡ state)
+  pub decided : accepted (decideEntry role settings state desk) ≡ true → ByOutcome settings state desk answer left

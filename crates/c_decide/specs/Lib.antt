@@ -2,3 +2,4 @@
 pub mod Decisions
 pub mod Cases
 pub mod Once
+pub mod Roles

@@ -24,18 +24,18 @@ outcome-same {state = state} p q e = (
 )
 
 -- one call: one answer, and the same bytes
-pub call-unique : {settings state desk : List ℕ} {a b : ℕ} {l m : List ℕ} → DecideCall settings state desk a l → DecideCall settings state desk b m
+pub call-unique : {role : ℕ} {settings state desk : List ℕ} {a b : ℕ} {l m : List ℕ} → DecideCall role settings state desk a l → DecideCall role settings state desk b m
     → (a ≡ b) × (l ≡ m)
-call-unique {settings} {state} {desk} p q =
+call-unique {role} {settings} {state} {desk} p q =
     ⊎-elim (λ h. outcome-same (p .decided h) (q .decided h) (decides-unique (p .decided h .decides) (q .decided h .decides)))
     (λ h. (p .refused h .0 ∙ sym (q .refused h .0), p .refused h .1 ∙ sym (q .refused h .1)))
-    (either (accepted (decideEntry settings state desk)))
+    (either (accepted (decideEntry role settings state desk)))
 
 -- two calls that agree on the settings, the kept view, its termination, the held mask and the contents of the held reports: one answer, and where it
 -- is a plan one plan
-pub calls-agree : {settings state second desk other : List ℕ} {a b : ℕ} {l m : List ℕ} (p : DecideCall settings state desk a l)
-    (q : DecideCall settings second other b m) (h : accepted (decideEntry settings state desk) ≡ true)
-    (k : accepted (decideEntry settings second other) ≡ true)
+pub calls-agree : {role : ℕ} {settings state second desk other : List ℕ} {a b : ℕ} {l m : List ℕ} (p : DecideCall role settings state desk a l)
+    (q : DecideCall role settings second other b m) (h : accepted (decideEntry role settings state desk) ≡ true)
+    (k : accepted (decideEntry role settings second other) ≡ true)
     → accepted (decideRefusal (wordsIn settings) (stateLent state) (wordsIn desk)) ≡ true
     → accepted (decideRefusal (wordsIn settings) (stateLent second) (wordsIn other)) ≡ true
     → SameAsked (stateLent state) (stateLent second) (wordsIn desk) (wordsIn other)
@@ -45,8 +45,8 @@ calls-agree p q h k taken also same =
     (p .decided h .answers ∙ (ap decisionWord (said .decision) ∙ sym (q .decided k .answers)), said)
 
 -- with the same state: the same bytes
-pub calls-leave : {settings state desk other : List ℕ} {a b : ℕ} {l m : List ℕ} → DecideCall settings state desk a l → DecideCall settings state other b m
-    → accepted (decideEntry settings state desk) ≡ true → accepted (decideEntry settings state other) ≡ true
+pub calls-leave : {role : ℕ} {settings state desk other : List ℕ} {a b : ℕ} {l m : List ℕ} → DecideCall role settings state desk a l → DecideCall role settings state other b m
+    → accepted (decideEntry role settings state desk) ≡ true → accepted (decideEntry role settings state other) ≡ true
     → accepted (decideRefusal (wordsIn settings) (stateLent state) (wordsIn desk)) ≡ true
     → accepted (decideRefusal (wordsIn settings) (stateLent state) (wordsIn other)) ≡ true
     → SameReports (stateLent state .held) (wordsIn desk) (wordsIn other) → l ≡ m

@@ -48,11 +48,11 @@ fn keep(o: Decided, state: &mut [u8]) -> u32
     }
 }
 
-// Plans a restart, or says why there is none: rows 1 to 4.
-pub fn decide(settings: &[u8], state: &mut [u8], desk: &[u8]) -> u32
-    ensures { λ r. ⌜ Decisions.DecideCall (now (settings .entry)) (now (state .entry)) (now (desk .entry)) r (now (state .exit)) ⌝ }
+// Plans a restart, or says why there is none: rows 1, 2, 15, 3 and 4.
+pub fn decide(role: u32, settings: &[u8], state: &mut [u8], desk: &[u8]) -> u32
+    ensures { λ r. ⌜ Decisions.DecideCall role (now (settings .entry)) (now (state .entry)) (now (desk .entry)) r (now (state .exit)) ⌝ }
 {
-    let entry = c_state::enter(desk.len() == 65536, settings, state);
+    let entry = c_state::enter_planner(role, desk.len() == 65536, settings, state);
     let refusal = entry.refusal;
     if refusal.code != 0 {
         return refusal.code;

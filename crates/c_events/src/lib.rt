@@ -15,11 +15,14 @@ pub enum Event {
     Prepared,
 }
 
-// Stores the fresh state: row 3 where the bytes are not 640.
-pub fn fresh(state: &mut [u8]) -> u32
-    ensures answer { λ r. ⌜ r ≡ Events.freshAnswer (now (state .entry)) ⌝ }
-    ensures bytes { λ r. ⌜ now (state .exit) ≡ Events.freshLeaves (now (state .entry)) ⌝ }
+// Stores the fresh state: row 15, and row 3 where the bytes are not 640.
+pub fn fresh(role: u32, state: &mut [u8]) -> u32
+    ensures answer { λ r. ⌜ r ≡ Events.freshAnswer role (now (state .entry)) ⌝ }
+    ensures bytes { λ r. ⌜ now (state .exit) ≡ Events.freshLeaves role (now (state .entry)) ⌝ }
 {
+    if !c_state::by_planner(role) {
+        return 15;
+    }
     if state.len() != 640 {
         return 3;
     }
@@ -40,12 +43,19 @@ fn outcome(event: Event, x: State, settings: &[u32], desk: &[u8], node: u32) -> 
     }
 }
 
-// An event that names a node: rows 1 to 4, 6 and 14.
-pub fn take(event: Event, settings: &[u8], state: &mut [u8], desk: &[u8], node: u32) -> u32
-    ensures answer { λ r. ⌜ r ≡ Events.takeAnswer event (now (settings .entry)) (now (state .entry)) (now (desk .entry)) node ⌝ }
-    ensures bytes { λ r. ⌜ now (state .exit) ≡ Events.takeLeaves event (now (settings .entry)) (now (state .entry)) (now (desk .entry)) node ⌝ }
+// An event that names a node: rows 1, 2, 15, 3, 4, 6 and 14.
+pub fn take(
+    role: u32,
+    event: Event,
+    settings: &[u8],
+    state: &mut [u8],
+    desk: &[u8],
+    node: u32,
+) -> u32
+    ensures answer { λ r. ⌜ r ≡ Events.takeAnswer role event (now (settings .entry)) (now (state .entry)) (now (desk .entry)) node ⌝ }
+    ensures bytes { λ r. ⌜ now (state .exit) ≡ Events.takeLeaves role event (now (settings .entry)) (now (state .entry)) (now (desk .entry)) node ⌝ }
 {
-    let entry = c_state::enter(desk.len() == 65536, settings, state);
+    let entry = c_state::enter_planner(role, desk.len() == 65536, settings, state);
     let refusal = entry.refusal;
     if refusal.code != 0 {
         return refusal.code;
@@ -56,11 +66,11 @@ pub fn take(event: Event, settings: &[u8], state: &mut [u8], desk: &[u8], node: 
     c_state::keep(o, state)
 }
 
-// Whether the bytes are a state that is sound with this desk: rows 1 to 3.
-pub fn check_state(settings: &[u8], state: &[u8], desk: &[u8]) -> u32
-    ensures { λ r. ⌜ r ≡ Events.checkStateAnswer (now (settings .entry)) (now (state .entry)) (now (desk .entry)) ⌝ }
+// Whether the bytes are a state that is sound with this desk: rows 1, 2, 15 and 3.
+pub fn check_state(role: u32, settings: &[u8], state: &[u8], desk: &[u8]) -> u32
+    ensures { λ r. ⌜ r ≡ Events.checkStateAnswer role (now (settings .entry)) (now (state .entry)) (now (desk .entry)) ⌝ }
 {
-    let lent = c_state::enter(desk.len() == 65536, settings, state);
+    let lent = c_state::enter_planner(role, desk.len() == 65536, settings, state);
     let refusal = lent.refusal;
     if refusal.code != 0 {
         return refusal.code;

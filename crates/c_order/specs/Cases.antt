@@ -6,14 +6,13 @@
 use Prim.Native.Nat.{ℕ, _≤_}
 use mathlib.Core.Bool.{Bool, _&&_}
 use mathlib.Core.List.{List}
-use mathlib.Core.Path.{_≡_, sym, ap, ap₂, _∙_}
+use mathlib.Core.Path.{_≡_, sym, ap, _∙_}
 use native.Mathlib.Omega.{arith}
 use lib.Dec.{eqb, leb}
 use lib.ListN.{length}
-use borrow.Author.Tests.{eqb-true, eq-eqb, ne-eqb, leb-true}
-use Rattle.base_laws.specs.Bools.{and-left, and-right}
+use borrow.Author.Tests.{eq-eqb, ne-eqb, leb-true}
 use Rattle.base_bytes.specs.Words.{bytesOf}
-use Rattle.base_lent.specs.Lent.{wordsIn, bytes-of-words, length-test}
+use Rattle.base_lent.specs.Lent.{wordsIn}
 use Rattle.base_lent.specs.Answers.{withLength, Told, told-refused, told-accepted}
 use Rattle.base_ids.specs.Refusals.{none, accepted-none, unless-ok, unless-rest}
 use Rattle.settings_values.specs.Settings.{settingsOk}
@@ -22,13 +21,13 @@ use Rattle.message_format.specs.declared.Writing.{Writing}
 use Rattle.message_format.specs.Messages.{contentsRefusal, writeRefusal}
 use Rattle.plan_order.specs.Orders.{orderContents}
 use Rattle.state_planner.specs.declared.State.{State}
-use Rattle.state_planner.specs.Refusing.{deskOk, orderRefusal}
+use Rattle.state_planner.specs.Refusing.{orderRefusal}
 use Rattle.state_order.specs.Orders.{ordered, orderBuffer}
 use Rattle.state_order.specs.Taken.{writer-takes}
 use Rattle.c_state.specs.declared.Entry.{Entry}
-use Rattle.c_state.specs.Calls.{stateLent, entry}
-use Rattle.c_state.specs.CallLaws.{CallEntered, entry-refuses, entry-passes}
-use Rattle.c_order.specs.OrderCalls.{lengthsOk, orderRefused, orderAnswer, orderLeaves}
+use Rattle.c_state.specs.Calls.{lengthsOk, byPlanner, stateLent, entry}
+use Rattle.c_state.specs.CallLaws.{CallEntered, entry-refuses, buffer-entry, buffer-passes, buffer-words}
+use Rattle.c_order.specs.OrderCalls.{orderRefused, orderAnswer, orderLeaves}
 
 module _ (σ : List ℕ) (x : State) (d : List ℕ) (n : ℕ) (b z : List ℕ) (same : length b ≡ length z) where
   refusal-same : orderRefusal σ x d n b ≡ orderRefusal σ x d n z
@@ -52,12 +51,12 @@ few-words σ x d n z h =
     let few = leb-true (c .len) 127 (unless-ok (leb (c .len) 127) 4 _ taken) in
     rw h (omega arith)
 
-module _ (settings state desk : List ℕ) (node : ℕ) (buffer : List ℕ) where
+module _ (role : ℕ) (settings state desk : List ℕ) (node : ℕ) (buffer : List ℕ) where
   abbrev pub ToldOrder : ℕ → List ℕ → Type 0
-  ToldOrder answer left = (answer ≡ orderAnswer settings state desk node buffer) × (left ≡ orderLeaves settings state desk node buffer)
+  ToldOrder answer left = (answer ≡ orderAnswer role settings state desk node buffer) × (left ≡ orderLeaves role settings state desk node buffer)
 
   told : {answer : ℕ} {left : List ℕ}
-      → Told (orderRefused settings state desk node buffer)
+      → Told (orderRefused role settings state desk node buffer)
       (withLength (ordered (wordsIn settings) (stateLent state) (wordsIn desk) node (wordsIn buffer) .length))
       (bytesOf (orderBuffer (wordsIn settings) (stateLent state) (wordsIn desk) node (wordsIn buffer)))
       buffer answer left
@@ -66,42 +65,27 @@ module _ (settings state desk : List ℕ) (node : ℕ) (buffer : List ℕ) where
   told t = (t .answers, t .leaves)
 
   module _ (lengths : Bool) (ok : lengths ≡ (eqb (length desk) 65536 && eqb (length buffer) 2048)) (e : Entry)
-      (given : e ≡ entry lengths settings state) where
-    from : e ≡ entry (lengthsOk desk buffer) settings state
-    from = given ∙ ap (λ (b : Bool). entry b settings state) (ok ∙ ap₂ _&&_ (length-test desk 16383) (length-test buffer 511))
-
+      (given : e ≡ entry (byPlanner role) lengths settings state) where
     pub order-not-entered : (e .refusal .code ≡ 0 → ⊥) → ToldOrder (e .refusal .code) buffer
     unfolding orderRefused
-    order-not-entered h = told (entry-refuses (lengthsOk desk buffer) settings state e from h _ _ _ buffer)
+    order-not-entered h = told (entry-refuses (byPlanner role) (lengthsOk desk buffer) settings state e (buffer-entry (byPlanner role) settings state desk buffer lengths ok e given) h _ _ _ buffer)
 
     module _ (h : e .refusal .code ≡ 0) where
-      pub order-passes : CallEntered (lengthsOk desk buffer) settings state (e .state)
-      order-passes = entry-passes (lengthsOk desk buffer) settings state e from h
-
-      pub desk-long : length desk ≡ 65536
-      desk-long =
-          bytes-of-words desk 16383
-          (eqb-true (length (wordsIn desk)) 16384 (and-left (deskOk (wordsIn desk)) (eqb (length (wordsIn buffer)) 512) (order-passes .lengths-ok)))
-
-      buffer-words : length (wordsIn buffer) ≡ 512
-      buffer-words =
-          eqb-true (length (wordsIn buffer)) 512 (and-right (deskOk (wordsIn desk)) (eqb (length (wordsIn buffer)) 512) (order-passes .lengths-ok))
-
-      pub buffer-long : length buffer ≡ 2048
-      buffer-long = bytes-of-words buffer 511 buffer-words
+      abbrev passes : CallEntered (byPlanner role) (lengthsOk desk buffer) settings state (e .state)
+      passes = buffer-passes (byPlanner role) settings state desk buffer lengths ok e given h
 
       -- the order was written into 512 words z
       module _ (z : List ℕ) (long : length z ≡ 512) (w : Writing) (f : w ≡ ordered (wordsIn settings) (e .state) (wordsIn desk) node z) where
         writing-is : w ≡ ordered (wordsIn settings) (stateLent state) (wordsIn desk) node z
-        writing-is = f ∙ ap (λ (x : State). ordered (wordsIn settings) x (wordsIn desk) node z) (order-passes .state-is)
+        writing-is = f ∙ ap (λ (x : State). ordered (wordsIn settings) x (wordsIn desk) node z) (passes .state-is)
 
         same-length : length (wordsIn buffer) ≡ length z
-        same-length = buffer-words ∙ sym long
+        same-length = buffer-words (byPlanner role) settings state desk buffer lengths ok e given h ∙ sym long
 
-        refusal-is : orderRefused settings state desk node buffer ≡ w .refusal
+        refusal-is : orderRefused role settings state desk node buffer ≡ w .refusal
         unfolding orderRefused ordered
         refusal-is =
-            order-passes .event _
+            passes .event _
             ∙ refusal-same (wordsIn settings) (stateLent state) (wordsIn desk) node (wordsIn buffer) z same-length
             ∙ sym (ap (λ (y : Writing). y .refusal) writing-is)
 
@@ -128,7 +112,7 @@ module _ (settings state desk : List ℕ) (node : ℕ) (buffer : List ℕ) where
               (writing-is ∙ sym (ordered-same (wordsIn settings) (stateLent state) (wordsIn desk) node (wordsIn buffer) z same-length)) in
               let out-is : out ≡ orderBuffer (wordsIn settings) (stateLent state) (wordsIn desk) node (wordsIn buffer) =
               g
-              ∙ ap (λ (x : State). orderBuffer (wordsIn settings) x (wordsIn desk) node z) (order-passes .state-is)
+              ∙ ap (λ (x : State). orderBuffer (wordsIn settings) x (wordsIn desk) node z) (passes .state-is)
               ∙ sym (buffer-same (wordsIn settings) (stateLent state) (wordsIn desk) node (wordsIn buffer) z same-length none-is) in
               rw (length-is, out-is)
               (told (told-accepted (w .refusal) _ refusal-is _ _ buffer (eq-eqb (w .refusal .code) 0 n)))

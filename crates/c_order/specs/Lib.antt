@@ -1,3 +1,4 @@
 -- The order event, over lent bytes.
 pub mod OrderCalls
 pub mod Cases
+pub mod Roles

@@ -1,25 +1,18 @@
--- What the call order answers, and the buffer's bytes afterwards.
+-- What the call order answers to a role, and the buffer's bytes afterwards.
 use Prim.Native.Nat.{ℕ}
-use mathlib.Core.Bool.{Bool, _&&_}
 use mathlib.Core.List.{List}
-use lib.Dec.{eqb}
-use lib.ListN.{length}
 use Rattle.base_bytes.specs.Words.{bytesOf}
 use Rattle.base_lent.specs.Lent.{wordsIn}
 use Rattle.base_lent.specs.Answers.{answerWord, withLength, bytesLeft}
 use Rattle.base_ids.specs.declared.Refusal.{Refusal}
-use Rattle.state_planner.specs.Refusing.{deskOk, orderRefusal}
+use Rattle.state_planner.specs.Refusing.{orderRefusal}
 use Rattle.state_order.specs.Orders.{ordered, orderBuffer}
-use Rattle.c_state.specs.Calls.{stateLent, called}
+use Rattle.c_state.specs.Calls.{lengthsOk, byPlanner, stateLent, called}
 
--- row 1: desk and buffer have their lengths
-abbrev pub lengthsOk : List ℕ → List ℕ → Bool
-lengthsOk desk buffer = deskOk (wordsIn desk) && eqb (length (wordsIn buffer)) 512
-
-module _ (settings state desk : List ℕ) (node : ℕ) (buffer : List ℕ) where
+module _ (role : ℕ) (settings state desk : List ℕ) (node : ℕ) (buffer : List ℕ) where
   unfoldable pub orderRefused : Refusal
   orderRefused =
-      called (lengthsOk desk buffer) settings state
+      called (byPlanner role) (lengthsOk desk buffer) settings state
       (orderRefusal (wordsIn settings) (stateLent state) (wordsIn desk) node (wordsIn buffer))
 
   -- the length is that of the order

@@ -1,5 +1,6 @@
 // The C entry points: settings, messages, open views and the planner's events. Lent bytes are little-endian words: 160 of a state,
-// 16384 of a desk, 512 of a buffer. Each call answers a word and changes no lent byte where it refuses.
+// 16384 of a desk, 512 of a buffer. Each call answers a word and changes no lent byte where it refuses. A call over a state is first told
+// the caller's role: 256 the planner, 512 + g a watcher of subgroup g, who may only read that subgroup's page.
 use c_events::Event;
 use message_format::Form;
 ghost use mathlib.Core.Path.{_≡_};
@@ -9,6 +10,7 @@ ghost use Rattle.c_events.specs.Events.{freshAnswer, freshLeaves, checkStateAns
 ghost use Rattle.c_report.specs.ReportCalls.{reportAnswer, reportLeaves, reportDesk};
 ghost use Rattle.c_decide.specs.Decisions.{DecideCall};
 ghost use Rattle.c_order.specs.OrderCalls.{orderAnswer, orderLeaves};
+ghost use Rattle.c_page.specs.PageCalls.{PageCall};
 ghost use Rattle.c_views.specs.ViewAnswers.{openViewAnswer};
 
 // 0 where the settings are right, else 2.
@@ -87,84 +89,119 @@ pub extern "C" fn restart_open_view(
     c_views::open_view(members, known, have, lack, passed)
 }
 
-// Stores the fresh state: row 3 where the bytes are not 640.
+// Stores the fresh state: row 15, and row 3 where the bytes are not 640.
 #[no_mangle]
-pub extern "C" fn restart_fresh(state: &mut [u8]) -> u32
-    ensures answer { λ r. ⌜ r ≡ freshAnswer (now (state .entry)) ⌝ }
-    ensures bytes { λ r. ⌜ now (state .exit) ≡ freshLeaves (now (state .entry)) ⌝ }
+pub extern "C" fn restart_fresh(role: u32, state: &mut [u8]) -> u32
+    ensures answer { λ r. ⌜ r ≡ freshAnswer role (now (state .entry)) ⌝ }
+    ensures bytes { λ r. ⌜ now (state .exit) ≡ freshLeaves role (now (state .entry)) ⌝ }
 {
-    c_events::fresh(state)
+    c_events::fresh(role, state)
 }
 
-// Whether the bytes are a state that is sound with this desk, in whatever phase: rows 1 to 3.
+// Whether the bytes are a state that is sound with this desk, in whatever phase: rows 1, 2, 15 and 3.
 #[no_mangle]
-pub extern "C" fn restart_check_state(settings: &[u8], state: &[u8], desk: &[u8]) -> u32
-    ensures { λ r. ⌜ r ≡ checkStateAnswer (now (settings .entry)) (now (state .entry)) (now (desk .entry)) ⌝ }
+pub extern "C" fn restart_check_state(role: u32, settings: &[u8], state: &[u8], desk: &[u8]) -> u32
+    ensures { λ r. ⌜ r ≡ checkStateAnswer role (now (settings .entry)) (now (state .entry)) (now (desk .entry)) ⌝ }
 {
-    c_events::check_state(settings, state, desk)
+    c_events::check_state(role, settings, state, desk)
 }
 
-// A node reports: rows 1 to 13.
+// A node reports: rows 1, 2, 15, 3 and those that follow.
 #[no_mangle]
 pub extern "C" fn restart_report(
+    role: u32,
     settings: &[u8],
     state: &mut [u8],
     desk: &mut [u8],
     message: &[u8],
 ) -> u32
-    ensures answer { λ r. ⌜ r ≡ reportAnswer (now (settings .entry)) (now (state .entry)) (now (desk .entry)) (now (message .entry)) ⌝ }
-    ensures state { λ r. ⌜ now (state .exit) ≡ reportLeaves (now (settings .entry)) (now (state .entry)) (now (desk .entry)) (now (message .entry)) ⌝ }
-    ensures desk { λ r. ⌜ now (desk .exit) ≡ reportDesk (now (settings .entry)) (now (state .entry)) (now (desk .entry)) (now (message .entry)) ⌝ }
+    ensures answer { λ r. ⌜ r ≡ reportAnswer role (now (settings .entry)) (now (state .entry)) (now (desk .entry)) (now (message .entry)) ⌝ }
+    ensures state { λ r. ⌜ now (state .exit) ≡ reportLeaves role (now (settings .entry)) (now (state .entry)) (now (desk .entry)) (now (message .entry)) ⌝ }
+    ensures desk { λ r. ⌜ now (desk .exit) ≡ reportDesk role (now (settings .entry)) (now (state .entry)) (now (desk .entry)) (now (message .entry)) ⌝ }
 {
-    c_report::report(settings, state, desk, message)
+    c_report::report(role, settings, state, desk, message)
 }
 
-// A node is no longer there: rows 1 to 4, 6 and 14.
+// A node is no longer there: rows 1, 2, 15, 3, 4, 6 and 14.
 #[no_mangle]
-pub extern "C" fn restart_drop(settings: &[u8], state: &mut [u8], desk: &[u8], node: u32) -> u32
-    ensures answer { λ r. ⌜ r ≡ takeAnswer Event.Drop (now (settings .entry)) (now (state .entry)) (now (desk .entry)) node ⌝ }
-    ensures bytes { λ r. ⌜ now (state .exit) ≡ takeLeaves Event.Drop (now (settings .entry)) (now (state .entry)) (now (desk .entry)) node ⌝ }
+pub extern "C" fn restart_drop(
+    role: u32,
+    settings: &[u8],
+    state: &mut [u8],
+    desk: &[u8],
+    node: u32,
+) -> u32
+    ensures answer { λ r. ⌜ r ≡ takeAnswer role Event.Drop (now (settings .entry)) (now (state .entry)) (now (desk .entry)) node ⌝ }
+    ensures bytes { λ r. ⌜ now (state .exit) ≡ takeLeaves role Event.Drop (now (settings .entry)) (now (state .entry)) (now (desk .entry)) node ⌝ }
 {
-    c_events::take(Event::Drop, settings, state, desk, node)
+    c_events::take(role, Event::Drop, settings, state, desk, node)
 }
 
-// Plans a restart, or says why there is none: rows 1 to 4.
+// Plans a restart, or says why there is none: rows 1, 2, 15, 3 and 4.
 #[no_mangle]
-pub extern "C" fn restart_decide(settings: &[u8], state: &mut [u8], desk: &[u8]) -> u32
-    ensures { λ r. ⌜ DecideCall (now (settings .entry)) (now (state .entry)) (now (desk .entry)) r (now (state .exit)) ⌝ }
+pub extern "C" fn restart_decide(role: u32, settings: &[u8], state: &mut [u8], desk: &[u8]) -> u32
+    ensures { λ r. ⌜ DecideCall role (now (settings .entry)) (now (state .entry)) (now (desk .entry)) r (now (state .exit)) ⌝ }
 {
-    c_decide::decide(settings, state, desk)
+    c_decide::decide(role, settings, state, desk)
 }
 
-// Writes a held node's order: rows 1 (desk or buffer), 2 to 4, 6 and 14.
+// Writes a held node's order: rows 1 (desk or buffer), 2, 15, 3, 4, 6 and 14.
 #[no_mangle]
 pub extern "C" fn restart_order(
+    role: u32,
     settings: &[u8],
     state: &[u8],
     desk: &[u8],
     node: u32,
     buffer: &mut [u8],
 ) -> u32
-    ensures answer { λ r. ⌜ r ≡ orderAnswer (now (settings .entry)) (now (state .entry)) (now (desk .entry)) node (now (buffer .entry)) ⌝ }
-    ensures bytes { λ r. ⌜ now (buffer .exit) ≡ orderLeaves (now (settings .entry)) (now (state .entry)) (now (desk .entry)) node (now (buffer .entry)) ⌝ }
+    ensures answer { λ r. ⌜ r ≡ orderAnswer role (now (settings .entry)) (now (state .entry)) (now (desk .entry)) node (now (buffer .entry)) ⌝ }
+    ensures bytes { λ r. ⌜ now (buffer .exit) ≡ orderLeaves role (now (settings .entry)) (now (state .entry)) (now (desk .entry)) node (now (buffer .entry)) ⌝ }
 {
-    c_order::order(settings, state, desk, node, buffer)
+    c_order::order(role, settings, state, desk, node, buffer)
 }
 
-// A node has fetched what it lacked: rows 1 to 4, 6 and 14.
+// A node has fetched what it lacked: rows 1, 2, 15, 3, 4, 6 and 14.
 #[no_mangle]
-pub extern "C" fn restart_fetched(settings: &[u8], state: &mut [u8], desk: &[u8], node: u32) -> u32
-    ensures answer { λ r. ⌜ r ≡ takeAnswer Event.Fetched (now (settings .entry)) (now (state .entry)) (now (desk .entry)) node ⌝ }
-    ensures bytes { λ r. ⌜ now (state .exit) ≡ takeLeaves Event.Fetched (now (settings .entry)) (now (state .entry)) (now (desk .entry)) node ⌝ }
+pub extern "C" fn restart_fetched(
+    role: u32,
+    settings: &[u8],
+    state: &mut [u8],
+    desk: &[u8],
+    node: u32,
+) -> u32
+    ensures answer { λ r. ⌜ r ≡ takeAnswer role Event.Fetched (now (settings .entry)) (now (state .entry)) (now (desk .entry)) node ⌝ }
+    ensures bytes { λ r. ⌜ now (state .exit) ≡ takeLeaves role Event.Fetched (now (settings .entry)) (now (state .entry)) (now (desk .entry)) node ⌝ }
 {
-    c_events::take(Event::Fetched, settings, state, desk, node)
+    c_events::take(role, Event::Fetched, settings, state, desk, node)
 }
 
-// A node has prepared the new view: rows 1 to 4, 6 and 14.
+// A node has prepared the new view: rows 1, 2, 15, 3, 4, 6 and 14.
 #[no_mangle]
-pub extern "C" fn restart_prepared(settings: &[u8], state: &mut [u8], desk: &[u8], node: u32) -> u32
-    ensures answer { λ r. ⌜ r ≡ takeAnswer Event.Prepared (now (settings .entry)) (now (state .entry)) (now (desk .entry)) node ⌝ }
-    ensures bytes { λ r. ⌜ now (state .exit) ≡ takeLeaves Event.Prepared (now (settings .entry)) (now (state .entry)) (now (desk .entry)) node ⌝ }
+pub extern "C" fn restart_prepared(
+    role: u32,
+    settings: &[u8],
+    state: &mut [u8],
+    desk: &[u8],
+    node: u32,
+) -> u32
+    ensures answer { λ r. ⌜ r ≡ takeAnswer role Event.Prepared (now (settings .entry)) (now (state .entry)) (now (desk .entry)) node ⌝ }
+    ensures bytes { λ r. ⌜ now (state .exit) ≡ takeLeaves role Event.Prepared (now (settings .entry)) (now (state .entry)) (now (desk .entry)) node ⌝ }
 {
-    c_events::take(Event::Prepared, settings, state, desk, node)
+    c_events::take(role, Event::Prepared, settings, state, desk, node)
+}
+
+// Writes a subgroup's page, for a role that may read it: rows 1 (desk or buffer), 2, 15 and 3.
+#[no_mangle]
+pub extern "C" fn restart_page(
+    role: u32,
+    settings: &[u8],
+    state: &[u8],
+    desk: &[u8],
+    subgroup: u32,
+    buffer: &mut [u8],
+) -> u32
+    ensures { λ r. ⌜ PageCall role (now (settings .entry)) (now (state .entry)) (now (desk .entry)) subgroup (now (buffer .entry)) r (now (buffer .exit)) ⌝ }
+{
+    c_page::page(role, settings, state, desk, subgroup, buffer)
 }

@@ -29,7 +29,7 @@ use Rattle.state_planner.specs.Events.{afterReport, outcome, reported, deskAfte
 use Rattle.state_planner.specs.EventLaws.{outcome-accepted, outcome-refused}
 use Rattle.c_state_words.specs.StateWords.{stateWords}
 use Rattle.c_state.specs.declared.Entry.{Entry}
-use Rattle.c_state.specs.Calls.{stateLent, entry, refusalOf, eventRefused}
+use Rattle.c_state.specs.Calls.{byPlanner, stateLent, entry, refusalOf, eventRefused}
 use Rattle.c_state.specs.CallLaws.{desk-entry, desk-passes, entry-refuses, ToldEvent, event-refused, event-done}
 use Rattle.c_report.specs.ReportCalls.{reportTaken, reportAnswer, reportLeaves, reportDesk}
 
@@ -88,29 +88,29 @@ answer-passes r x next =
     (λ h. ap (λ (o : Outcome). accepted (refusalOf (o .answer))) (outcome-refused r x next h))
     (either (accepted r))
 
-module _ (settings state desk message : List ℕ) where
+module _ (role : ℕ) (settings state desk message : List ℕ) where
   abbrev pub ToldReport : ℕ → List ℕ → List ℕ → Type 0
   ToldReport answer left placed =
-      (answer ≡ reportAnswer settings state desk message)
-      × ((left ≡ reportLeaves settings state desk message) × (placed ≡ reportDesk settings state desk message))
+      (answer ≡ reportAnswer role settings state desk message)
+      × ((left ≡ reportLeaves role settings state desk message) × (placed ≡ reportDesk role settings state desk message))
 
   -- the desk's bytes
   made : List ℕ
   made = bytesOf (deskAfter (wordsIn settings) (stateLent state) (wordsIn desk) (wordsIn message))
 
   told : {answer : ℕ} {left placed : List ℕ}
-      → ToldEvent settings state desk (reportTaken settings state desk message) answer left
-      → placed ≡ bytesLeft (eventRefused settings state desk (reportTaken settings state desk message)) made desk
+      → ToldEvent role settings state desk (reportTaken settings state desk message) answer left
+      → placed ≡ bytesLeft (eventRefused role settings state desk (reportTaken settings state desk message)) made desk
       → ToldReport answer left placed
   unfolding reportAnswer reportLeaves reportDesk made
   told t p = (t .0, (t .1, p))
 
-  module _ (e : Entry) (given : e ≡ entry (eqb (length desk) 65536) settings state) where
+  module _ (e : Entry) (given : e ≡ entry (byPlanner role) (eqb (length desk) 65536) settings state) where
     pub report-not-entered : (e .refusal .code ≡ 0 → ⊥) → ToldReport (e .refusal .code) state desk
     unfolding eventRefused
     report-not-entered h =
-        told (event-refused settings state desk (reportTaken settings state desk message) e given h)
-        (entry-refuses (deskOk (wordsIn desk)) settings state e (desk-entry settings state desk e given) h
+        told (event-refused role settings state desk (reportTaken settings state desk message) e given h)
+        (entry-refuses (byPlanner role) (deskOk (wordsIn desk)) settings state e (desk-entry (byPlanner role) settings state desk e given) h
         (refusalOf (reportTaken settings state desk message .answer)) 0 made desk .leaves)
 
     module _ (h : e .refusal .code ≡ 0) (w : List ℕ) (looked : w ≡ wordsWithin 512 message) (o : Outcome)
@@ -119,18 +119,18 @@ module _ (settings state desk message : List ℕ) where
       unfolding reportTaken
       outcome-is =
           f ∙ report-whole (wordsIn settings) (e .state) (wordsIn desk) message w looked
-          ∙ ap (λ (x : State). reported (wordsIn settings) x (wordsIn desk) (wordsIn message)) (desk-passes settings state desk e given h .state-is)
+          ∙ ap (λ (x : State). reported (wordsIn settings) x (wordsIn desk) (wordsIn message)) (desk-passes (byPlanner role) settings state desk e given h .state-is)
 
       -- the call's refusal is the event's
-      refused-is : accepted (eventRefused settings state desk (reportTaken settings state desk message))
+      refused-is : accepted (eventRefused role settings state desk (reportTaken settings state desk message))
           ≡ accepted (reportRefusal (wordsIn settings) (stateLent state) (wordsIn desk) (wordsIn message))
       unfolding eventRefused reportTaken reported
       refused-is =
-          ap accepted (desk-passes settings state desk e given h .event _)
+          ap accepted (desk-passes (byPlanner role) settings state desk e given h .event _)
           ∙ answer-passes (reportRefusal (wordsIn settings) (stateLent state) (wordsIn desk) (wordsIn message)) (stateLent state) (afterReport (wordsIn settings) (stateLent state) (contentsOf (wordsIn message)))
 
       left-is : deskLeft (wordsIn settings) (stateLent state) desk (wordsIn message)
-          ≡ bytesLeft (eventRefused settings state desk (reportTaken settings state desk message)) made desk
+          ≡ bytesLeft (eventRefused role settings state desk (reportTaken settings state desk message)) made desk
       unfolding deskLeft bytesLeft made
       left-is =
           ap (λ (q : Bool). cond q (bytesOf (deskAfter (wordsIn settings) (stateLent state) (wordsIn desk) (wordsIn message))) desk) (sym refused-is)
@@ -139,8 +139,8 @@ module _ (settings state desk message : List ℕ) where
           → placed ≡ deskLeft (wordsIn settings) (e .state) desk w → ToldReport answer left placed
       report-done {answer} {left} t p =
           told
-          (event-done settings state desk (reportTaken settings state desk message) e given h
+          (event-done role settings state desk (reportTaken settings state desk message) e given h
           (subst (λ (q : Outcome). Told (refusalOf (q .answer)) 0 (bytesOf (stateWords (q .state))) state answer left) outcome-is t))
           (p ∙ left-whole (wordsIn settings) (e .state) desk message w looked
-          ∙ ap (λ (x : State). deskLeft (wordsIn settings) x desk (wordsIn message)) (desk-passes settings state desk e given h .state-is)
+          ∙ ap (λ (x : State). deskLeft (wordsIn settings) x desk (wordsIn message)) (desk-passes (byPlanner role) settings state desk e given h .state-is)
           ∙ left-is)

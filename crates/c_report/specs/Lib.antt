@@ -1,3 +1,4 @@
 -- The report event, over lent bytes.
 pub mod ReportCalls
 pub mod Cases
+pub mod Roles

@@ -1,4 +1,4 @@
--- What the call report answers, and the state's and the desk's bytes afterwards.
+-- What the call report answers to a role, and the state's and the desk's bytes afterwards.
 use Prim.Native.Nat.{ℕ}
 use mathlib.Core.List.{List}
 use Rattle.base_bytes.specs.Words.{bytesOf}
@@ -13,15 +13,16 @@ module _ (settings state desk message : List ℕ) where
   unfoldable pub reportTaken : Outcome
   reportTaken = reported (wordsIn settings) (stateLent state) (wordsIn desk) (wordsIn message)
 
+module _ (role : ℕ) (settings state desk message : List ℕ) where
   unfoldable pub reportAnswer : ℕ
-  reportAnswer = eventAnswer settings state desk reportTaken
+  reportAnswer = eventAnswer role settings state desk (reportTaken settings state desk message)
 
   -- the state's bytes
   unfoldable pub reportLeaves : List ℕ
-  reportLeaves = eventLeaves settings state desk reportTaken
+  reportLeaves = eventLeaves role settings state desk (reportTaken settings state desk message)
 
   -- the desk's bytes
   unfoldable pub reportDesk : List ℕ
   reportDesk =
-      bytesLeft (eventRefused settings state desk reportTaken)
+      bytesLeft (eventRefused role settings state desk (reportTaken settings state desk message))
       (bytesOf (deskAfter (wordsIn settings) (stateLent state) (wordsIn desk) (wordsIn message))) desk

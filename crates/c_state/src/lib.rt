@@ -4,14 +4,16 @@ use c_state_words::Decoded;
 use state_planner::Answer;
 use state_planner::Outcome;
 use state_planner::State;
+ghost use mathlib.Core.Bool.{_&&_};
 ghost use mathlib.Core.Path.{_≡_};
+ghost use lib.Dec.{eqb};
 ghost use lib.ListN.{length};
 ghost use Rattle.base_bytes.specs.Words.{bytesOf};
 ghost use Rattle.base_lent.specs.Lent.{wordsIn};
 ghost use Rattle.base_lent.specs.Answers.{Told};
 ghost use Rattle.c_state_words.specs.StateWords.{stateWords, decoded};
 ghost use Rattle.base_ids.specs.Refusals.{none, unless};
-ghost use Rattle.c_state.specs.Calls.{entry, refusalOf};
+ghost use Rattle.c_state.specs.Calls.{byPlanner, entry, refusalOf};
 
 // What a call finds before its event: a refusal, the state, and the settings' words, which are the first of the table.
 pub struct Entry {
@@ -19,6 +21,16 @@ pub struct Entry {
     pub state: State,
     pub settings: [u32; 52],
     pub words: usize,
+}
+
+// The lengths of desk and buffer in bytes are right.
+pub fn lengths_ok(desk: usize, buffer: usize) -> bool
+    ensures { λ r. ⌜ r ≡ (eqb desk 65536 && eqb buffer 2048) ⌝ }
+{
+    if desk != 65536 {
+        return false;
+    }
+    buffer == 2048
 }
 
 // The state that lent bytes say.
@@ -36,9 +48,9 @@ fn decode_state(bytes: &[u8]) -> Decoded
     c_state_words::decode(&words)
 }
 
-// Row 1 by the lengths, row 2 by the settings, and row 3 where the bytes are no state.
-fn entry_refusal(lengths: bool, right: bool, ok: bool) -> Refusal
-    ensures { λ r. ⌜ r ≡ unless lengths 1 (unless right 2 (unless ok 3 none)) ⌝ }
+// Row 1 by the lengths, row 2 by the settings, row 15 by the role, and row 3 where the bytes are no state.
+fn entry_refusal(lengths: bool, right: bool, allowed: bool, ok: bool) -> Refusal
+    ensures { λ r. ⌜ r ≡ unless lengths 1 (unless right 2 (unless allowed 15 (unless ok 3 none))) ⌝ }
 {
     if !lengths {
         return Refusal { code: 1 };
@@ -46,22 +58,25 @@ fn entry_refusal(lengths: bool, right: bool, ok: bool) -> Refusal
     if !right {
         return Refusal { code: 2 };
     }
+    if !allowed {
+        return Refusal { code: 15 };
+    }
     if !ok {
         return Refusal { code: 3 };
     }
     Refusal { code: 0 }
 }
 
-// What a call does first, given whether desk and buffer have their lengths.
-pub fn enter(lengths: bool, settings: &[u8], state: &[u8]) -> Entry
-    ensures { λ r. ⌜ r ≡ entry lengths (now (settings .entry)) (now (state .entry)) ⌝ }
+// What a call does first, given whether its role may ask it and whether desk and buffer have their lengths.
+pub fn enter(allowed: bool, lengths: bool, settings: &[u8], state: &[u8]) -> Entry
+    ensures { λ r. ⌜ r ≡ entry allowed lengths (now (settings .entry)) (now (state .entry)) ⌝ }
 {
     let own = base_lent::settings_of(settings);
     let words = own.len;
     let table = own.table;
     let right = settings_check::check(&table[0..words]);
     let lent = decode_state(state);
-    let refusal = entry_refusal(lengths, right, lent.ok);
+    let refusal = entry_refusal(lengths, right, allowed, lent.ok);
     let x = lent.state;
     Entry {
         refusal,
@@ -69,6 +84,20 @@ pub fn enter(lengths: bool, settings: &[u8], state: &[u8]) -> Entry
         settings: table,
         words,
     }
+}
+
+// Whether a word is the planner's role, to whom every operation is allowed.
+pub fn by_planner(role: u32) -> bool
+    ensures { λ r. ⌜ r ≡ byPlanner role ⌝ }
+{
+    base_roles::may_plan(base_roles::role_of(role))
+}
+
+// The same for an operation: only the planner may ask it.
+pub fn enter_planner(role: u32, lengths: bool, settings: &[u8], state: &[u8]) -> Entry
+    ensures { λ r. ⌜ r ≡ entry (byPlanner role) lengths (now (settings .entry)) (now (state .entry)) ⌝ }
+{
+    enter(by_planner(role), lengths, settings, state)
 }
 
 // Stores a state in lent bytes.

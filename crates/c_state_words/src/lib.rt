@@ -23,7 +23,8 @@ pub struct Decoded {
     pub state: State,
 }
 
-fn phase_number(phase: Phase) -> u32
+// The number of a phase.
+pub fn phase_number(phase: Phase) -> u32
     ensures { λ r. ⌜ r ≡ StateWords.phaseNumber phase ⌝ }
 {
     match phase {
@@ -34,7 +35,8 @@ fn phase_number(phase: Phase) -> u32
     }
 }
 
-fn flag(made: bool) -> u32
+// A yes or no as a word.
+pub fn flag(made: bool) -> u32
     ensures { λ r. ⌜ r ≡ StateWords.flag made ⌝ }
 {
     if made { 1 } else { 0 }

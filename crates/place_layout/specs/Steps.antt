@@ -1,12 +1,13 @@
 -- From one subgroup's answer to the placement so far: start, one subgroup more, with shards or without, and none.
 use mathlib.Core.Path.{_≡_, sym, ap, _∙_, subst}
-use mathlib.Core.Bool.{true, false}
+use mathlib.Core.Bool.{Bool, true, false, cond}
 use mathlib.Core.List.{List}
 use mathlib.Core.Logic.{⊎-elim}
 use Prim.Native.Nat.{ℕ, _+_, _^_, _≤_, _<_}
 use native.Mathlib.Omega.{arith}
-use lib.ListN.{length, replicate, length-replicate, getD-replicate, List·getD-eq-default}
-use Rattle.base_laws.specs.Bools.{lt-or-le, eq-or-ne}
+use lib.ListN.{length, getD, replicate, length-replicate, getD-replicate, List·getD-eq-default}
+use Rattle.base_laws.specs.Bools.{clash, lt-or-le, eq-or-ne}
+use Rattle.base_laws.specs.Tables.{getD-tabulate, getD-tabulate-past}
 use Rattle.base_laws.specs.Below.{anyBelow, any-fails}
 use Rattle.base_sums.specs.Sums.{sumBelow, sum-zero, sum-next}
 use Rattle.settings_values.specs.Settings.{nodes, Settings}
@@ -23,9 +24,10 @@ use Rattle.place_owners.specs.Floor.{sheet-for}
 use Rattle.place_owners.specs.Tables.{setsTable, needsTable, capsTable, costsTable, groupCase, case-for, case-priced, case-spare}
 use Rattle.place_owners.specs.Owners.{moves-small, impossible}
 use Rattle.place_owners.specs.Choice.{chosen-local, none-moves, chosen-none, first-chosen}
-use Rattle.place_owners.specs.Adding.{masksOf, masksWith, with-masked, with-alike, with-rest, with-total, with-length}
+use Rattle.place_owners.specs.Adding.{ownedBy, maskWith, masksOf, masksWith, with-masked, with-alike, with-rest, with-total, with-length}
 use Rattle.place_layout.specs.declared.Placed.{Placed}
-use Rattle.place_layout.specs.Post.{Unplaced, LaidSoFar}
+use Rattle.place_layout.specs.declared.Offer.{Offer}
+use Rattle.place_layout.specs.Post.{Unplaced, LaidSoFar, PlacedAlone}
 
 -- equal tables make one case
 case-is : (σ : List ℕ) (held : ℕ) (old : ℕ → ℕ) (g : ℕ) {sets needs caps costs : List ℕ} → sets ≡ setsTable σ → needs ≡ needsTable σ g → caps ≡ capsTable σ g
@@ -50,6 +52,13 @@ sheet-told σ held old g sets needs caps costs sheet right inside p q r t e =
 blank-mask : (s : ℕ) → masksOf (replicate 16 0) s ≡ 0
 blank-mask s =
     ⊎-elim (λ l. getD-replicate 16 s 0 0 l) (λ l. List·getD-eq-default (replicate 16 0) 0 {n = s} (omega (arith, length-replicate {A = ℕ} 16 0))) (lt-or-le s 16)
+
+-- beside nothing, only the subgroup's own shards have masks
+with-nothing : (σ : List ℕ) (g : ℕ) (o : List ℕ) (s : ℕ) → ofGroup σ g s ≡ false → masksOf (masksWith σ g o (replicate 16 0)) s ≡ 0
+unfolding masksWith maskWith
+with-nothing σ g o s e =
+    ⊎-elim (λ l. getD-tabulate 16 (λ i. maskWith σ g o (getD (replicate 16 0) i 0) i) s 0 l ∙ ap (λ (b : Bool). cond b (ownedBy o s) (masksOf (replicate 16 0) s)) e ∙ blank-mask s)
+    (λ l. getD-tabulate-past 16 (λ i. maskWith σ g o (getD (replicate 16 0) i 0) i) s 0 l) (lt-or-le s 16)
 
 -- no subgroup yet
 pub stage-start : {σ : List ℕ} {held : ℕ} {old : ℕ → ℕ} {p : Placed} → p .masks ≡ replicate 16 0 → p .total ≡ 0 → p .group ≡ 0 → LaidSoFar σ held old 0 p
@@ -136,3 +145,49 @@ module _ {σ : List ℕ} {held : ℕ} {old : ℕ → ℕ} {g : ℕ} {p : Placed}
         masks = m;
         total = t;
       }
+
+-- ---- one subgroup alone
+
+module _ {σ : List ℕ} {held : ℕ} {old : ℕ → ℕ} {g : ℕ} (right : Settings σ) where
+  pub alone-none : {r : Offer} → anyBelow 16 (ofGroup σ g) ≡ false → r .found ≡ true → r .masks ≡ replicate 16 0 → r .moves ≡ 0 → PlacedAlone σ held old g r
+  alone-none {r} e f m t =
+      record {
+        chosen = λ d. chosen-none σ g empty held old (masksOf (r .masks));
+        counted = λ d. t ∙ sym (none-moves σ g empty old (masksOf (r .masks)));
+        others = λ s o. ap (λ (w : List ℕ). masksOf w s) m ∙ blank-mask s;
+        sized = ap (λ (w : List ℕ). length w) m ∙ length-replicate {A = ℕ} 16 0;
+        none = λ d. clash f d;
+        blank = λ d. m;
+        still = λ d. t;
+      }
+    where
+      empty : (s : ℕ) → ofGroup σ g s ≡ false
+      empty s = ⊎-elim (λ l. any-fails 16 (ofGroup σ g) e s l) (λ l. group-past σ g s (omega (arith, right .sizes .shards-to))) (lt-or-le s 16)
+
+  module _ (inside : held < 2 ^ nodes σ) {a : Solution} (w : LeastAnswer (groupCase σ held old g) a) where
+    pub alone-unplaced : {r : Offer} → a .exists ≡ false → r .found ≡ false → r .masks ≡ replicate 16 0 → r .moves ≡ 0 → PlacedAlone σ held old g r
+    alone-unplaced e f m t =
+        record {
+          chosen = λ d. clash d f;
+          counted = λ d. clash d f;
+          others = λ s o. ap (λ (w : List ℕ). masksOf w s) m ∙ blank-mask s;
+          sized = ap (λ (w : List ℕ). length w) m ∙ length-replicate {A = ℕ} 16 0;
+          none = λ d. impossible right inside (case-for σ held old g right) (w .none e);
+          blank = λ d. m;
+          still = λ d. t;
+        }
+
+    pub alone-placed : {r : Offer} → a .exists ≡ true → r .found ≡ true → r .masks ≡ masksWith σ g (a .owners) (replicate 16 0)
+        → r .moves ≡ groupMoves σ old (masksOf (r .masks)) g → PlacedAlone σ held old g r
+    alone-placed e f m t =
+        record {
+          chosen = λ d.
+              subst (λ (q : List ℕ). Chosen σ held old (masksOf q) g) (sym m)
+              (first-chosen (case-for σ held old g right) right inside (case-spare σ held old g) (case-priced σ held old g) (with-masked σ g (a .owners) (replicate 16 0) right) (w .found e));
+          counted = λ d. t;
+          others = λ s o. ap (λ (q : List ℕ). masksOf q s) m ∙ with-nothing σ g (a .owners) s o;
+          sized = ap (λ (q : List ℕ). length q) m ∙ with-length σ g (a .owners) (replicate 16 0);
+          none = λ d. clash f d;
+          blank = λ d. clash f d;
+          still = λ d. clash f d;
+        }

@@ -18,7 +18,7 @@ ghost use Rattle.place_owners.specs.Cases.{ofGroup};
 ghost use Rattle.place_owners.specs.Tables.{groupCase};
 ghost use Rattle.place_owners.specs.Adding.{ownedBy, maskWith, masksWith};
 ghost use Rattle.search_total.specs.Post.{LeastAnswer};
-ghost use Rattle.place_layout.specs.Post.{LaidSoFar, OneMore, Placement};
+ghost use Rattle.place_layout.specs.Post.{LaidSoFar, OneMore, Placement, PlacedAlone};
 
 // Where every subgroup has a valid placement: a mask for each shard, 0 from S up, and the total of the moves. Else the lowest
 // subgroup without one, and nothing placed.
@@ -27,6 +27,13 @@ pub struct Placed {
     pub group: u32,
     pub masks: [u32; 16],
     pub total: u32,
+}
+
+// What one subgroup has, whatever the others: whether it has a valid placement, a mask for each of its shards, 0 for any other, and the moves.
+pub struct Offer {
+    pub found: bool,
+    pub masks: [u32; 16],
+    pub moves: u32,
 }
 
 // Some shard is of subgroup g.
@@ -188,4 +195,37 @@ pub fn place(settings: &[u32], held: u32, old: &[u32; 16]) -> Placed
         g += 1;
     }
     placed
+}
+
+// The placement of subgroup g alone, whatever the others, or none. Without shards there is nothing to place.
+pub fn place_one(settings: &[u32], held: u32, old: &[u32; 16], g: u32) -> Offer
+    requires { ⌜ Settings (now settings) ⌝ }
+    requires { ⌜ held < 2 ^ nodes (now settings) ⌝ }
+    ensures { λ r. ⌜ PlacedAlone (now (settings .entry)) held (λ s. getD (now (old .entry)) s 0) g r ⌝ }
+{
+    let none = [0u32; 16];
+    if !has_shards(settings, g) {
+        return Offer {
+            found: true,
+            masks: none,
+            moves: 0,
+        };
+    }
+    let sheet = place_sheet::sheet(settings, held, old);
+    let answer = solve(settings, held, old, &sheet, g);
+    if !answer.exists {
+        return Offer {
+            found: false,
+            masks: none,
+            moves: 0,
+        };
+    }
+    let owners = answer.owners;
+    let masks = masks_with(settings, g, &owners, &none);
+    let moves = place_check::group_moves(settings, old, &masks, g);
+    Offer {
+        found: true,
+        masks,
+        moves,
+    }
 }

@@ -66,10 +66,10 @@ pub struct Decided {
 }
 
 // What an event has found of rows 3 and 4, what the desk tells, and what slots and messages are compared with.
-struct Sighted {
-    refusal: Refusal,
-    seen: Seen,
-    tables: Tables,
+pub struct Sighted {
+    pub refusal: Refusal,
+    pub seen: Seen,
+    pub tables: Tables,
 }
 
 // Rows 1 and 2.
@@ -109,7 +109,7 @@ fn is_sound(settings: &[u32], x: State, seen: Seen) -> bool
 }
 
 // Rows 3 and 4, and what the desk tells, where rows 1 and 2 do not refuse.
-fn enter(settings: &[u32], x: State, desk: &[u8], in_phase: bool) -> Sighted
+pub fn enter(settings: &[u32], x: State, desk: &[u8], in_phase: bool) -> Sighted
     requires { ⌜ Settings (now settings) ⌝ }
     requires { ⌜ length (now desk) ≡ 65536 ⌝ }
     ensures refusal { λ r. ⌜ r .refusal ≡ Refusing.entryRefusal (Refusing.deskOk (wordsIn (now (desk .entry)))) (now (settings .entry)) x (wordsIn (now (desk .entry))) in_phase ⌝ }

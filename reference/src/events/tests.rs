@@ -52,12 +52,18 @@ impl Table {
     }
 
     fn check(&self) -> u32 {
-        let checked = check(&self.settings, &self.state, &self.desk);
+        let checked = check(Role::Planner, &self.settings, &self.state, &self.desk);
         checked.err().map_or(0, |number| number.0)
     }
 
     fn report(&mut self, message: &[u32]) -> u32 {
-        match report(&self.settings, &self.state, &self.desk, message) {
+        match report(
+            Role::Planner,
+            &self.settings,
+            &self.state,
+            &self.desk,
+            message,
+        ) {
             Ok((state, desk)) => {
                 self.desk = desk;
                 self.take(Ok(state))
@@ -67,28 +73,35 @@ impl Table {
     }
 
     fn drop_node(&mut self, node: u32) -> u32 {
-        let next = drop_node(&self.settings, &self.state, &self.desk, node);
+        let next = drop_node(Role::Planner, &self.settings, &self.state, &self.desk, node);
         self.take(next)
     }
 
     fn fetched(&mut self, node: u32) -> u32 {
-        let next = fetched(&self.settings, &self.state, &self.desk, node);
+        let next = fetched(Role::Planner, &self.settings, &self.state, &self.desk, node);
         self.take(next)
     }
 
     fn prepared(&mut self, node: u32) -> u32 {
-        let next = prepared(&self.settings, &self.state, &self.desk, node);
+        let next = prepared(Role::Planner, &self.settings, &self.state, &self.desk, node);
         self.take(next)
     }
 
     fn decide(&mut self) -> Result<Decision, Number> {
-        let (decision, state) = decide(&self.settings, &self.state, &self.desk)?;
+        let (decision, state) = decide(Role::Planner, &self.settings, &self.state, &self.desk)?;
         self.state = state;
         Ok(decision)
     }
 
     fn order(&self, node: u32) -> Result<Vec<u32>, Number> {
-        let order = order(&self.settings, &self.state, &self.desk, node, 512);
+        let order = order(
+            Role::Planner,
+            &self.settings,
+            &self.state,
+            &self.desk,
+            node,
+            512,
+        );
         order.map_err(|refusal| refusal.number)
     }
 
@@ -103,7 +116,14 @@ impl Table {
 #[test]
 fn row_1_desk_and_buffer() {
     let mut table = Table::ordered();
-    let full = order(&table.settings, &table.state, &table.desk, 0, 511);
+    let full = order(
+        Role::Planner,
+        &table.settings,
+        &table.state,
+        &table.desk,
+        0,
+        511,
+    );
     assert_eq!(full, Err(Number(1).into()));
     table.desk.pop();
     table.settings[0] = 0;
@@ -124,6 +144,50 @@ fn row_2_settings() {
     assert_eq!(table.check(), 2);
     assert_eq!(table.report(&[]), 2);
     assert_eq!(table.decide(), Err(Number(2)));
+}
+
+/// Number 15: operations are the planner's, after row 2 and before row 3.
+#[test]
+fn row_15_roles() {
+    let roles = (0..4).map(Role::Watcher).chain([Role::Nobody]);
+    for role in roles {
+        let all = |table: &Table| {
+            let Table {
+                settings,
+                state,
+                desk,
+            } = table;
+            let number = |next: Result<Vec<u32>, Number>| next.unwrap_err().0;
+            let report = report(role, settings, state, desk, &printed_report(6));
+            let order = order(role, settings, state, desk, 0, 512);
+            [
+                check(role, settings, state, desk).unwrap_err().0,
+                report.unwrap_err().word(),
+                number(drop_node(role, settings, state, desk, 0)),
+                decide(role, settings, state, desk).unwrap_err().0,
+                order.unwrap_err().word(),
+                number(fetched(role, settings, state, desk, 0)),
+                number(prepared(role, settings, state, desk, 0)),
+            ]
+        };
+        let mut table = Table::ordered();
+        assert_eq!(all(&Table::gathered()), [15; 7]);
+        assert_eq!(all(&table), [15; 7]);
+        table.state[0] = 9;
+        assert_eq!(all(&table), [15; 7], "an unsound state");
+        table.state.clear();
+        assert_eq!(all(&table), [15; 7], "no state");
+        table.settings[0] = 0;
+        assert_eq!(all(&table), [2; 7]);
+        table.desk.pop();
+        assert_eq!(all(&table), [1; 7]);
+        for words in [0, 159, 160, 161] {
+            assert_eq!(fresh(role, words), Err(Number(15)));
+        }
+    }
+    assert_eq!(fresh(Role::Planner, 160), Ok(vec![0; 160]));
+    assert_eq!(fresh(Role::Planner, 159), Err(Number(3)));
+    assert_eq!(fresh(Role::Planner, 0), Err(Number(3)));
 }
 
 /// Every part of soundness, one word at a time.

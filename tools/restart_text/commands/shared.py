@@ -23,7 +23,7 @@ def program_argument(parser):
 
 def library_argument(parser):
     parser.add_argument("--library", metavar="PATH",
-                        help="the library librestart.so.0; without it the one built in this checkout, or installed")
+                        help="the library librestart.so.1; without it the one built in this checkout, or installed")
 
 
 def names_argument(parser):

@@ -5,6 +5,7 @@ use Prim.Native.Nat.{ℕ}
 use Rattle.settings_values.specs.Settings.{Settings}
 use Rattle.settings_values.specs.Laws.{settings-give}
 use Rattle.base_lent.specs.Lent.{wordsIn}
+use Rattle.c_state.specs.Calls.{byPlanner}
 use Rattle.c_state.specs.CallLaws.{desk-passes, desk-long, settings-few, settings-long, settings-front}
 use Rattle.c_events.specs.Events.{happened}
 use Rattle.c_events.specs.Cases.{take-refused, take-done}
@@ -14,36 +15,36 @@ use Rattle.c_events.proofs.take.Statement.{statement}
 use Rattle.c_events.proofs.take.Tie as tie
 
 returns : tie.Need-returns
-returns c = take-refused _ _ _ _ _ _ ((c .before .before .before .enter) .ensures) ((c .if1) .taken)
+returns c = take-refused _ _ _ _ _ _ _ ((c .before .before .before .enter-planner) .ensures) ((c .if1) .taken)
 
 sub-outcome : tie.Need-sub-outcome
 sub-outcome c = search needs
 
 part-outcome-start : tie.Need-part-outcome-start
-part-outcome-start c = omega (arith, settings-few _ _ _ _ ((c .before .before .before .before .before .enter) .ensures), settings-long _ _ _ _ ((c .before .before .before .before .before .enter) .ensures))
+part-outcome-start c = omega (arith, settings-few _ _ _ _ _ ((c .before .before .before .before .before .enter-planner) .ensures), settings-long _ _ _ _ _ ((c .before .before .before .before .before .enter-planner) .ensures))
 
 part-outcome-end : tie.Need-part-outcome-end
-part-outcome-end c = omega (arith, settings-few _ _ _ _ ((c .before .before .before .before .before .enter) .ensures), settings-long _ _ _ _ ((c .before .before .before .before .before .enter) .ensures))
+part-outcome-end c = omega (arith, settings-few _ _ _ _ _ ((c .before .before .before .before .before .enter-planner) .ensures), settings-long _ _ _ _ _ ((c .before .before .before .before .before .enter-planner) .ensures))
 
 outcome-requires : tie.Need-outcome-requires
 outcome-requires c κs =
     let a = (c .before .before .before .before .before .before .before .before .before .before .before) .args in
-    let e = (c .before .before .before .before .before .before .enter) .ensures in
-    let p = desk-passes (a .settings .now) (a .state .now) (a .desk .now) _ e ((c .before .before .before .if1) .left) in
-    (subst Settings (sym (settings-front _ _ _ _ e (p .settings-ok))) (settings-give _ (p .settings-ok)), desk-long (a .settings .now) (a .state .now) (a .desk .now) _ e ((c .before .before .before .if1) .left))
+    let e = (c .before .before .before .before .before .before .enter-planner) .ensures in
+    let p = desk-passes (byPlanner (a .role)) (a .settings .now) (a .state .now) (a .desk .now) _ e ((c .before .before .before .if1) .left) in
+    (subst Settings (sym (settings-front _ _ _ _ _ e (p .settings-ok))) (settings-give _ (p .settings-ok)), desk-long (byPlanner (a .role)) (a .settings .now) (a .state .now) (a .desk .now) _ e ((c .before .before .before .if1) .left))
 
 keep-requires : tie.Need-keep-requires
 keep-requires c κs =
     let a = (c .before .before .before .before .before .before .before .before .before .before .before .before .before) .args in
-    desk-passes (a .settings .now) (a .state .now) (a .desk .now) _ ((c .before .before .before .before .before .before .before .before .enter) .ensures) ((c .before .before .before .before .before .if1) .left) .long
+    desk-passes (byPlanner (a .role)) (a .settings .now) (a .state .now) (a .desk .now) _ ((c .before .before .before .before .before .before .before .before .enter-planner) .ensures) ((c .before .before .before .before .before .if1) .left) .long
 
 returns-2 : tie.Need-returns-2
 returns-2 c =
     let a = (c .before .before .before .before .before .before .before .before .before .before .before .before .before .before .before .before) .args in
-    let e = (c .before .before .before .before .before .before .before .before .before .before .before .enter) .ensures in
-    let p = desk-passes (a .settings .now) (a .state .now) (a .desk .now) _ e ((c .before .before .before .before .before .before .before .before .if1) .left) in
-    take-done _ _ _ _ _ _ e ((c .before .before .before .before .before .before .before .before .if1) .left) _
-    ((c .before .before .before .before .outcome) .ensures ∙ ap (λ (s : List ℕ). happened (a .event) s ((c .before .before .before .before .before .before .before .before .before .before .before .enter) .result .state) (wordsIn (a .desk .now)) (a .node)) (settings-front _ _ _ _ e (p .settings-ok))) ((c .before .before .keep) .ensures)
+    let e = (c .before .before .before .before .before .before .before .before .before .before .before .enter-planner) .ensures in
+    let p = desk-passes (byPlanner (a .role)) (a .settings .now) (a .state .now) (a .desk .now) _ e ((c .before .before .before .before .before .before .before .before .if1) .left) in
+    take-done _ _ _ _ _ _ _ e ((c .before .before .before .before .before .before .before .before .if1) .left) _
+    ((c .before .before .before .before .outcome) .ensures ∙ ap (λ (s : List ℕ). happened (a .event) s ((c .before .before .before .before .before .before .before .before .before .before .before .enter-planner) .result .state) (wordsIn (a .desk .now)) (a .node)) (settings-front _ _ _ _ _ e (p .settings-ok))) ((c .before .before .keep) .ensures)
 
 pub take-spec : {M : Type 1} → statement M
 take-spec =

@@ -6,7 +6,7 @@ use Rattle.c_state.proofs.enter.Tie as tie
 
 returns : tie.Need-returns
 returns c =
-    entry-of _ _ _ (c .before .before .decode-state .result) (c .before .before .decode-state .ensures) _ _ (c .before .before .before .before .before .before .before .settings-of .ensures) _ (c .before .before .before .check .ensures)
+    entry-of _ _ _ _ (c .before .before .decode-state .result) (c .before .before .decode-state .ensures) _ _ (c .before .before .before .before .before .before .before .settings-of .ensures) _ (c .before .before .before .check .ensures)
     _ (c .before .entry-refusal .ensures)
 
 pub enter-spec : {M : Type 1} → statement M

@@ -1,7 +1,7 @@
 -- Each answer follows from the test on the way to it.
 use borrow.Author.Tests.{eq-eqb, ne-eqb}
-use Rattle.c_order.proofs.lengths_ok.Statement.{statement}
-use Rattle.c_order.proofs.lengths_ok.Tie as tie
+use Rattle.c_state.proofs.lengths_ok.Statement.{statement}
+use Rattle.c_state.proofs.lengths_ok.Tie as tie
 
 returns : tie.Need-returns
 returns c = simp (ne-eqb _ _ (c .if1 .taken))

@@ -1,0 +1,3 @@
+-- Roles, as words and what they allow.
+pub mod Roles
+pub mod Words

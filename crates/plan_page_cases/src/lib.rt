@@ -1,0 +1,1 @@
+// Pages of worked worlds, from the definition: theorems, in specs/. No code.
