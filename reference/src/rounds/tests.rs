@@ -251,14 +251,29 @@ fn everything(layout: &Layout) -> Vec<Vec<(Placement, u32)>> {
     layout.subgroups().map(with_moves).collect()
 }
 
+/// The first of those with fewer moves than this.
+fn first_among(all: &[(Placement, u32)], than: u32) -> Option<(Placement, u32)> {
+    let fewer = all.iter().filter(|&&(_, moves)| moves < than);
+    let first = fewer.min_by(|one, other| order::compare(&one.0, &other.0));
+    first.cloned()
+}
+
+/// The placements of all subgroups as one.
+fn joined(each: &[(Placement, u32)]) -> Placement {
+    let both = |one: Placement, other: &Placement| {
+        let shards = one.iter().zip(other);
+        shards.map(|(one, other)| one | other).collect()
+    };
+    let nothing = vec![0; each[0].0.len()];
+    each.iter().map(|(masks, _)| masks).fold(nothing, both)
+}
+
 /// A round as request Twelve says it, of what each subgroup has reached, by the
 /// list of all placements.
 fn round_among(every: &[Vec<(Placement, u32)>], at: &mut [(Placement, u32)]) -> bool {
     for (all, reached) in every.iter().zip(at) {
-        let fewer = all.iter().filter(|&&(_, moves)| moves < reached.1);
-        let first = fewer.min_by(|one, other| order::compare(&one.0, &other.0));
-        if let Some(first) = first {
-            *reached = first.clone();
+        if let Some(first) = first_among(all, reached.1) {
+            *reached = first;
             return true;
         }
     }
@@ -307,23 +322,16 @@ fn both_ways_and_what_is_promised() {
         let every = everything(&layout);
         let least_of = |all: &Vec<(Placement, u32)>| all.iter().map(|&(_, moves)| moves).min();
         let least: Vec<u32> = every.iter().map(|all| least_of(all).unwrap()).collect();
+        assert!(floor(&layout) <= least.iter().sum());
         let mut at: Vec<(Placement, u32)> = every
             .iter()
-            .map(|all| {
-                all.iter()
-                    .min_by(|one, other| order::compare(&one.0, &other.0))
-            })
-            .map(|first| first.unwrap().clone())
+            .map(|all| first_among(all, u32::MAX).unwrap())
             .collect();
         let enough = gap(&layout, &start);
         let mut masks = start;
         let mut count = 0;
         loop {
-            let own = (0..settings.shards as usize).map(|shard| {
-                let in_one = at.iter().map(|(masks, _)| masks[shard]);
-                in_one.fold(0, |all, own| all | own)
-            });
-            assert_eq!(masks, own.collect::<Vec<u32>>());
+            assert_eq!(masks, joined(&at));
             assert_eq!(reached(&layout, GREEDY, count), Ok(masks.clone()));
             assert!(layout.valid(&masks));
             let gap = gap(&layout, &masks);
@@ -342,16 +350,12 @@ fn both_ways_and_what_is_promised() {
         for later in [enough, MOST_ROUNDS, MOST_ROUNDS + 1, u32::MAX] {
             assert_eq!(reached(&layout, GREEDY, later), Ok(masks.clone()));
         }
-        let first_least = |subgroup: &Subgroup| {
-            let least = least[subgroup.number as usize];
-            (EXHAUSTIVE.fewer)(subgroup, least + 1)
-        };
-        for subgroup in layout.subgroups() {
-            let first = first_least(&subgroup).unwrap();
-            for shard in settings.shards_of(subgroup.number) {
-                assert_eq!(masks[shard as usize], first[shard as usize]);
-            }
-        }
+        let first_least: Vec<(Placement, u32)> = every
+            .iter()
+            .zip(&least)
+            .map(|(all, least)| first_among(all, least + 1).unwrap())
+            .collect();
+        assert_eq!(masks, joined(&first_least));
         // Where every cap is its need, least moves leave no choice of stays.
         if settings.cap_of == settings.need_of {
             assert_eq!(layout.each(order::greedy), Ok(masks.clone()));
