@@ -22,6 +22,8 @@
 //! - `open_view`: what is known of a view that a machine has on disk as open
 //! - `roles`: who calls, and what that allows
 //! - `events`: report, drop, decide, order, fetched and prepared
+//! - `preview`: what decide would say without one node
+//! - `rounds`: a plan by improving rounds, and its gap
 //! - `page`: what a subgroup's watcher may read
 //! - `program`: what the program `restart` prints
 //! - `mondays`: what the program `mondays` prints
@@ -43,9 +45,11 @@ pub mod open_view;
 pub mod order;
 pub mod page;
 pub mod placement;
+pub mod preview;
 pub mod program;
 pub mod quorum;
 pub mod roles;
+pub mod rounds;
 pub mod settings;
 pub mod soundness;
 pub mod state;
