@@ -23,7 +23,9 @@
 //! - `roles`: who calls, and what that allows
 //! - `events`: report, drop, decide, order, fetched and prepared
 //! - `page`: what a subgroup's watcher may read
-//! - `program`: what the program `restart` prints
+//! - `sheet`: what decide would say with each set of nodes held
+//! - `game`: outage against crew, on such a sheet
+//! - `program`: what the programs `restart` and `sheet` print
 //! - `mondays`: what the program `mondays` prints
 
 #![forbid(unsafe_code)]
@@ -34,6 +36,7 @@ pub mod desk;
 pub mod events;
 pub mod flat;
 pub mod flow;
+pub mod game;
 pub mod log;
 pub mod mask;
 pub mod message;
@@ -47,6 +50,7 @@ pub mod program;
 pub mod quorum;
 pub mod roles;
 pub mod settings;
+pub mod sheet;
 pub mod soundness;
 pub mod state;
 pub mod weights;
