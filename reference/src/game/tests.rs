@@ -39,6 +39,18 @@ fn answers(world: &Reported, held: u32) -> [Winner; 4] {
     [0, 1, 2, 3].map(|rounds| asked(world, held, rounds).unwrap())
 }
 
+/// A small xorshift generator.
+struct Random(u64);
+
+impl Random {
+    fn bits(&mut self) -> u64 {
+        self.0 ^= self.0 << 13;
+        self.0 ^= self.0 >> 7;
+        self.0 ^= self.0 << 17;
+        self.0
+    }
+}
+
 // The second way: rules of play.
 
 #[derive(Clone, Copy, Debug, PartialEq, Eq)]
@@ -182,7 +194,7 @@ fn board(nodes: u32, plans: u64) -> Board {
     }
 }
 
-/// All boards of up to three nodes, all masks; three rounds at each ninth.
+/// All boards of up to three nodes, all masks, up to three rounds.
 #[test]
 fn rules_of_play_on_small_boards() {
     for nodes in 1..=3 {
@@ -190,8 +202,7 @@ fn rules_of_play_on_small_boards() {
         for plans in 0..1 << masks {
             let board = board(nodes, plans);
             for held in 0..masks {
-                let rounds = if nodes < 3 || plans % 9 == 0 { 3 } else { 2 };
-                for rounds in 0..=rounds {
+                for rounds in 0..=MOST_ROUNDS {
                     agree(&board, held, rounds);
                 }
             }
@@ -199,21 +210,86 @@ fn rules_of_play_on_small_boards() {
     }
 }
 
-/// Four nodes: the world of reports, and boards with many plans.
+/// Four nodes: the world of reports, and boards by chance with many plans.
 #[test]
 fn rules_of_play_of_four_nodes() {
     let four = board_of(&reported(&FOUR, &four_reports()));
-    let boards = [0xfffe, 0xfee8, 0xf8f0, 0xffa5, 0xe8e8, 0x7fff];
-    let boards = boards.map(|plans| board(4, plans));
-    for held in 0..16 {
-        agree(&four, held, 2);
-        for board in &boards {
-            agree(board, held, 2);
+    let mut random = Random(10);
+    let mut crews = 0;
+    for _ in 0..60 {
+        let board = board(4, random.bits() | random.bits());
+        for held in 0..16 {
+            agree(&board, held, 1);
+            agree(&board, held, 2);
+            crews += u32::from(board.winner(held, 2) == Crew);
         }
     }
-    for held in [0, 1, 3, 7, 11, 14, 15] {
-        agree(&four, held, 3);
+    assert!((200..760).contains(&crews), "{crews}");
+    for held in 0..16 {
+        for rounds in 0..=MOST_ROUNDS {
+            agree(&four, held, rounds);
+        }
     }
+}
+
+/// Five nodes, two rounds: boards in which most masks of three and more give a
+/// plan.
+#[test]
+fn rules_of_play_of_five_nodes() {
+    let mut random = Random(5);
+    let mut crews = 0;
+    for _ in 0..6 {
+        let mut board = board(5, random.bits() | random.bits() | random.bits());
+        for (held, plan) in (0u32..).zip(&mut board.plans) {
+            *plan &= mask::count(held) > 1;
+        }
+        for held in 0..32 {
+            agree(&board, held, 2);
+            crews += u32::from(board.winner(held, 2) == Crew);
+        }
+    }
+    assert!((30..160).contains(&crews), "{crews}");
+}
+
+/// A rule of play needs no memory: the outage wins exactly the masks that grow,
+/// round by round, from none.
+#[test]
+fn masks_lost_round_by_round() {
+    let mut random = Random(7);
+    for nodes in 1..=6 {
+        for _ in 0..20 {
+            let board = board(nodes, random.bits() | random.bits());
+            let mut lost = vec![false; 1 << nodes];
+            for rounds in 0..=MOST_ROUNDS {
+                for held in 0..1 << nodes {
+                    let wins = board.winner(held, rounds) != Crew;
+                    assert_eq!(wins, lost[held as usize]);
+                }
+                lost = lost_before(&board, &lost);
+            }
+        }
+    }
+}
+
+/// The masks lost with a round more: for some turn of the outage each of the
+/// crew's leads to a mask without a plan or to one that is lost.
+fn lost_before(board: &Board, lost: &[bool]) -> Vec<bool> {
+    let bits = |mask: u32| {
+        (0..board.nodes)
+            .map(|n| 1u32 << n)
+            .filter(move |b| mask & b != 0)
+    };
+    let bad = |held: u32| !board.plans[held as usize] || lost[held as usize];
+    let full = (1u32 << board.nodes) - 1;
+    let answered = |down: u32, taken: u32| match full & !down & !taken {
+        0 => bad(down),
+        absent => bits(absent).all(|back| bad(down | back)),
+    };
+    let is_lost = |held: u32| match held {
+        0 => answered(0, 0),
+        _ => bits(held).any(|taken| answered(held & !taken, taken)),
+    };
+    (0..=full).map(is_lost).collect()
 }
 
 /// How many rules a side has is counted by hand: with two of three nodes held

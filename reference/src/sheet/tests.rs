@@ -96,7 +96,7 @@ fn world(random: &mut Random, most: u32) -> Reported {
 /// Worlds that the laws below are tried on.
 fn worlds() -> Vec<Reported> {
     let mut random = Random(11);
-    let mut worlds: Vec<Reported> = (0..60).map(|_| world(&mut random, 5)).collect();
+    let mut worlds: Vec<Reported> = (0..100).map(|_| world(&mut random, 6)).collect();
     worlds.push(reported(&SETTINGS, &reports(&SEVEN)));
     worlds.push(reported(&FOUR, &four_reports()));
     worlds
