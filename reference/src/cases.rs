@@ -1,14 +1,17 @@
 //! For tests: document 01's printed run, settings and the reports of nodes 0 to
-//! 5; worlds, which are settings, state and desk; random layouts and worlds.
+//! 5; worlds, which are settings, state and desk; random layouts and worlds;
+//! inputs of the programs.
 
 use crate::desk::DESK_WORDS;
 use crate::events::{self, Decision};
 use crate::mask;
 use crate::message::{encode, Contents, Triple, MEMBERS, RUN, TERMINATION};
 use crate::number::Number;
+use crate::program::{self, Reported};
 use crate::roles::Role;
 use crate::settings::{self, SUBGROUPS};
 use crate::state::{self, State};
+use crate::words;
 
 pub const SETTINGS: [u32; 14] = [7, 3, 4, 3, 0, 0, 1, 1, 1, 2, 2, 2, 3, 1];
 pub const MEMBERS_MASK: u32 = 127;
@@ -228,4 +231,48 @@ pub fn random_world(random: &mut Random, most: u32) -> World {
         }
     }
     world
+}
+
+/// The input of settings and messages.
+pub fn input(settings: &[u32], messages: &[Vec<u32>]) -> Vec<u8> {
+    let mut all = vec![settings.len() as u32];
+    all.extend(settings);
+    for message in messages {
+        all.push(message.len() as u32);
+        all.extend(message);
+    }
+    words::to_bytes(&all)
+}
+
+/// The printed run's reports of these nodes.
+pub fn reports(nodes: &[u32]) -> Vec<Vec<u32>> {
+    nodes.iter().map(|&node| printed_report(node)).collect()
+}
+
+/// Settings, state and desk after these messages.
+pub fn reported(settings: &[u32], messages: &[Vec<u32>]) -> Reported {
+    program::reported(&input(settings, messages)).expect("good messages")
+}
+
+/// All nodes of the printed run.
+pub const SEVEN: [u32; 7] = [0, 1, 2, 3, 4, 5, 6];
+
+/// Four nodes of two sets, and a shard that needs two of them.
+pub const FOUR: [u32; 9] = [4, 2, 1, 1, 0, 0, 1, 1, 2];
+
+/// A report of a world with one shard.
+pub fn one_shard(node: u32, view: u32, members: u32, shard: u32) -> Vec<u32> {
+    encode(&Contents {
+        node,
+        view,
+        members,
+        records: vec![Triple::new(MEMBERS, 0, shard, 0)],
+    })
+}
+
+/// Their reports: node 3 has missed the last view.
+pub fn four_reports() -> Vec<Vec<u32>> {
+    let mut messages: Vec<Vec<u32>> = (0..3).map(|node| one_shard(node, 7, 7, 3)).collect();
+    messages.push(one_shard(3, 6, 15, 8));
+    messages
 }

@@ -25,7 +25,9 @@
 //! - `preview`: what decide would say without one node
 //! - `rounds`: a plan by improving rounds, and its gap
 //! - `page`: what a subgroup's watcher may read
-//! - `program`: what the program `restart` prints
+//! - `sheet`: what decide would say with each set of nodes held
+//! - `game`: outage against crew, on such a sheet
+//! - `program`: what the programs `restart` and `sheet` print
 //! - `mondays`: what the program `mondays` prints
 
 #![forbid(unsafe_code)]
@@ -36,6 +38,7 @@ pub mod desk;
 pub mod events;
 pub mod flat;
 pub mod flow;
+pub mod game;
 pub mod log;
 pub mod mask;
 pub mod message;
@@ -51,6 +54,7 @@ pub mod quorum;
 pub mod roles;
 pub mod rounds;
 pub mod settings;
+pub mod sheet;
 pub mod soundness;
 pub mod state;
 pub mod weights;
