@@ -24,19 +24,19 @@ page-seen-requires c κs =
     let s = c .before .before .before .before .before .before .before in
     let a = s .args in
     let d = wordsIn (a .desk .now) in
-    let k = c .before .before .before .enter in
+    let k = c .before .before .before .before .enter in
     let e = k .ensures .0 ∙ sound-entry (a .settings .now) (a .x) d (desk-length (a .desk .now) (s .pre .1)) (s .pre .0) in
-    (s .pre .0, held-below (a .settings .now) (a .x .kept) (a .x .termination) (a .x .held) (sound-passed (a .settings .now) (a .x) d (sym (ap accepted e) ∙ eq-eqb _ _ (c .if1 .left)) .kept-sound))
+    (s .pre .0, held-below (a .settings .now) (a .x .kept) (a .x .termination) (a .x .held) (sound-passed (a .settings .now) (a .x) d (sym (ap accepted e) ∙ eq-eqb _ _ (c .before .if1 .left)) .kept-sound))
 
 returns-2 : tie.Need-returns-2
 returns-2 c =
     let s = c .before .before .before .before .before .before .before .before in
     let a = s .args in
     let d = wordsIn (a .desk .now) in
-    let k = c .before .before .before .before .enter in
+    let k = c .before .before .before .before .before .enter in
     let e = k .ensures .0 ∙ sound-entry (a .settings .now) (a .x) d (desk-length (a .desk .now) (s .pre .1)) (s .pre .0) in
-    paged-shown (a .settings .now) (a .x) d (a .g) (k .result .seen) e (c .before .if1 .left) (k .ensures .1 .0) (c .page-seen .ensures)
+    paged-shown (a .settings .now) (a .x) d (a .g) (k .result .seen) e (c .before .before .if1 .left) (k .ensures .1 .0) (c .page-seen .ensures)
 
 pub page-under-spec : {M : Type 1} → statement M
 page-under-spec =
-    tie.close (tie.spec (λ c κs. search needs) returns page-seen-requires returns-2)
+    tie.close (tie.spec (λ c κs. search needs) (λ c κs. search needs) returns page-seen-requires returns-2)
