@@ -3,11 +3,11 @@ use Prim.Native.Nat.{ℕ, _+_, _^_, _<_, _≤_}
 use mathlib.Core.Bool.{Bool, true, false, not, _||_}
 use mathlib.Core.List.{List}
 use mathlib.Core.Logic.{_⊎_, inl, inr, ⊎-elim}
-use mathlib.Core.Path.{_≡_, refl, sym, ap, _∙_, subst}
+use mathlib.Core.Path.{_≡_, refl, sym, _∙_, subst}
 use native.Mathlib.Omega.{arith}
 use lib.Dec.{eqb}
 use borrow.Author.Tests.{eqb-true, eq-eqb}
-use Rattle.base_laws.specs.Bools.{either, clash, no-true, or-holds, or-fails-left, or-fails-right, lt-or-le, eq-or-ne}
+use Rattle.base_laws.specs.Bools.{either, clash, or-holds, or-fails-left, or-fails-right, lt-or-le, eq-or-ne}
 use Rattle.base_laws.specs.Masks.{has, count, with, without, has-with, has-zero, has-below, minus-subset, without-lt, ext-all}
 use Rattle.settings_values.specs.Settings.{nodes, Settings}
 use Rattle.place_groups.specs.Placements.{groupValid, Lowest}

@@ -200,7 +200,15 @@ fn lost_with(
     if !base_masks::has(held, n) {
         return lost;
     }
-    if !waits(settings, v, base_masks::without(held, n), masks, most, laid, n) {
+    if !waits(
+        settings,
+        v,
+        base_masks::without(held, n),
+        masks,
+        most,
+        laid,
+        n,
+    ) {
         return lost;
     }
     base_masks::with(lost, n)

@@ -1,6 +1,6 @@
 -- For each shard the nodes that count for it, read once from the desk d for the nodes of the mask `all`; and that of any set of held nodes among
 -- them a shard has a holder just where one of its own is held.
-use Prim.Native.Nat.{ℕ, _+_, _^_, _<_, _≤_}
+use Prim.Native.Nat.{ℕ, _^_, _<_}
 use mathlib.Core.Bool.{Bool, true, false, cond, not, _&&_, _||_}
 use mathlib.Core.List.{List}
 use mathlib.Core.Logic.{_⊎_, inl, inr, ⊎-elim}
@@ -11,25 +11,23 @@ use lib.Dec.{eqb, ltb}
 use lib.Pow.{pow-mono}
 use lib.ListN.{length, getD, replicate}
 use borrow.Author.Tests.{eq-eqb, ne-eqb, eqb-true, lt-ltb}
-use Rattle.base_laws.specs.Bools.{either, clash, same, no-true, and-both, and-left, and-right, and-fails-left, and-fails-right, not-of-true, not-of-false, or-holds, of-not-true}
-use Rattle.base_laws.specs.Below.{allBelow, anyBelow, lowest, lowest-cong, any-fails, any-none-of, any-at, all-at, all-of}
+use Rattle.base_laws.specs.Bools.{either, clash, same, no-true, and-both, and-left, and-right, and-fails-left, and-fails-right, or-holds, of-not-true}
+use Rattle.base_laws.specs.Below.{allBelow, anyBelow, lowest, lowest-cong, any-none-of, any-at, all-at, all-of}
 use Rattle.base_laws.specs.Masks.{has, with, subset, disjoint, has-single, has-with, has-zero, ext-all, subset-has, subset-of, width, disjoint-has, disjoint-of}
 use Rattle.base_laws.specs.Picked.{maskBelow, has-mask}
 use Rattle.base_laws.specs.Tables.{tabulate, getD-tabulate}
 use Rattle.base_ids.specs.declared.Node.{Node}
 use Rattle.settings_values.specs.Settings.{nodes, shards, Settings}
 use Rattle.report_views.specs.Best.{best-found, bestSoFar}
-use Rattle.report_views.specs.PlanLaws.{holders-at}
-use Rattle.report_views.specs.Quorums.{best, holder, majority, unheld, firstUnheld, quorumOf}
+use Rattle.report_views.specs.Quorums.{best, holder, unheld, firstUnheld, quorumOf}
 use Rattle.report_views.specs.Numbers.{asNumber}
 use Rattle.report_views.specs.Reports.{endAt, nodeAt}
 use Rattle.report_views.specs.Slots.{slotOk, slotsOk}
-use Rattle.report_views.specs.Standings.{holdersOf}
 use Rattle.report_views.specs.declared.Layout.{Layout}
 use Rattle.report_views.specs.declared.Termination.{Termination}
 use Rattle.plan_seen.specs.Nodes.{eligible}
 use Rattle.plan_masks.specs.Masks.{unheldIn, firstUnheldIn, quorumIn}
-use Rattle.plan_masks.specs.declared.Counted.{Counted}
+use Rattle.plan_masks.specs.declared.HolderMasks.{HolderMasks}
 use Rattle.plan_seen.specs.Fold.{heldFor, SoFar, holder-last}
 
 -- node n is one of `all` and counts for shard s: it is a member, reported the kept view, and has the position of a kept termination
@@ -40,11 +38,11 @@ countsFor σ v t all d s n = ltb s (shards σ) && heldFor v t all d s n
 unfoldable pub countedMasks : List ℕ → Layout → Termination → ℕ → List ℕ → ℕ → List ℕ
 countedMasks σ v t all d n = tabulate 16 (λ s. maskBelow n (countsFor σ v t all d s))
 
-unfoldable pub noneCounted : Counted
+unfoldable pub noneCounted : HolderMasks
 noneCounted = record { ok = false; masks = replicate 16 0 }
 
 -- of all nodes, where each slot that is asked for is sound, else nothing
-unfoldable pub countedOf : List ℕ → Layout → Termination → ℕ → List ℕ → Counted
+unfoldable pub countedOf : List ℕ → Layout → Termination → ℕ → List ℕ → HolderMasks
 countedOf σ v t all d = cond (slotsOk σ v t all d) (record { ok = true; masks = countedMasks σ v t all d 32 }) noneCounted
 
 -- ---- what the code adds for a node: to the masks of the shards that have it as holder where no other is held
@@ -52,8 +50,8 @@ countedOf σ v t all d = cond (slotsOk σ v t all d) (record { ok = true; masks 
 unfoldable pub countedWith : ℕ → ℕ → ℕ → ℕ
 countedWith mask holder n = cond (eqb holder n) (with mask n) mask
 
-abbrev pub noted : List Node → ℕ → List ℕ → ℕ → ℕ
-noted holders n ms s = countedWith (getD ms s 0) (nodeAt holders s) n
+abbrev pub countedAt : List Node → ℕ → List ℕ → ℕ → ℕ
+countedAt holders n ms s = countedWith (getD ms s 0) (nodeAt holders s) n
 
 -- ---- what a caller takes from it
 
@@ -68,10 +66,10 @@ pub record Given (σ : List ℕ) (v : Layout) (t : Termination) (all held : ℕ)
   pub among : subset held all ≡ true
   pub counting : Counting σ v t all d ms
 
-module _ (σ : List ℕ) (v : Layout) (t : Termination) (all : ℕ) (d : List ℕ) (x : Counted) (e : x ≡ countedOf σ v t all d) where
+module _ (σ : List ℕ) (v : Layout) (t : Termination) (all : ℕ) (d : List ℕ) (x : HolderMasks) (e : x ≡ countedOf σ v t all d) where
   pub counted-ok : x .ok ≡ slotsOk σ v t all d
   unfolding countedOf noneCounted
-  counted-ok = ap (λ (y : Counted). y .ok) e ∙ go (slotsOk σ v t all d)
+  counted-ok = ap (λ (y : HolderMasks). y .ok) e ∙ go (slotsOk σ v t all d)
     where
       go : (b : Bool) → cond b (record { ok = true; masks = countedMasks σ v t all d 32 }) noneCounted .ok ≡ b
       go true = refl
@@ -80,7 +78,7 @@ module _ (σ : List ℕ) (v : Layout) (t : Termination) (all : ℕ) (d : List �
   pub counted-masks : Settings σ → slotsOk σ v t all d ≡ true → Counting σ v t all d (x .masks)
   unfolding countedOf countedMasks
   counted-masks right h =
-      let same : x .masks ≡ tabulate 16 (λ s. maskBelow 32 (countsFor σ v t all d s)) = ap (λ (y : Counted). y .masks) e ∙ rw h in
+      let same : x .masks ≡ tabulate 16 (λ s. maskBelow 32 (countsFor σ v t all d s)) = ap (λ (y : HolderMasks). y .masks) e ∙ rw h in
       record {
         each = λ s l n.
             ap (λ (m : List ℕ). has (getD m s 0) n) same

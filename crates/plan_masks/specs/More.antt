@@ -1,26 +1,24 @@
 -- More held nodes never harm: where no wait applies with some nodes held, none does with more.
 use Prim.Native.Nat.{ℕ, _*_, _^_, _<_, _≤_}
-use mathlib.Core.Bool.{Bool, true, false, cond, not, _&&_}
+use mathlib.Core.Bool.{Bool, true, false, _&&_}
 use mathlib.Core.List.{List}
-use mathlib.Core.Logic.{_⊎_, inl, inr, ⊎-elim}
-use mathlib.Core.Path.{_≡_, refl, sym, ap, _∙_, subst}
+use mathlib.Core.Logic.{⊎-elim}
+use mathlib.Core.Path.{_≡_, refl, sym, _∙_}
 use native.Mathlib.Omega.{arith}
 use native.Mathlib.Nat.{lt-of-le-of-lt}
 use lib.Bits.{bitAnd}
 use lib.Dec.{eqb, ltb}
 use lib.ListN.{getD}
 use borrow.Author.Tests.{ltb-true, ltb-false, lt-ltb, le-ltb}
-use Rattle.base_laws.specs.Bools.{either, clash, no-true, and-both, and-left, and-right}
+use Rattle.base_laws.specs.Bools.{either, clash, and-both, and-left, and-right}
 use Rattle.base_laws.specs.Below.{lowest, anyBelow, any-at, any-witness, lowest-below, lowest-none}
-use Rattle.base_laws.specs.Masks.{has, count, subset, disjoint, width, has-and, subset-has, subset-of, subset-le, disjoint-has, disjoint-of, count-subset}
+use Rattle.base_laws.specs.Masks.{has, count, subset, width, has-and, subset-has, subset-of, subset-le, disjoint-has, disjoint-of, count-subset}
 use Rattle.settings_values.specs.Settings.{nodes, least, shards, Settings}
-use Rattle.place_groups.specs.Placements.{groupValid}
-use Rattle.place_owners.specs.Shards.{ShardPlaced, group-valid-of, shard-placed}
-use Rattle.report_views.specs.Quorums.{majority, quorumOf}
+use Rattle.place_owners.specs.Shards.{group-valid-of, shard-placed}
+use Rattle.report_views.specs.Quorums.{majority}
 use Rattle.report_views.specs.declared.Layout.{Layout}
 use Rattle.report_views.specs.declared.Termination.{Termination}
-use Rattle.report_views.specs.declared.Quorum.{Quorum}
-use Rattle.report_views.specs.declared.Quorum.the-variants.{Met, Short}
+use Rattle.report_views.specs.declared.Quorum.the-variants.{Met}
 use Rattle.report_views.specs.declared.Reason.the-variants.{NoView, NoMajority, TooFew, NoHolder}
 use Rattle.plan_masks.specs.Masks.{unheldIn, firstUnheldIn, quorumIn}
 use Rattle.plan_masks.specs.Counting.{Given, subset-through, fewer-given, quorum-given}
@@ -29,10 +27,12 @@ use Rattle.plan_masks.specs.Numbered.{Placeable, Allowed, Restartable, s
 -- a placement of some held nodes is one of more
 pub placeable-more : (σ : List ℕ) (held more : ℕ) → subset held more ≡ true → Placeable σ held → Placeable σ more
 placeable-more σ held more s p g l =
-    let w = p g l in
-    (w .0, group-valid-of σ more (w .0) g (λ i o.
-      let a = shard-placed σ held (w .0) g (w .1) i o in
-      record { inside = subset-through (w .0 i) held more (a .inside) s; sized = a .sized; spreads = a .spreads; shares = a .shares }))
+    let w = p g l in (
+      w .0,
+      group-valid-of σ more (w .0) g (λ i o.
+          let a = shard-placed σ held (w .0) g (w .1) i o in
+          record { inside = subset-through (w .0 i) held more (a .inside) s; sized = a .sized; spreads = a .spreads; shares = a .shares }),
+    )
 
 -- what it means that no quorum condition fails
 pub record Enough (σ : List ℕ) (v : Layout) (held : ℕ) (ms : List ℕ) : Type 0 where

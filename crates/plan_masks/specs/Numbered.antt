@@ -1,11 +1,11 @@
 -- The number that decide would give for a set of held nodes: 0 for a plan, else the wait's. q: what waits 1 to 4 say of these nodes.
 use Prim.Native.Nat.{ℕ, _<_, _≤_}
-use mathlib.Core.Bool.{Bool, true, false, cond, not}
+use mathlib.Core.Bool.{Bool, true, false}
 use mathlib.Core.List.{List}
 use mathlib.Core.Logic.{_⊎_, inl, inr, ⊎-elim}
 use mathlib.Core.Path.{_≡_, refl, sym, ap, _∙_}
 use native.Mathlib.Omega.{arith}
-use lib.Dec.{eqb, ltb}
+use lib.Dec.{ltb}
 use borrow.Author.Tests.{ne-eqb}
 use Rattle.base_laws.specs.Masks.{count}
 use Rattle.settings_values.specs.Settings.{least, shards}

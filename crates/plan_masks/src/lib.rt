@@ -8,27 +8,26 @@ use report_views::Reason;
 use report_views::Termination;
 ghost use mathlib.Core.Path.{_≡_};
 ghost use Prim.Native.Nat.{_^_, _<_, _≤_};
-ghost use lib.ListN.{length, getD};
+ghost use lib.ListN.{length};
 ghost use Rattle.base_laws.specs.Tables.{filled};
 ghost use Rattle.base_lent.specs.Lent.{wordsIn};
 ghost use Rattle.settings_values.specs.Settings.{nodes, Settings};
 ghost use Rattle.report_views.specs.Quorums.{numberOf};
-ghost use Rattle.report_views.specs.Reports.{nodeAt};
 ghost use Rattle.plan_masks.specs.Masks as Masks;
 ghost use Rattle.plan_masks.specs.Counting as Counting;
 ghost use Rattle.plan_masks.specs.Numbered as Numbered;
 
 // ok: every slot that was asked for is sound. masks: for each shard the nodes that count for it, 0 from S up.
-pub struct Counted {
+pub struct HolderMasks {
     pub ok: bool,
     pub masks: [u32; 16],
 }
 
 // A slot that was asked for is not sound.
-fn none_counted() -> Counted
+fn none_counted() -> HolderMasks
     ensures { λ r. ⌜ r ≡ Counting.noneCounted ⌝ }
 {
-    Counted {
+    HolderMasks {
         ok: false,
         masks: [0u32; 16],
     }
@@ -49,7 +48,7 @@ fn counted_with(mask: u32, holder: Node, node: Node) -> u32
 fn count_node(seen: Seen, node: Node, count: usize, masks: &mut [u32; 16])
     requires { ⌜ (length (now masks) ≡ 16) × (node .0 < 32) ⌝ }
     requires { ⌜ count ≤ 16 ⌝ }
-    ensures { λ r. ⌜ now (masks .exit) ≡ filled count (Counting.noted (seen .holders) (node .0) (now (masks .entry))) (now (masks .entry)) ⌝ }
+    ensures { λ r. ⌜ now (masks .exit) ≡ filled count (Counting.countedAt (seen .holders) (node .0) (now (masks .entry))) (now (masks .entry)) ⌝ }
 {
     let holders = seen.holders;
     let mut s: usize = 0;
@@ -60,7 +59,7 @@ fn count_node(seen: Seen, node: Node, count: usize, masks: &mut [u32; 16])
 }
 
 // For each shard the nodes of `all` that count for it, if each of their slots is sound.
-pub fn count(settings: &[u32], v: Layout, t: Termination, all: u32, desk: &[u8]) -> Counted
+pub fn count(settings: &[u32], v: Layout, t: Termination, all: u32, desk: &[u8]) -> HolderMasks
     requires { ⌜ Settings (now settings) ⌝ }
     requires { ⌜ length (now desk) ≡ 65536 ⌝ }
     ensures { λ r. ⌜ r ≡ Counting.countedOf (now (settings .entry)) v t all (wordsIn (now (desk .entry))) ⌝ }
@@ -79,7 +78,7 @@ pub fn count(settings: &[u32], v: Layout, t: Termination, all: u32, desk: &[u8])
         }
         n += 1;
     }
-    Counted { ok: true, masks }
+    HolderMasks { ok: true, masks }
 }
 
 // A shard's holder as far as waits ask: none where no held node counts for it.

@@ -1,5 +1,5 @@
 -- `plan_losses::most_needed` meets its contract. The invariant: some subgroup needs as many. Assumes nothing.
-use Prim.Native.Nat.{ℕ, _≤_, _-_}
+use Prim.Native.Nat.{_≤_, _-_}
 use native.Mathlib.Omega.{arith}
 use Rattle.plan_losses.specs.Needs.{Needed, needed-group, needed-either}
 use borrow.Author.Needs.{needs}

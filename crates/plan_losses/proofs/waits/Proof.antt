@@ -1,8 +1,7 @@
 -- `plan_losses::waits` meets its contract: by the first condition that fails, by what a subgroup needs, by a placement that still serves, or by
 -- the search.
 use Prim.Native.Nat.{ℕ, _<_}
-use mathlib.Core.Path.{sym, ap, _∙_, subst}
-use native.Mathlib.Omega.{arith}
+use mathlib.Core.Path.{sym, _∙_, subst}
 use lib.ListN.{getD}
 use Rattle.plan_masks.specs.Masks.{quorumIn}
 use Rattle.plan_losses.specs.Losses.{foretold-short, foretold-few, foretold-placed, foretold-search}

@@ -1,5 +1,5 @@
 -- `plan_masks::count` meets its contract. The invariant: the slots of the nodes below n are sound, and the masks have those of them that count.
-use Prim.Native.Nat.{ℕ, _<_, _-_, _+_}
+use Prim.Native.Nat.{ℕ, _-_, _+_}
 use mathlib.Core.Bool.{false}
 use mathlib.Core.Logic.{⊎-elim}
 use mathlib.Core.Path.{_≡_, sym, ap, _∙_, subst, subst⁻¹}
@@ -12,7 +12,7 @@ use Rattle.report_desk.specs.Bytes.{desk-length}
 use Rattle.report_views.specs.Slots.{slotsOk}
 use Rattle.report_slots.specs.Desk.{nodeOk, held-ok}
 use Rattle.plan_seen.specs.Sight.{seenOf}
-use Rattle.plan_masks.specs.Counting.{noted, alone}
+use Rattle.plan_masks.specs.Counting.{countedAt, alone}
 use Rattle.plan_masks.specs.Turns.{CountedTo, counted-none, counted-unheld, counted-held, counted-sound, counted-failed, seen-own}
 use borrow.Author.Needs.{needs}
 use Rattle.plan_masks.proofs.count.Statement.{statement}
@@ -44,8 +44,8 @@ returns c = let s = c .before .before .before .before .before .before .before .b
     let own = seen-own (a .settings .now) (a .v) (a .t) (a .all) d (s .pre .0) (desk-length (a .desk .now) (s .pre .1)) (l .n) m h (x .result) given in
     c .none-counted .ensures
     ∙ counted-failed (a .settings .now) (a .v) (a .t) (a .all) d (s .pre .0)
-        (all-fails 32 (nodeOk (a .settings .now) (a .v) (a .t) (a .all) d) (l .n) m
-        (held-ok (a .settings .now) (a .v) (a .t) (a .all) d (l .n) false h (sym own ∙ not-true (x .result .ok) (c .before .if2 .taken))))
+    (all-fails 32 (nodeOk (a .settings .now) (a .v) (a .t) (a .all) d) (l .n) m
+    (held-ok (a .settings .now) (a .v) (a .t) (a .all) d (l .n) false h (sym own ∙ not-true (x .result .ok) (c .before .if2 .taken))))
 
 count-node-requires : tie.Need-count-node-requires Inv-loop μ-loop
 count-node-requires c κs = let s = c .before .before .before .before .before .before .before .before .before .before .before .before .before .before in
@@ -63,7 +63,7 @@ loop-again c = let s = c .before .before .before .before .before .before .before
     let h = sym (c .before .has .ensures) ∙ w .0 .taken in
     let given = w .2 .ensures ∙ ap (λ (k : ℕ). seenOf (a .settings .now) (a .v) (a .t) k d) (w .1 .ensures ∙ alone (l .n)) in
     subst⁻¹ (CountedTo (a .settings .now) (a .v) (a .t) (a .all) d (l .n + 1))
-    (w .7 ∙ w .6 .ensures ∙ ap (λ (k : ℕ). filled k (noted (w .2 .result .holders) (l .n) (l .masks)) (l .masks)) many)
+    (w .7 ∙ w .6 .ensures ∙ ap (λ (k : ℕ). filled k (countedAt (w .2 .result .holders) (l .n) (l .masks)) (l .masks)) many)
     (counted-held (a .settings .now) (a .v) (a .t) (a .all) d (s .pre .0) (desk-length (a .desk .now) (s .pre .1)) (l .n) m h (w .2 .result) given (l .masks)
     (not-false (w .2 .result .ok) (w .4 .left)) (l .inv)))
     (λ w.

@@ -1,7 +1,7 @@
 -- `plan_masks::some_holders` meets its contract. The invariant: what is said of the shards below s is stored.
 use Prim.Native.Nat.{ℕ, _≤_, _-_}
 use mathlib.Core.List.{List}
-use mathlib.Core.Path.{_≡_, ap, _∙_}
+use mathlib.Core.Path.{_≡_, ap}
 use native.Mathlib.Omega.{arith}
 use lib.ListN.{replicate, getD}
 use Rattle.base_laws.specs.Tables.{filled, fill-start, fill-turn, fill-end}
