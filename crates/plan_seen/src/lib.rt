@@ -488,7 +488,7 @@ fn views_seen(held: u32, desk: &[u8]) -> [View; 32]
 }
 
 // What the desk tells of the held nodes, by the tables of the kept view and its termination.
-pub fn see_with(
+pub fn see(
     settings: &[u32],
     v: Layout,
     t: Termination,
@@ -516,14 +516,4 @@ pub fn see_with(
         holders,
         targets,
     }
-}
-
-// What the desk tells of the held nodes.
-pub fn see(settings: &[u32], v: Layout, t: Termination, held: u32, desk: &[u8]) -> Seen
-    requires { ⌜ Settings (now settings) ⌝ }
-    requires { ⌜ length (now desk) ≡ 65536 ⌝ }
-    ensures { λ r. ⌜ r ≡ seenOf (now (settings .entry)) v t held (wordsIn (now (desk .entry))) ⌝ }
-{
-    let tables = report_walk::tables_of(settings, v, t);
-    see_with(settings, v, t, tables, held, desk)
 }

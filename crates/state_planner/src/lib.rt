@@ -117,7 +117,7 @@ pub fn enter(settings: &[u32], x: State, desk: &[u8], in_phase: bool) -> Sighted
     ensures tables { λ r. ⌜ TablesOf (now (settings .entry)) (x .kept) (x .termination) (r .tables) ⌝ }
 {
     let tables = report_walk::tables_of(settings, x.kept, x.termination);
-    let seen = plan_seen::see_with(settings, x.kept, x.termination, tables, x.held, desk);
+    let seen = plan_seen::see(settings, x.kept, x.termination, tables, x.held, desk);
     if !is_sound(settings, x, seen) {
         return Sighted {
             refusal: Refusal { code: 3 },

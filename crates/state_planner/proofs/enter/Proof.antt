@@ -18,7 +18,7 @@ returns c =
     let a = s .args in
     let d = wordsIn (a .desk .now) in
     let k = c .before .is-sound in
-    let e = c .before .before .see-with .ensures in
+    let e = c .before .before .see .ensures in
     let t = c .before .before .before .tables-of .ensures in (
       row-3 (sound (a .settings .now) (a .x) d) (a .in-phase) (sym (k .ensures d e) ∙ not-true (k .result) (c .if1 .taken))
           ∙ rows-passed (sound (a .settings .now) (a .x) d) (a .in-phase) (deskOk d) (a .settings .now) (eq-eqb (length d) 16384 (desk-length (a .desk .now) (s .pre .1))) (s .pre .0),
@@ -32,7 +32,7 @@ returns-2 c =
     let a = s .args in
     let d = wordsIn (a .desk .now) in
     let k = c .before .before .is-sound in
-    let e = c .before .before .before .see-with .ensures in
+    let e = c .before .before .before .see .ensures in
     let t = c .before .before .before .before .tables-of .ensures in (
       row-4 (sound (a .settings .now) (a .x) d) (a .in-phase) (sym (k .ensures d e) ∙ not-false (k .result) (c .before .if1 .left)) (not-true (a .in-phase) (c .if2 .taken))
           ∙ rows-passed (sound (a .settings .now) (a .x) d) (a .in-phase) (deskOk d) (a .settings .now) (eq-eqb (length d) 16384 (desk-length (a .desk .now) (s .pre .1))) (s .pre .0),
@@ -46,7 +46,7 @@ returns-3 c =
     let a = s .args in
     let d = wordsIn (a .desk .now) in
     let k = c .before .before .is-sound in
-    let e = c .before .before .before .see-with .ensures in
+    let e = c .before .before .before .see .ensures in
     let t = c .before .before .before .before .tables-of .ensures in (
       no-row (sound (a .settings .now) (a .x) d) (a .in-phase) (sym (k .ensures d e) ∙ not-false (k .result) (c .before .if1 .left)) (not-false (a .in-phase) (c .if2 .left))
           ∙ rows-passed (sound (a .settings .now) (a .x) d) (a .in-phase) (deskOk d) (a .settings .now) (eq-eqb (length d) 16384 (desk-length (a .desk .now) (s .pre .1))) (s .pre .0),
