@@ -70,7 +70,7 @@ pub fn count(settings: &[u32], v: Layout, t: Termination, all: u32, desk: &[u8])
     let mut n: usize = 0;
     while n < 32 {
         if base_masks::has(all, n) {
-            let seen = plan_seen::see_with(settings, v, t, tables, base_masks::with(0, n), desk);
+            let seen = plan_seen::see(settings, v, t, tables, base_masks::with(0, n), desk);
             if !seen.ok {
                 return none_counted();
             }

@@ -28,8 +28,8 @@ loop-holds : tie.Need-loop-holds Inv-loop μ-loop
 loop-holds c = let s = c .before .before .before .before .before in
     counted-none (s .args .settings .now) (s .args .v) (s .args .t) (s .args .all) (wordsIn (s .args .desk .now)) (s .pre .0)
 
-see-with-requires : tie.Need-see-with-requires Inv-loop μ-loop
-see-with-requires c κs = let s = c .before .before .before .before .before .before .before .before .before .before in (s .pre .0, (c .before .before .before .before .before .before .before .tables-of .ensures, s .pre .1))
+see-requires : tie.Need-see-requires Inv-loop μ-loop
+see-requires c κs = let s = c .before .before .before .before .before .before .before .before .before .before in (s .pre .0, (c .before .before .before .before .before .before .before .tables-of .ensures, s .pre .1))
 
 returns : tie.Need-returns Inv-loop μ-loop
 unfolding slotsOk
@@ -39,7 +39,7 @@ returns c = let s = c .before .before .before .before .before .before .before .b
     let l = c .before .before .before .before .before .before .before .before .loop in
     let m = c .before .before .before .before .before .before .before .loop-test .taken in
     let h = sym (c .before .before .before .before .before .before .has .ensures) ∙ c .before .before .before .before .before .if1 .taken in
-    let x = c .before .before .before .see-with in
+    let x = c .before .before .before .see in
     let given = x .ensures ∙ ap (λ (k : ℕ). seenOf (a .settings .now) (a .v) (a .t) k d) (c .before .before .before .before .with .ensures ∙ alone (l .n)) in
     let own = seen-own (a .settings .now) (a .v) (a .t) (a .all) d (s .pre .0) (desk-length (a .desk .now) (s .pre .1)) (l .n) m h (x .result) given in
     c .none-counted .ensures
@@ -83,4 +83,4 @@ pub count-spec : {M : Type 1} → statement M
 count-spec =
     tie.close
     (tie.spec Inv-loop μ-loop (λ c κs. search needs) (λ c κs. search needs) (λ c κs. search needs) loop-holds (λ c κs. search needs) (λ c κs. search needs)
-    see-with-requires (λ c κs. search needs) returns (λ c. search needs) count-node-requires (λ c. search needs) (λ c. search needs) loop-again returns-2)
+    see-requires (λ c κs. search needs) returns (λ c. search needs) count-node-requires (λ c. search needs) (λ c. search needs) loop-again returns-2)
