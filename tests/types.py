@@ -19,7 +19,7 @@ OTHERS = {
     "words of the settings, a message, its records or the desk; functions give the types out of them": "settings words message body desk buffer",
     "a word of a record: its place and its kind say what it means": "word0 word1 word2",
     "a kind of record": "kind k",
-    "a mask, of nodes or of shards, or one for each shard": "members held fetched prepared marks mask masks old known have lack passed",
+    "a mask, of nodes or of shards, or one for each shard": "members held fetched prepared marks mask masks old known have lack passed all",
     "a subgroup": "g group",
     "how many words, records, shards or moves": "len hlen length total moves count",
     "a slot's words, one by one or two by two": "w b",
@@ -37,10 +37,11 @@ GIVEN = {
     "a failure set or a subgroup": "settings_values::set_of settings_values::subgroup",
     "a word, or words": "settings_values::shard_word message_fields::tag message_fields::word1 message_fields::word2 report_desk::slot_words",
     "a kind of record": "message_fields::kind",
+    "the number of a wait, or 0": "plan_masks::number",
     "the index of a record": "message_passes::kinds message_passes::shards message_passes::sequence message_passes::positions report_walk::told",
     "two words as one number": "report_walk::pairs",
     "positions as numbers or words": "report_ends::ends_of report_walk::end_at report_walk::goal_at",
-    "a mask, or one for each shard": "place_groups::sets_of message_records::carried_more message_records::masks_of state_rows::mark",
+    "a mask, or one for each shard": "place_groups::sets_of message_records::carried_more message_records::masks_of state_rows::mark plan_losses::losses",
     "bytes for the search, by node, shard or failure set": "place_sheet::sheet place_tables::sets place_tables::needs place_tables::caps place_tables::costs",
 }
 

@@ -10,7 +10,8 @@ use crate::log::{self, Log, Position};
 use crate::mask;
 use crate::message::{self, Contents, Form, Triple, CUT, HOLDER, MEMBERS, TERMINATION};
 use crate::number::{self, refuse_if, Number, Refusal};
-use crate::order::{self, Choice};
+use crate::order::{self, Choice, Layout};
+use crate::placement::Placement;
 use crate::quorum::{Reports, Wait};
 use crate::roles::Role;
 use crate::settings::{self, Settings};
@@ -161,9 +162,22 @@ pub fn decide_by(
     state: &[u32],
     desk: &[u32],
 ) -> Result<(Decision, Vec<u32>), Number> {
+    let place = |layout: &Layout| layout.each(choice);
+    decide_with(place, role, settings, state, desk)
+}
+
+/// Decide, where `place` finds the placement of all subgroups, or names the
+/// lowest that has none.
+pub fn decide_with(
+    place: impl Fn(&Layout) -> Result<Placement, u32>,
+    role: Role,
+    settings: &[u32],
+    state: &[u32],
+    desk: &[u32],
+) -> Result<(Decision, Vec<u32>), Number> {
     let opened = open(role.may_plan(), settings, state, desk)?;
     refuse_if(opened.state.phase != Phase::Gathering, number::PHASE)?;
-    match plan(&opened, choice) {
+    match plan(&opened, place) {
         Err(wait) => Ok((Decision::Wait(wait), state.to_vec())),
         Ok(plan) => {
             let next = State {
@@ -177,9 +191,8 @@ pub fn decide_by(
 }
 
 /// The plan, or the first reason to wait. Of the placements of least moves and
-/// then most stays the first in request One's order is taken, if `choice` does so
-/// in a subgroup.
-fn plan(opened: &Opened, choice: Choice) -> Result<Plan, Wait> {
+/// then most stays the first in request One's order is taken, if `place` does so.
+fn plan(opened: &Opened, place: impl Fn(&Layout) -> Result<Placement, u32>) -> Result<Plan, Wait> {
     let Opened {
         settings,
         state,
@@ -188,7 +201,7 @@ fn plan(opened: &Opened, choice: Choice) -> Result<Plan, Wait> {
     let gathered = gathered(settings, state, reports);
     let (view, holdings) = gathered.quorum()?;
     let layout = gathered.layout(view);
-    let masks = layout.each(choice).map_err(Wait::NoPlacement)?;
+    let masks = place(&layout).map_err(Wait::NoPlacement)?;
     Ok(Plan {
         number: view.number + 1,
         members: state.held,

@@ -22,8 +22,12 @@
 //! - `open_view`: what is known of a view that a machine has on disk as open
 //! - `roles`: who calls, and what that allows
 //! - `events`: report, drop, decide, order, fetched and prepared
+//! - `preview`: what decide would say without one node
+//! - `rounds`: a plan by improving rounds, and its gap
 //! - `page`: what a subgroup's watcher may read
-//! - `program`: what the program `restart` prints
+//! - `sheet`: what decide would say with each set of nodes held
+//! - `game`: outage against crew, on such a sheet
+//! - `program`: what the programs `restart` and `sheet` print
 //! - `mondays`: what the program `mondays` prints
 
 #![forbid(unsafe_code)]
@@ -34,6 +38,7 @@ pub mod desk;
 pub mod events;
 pub mod flat;
 pub mod flow;
+pub mod game;
 pub mod log;
 pub mod mask;
 pub mod message;
@@ -43,10 +48,13 @@ pub mod open_view;
 pub mod order;
 pub mod page;
 pub mod placement;
+pub mod preview;
 pub mod program;
 pub mod quorum;
 pub mod roles;
+pub mod rounds;
 pub mod settings;
+pub mod sheet;
 pub mod soundness;
 pub mod state;
 pub mod weights;

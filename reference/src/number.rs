@@ -87,6 +87,12 @@ pub const FLAT_LENGTH: Number = Number(19);
 pub const ZERO_COUNT: Number = Number(20);
 /// Request Nine, after 20: a result over 128 records.
 pub const TOO_MANY: Number = Number(21);
+/// Requests Ten and Eleven, after row 4: more nodes or rounds than there may
+/// be, or a held bit from N up.
+pub const TOO_LARGE: Number = Number(22);
+/// Requests Ten and Eleven, after 22: no kept view, or a slot that would not be
+/// sound if its node were held.
+pub const NOT_READY: Number = Number(23);
 /// Request Thirteen: a line of the moves file out of sequence or cut short.
 pub const LINE: Number = Number(24);
 /// Request Thirteen: more moves than a restart has.

@@ -11,6 +11,8 @@ use crate::settings::{self, Settings};
 use crate::state::{self, Plan, State};
 use crate::words;
 
+pub mod sheet;
+
 /// Reads blocks of words, each preceded by its word count.
 struct Blocks<'a> {
     left: &'a [u8],
@@ -27,6 +29,13 @@ impl Blocks<'_> {
         self.left = left;
         Some(words::whole_words(block))
     }
+}
+
+/// Settings, state and desk after the last block.
+pub struct Reported {
+    pub settings: Vec<u32>,
+    pub state: Vec<u32>,
+    pub desk: Vec<u32>,
 }
 
 /// How a run ends if nothing is refused.
@@ -53,15 +62,29 @@ pub fn printed(ended: &Result<Ended, Refusal>) -> String {
     }
 }
 
-/// Reports all messages from the fresh state and decides after the last block.
-pub fn decide(input: &[u8]) -> Result<Ended, Refusal> {
+/// Reports all messages from the fresh state.
+pub fn reported(input: &[u8]) -> Result<Reported, Refusal> {
     let mut blocks = Blocks { left: input };
-    let words = blocks.next().unwrap_or_default();
+    let settings = blocks.next().unwrap_or_default();
     let mut state = state::encode(&state::fresh());
     let mut desk = vec![0; DESK_WORDS];
     while let Some(message) = blocks.next() {
-        (state, desk) = events::report(Role::Planner, &words, &state, &desk, &message)?;
+        (state, desk) = events::report(Role::Planner, &settings, &state, &desk, &message)?;
     }
+    Ok(Reported {
+        settings,
+        state,
+        desk,
+    })
+}
+
+/// Reports all messages from the fresh state and decides after the last block.
+pub fn decide(input: &[u8]) -> Result<Ended, Refusal> {
+    let Reported {
+        settings: words,
+        state,
+        desk,
+    } = reported(input)?;
     let (decision, state) = events::decide(Role::Planner, &words, &state, &desk)?;
     let settings = settings::parse(&words)?;
     let state = state::decode(&settings, &state).expect("decide leaves a state");

@@ -1,18 +1,7 @@
 use super::*;
+use crate::cases::{random_layout, Random};
 use crate::settings;
 use std::collections::BTreeSet;
-
-/// A small xorshift generator.
-struct Random(u64);
-
-impl Random {
-    fn below(&mut self, limit: u32) -> u32 {
-        self.0 ^= self.0 << 13;
-        self.0 ^= self.0 >> 7;
-        self.0 ^= self.0 << 17;
-        ((self.0 >> 33) % u64::from(limit)) as u32
-    }
-}
 
 /// Lists, not numbers: 0 3 comes before 1 2, though its mask is greater. The
 /// first shard that differs decides, and the beginning of a list is smaller.
@@ -44,38 +33,10 @@ fn an_interleaved_layout() {
     assert_eq!(layout.each(exhaustive), Ok(first));
 }
 
-/// Settings of up to `most` nodes with up to four subgroups whose shards lie
-/// between one another, and old masks that are disjoint in each subgroup.
+/// A random layout of up to `most` nodes.
 fn case(random: &mut Random, most: u32) -> (Settings, u32, Vec<u32>) {
-    let nodes = 1 + random.below(most);
-    let sets = 1 + random.below(nodes.min(5));
-    let shards = 1 + random.below(5);
-    let subgroups = 1 + random.below(SUBGROUPS);
-    let mut words = vec![nodes, sets, 1, shards];
-    words.extend((0..nodes).map(|_| random.below(sets)));
-    for _ in 0..shards {
-        let (subgroup, need) = (random.below(subgroups), 1 + random.below(sets.min(3)));
-        let cap = match random.below(4) {
-            0 => 0,
-            1 => need,
-            2 => need + 1,
-            _ => need + random.below(17 - need),
-        };
-        words.push(cap * 65536 + subgroup * 256 + need);
-    }
-    let settings = settings::parse(&words).unwrap();
-    let mut old = vec![0; shards as usize];
-    for number in 0..SUBGROUPS {
-        let own = settings.shards_of(number);
-        for node in 0..nodes {
-            if !own.is_empty() && random.below(3) > 0 {
-                let shard = own[random.below(own.len() as u32) as usize];
-                old[shard as usize] |= mask::only(node);
-            }
-        }
-    }
-    let held = random.below(1 << nodes) | random.below(1 << nodes);
-    (settings, held, old)
+    let (words, held, old) = random_layout(random, most);
+    (settings::parse(&words).unwrap(), held, old)
 }
 
 /// The greedy method over the flow finds what the definition says, with up to

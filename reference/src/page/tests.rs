@@ -1,61 +1,10 @@
 use super::*;
-use crate::cases::{printed_report, report as report_of, terminated, SETTINGS};
-use crate::desk::DESK_WORDS;
+use crate::cases::{report as report_of, terminated, World, SETTINGS};
 use crate::events::{self, Decision};
 use crate::message::{encode as message_of, Contents, Triple, MEMBERS, RUN};
 use crate::quorum::Wait;
-use crate::state;
-
-/// Settings, state and desk.
-#[derive(Clone)]
-struct World {
-    settings: Vec<u32>,
-    state: Vec<u32>,
-    desk: Vec<u32>,
-}
 
 impl World {
-    /// After these messages.
-    fn of(settings: &[u32], messages: &[Vec<u32>]) -> World {
-        let mut world = World {
-            settings: settings.to_vec(),
-            state: state::encode(&state::fresh()),
-            desk: vec![0; DESK_WORDS],
-        };
-        for message in messages {
-            let World {
-                settings,
-                state,
-                desk,
-            } = &world;
-            let taken = events::report(Role::Planner, settings, state, desk, message);
-            (world.state, world.desk) = taken.expect("a good report");
-        }
-        world
-    }
-
-    /// The printed run with some of its nodes.
-    fn printed(settings: &[u32], nodes: &[u32]) -> World {
-        let messages: Vec<Vec<u32>> = nodes.iter().map(|&node| printed_report(node)).collect();
-        World::of(settings, &messages)
-    }
-
-    fn decide(&mut self) -> Decision {
-        let (decision, state) =
-            events::decide(Role::Planner, &self.settings, &self.state, &self.desk).unwrap();
-        self.state = state;
-        decision
-    }
-
-    fn mark(
-        &mut self,
-        event: fn(Role, &[u32], &[u32], &[u32], u32) -> Result<Vec<u32>, Number>,
-        node: u32,
-    ) {
-        let next = event(Role::Planner, &self.settings, &self.state, &self.desk, node);
-        self.state = next.unwrap();
-    }
-
     /// What a page answers, where both ways to find a placement do.
     fn asked(&self, role: Role, subgroup: u32) -> Result<Vec<u32>, Number> {
         let by = |choice: Choice| {

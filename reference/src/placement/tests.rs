@@ -1,18 +1,7 @@
 use super::*;
+use crate::cases::Random;
 use crate::{order, settings};
 use std::collections::BTreeSet;
-
-/// A small xorshift generator.
-struct Random(u64);
-
-impl Random {
-    fn below(&mut self, limit: u32) -> u32 {
-        self.0 ^= self.0 << 13;
-        self.0 ^= self.0 >> 7;
-        self.0 ^= self.0 << 17;
-        ((self.0 >> 33) % u64::from(limit)) as u32
-    }
-}
 
 fn run_settings() -> Settings {
     settings::parse(&[7, 3, 4, 3, 0, 0, 1, 1, 1, 2, 2, 2, 3, 1]).unwrap()

@@ -1,22 +1,6 @@
 use super::*;
-use crate::cases::{printed_report, report, SETTINGS};
+use crate::cases::{input, printed_report, report, reports, SETTINGS};
 use crate::message::{encode, Contents, Triple, MEMBERS};
-
-/// The input of settings and messages.
-fn input(settings: &[u32], messages: &[Vec<u32>]) -> Vec<u8> {
-    let mut all = vec![settings.len() as u32];
-    all.extend(settings);
-    for message in messages {
-        all.push(message.len() as u32);
-        all.extend(message);
-    }
-    words::to_bytes(&all)
-}
-
-/// The printed run's reports of these nodes.
-fn reports(nodes: &[u32]) -> Vec<Vec<u32>> {
-    nodes.iter().map(|&node| printed_report(node)).collect()
-}
 
 /// The output for the printed settings with another word.
 fn changed(index: usize, word: u32, nodes: &[u32]) -> String {

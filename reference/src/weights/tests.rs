@@ -1,18 +1,7 @@
 use super::*;
+use crate::cases::Random;
 use crate::order;
 use std::collections::BTreeSet;
-
-/// A small xorshift generator.
-struct Random(u64);
-
-impl Random {
-    fn below(&mut self, limit: u32) -> u32 {
-        self.0 ^= self.0 << 13;
-        self.0 ^= self.0 >> 7;
-        self.0 ^= self.0 << 17;
-        ((self.0 >> 33) % u64::from(limit)) as u32
-    }
-}
 
 /// All valid placements with their weights: each node in each shard or nowhere.
 fn all(weights: &Weights) -> Vec<(Placement, u32)> {

@@ -1,0 +1,3 @@
+-- The held nodes whose loss means waiting.
+pub mod Losses
+pub mod Needs
