@@ -4,12 +4,11 @@ use Prim.Native.Nat.{ℕ, _<_}
 use native.Mathlib.Omega.{arith}
 use mathlib.Core.Bool.{Bool, true, false, cond, not, _&&_, _||_}
 use mathlib.Core.List.{List}
-use mathlib.Core.Logic.{⊎-elim}
-use mathlib.Core.Path.{_≡_, refl, sym, ap, _∙_}
+use mathlib.Core.Path.{_≡_, refl, sym}
 use lib.Dec.{eqb, ltb}
 use borrow.Author.Tests.{eqb-true, le-leb, lt-ltb, ltb-true}
 use Rattle.base_laws.specs.Below.{allBelow, all-at, all-of, all-cong}
-use Rattle.base_laws.specs.Bools.{either, clash, no-true, and-left, and-right, and-both, and-fails-left, and-fails-right, or-left, or-right, of-not-true}
+use Rattle.base_laws.specs.Bools.{clash, no-true, and-left, and-right, and-both, and-fails-left, of-not-true}
 use Rattle.base_laws.specs.Masks.{within}
 use Rattle.settings_values.specs.Settings.{nodes, shards, Settings}
 use Rattle.message_format.specs.declared.Form.the-variants.{Report}

@@ -1,5 +1,5 @@
 -- `state_sound_parts::kept_sound` meets its contract: its parts are those of `Ready.kept-ready`. Assumes nothing.
-use mathlib.Core.Path.{sym, _∙_}
+use mathlib.Core.Path.{sym}
 use borrow.Author.Tests.{not-true, not-false}
 use borrow.Author.Needs.{needs}
 use Rattle.state_sound_parts.specs.Ready.{kept-ready}
