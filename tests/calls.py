@@ -1,8 +1,9 @@
 """The calls that a function of the library leads to, as a tree: calls.py [CRATE::FUNCTION ..], by default c_planner::restart_report.
 
 Each function is shown once with what it calls; where it is called again a line names it alone. At the end: how many functions are reached,
-how many calls lead to them, and how many of those go from one layer to another (the layer is the first half of a crate's name); then
-the same without the functions of the layers base and settings, which every layer calls. Calls of the kit's libraries are left out."""
+how many calls lead to them, and how many of those go from one layer to another (the layer is the first half of a crate's name); how many
+functions another crate calls, and how many of those another layer does; how many pairs of crates and of layers that makes; then the same
+without the functions of the layers base and settings, which every layer calls. Calls of the kit's libraries are left out."""
 import os
 import re
 import sys
@@ -61,16 +62,21 @@ def main(starts):
             if again:
                 return
             for to in called(at[0], known[at[0]][at[1]], known):
-                calls.append((layer(at[0]), layer(to[0])))
+                calls.append((at, to))
                 show(to, depth + 1)
 
         show(tuple(start.split("::")), 0)
         for left_out in ((), ("base", "settings")):
             reached = [at for at in shown if layer(at[0]) not in left_out]
-            counted = [(at, to) for at, to in calls if at not in left_out and to not in left_out]
-            others = [call for call in counted if call[0] != call[1]]
+            counted = [(at, to) for at, to in calls if layer(at[0]) not in left_out and layer(to[0]) not in left_out]
+            crossing = [(at, to) for at, to in counted if at[0] != to[0]]
+            others = [(at, to) for at, to in counted if layer(at[0]) != layer(to[0])]
             without = "without %s: " % " and ".join(left_out) if left_out else ""
             print("%s%s: %d functions, %d calls, %d of them to another layer" % (without, start, len(reached), len(counted), len(others)))
+            entered, above = ({to for _, to in row} for row in (crossing, others))
+            pairs, bordering = ({(at[0], to[0]) for at, to in row} for row in (crossing, others))
+            print("%sfunctions that another crate calls: %d, %d of them from another layer" % (without, len(entered), len(above)))
+            print("%spairs of crates, one calling the other: %d, %d of them of two layers" % (without, len(pairs), len(bordering)))
 
 
 if __name__ == "__main__":

@@ -33,7 +33,7 @@ OTHERS = {
 
 # The functions that give a plain number.
 GIVEN = {
-    "how many": "settings_values::nodes settings_values::sets settings_values::least settings_values::shards settings_values::need settings_values::cap message_to_flat::write place_check::group_moves",
+    "how many": "settings_values::nodes settings_values::sets settings_values::least settings_values::shards settings_values::need settings_values::cap message_to_flat::write message_writer::fill place_check::group_moves",
     "a failure set or a subgroup": "settings_values::set_of settings_values::subgroup",
     "a word, or words": "settings_values::shard_word message_fields::tag message_fields::word1 message_fields::word2 report_desk::slot_words",
     "a kind of record": "message_fields::kind",

@@ -8,7 +8,7 @@ use message_format::Writing;
 ghost use mathlib.Core.Path.{_≡_};
 ghost use Prim.Native.Nat.{_≤_, _<_};
 ghost use lib.ListN.{length};
-ghost use Rattle.message_format.specs.Messages.{recordWord, messageWord, messageOf, writeRefusal, writingOf, bufferAfter};
+ghost use Rattle.message_format.specs.Messages.{recordWord, messageWord, messageLength, messageOf, writeRefusal, writingOf, bufferAfter};
 ghost use Rattle.message_writer.specs.Parts.{contentsWith};
 
 // Word p below 3 of record i: the head's, or one of the body's. The length plays no part.
@@ -47,10 +47,11 @@ fn word(node: Node, view: View, members: u32, len: usize, body: &[u32; 381], k: 
     0
 }
 
-// The message, and zeros after it.
-fn fill(buffer: &mut [u32], c: Contents)
+// The message of contents that are known to pass, and zeros after it: its length. Nothing is judged.
+pub fn fill(buffer: &mut [u32], c: Contents) -> usize
     requires { ⌜ (length (now buffer) ≡ 512) × (c .len ≤ 127) ⌝ }
-    ensures { λ r. ⌜ now (buffer .exit) ≡ messageOf c 512 ⌝ }
+    ensures answer { λ r. ⌜ r ≡ messageLength c ⌝ }
+    ensures words { λ r. ⌜ now (buffer .exit) ≡ messageOf c 512 ⌝ }
 {
     let node = c.node;
     let view = c.view;
@@ -59,6 +60,7 @@ fn fill(buffer: &mut [u32], c: Contents)
         buffer[k] = word(node, view, c.members, c.len, &c.body, k);
         k += 1;
     }
+    4 * (c.len + 1)
 }
 
 // Why the writer refuses: rows 1, 2 and those of the contents.
@@ -83,9 +85,6 @@ pub fn write(form: Form, settings: &[u32], c: Contents, buffer: &mut [u32]) -> W
     if refusal.code != 0 {
         return Writing { refusal, length: 0 };
     }
-    fill(buffer, c);
-    Writing {
-        refusal,
-        length: 4 * (c.len + 1),
-    }
+    let length = fill(buffer, c);
+    Writing { refusal, length }
 }

@@ -1,10 +1,10 @@
--- What an order that is not refused gives: a sound plan and a held node. So the writer takes the node's order, and what the writer
--- answers and leaves is what the event does.
-use Prim.Native.Nat.{ℕ, _<_}
+-- What an order that is not refused gives: a sound plan and a held node. So the writer takes the node's order, and its message and
+-- length are what the event leaves and answers.
+use Prim.Native.Nat.{ℕ, _<_, _≤_}
 use mathlib.Core.Bool.{Bool, true, false, _&&_}
 use mathlib.Core.List.{List, _++_}
 use mathlib.Core.Logic.{⊎-elim}
-use mathlib.Core.Path.{_≡_, refl, sym, ap, _∙_}
+use mathlib.Core.Path.{_≡_, refl, sym, ap, ap₂, _∙_}
 use lib.Dec.{eqb}
 use lib.ListN.{length}
 use borrow.Author.Tests.{eqb-true, ne-eqb}
@@ -15,9 +15,10 @@ use Rattle.settings_values.specs.Laws.{settings-give}
 use Rattle.base_ids.specs.declared.Refusal.{Refusal}
 use Rattle.base_ids.specs.Refusals.{refused, none, unless-true, unless-false, unless-ok, unless-rest, first-refused}
 use Rattle.message_format.specs.declared.Form.the-variants.{Order}
+use Rattle.message_format.specs.declared.Contents.{Contents}
 use Rattle.message_format.specs.declared.Writing.{Writing}
-use Rattle.message_format.specs.Messages.{writeRefusal, writingOf, bufferAfter}
-use Rattle.message_format.specs.Passed.{write-none}
+use Rattle.message_format.specs.Messages.{contentsRefusal, messageLength, messageOf, writeRefusal, writingOf, bufferAfter}
+use Rattle.message_format.specs.Passed.{contents-few, write-none}
 use Rattle.report_views.specs.declared.Layout.{Layout}
 use Rattle.report_views.specs.declared.Termination.{Termination}
 use Rattle.report_views.specs.declared.Plan.{Plan}
@@ -51,6 +52,11 @@ module _ (σ : List ℕ) (x : State) (d : List ℕ) (n : ℕ) (buffer : List ℕ
       go : (b : Bool) → (b && true) ≡ b
       go true = refl
       go false = refl
+
+  -- the rows of an event that names a node, beside what is found of phase and node
+  pub found-refusal : eqb (length buffer) 512 ≡ true → (p q : Bool) → p ≡ isOrdered (x .phase) → q ≡ has (x .held) n → (r : Refusal)
+      → r ≡ eventRefusal (deskOk d) σ x d p n q → r ≡ orderRefusal σ x d n buffer
+  found-refusal h p q i j r e = e ∙ ap₂ (λ (a b : Bool). eventRefusal (deskOk d) σ x d a n b) i j ∙ sym (buffer-right h)
 
   -- rows 1 and 2 of desk and settings, beside a buffer of the right length
   pub call-refuses : eqb (length buffer) 512 ≡ true → (r : Refusal) → r ≡ callRefusal σ d → (r .code ≡ 0 → ⊥) → r ≡ orderRefusal σ x d n buffer
@@ -144,6 +150,14 @@ module _ (σ : List ℕ) (x : State) (d : List ℕ) (n : ℕ) (buffer : List ℕ
       n
       (taken .node-held)
 
+  -- no row refuses its contents
+  pub taken-passes : contentsRefusal Order σ (orderContents σ (x .plan) d n) ≡ none
+  taken-passes =
+      order-accepted σ (x .kept) (x .termination) (x .held) d (x .plan) taken-settings (taken .state-sound .kept-sound) (taken .state-sound .slots-ok)
+      (taken .plan-sound)
+      n
+      (taken .node-held)
+
   -- the writer takes the node's order
   pub writer-takes : writeRefusal Order σ (orderContents σ (x .plan) d n) buffer ≡ none
   writer-takes =
@@ -151,11 +165,7 @@ module _ (σ : List ℕ) (x : State) (d : List ℕ) (n : ℕ) (buffer : List ℕ
       (record {
         buffer-passes = taken .buffer-words;
         settings-pass = taken .settings-right;
-        contents-pass =
-            order-accepted σ (x .kept) (x .termination) (x .held) d (x .plan) taken-settings (taken .state-sound .kept-sound) (taken .state-sound .slots-ok)
-            (taken .plan-sound)
-            n
-            (taken .node-held);
+        contents-pass = taken-passes;
       })
 
   -- what it answers and leaves
@@ -184,3 +194,16 @@ module _ (σ : List ℕ) (x : State) (d : List ℕ) (n : ℕ) (buffer : List ℕ
 
   pub not-refused : r .code ≡ 0 → orderRefusal σ x d n buffer ≡ none
   not-refused h = sym e ∙ ap refused h
+
+  -- and beside none, for contents that are the node's order
+  module _ (h : r .code ≡ 0) (c : Contents) (made : c ≡ orderContents σ (x .plan) d n) where
+    pub made-few : c .len ≤ 127
+    made-few = contents-few Order σ c (ap (contentsRefusal Order σ) made ∙ taken-passes σ x d n buffer (not-refused h))
+
+    pub made-answer : (l : ℕ) → l ≡ messageLength c → writing r l ≡ ordered σ x d n buffer
+    unfolding ordered
+    made-answer l i = rw (i, made, e, not-refused h)
+
+    pub made-words : (after : List ℕ) → after ≡ messageOf c 512 → after ≡ orderBuffer σ x d n buffer
+    unfolding orderBuffer
+    made-words after i = i ∙ rw (made, not-refused h)

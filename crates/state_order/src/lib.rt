@@ -1,7 +1,6 @@
 // The order event: has the writer write the order of a held node, while the planner is ordered. It changes neither state nor desk.
 use base_ids::Node;
 use base_ids::Refusal;
-use message_format::Form;
 use message_format::Writing;
 use state_planner::State;
 ghost use mathlib.Core.Path.{_≡_};
@@ -10,7 +9,8 @@ ghost use Rattle.base_lent.specs.Lent.{wordsIn};
 ghost use Rattle.settings_values.specs.Settings.{Settings};
 ghost use Rattle.state_order.specs.Orders.{callRefuses, ordered, orderBuffer};
 
-// Writes the node's order into 512 lent words, where rows 1 and 2 do not refuse: rows 3, 4, 6 and 14.
+// Writes the node's order into 512 lent words, where rows 1 and 2 do not refuse: rows 3, 4, 6 and 14. No row of the writer refuses an
+// order, so it is not judged again.
 pub fn order_under(
     settings: &[u32],
     x: State,
@@ -32,7 +32,8 @@ pub fn order_under(
         return Writing { refusal, length: 0 };
     }
     let c = plan_order::order_contents(settings, x.plan, desk, node);
-    message_writer::write(Form::Order, settings, c, buffer)
+    let length = message_writer::fill(buffer, c);
+    Writing { refusal, length }
 }
 
 // Rows 1 and 2. The buffer's length and the desk's make row 1.

@@ -20,7 +20,7 @@ ghost use Rattle.base_laws.specs.Masks.{with};
 ghost use Rattle.base_lent.specs.Lent.{wordsIn};
 ghost use Rattle.settings_values.specs.Settings.{Settings};
 ghost use Rattle.report_latest.specs.Remembered.{noted};
-ghost use Rattle.report_walk.specs.Kept.{TablesOf};
+ghost use Rattle.report_walk.specs.Kept.{readyOf, TablesOf};
 ghost use Rattle.plan_seen.specs.Sight.{seenOf};
 ghost use Rattle.state_planner.specs.States as States;
 ghost use Rattle.state_planner.specs.Refusing as Refusing;
@@ -85,13 +85,14 @@ fn call_refusal(settings: &[u32], desk: &[u8]) -> Refusal
     Refusal { code: 0 }
 }
 
-// Row 3: the state is sound, by what is seen.
-fn is_sound(settings: &[u32], x: State, seen: Seen) -> bool
+// Row 3: the state is sound, by what is seen. ready: whether the kept view and its termination pass rows 7, 10 and 11.
+fn is_sound(settings: &[u32], x: State, seen: Seen, ready: bool) -> bool
     requires { ⌜ Settings (now settings) ⌝ }
+    requires { ⌜ ready ≡ readyOf (now settings) (x .kept) (x .termination) ⌝ }
     ensures { λ r. ⌜ ((d : List ℕ) → seen ≡ seenOf (now (settings .entry)) (x .kept) (x .termination) (x .held) d → r ≡ States.sound (now (settings .entry)) x d) ⌝ }
 {
     let kept = x.kept;
-    if !state_sound_parts::kept_sound(settings, kept, x.termination, x.held) {
+    if !state_sound_parts::kept_sound(settings, kept, x.termination, x.held, ready) {
         return false;
     }
     if !seen.ok {
@@ -118,7 +119,8 @@ pub fn enter(settings: &[u32], x: State, desk: &[u8], in_phase: bool) -> Sighted
 {
     let tables = report_walk::tables_of(settings, x.kept, x.termination);
     let seen = plan_seen::see(settings, x.kept, x.termination, tables, x.held, desk);
-    if !is_sound(settings, x, seen) {
+    let frame = tables.frame;
+    if !is_sound(settings, x, seen, frame.ready) {
         return Sighted {
             refusal: Refusal { code: 3 },
             seen,

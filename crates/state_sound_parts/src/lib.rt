@@ -1,7 +1,6 @@
 // Row 3: whether the planner's state is sound beside a desk, part by part. Each function gives what its definition says.
 use base_ids::Node;
 use base_ids::Position;
-use base_ids::View;
 use report_views::Layout;
 use report_views::Phase;
 use report_views::Plan;
@@ -9,13 +8,14 @@ use report_views::Termination;
 ghost use mathlib.Core.Bool.{_&&_, _||_};
 ghost use lib.Dec.{eqb, ltb};
 ghost use mathlib.Core.Path.{_≡_};
-ghost use Prim.Native.Nat.{_<_};
 ghost use lib.ListN.{length};
 ghost use Rattle.settings_values.specs.Settings.{Settings, shards};
 ghost use Rattle.base_laws.specs.Below.{allBelow};
 ghost use Rattle.report_views.specs.Logs as Logs;
 ghost use Rattle.report_views.specs.Reports as Reports;
 ghost use Rattle.report_views.specs.Soundness as Soundness;
+ghost use Rattle.report_walk.specs.Kept.{readyOf};
+ghost use Rattle.state_sound_parts.specs.Ready as Ready;
 
 // Every entry is zero.
 fn zeros(l: &[u32]) -> bool
@@ -71,34 +71,6 @@ pub fn layout_tidy(settings: &[u32], v: Layout) -> bool
     true
 }
 
-// A kept view obeys rows 7 and 10 as in a report, its reporter aside.
-fn view_sound(settings: &[u32], v: Layout) -> bool
-    requires { ⌜ Settings (now settings) ⌝ }
-    ensures { λ r. ⌜ r ≡ Soundness.viewSound (now (settings .entry)) v ⌝ }
-{
-    if !message_rows::view_ok(message_format::Form::Report, v.number) {
-        return false;
-    }
-    if !base_masks::within(settings_values::nodes(settings) as usize, v.members) {
-        return false;
-    }
-    if !message_shards::row10(settings, v.members, &v.masks) {
-        return false;
-    }
-    layout_tidy(settings, v)
-}
-
-// The position of a shard in a termination that is made: row 11 as in a report.
-fn position_sound(number: View, p: Position) -> bool
-    ensures { λ r. ⌜ r ≡ Soundness.positionSound (number .0) p ⌝ }
-{
-    if !message_rows::position(p) {
-        return false;
-    }
-    let view = p.view;
-    view.0 <= number.0
-}
-
 // No position: (0, 0).
 fn no_position(p: Position) -> bool
     ensures { λ r. ⌜ r ≡ Logs.isStart p ⌝ }
@@ -110,30 +82,29 @@ fn no_position(p: Position) -> bool
     p.k == 0
 }
 
-// The position of shard s, or zero where there is none.
-fn term_sound_at(settings: &[u32], v: Layout, t: Termination, s: usize) -> bool
+// Shard s has a position in a termination, or (0, 0).
+fn position_tidy(settings: &[u32], made: bool, p: Position, s: usize) -> bool
     requires { ⌜ Settings (now settings) ⌝ }
-    requires { ⌜ s < 16 ⌝ }
-    ensures { λ r. ⌜ r ≡ Soundness.termSoundAt (now (settings .entry)) v t s ⌝ }
+    ensures { λ r. ⌜ r ≡ (made && ltb s (shards (now (settings .entry))) || Logs.isStart p) ⌝ }
 {
-    let positions = t.positions;
-    let p = positions[s];
-    if !t.made {
+    if !made {
         return no_position(p);
     }
     if settings_values::shards(settings) as usize <= s {
         return no_position(p);
     }
-    position_sound(v.number, p)
+    true
 }
 
-fn term_sound(settings: &[u32], v: Layout, t: Termination) -> bool
+// No position stands where no termination is made, nor from S up.
+fn positions_tidy(settings: &[u32], t: Termination) -> bool
     requires { ⌜ Settings (now settings) ⌝ }
-    ensures { λ r. ⌜ r ≡ Soundness.termSound (now (settings .entry)) v t ⌝ }
+    ensures { λ r. ⌜ r ≡ allBelow 16 (Ready.positionTidy (now (settings .entry)) t) ⌝ }
 {
+    let positions = t.positions;
     let mut s: usize = 0;
     while s < 16 {
-        if !term_sound_at(settings, v, t, s) {
+        if !position_tidy(settings, t.made, positions[s], s) {
             return false;
         }
         s += 1;
@@ -154,26 +125,28 @@ fn nothing_kept(v: Layout, t: Termination, held: u32) -> bool
     !t.made
 }
 
-// A view is kept that is sound, or none.
-fn kept_or_none(settings: &[u32], v: Layout, t: Termination, held: u32) -> bool
+// A view that passes its rows has no entry from S up; else nothing is kept.
+fn tidy_or_none(settings: &[u32], v: Layout, t: Termination, held: u32, ready: bool) -> bool
     requires { ⌜ Settings (now settings) ⌝ }
-    ensures { λ r. ⌜ r ≡ (Soundness.nothingKept v t held || Soundness.viewSound (now (settings .entry)) v) ⌝ }
+    ensures { λ r. ⌜ r ≡ Ready.tidyOrNone (now (settings .entry)) v t held ready ⌝ }
 {
-    if nothing_kept(v, t, held) {
-        return true;
+    if ready {
+        return layout_tidy(settings, v);
     }
-    view_sound(settings, v)
+    nothing_kept(v, t, held)
 }
 
-// The kept view, its termination and the held nodes.
-pub fn kept_sound(settings: &[u32], v: Layout, t: Termination, held: u32) -> bool
+// The kept view, its termination and the held nodes. ready: whether the view and the termination pass rows 7, 10 and 11, which are not
+// judged again.
+pub fn kept_sound(settings: &[u32], v: Layout, t: Termination, held: u32, ready: bool) -> bool
     requires { ⌜ Settings (now settings) ⌝ }
+    requires { ⌜ ready ≡ readyOf (now settings) v t ⌝ }
     ensures { λ r. ⌜ r ≡ Soundness.keptSound (now (settings .entry)) v t held ⌝ }
 {
-    if !kept_or_none(settings, v, t, held) {
+    if !tidy_or_none(settings, v, t, held, ready) {
         return false;
     }
-    if !term_sound(settings, v, t) {
+    if !positions_tidy(settings, t) {
         return false;
     }
     base_masks::within(settings_values::nodes(settings) as usize, held)

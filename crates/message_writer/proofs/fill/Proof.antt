@@ -3,7 +3,7 @@
 use Prim.Native.Nat.{ℕ, _≤_, _<_, _+_, _-_}
 use native.Mathlib.Omega.{arith}
 use mathlib.Core.List.{List}
-use mathlib.Core.Path.{_≡_, sym, ap, _∙_}
+use mathlib.Core.Path.{_≡_, refl, sym, ap, _∙_}
 use lib.ListN.{length, set}
 use borrow.Author.Needs.{needs}
 use Rattle.base_laws.specs.Tables.{tabulate, filled, filled-none, filled-more, filled-all, length-filled}
@@ -37,16 +37,21 @@ loop-again : tie.Need-loop-again Inv-loop μ-loop
 loop-again c =
     (search needs, turn _ _ _ _ _ (omega arith) (c .before .before .before .before .loop .inv .1) (c .word .ensures))
 
+add-result : tie.Need-add-result Inv-loop μ-loop
+add-result c = let few = c .before .before .before .before .before .pre .1 in omega arith
+
+mul-result : tie.Need-mul-result Inv-loop μ-loop
+mul-result c = let few = c .before .before .before .before .before .pre .1 in omega arith
+
 same-length : tie.Need-same-length Inv-loop μ-loop
 same-length c = kept-length _ _ _ _ (omega arith) (c .before .loop .inv .1)
 
 returns : tie.Need-returns Inv-loop μ-loop
 unfolding messageOf
-returns c =
-    done _ _ _ _ (omega arith) (c .before .before .before .before .before .pre .0) (c .before .loop .inv .1)
+returns c = (refl, done _ _ _ _ (omega arith) (c .before .before .before .before .before .pre .0) (c .before .loop .inv .1))
 
 pub fill-spec : {M : Type 1} → statement M
 fill-spec =
     tie.close
     (tie.spec Inv-loop μ-loop loop-holds (λ c κs. search needs) (λ c. search needs) slice-write-buffer (λ c. search needs) (λ c. search needs)
-    loop-again same-length returns)
+    loop-again add-result mul-result same-length returns)

@@ -2,7 +2,6 @@
 -- refusal leaves the words as they were, and no refusal gives what `fill` requires, 512 words and at most 127 records.
 -- Assumes nothing.
 use Prim.Native.Nat.{ℕ, _≤_}
-use native.Mathlib.Omega.{arith}
 use mathlib.Core.List.{List}
 use mathlib.Core.Path.{_≡_, sym, ap, _∙_}
 use lib.ListN.{length}
@@ -35,9 +34,9 @@ module _ (form : Form) (σ : List ℕ) (c : Contents) (buffer : List ℕ) (r : R
     taken : writeRefusal form σ c buffer ≡ none
     taken = sym e ∙ ap refused h
 
-    taken-answer : writing r (messageLength c) ≡ writingOf form σ c buffer
+    taken-answer : (l : ℕ) → l ≡ messageLength c → writing r l ≡ writingOf form σ c buffer
     unfolding writingOf
-    taken-answer = rw (e, taken)
+    taken-answer l i = rw (i, e, taken)
 
     taken-words : (after : List ℕ) → after ≡ messageOf c 512 → after ≡ bufferAfter form σ c buffer
     unfolding bufferAfter
@@ -61,22 +60,14 @@ fill-requires c κs = (
   taken-few _ _ _ _ _ (c .before .before .before .write-refusal .ensures) (c .before .if1 .left),
 )
 
-add-t12 : tie.Need-add-t12
-add-t12 c =
-    let few = taken-few _ _ _ _ _ (c .before .before .before .before .before .before .before .write-refusal .ensures) (c .before .before .before .before .before .if1 .left) in
-    omega arith
-
-mul-t13 : tie.Need-mul-t13
-mul-t13 c =
-    let few = taken-few _ _ _ _ _ (c .before .before .before .before .before .before .before .write-refusal .ensures) (c .before .before .before .before .before .if1 .left) in
-    omega arith
-
 returns-2 : tie.Need-returns-2
-returns-2 c = (
-  taken-answer _ _ _ _ _ (c .before .before .before .before .before .before .before .write-refusal .ensures) (c .before .before .before .before .before .if1 .left),
-  taken-words _ _ _ _ _ (c .before .before .before .before .before .before .before .write-refusal .ensures) (c .before .before .before .before .before .if1 .left) _ (c .before .before .before .fill .ensures),
-)
+returns-2 c =
+    let judged = c .before .before .before .before .before .before .write-refusal in
+    let passed = c .before .before .before .before .if1 .left in
+    let filled = c .before .before .fill .ensures in (
+      taken-answer _ _ _ _ _ (judged .ensures) passed _ (filled .0),
+      taken-words _ _ _ _ _ (judged .ensures) passed _ (filled .1),
+    )
 
 pub write-spec : {M : Type 1} → statement M
-write-spec =
-    tie.close (tie.spec (λ c κs. search needs) (λ c. search needs) returns fill-requires add-t12 mul-t13 (λ c. search needs) returns-2)
+write-spec = tie.close (tie.spec (λ c κs. search needs) (λ c. search needs) returns fill-requires (λ c. search needs) returns-2)

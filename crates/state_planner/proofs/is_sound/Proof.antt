@@ -50,7 +50,7 @@ plan-fits-requires c κs =
     let s = c .before .before .before .before .before .before .before .before .before .before .before in
     let a = s .args in
     let k = c .before .before .before .before .before .before .before .before .kept-sound in
-    (s .pre, held-below (a .settings .now) (a .x .kept) (a .x .termination) (a .x .held) (sym (k .ensures) ∙ not-false (k .result) (c .before .before .before .before .before .before .before .if1 .left)))
+    (s .pre .0, held-below (a .settings .now) (a .x .kept) (a .x .termination) (a .x .held) (sym (k .ensures) ∙ not-false (k .result) (c .before .before .before .before .before .before .before .if1 .left)))
 
 returns-5 : tie.Need-returns-5
 unfolding sound
@@ -62,7 +62,7 @@ returns-5 c =
     let l = c .before .before .latest-sound in
     λ d e.
     let ok = sym (seen-ok (a .settings .now) (a .x .kept) (a .x .termination) (a .x .held) d (a .seen) e) ∙ not-false (a .seen .ok) (c .before .before .before .before .before .before .if2 .left) in
-    simp (sym (k .ensures), not-false (k .result) (c .before .before .before .before .before .before .before .before .if1 .left), ok, sym (m .ensures), not-false (m .result) (c .before .before .before .before .if3 .left), sym (l .ensures ∙ latest-told (a .settings .now) (a .x .kept .number .0) (a .x .held) (a .seen .views) (a .x .latest) d (seen-view (a .settings .now) (a .x .kept) (a .x .termination) (a .x .held) d (a .seen) e ok)), not-false (l .result) (c .before .if4 .left), sym (c .plan-fits .ensures ∙ fits-told (a .x .phase) (a .settings .now) (a .x .kept) (a .x .termination) (a .x .held) d (a .x .plan) (a .seen) e (s .pre) ok))
+    simp (sym (k .ensures), not-false (k .result) (c .before .before .before .before .before .before .before .before .if1 .left), ok, sym (m .ensures), not-false (m .result) (c .before .before .before .before .if3 .left), sym (l .ensures ∙ latest-told (a .settings .now) (a .x .kept .number .0) (a .x .held) (a .seen .views) (a .x .latest) d (seen-view (a .settings .now) (a .x .kept) (a .x .termination) (a .x .held) d (a .seen) e ok)), not-false (l .result) (c .before .if4 .left), sym (c .plan-fits .ensures ∙ fits-told (a .x .phase) (a .settings .now) (a .x .kept) (a .x .termination) (a .x .held) d (a .x .plan) (a .seen) e (s .pre .0) ok))
 
 pub is-sound-spec : {M : Type 1} → statement M
 is-sound-spec =
