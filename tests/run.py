@@ -28,7 +28,8 @@ def cargo(folder, *words):
     return ["cargo", words[0], "--offline", "--quiet", "--manifest-path", folder + "/Cargo.toml", *words[1:]]
 
 
-# Parts that run one after another, each on all processors.
+# Parts that run one after another, each by itself. The last is rt: it proves every crate, and then tries the wrong programs.
+PROOFS = "proofs, wrong programs and runs"
 FIRST = [
     ("layout of the sources", ["rt", "fmt", "--check"]),
     ("crates by layer, definitions by name", ["python3", "tests/layers.py"]),
@@ -38,41 +39,64 @@ FIRST = [
     ("nothing that serves nothing", ["python3", "tests/unused.py"]),
     ("the two before on planted faults", ["python3", "tests/planted.py"]),
     ("the judge of wrong programs", ["python3", "tests/judge.py"]),
-    ("proofs, wrong programs and runs", ["rt", "ci"]),
-    ("wrong programs are refused for a fact", ["python3", "tests/edits.py"]),
     ("names and links in the documents", ["python3", "tests/promises.py"]),
+    (PROOFS, ["rt", "ci"]),
 ]
-# Then the others, as many at a time as there are processors, each after the one that it names.
-LIBRARY, PLACEMENT = "the library for C", "the placement for C"
+# Then the others, as many at a time as there are processors, each after all that it names. They begin once every crate is proved, beside the
+# wrong programs, whose checks leave a processor idle whenever a batch of them waits for its slowest. What looks at a program that waits,
+# or has a limit of time, comes after them.
+PROVED, LIBRARY, PLACEMENT = "every crate proved", "the library for C", "the placement for C"
 THEN = [
-    (LIBRARY, ["make", "--no-print-directory", "lib"], None),
-    ("the reference's own tests", cargo("reference", "test", "--release"), None),
-    ("tests of the comparison itself", cargo("tests", "test", "--release", "--features", "mock"), None),
-    ("texts and explanations for operators", ["python3", "tools/tests/run.py", "target/bin/restart", "target/bin/mondays", "target/librestart.so.1"], LIBRARY),
-    (PLACEMENT, ["rt", "staticlib", "c_placement"], LIBRARY),
-    ("the program restart against the reference", cargo("tests", "run", "--release", "--bin", "runs", "--", "target/bin/restart", "1", "20000"), LIBRARY),
-    ("the program mondays against the reference", cargo("tests", "run", "--release", "--bin", "mondays", "--", "target/bin/mondays", "1"), LIBRARY),
-    ("settings and messages against the reference", cargo("tests", "run", "--release", "--bin", "messages"), LIBRARY),
-    ("flat reports against the reference", cargo("tests", "run", "--release", "--bin", "flat"), LIBRARY),
-    ("events against the reference", cargo("tests", "run", "--release", "--bin", "events"), LIBRARY),
-    ("roles and pages against the reference", cargo("tests", "run", "--release", "--bin", "pages"), LIBRARY),
-    ("plans against the reference", cargo("tests", "run", "--release", "--bin", "plans"), LIBRARY),
-    ("events against the peer in C and the reference", cargo("bench/events", "run", "--release", "--", "compare", "20000", "1"), LIBRARY),
-    ("placements against the reference", cargo("tests/placement", "run", "--release"), PLACEMENT),
-    ("cases and numbers of the program restart", ["python3", "tests/cases.py"], None),
-    ("the library from C", ["make", "--no-print-directory", "test-c"], LIBRARY),
-    ("the total search is never entered", ["make", "--no-print-directory", "-C", "bench", "fallback"], PLACEMENT),
+    (LIBRARY, ["make", "--no-print-directory", "lib"], [PROVED]),
+    ("wrong programs are refused for a fact", ["python3", "tests/edits.py"], [PROOFS]),
+    ("texts and explanations for operators", ["python3", "tools/tests/run.py", "target/bin/restart", "target/bin/mondays", "target/librestart.so.1"], [PROOFS, LIBRARY]),
+    ("the program mondays against the reference", cargo("tests", "run", "--release", "--bin", "mondays", "--", "target/bin/mondays", "1"), [PROOFS, LIBRARY]),
+    ("cases and numbers of the program restart", ["python3", "tests/cases.py"], [PROOFS]),
+    ("tests of the comparison itself", cargo("tests", "test", "--release", "--features", "mock"), [PROVED]),
+    ("the reference's own tests", cargo("reference", "test", "--release"), [PROVED]),
+    (PLACEMENT, ["rt", "staticlib", "c_placement"], [LIBRARY]),
+    ("the library from C", ["make", "--no-print-directory", "test-c"], [LIBRARY]),
+    ("the program restart against the reference", cargo("tests", "run", "--release", "--bin", "runs", "--", "target/bin/restart", "1", "20000"), [LIBRARY]),
+    ("settings and messages against the reference", cargo("tests", "run", "--release", "--bin", "messages"), [LIBRARY]),
+    ("flat reports against the reference", cargo("tests", "run", "--release", "--bin", "flat"), [LIBRARY]),
+    ("events against the reference", cargo("tests", "run", "--release", "--bin", "events"), [LIBRARY]),
+    ("roles and pages against the reference", cargo("tests", "run", "--release", "--bin", "pages"), [LIBRARY]),
+    ("plans against the reference", cargo("tests", "run", "--release", "--bin", "plans"), [LIBRARY]),
+    ("events against the peer in C and the reference", cargo("bench/events", "run", "--release", "--", "compare", "20000", "1"), [LIBRARY]),
+    ("placements against the reference", cargo("tests/placement", "run", "--release"), [PLACEMENT]),
+    ("the total search is never entered", ["make", "--no-print-directory", "-C", "bench", "fallback"], [PLACEMENT]),
 ]
 PROCESSORS = len(os.sched_getaffinity(0))
+# What begins while rt still runs yields to it, so that it takes what would be idle.
+YIELDING = ["nice", "-n", "10"]
+# The first line of this kind says that rt has proved all that it will prove.
+TRIED = re.compile(r"rt: must-fail ")
+
+
+class Board:
+    """What has happened so far, by name."""
+
+    def __init__(self):
+        self.told, self.changed = set(), threading.Condition()
+
+    def tell(self, name):
+        with self.changed:
+            self.told.add(name)
+            self.changed.notify_all()
+
+    def has(self, names):
+        return self.told.issuperset(names)
+
+
+BOARD = Board()
 
 
 class Part:
     """A part of the gate: its command, and once it has run what it printed, how many passed and failed, and how long it took."""
 
-    def __init__(self, name, command, after=None):
+    def __init__(self, name, command, after=()):
         self.name, self.command, self.after = name, command, after
         self.passed = self.failed = self.seconds = 0
-        self.ended = threading.Event()
 
     def head(self):
         return "== %s: %s" % (self.name, " ".join(self.command))
@@ -81,14 +105,22 @@ class Part:
         """Runs the command; what it prints is passed on as it comes, or else all of it at the end."""
         began, lines, status = time.time(), [], 1
         if live:
-            print(self.head(), flush=True)
+            say(self.head() + "\n")
         try:
             process = subprocess.Popen(
-                self.command, cwd=ROOT, env=ENVIRONMENT, stdout=subprocess.PIPE, stderr=subprocess.STDOUT, text=True, errors="replace"
+                self.command if live or BOARD.has([PROOFS]) else YIELDING + self.command,
+                cwd=ROOT,
+                env=ENVIRONMENT,
+                stdout=subprocess.PIPE,
+                stderr=subprocess.STDOUT,
+                text=True,
+                errors="replace",
             )
             for line in process.stdout:
                 if live:
-                    print(line, end="", flush=True)
+                    say(line)
+                if self.name == PROOFS and TRIED.match(line):
+                    BOARD.tell(PROVED)
                 lines.append(line)
             status = process.wait()
         except OSError as error:
@@ -96,37 +128,44 @@ class Part:
         self.passed, self.failed = counted(status, [line.strip() for line in lines])
         self.seconds = time.time() - began
         if not live:
-            with PRINTING:
-                print(self.head() + "\n" + "".join(lines), end="", flush=True)
-        self.ended.set()
+            say(self.head() + "\n" + "".join(lines))
+        BOARD.tell(self.name)
 
 
 PRINTING = threading.Lock()
 
 
+def say(text):
+    with PRINTING:
+        print(text, end="", flush=True)
+
+
+def one_by_one(parts):
+    for part in parts:
+        part.run(live=True)
+    # where nothing was proved, or there is no wrong program
+    BOARD.tell(PROVED)
+
+
 def side_by_side(parts):
-    """Runs the parts in their order, so many at a time, each once the one that it names has ended."""
-    waiting, changed = list(parts), threading.Condition()
-    ended = {part.name: part.ended for part in parts}
+    """Starts the parts in their order, so many at a time, each once all that it names has happened; gives the threads that do it."""
+    waiting = list(parts)
 
     def work():
         while True:
-            with changed:
-                while waiting and not any(part.after is None or ended[part.after].is_set() for part in waiting):
-                    changed.wait()
+            with BOARD.changed:
+                while waiting and not any(BOARD.has(part.after) for part in waiting):
+                    BOARD.changed.wait()
                 if not waiting:
                     return
-                part = next(part for part in waiting if part.after is None or ended[part.after].is_set())
+                part = next(part for part in waiting if BOARD.has(part.after))
                 waiting.remove(part)
             part.run(live=False)
-            with changed:
-                changed.notify_all()
 
-    workers = [threading.Thread(target=work) for _ in range(PROCESSORS)]
+    workers = [threading.Thread(target=work, daemon=True) for _ in range(PROCESSORS)]
     for worker in workers:
         worker.start()
-    for worker in workers:
-        worker.join()
+    return workers
 
 
 def counted(status, lines):
@@ -145,10 +184,11 @@ def main():
     began = time.time()
     first = [Part(*part) for part in FIRST]
     then = [Part(*part) for part in THEN]
-    for part in first:
-        part.run(live=True)
-    side_by_side(then)
-    print("== seconds, passed, failed; after the first %d parts %d run at a time" % (len(first), PROCESSORS))
+    workers = side_by_side(then)
+    one_by_one(first)
+    for worker in workers:
+        worker.join()
+    print("== seconds, passed, failed; after the first %d parts %d run at a time, from the first wrong program on" % (len(first), PROCESSORS))
     for part in first + then:
         print("%8.1f %6d %6d  %s" % (part.seconds, part.passed, part.failed, part.name))
     print("%8.1f seconds in all" % (time.time() - began))
