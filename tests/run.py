@@ -38,13 +38,14 @@ FIRST = [
     ("contracts that leave nothing open", ["python3", "tests/contracts.py"]),
     ("nothing that serves nothing", ["python3", "tests/unused.py"]),
     ("the two before on planted faults", ["python3", "tests/planted.py"]),
+    ("proof text that does not grow", ["python3", "tests/proofs.py"]),
     ("the judge of wrong programs", ["python3", "tests/judge.py"]),
     ("names and links in the documents", ["python3", "tests/promises.py"]),
     (PROOFS, ["rt", "ci"]),
 ]
 # Then the others, as many at a time as there are processors, each after all that it names. They begin once every crate is proved, beside the
-# wrong programs, whose checks leave a processor idle whenever a batch of them waits for its slowest. What looks at a program that waits,
-# or has a limit of time, comes after them.
+# wrong programs, so that no processor is idle while the slowest of a batch, or the last test, goes on. What feeds a program that waits, or has a
+# limit of time, comes after these.
 PROVED, LIBRARY, PLACEMENT = "every crate proved", "the library for C", "the placement for C"
 THEN = [
     (LIBRARY, ["make", "--no-print-directory", "lib"], [PROVED]),
@@ -67,8 +68,6 @@ THEN = [
     ("the total search is never entered", ["make", "--no-print-directory", "-C", "bench", "fallback"], [PLACEMENT]),
 ]
 PROCESSORS = len(os.sched_getaffinity(0))
-# What begins while rt still runs yields to it, so that it takes what would be idle.
-YIELDING = ["nice", "-n", "10"]
 # The first line of this kind says that rt has proved all that it will prove.
 TRIED = re.compile(r"rt: must-fail ")
 
@@ -108,13 +107,7 @@ class Part:
             say(self.head() + "\n")
         try:
             process = subprocess.Popen(
-                self.command if live or BOARD.has([PROOFS]) else YIELDING + self.command,
-                cwd=ROOT,
-                env=ENVIRONMENT,
-                stdout=subprocess.PIPE,
-                stderr=subprocess.STDOUT,
-                text=True,
-                errors="replace",
+                self.command, cwd=ROOT, env=ENVIRONMENT, stdout=subprocess.PIPE, stderr=subprocess.STDOUT, text=True, errors="replace"
             )
             for line in process.stdout:
                 if live:
