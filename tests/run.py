@@ -44,27 +44,26 @@ FIRST = [
     (PROOFS, ["rt", "ci"]),
 ]
 # Then the others, as many at a time as there are processors, each after all that it names. They begin once every crate is proved, beside the
-# wrong programs, so that no processor is idle while the slowest of a batch, or the last test, goes on. What feeds a program that waits, or has a
-# limit of time, comes after these.
+# wrong programs, so that no processor is idle while the slowest of a batch, or the last test, goes on.
 PROVED, LIBRARY, PLACEMENT = "every crate proved", "the library for C", "the placement for C"
 THEN = [
     (LIBRARY, ["make", "--no-print-directory", "lib"], [PROVED]),
     ("wrong programs are refused for a fact", ["python3", "tests/edits.py"], [PROOFS]),
-    ("texts and explanations for operators", ["python3", "tools/tests/run.py", "target/bin/restart", "target/bin/mondays", "target/librestart.so.1"], [PROOFS, LIBRARY]),
-    ("the program mondays against the reference", cargo("tests", "run", "--release", "--bin", "mondays", "--", "target/bin/mondays", "1"), [PROOFS, LIBRARY]),
-    ("cases and numbers of the program restart", ["python3", "tests/cases.py"], [PROOFS]),
-    ("tests of the comparison itself", cargo("tests", "test", "--release", "--features", "mock"), [PROVED]),
     ("the reference's own tests", cargo("reference", "test", "--release"), [PROVED]),
+    ("tests of the comparison itself", cargo("tests", "test", "--release", "--features", "mock"), [PROVED]),
+    ("texts and explanations for operators", ["python3", "tools/tests/run.py", "target/bin/restart", "target/bin/mondays", "target/librestart.so.1"], [LIBRARY]),
     (PLACEMENT, ["rt", "staticlib", "c_placement"], [LIBRARY]),
-    ("the library from C", ["make", "--no-print-directory", "test-c"], [LIBRARY]),
     ("the program restart against the reference", cargo("tests", "run", "--release", "--bin", "runs", "--", "target/bin/restart", "1", "20000"), [LIBRARY]),
+    ("the program mondays against the reference", cargo("tests", "run", "--release", "--bin", "mondays", "--", "target/bin/mondays", "1"), [LIBRARY]),
     ("settings and messages against the reference", cargo("tests", "run", "--release", "--bin", "messages"), [LIBRARY]),
     ("flat reports against the reference", cargo("tests", "run", "--release", "--bin", "flat"), [LIBRARY]),
     ("events against the reference", cargo("tests", "run", "--release", "--bin", "events"), [LIBRARY]),
     ("roles and pages against the reference", cargo("tests", "run", "--release", "--bin", "pages"), [LIBRARY]),
     ("plans against the reference", cargo("tests", "run", "--release", "--bin", "plans"), [LIBRARY]),
     ("events against the peer in C and the reference", cargo("bench/events", "run", "--release", "--", "compare", "20000", "1"), [LIBRARY]),
+    ("the library from C", ["make", "--no-print-directory", "test-c"], [LIBRARY]),
     ("placements against the reference", cargo("tests/placement", "run", "--release"), [PLACEMENT]),
+    ("cases and numbers of the program restart", ["python3", "tests/cases.py"], [PROVED]),
     ("the total search is never entered", ["make", "--no-print-directory", "-C", "bench", "fallback"], [PLACEMENT]),
 ]
 PROCESSORS = len(os.sched_getaffinity(0))
