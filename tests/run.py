@@ -43,28 +43,28 @@ FIRST = [
     ("names and links in the documents", ["python3", "tests/promises.py"]),
     (PROOFS, ["rt", "ci"]),
 ]
-# Then the others, as many at a time as there are processors, each after all that it names. They begin once every crate is proved, beside the
+# Then the others, as many at a time as there are processors, each after the one that it names, or else once every crate is proved: beside the
 # wrong programs, so that no processor is idle while the slowest of a batch, or the last test, goes on.
 PROVED, LIBRARY, PLACEMENT = "every crate proved", "the library for C", "the placement for C"
 THEN = [
-    (LIBRARY, ["make", "--no-print-directory", "lib"], [PROVED]),
-    ("wrong programs are refused for a fact", ["python3", "tests/edits.py"], [PROOFS]),
-    ("the reference's own tests", cargo("reference", "test", "--release"), [PROVED]),
-    ("tests of the comparison itself", cargo("tests", "test", "--release", "--features", "mock"), [PROVED]),
-    ("texts and explanations for operators", ["python3", "tools/tests/run.py", "target/bin/restart", "target/bin/mondays", "target/librestart.so.1"], [LIBRARY]),
-    (PLACEMENT, ["rt", "staticlib", "c_placement"], [LIBRARY]),
-    ("the program restart against the reference", cargo("tests", "run", "--release", "--bin", "runs", "--", "target/bin/restart", "1", "20000"), [LIBRARY]),
-    ("the program mondays against the reference", cargo("tests", "run", "--release", "--bin", "mondays", "--", "target/bin/mondays", "1"), [LIBRARY]),
-    ("settings and messages against the reference", cargo("tests", "run", "--release", "--bin", "messages"), [LIBRARY]),
-    ("flat reports against the reference", cargo("tests", "run", "--release", "--bin", "flat"), [LIBRARY]),
-    ("events against the reference", cargo("tests", "run", "--release", "--bin", "events"), [LIBRARY]),
-    ("roles and pages against the reference", cargo("tests", "run", "--release", "--bin", "pages"), [LIBRARY]),
-    ("plans against the reference", cargo("tests", "run", "--release", "--bin", "plans"), [LIBRARY]),
-    ("events against the peer in C and the reference", cargo("bench/events", "run", "--release", "--", "compare", "20000", "1"), [LIBRARY]),
-    ("the library from C", ["make", "--no-print-directory", "test-c"], [LIBRARY]),
-    ("placements against the reference", cargo("tests/placement", "run", "--release"), [PLACEMENT]),
-    ("cases and numbers of the program restart", ["python3", "tests/cases.py"], [PROVED]),
-    ("the total search is never entered", ["make", "--no-print-directory", "-C", "bench", "fallback"], [PLACEMENT]),
+    (LIBRARY, ["make", "--no-print-directory", "lib"], None),
+    ("wrong programs are refused for a fact", ["python3", "tests/edits.py"], PROOFS),
+    ("the reference's own tests", cargo("reference", "test", "--release"), None),
+    ("tests of the comparison itself", cargo("tests", "test", "--release", "--features", "mock"), None),
+    ("texts and explanations for operators", ["python3", "tools/tests/run.py", "target/bin/restart", "target/bin/mondays", "target/librestart.so.1"], LIBRARY),
+    (PLACEMENT, ["rt", "staticlib", "c_placement"], LIBRARY),
+    ("the program restart against the reference", cargo("tests", "run", "--release", "--bin", "runs", "--", "target/bin/restart", "1", "20000"), LIBRARY),
+    ("the program mondays against the reference", cargo("tests", "run", "--release", "--bin", "mondays", "--", "target/bin/mondays", "1"), LIBRARY),
+    ("settings and messages against the reference", cargo("tests", "run", "--release", "--bin", "messages"), LIBRARY),
+    ("flat reports against the reference", cargo("tests", "run", "--release", "--bin", "flat"), LIBRARY),
+    ("events against the reference", cargo("tests", "run", "--release", "--bin", "events"), LIBRARY),
+    ("roles and pages against the reference", cargo("tests", "run", "--release", "--bin", "pages"), LIBRARY),
+    ("plans against the reference", cargo("tests", "run", "--release", "--bin", "plans"), LIBRARY),
+    ("events against the peer in C and the reference", cargo("bench/events", "run", "--release", "--", "compare", "20000", "1"), LIBRARY),
+    ("placements against the reference", cargo("tests/placement", "run", "--release"), PLACEMENT),
+    ("cases and numbers of the program restart", ["python3", "tests/cases.py"], None),
+    ("the library from C", ["make", "--no-print-directory", "test-c"], LIBRARY),
+    ("the total search is never entered", ["make", "--no-print-directory", "-C", "bench", "fallback"], PLACEMENT),
 ]
 PROCESSORS = len(os.sched_getaffinity(0))
 # The first line of this kind says that rt has proved all that it will prove.
@@ -82,9 +82,6 @@ class Board:
             self.told.add(name)
             self.changed.notify_all()
 
-    def has(self, names):
-        return self.told.issuperset(names)
-
 
 BOARD = Board()
 
@@ -92,8 +89,8 @@ BOARD = Board()
 class Part:
     """A part of the gate: its command, and once it has run what it printed, how many passed and failed, and how long it took."""
 
-    def __init__(self, name, command, after=()):
-        self.name, self.command, self.after = name, command, after
+    def __init__(self, name, command, after=None):
+        self.name, self.command, self.after = name, command, after or PROVED
         self.passed = self.failed = self.seconds = 0
 
     def head(self):
@@ -140,17 +137,17 @@ def one_by_one(parts):
 
 
 def side_by_side(parts):
-    """Starts the parts in their order, so many at a time, each once all that it names has happened; gives the threads that do it."""
+    """Starts the parts in their order, so many at a time, each once what it names has happened; gives the threads that do it."""
     waiting = list(parts)
 
     def work():
         while True:
             with BOARD.changed:
-                while waiting and not any(BOARD.has(part.after) for part in waiting):
+                while waiting and not any(part.after in BOARD.told for part in waiting):
                     BOARD.changed.wait()
                 if not waiting:
                     return
-                part = next(part for part in waiting if BOARD.has(part.after))
+                part = next(part for part in waiting if part.after in BOARD.told)
                 waiting.remove(part)
             part.run(live=False)
 
