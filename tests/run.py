@@ -173,6 +173,7 @@ def main():
     began = time.time()
     first = [Part(*part) for part in FIRST]
     then = [Part(*part) for part in THEN]
+    assert {part.after for part in then} <= {PROVED, *(part.name for part in first + then)}
     workers = side_by_side(then)
     one_by_one(first)
     for worker in workers:
