@@ -1,5 +1,5 @@
 """After `rt ci`: every wrong program was refused because a fact fails, and every public function has enough of them: two, or one if it
-asks something of its caller (`requires`).
+asks something of its caller (`requires`). No crate has more than two checks of wrong bodies.
 
 A file crates/NAME/must-fail/LABEL.edit holds a wrong program; code_1.edit .. (function bodies, and statements beside them)
 and laws_1.edit .. (definitions, theorems, contracts) hold several, each under a line `# NAME: what is right`, or `# NAME` alone. Alone in its file, a wrong
@@ -257,6 +257,12 @@ def judged(name, path, log):
         yield program.name, changed[place], fault(crate, changed[place], others, errors)
 
 
+def over_two(paths):
+    """The crates with more than two of these files that hold wrong bodies."""
+    crates = [path.split("/")[-3] for path in paths if os.path.basename(path).startswith("code_")]
+    return sorted({crate for crate in crates if crates.count(crate) > 2})
+
+
 crate_of = functools.lru_cache(maxsize=None)(Crate)
 
 
@@ -284,6 +290,9 @@ def main():
             passed, failed = passed + enough, failed + (not enough)
             if not enough:
                 print("%s::%s has %d wrong programs of its own" % (crate, name, count))
+    for crate in over_two(paths):
+        failed += 1
+        print("%s has more than two checks of wrong bodies: the others belong in crates/%s/wrong/" % (crate, crate))
     print("%d wrong programs in %d files" % (tried, len(paths)))
     print("%d passed, %d failed" % (passed, failed))
     sys.exit(1 if failed else 0)

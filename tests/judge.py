@@ -1,4 +1,5 @@
-"""The judge of wrong programs (edits.py) on a crate and logs made up here: which programs of a file it counts, and which it does not.
+"""The judge of wrong programs (edits.py) on a crate and logs made up here: which programs of a file it counts, and which it does not; and which
+crates have too many checks.
 Prints a last line `N passed, M failed`."""
 import os
 import sys
@@ -104,7 +105,11 @@ def main():
                 failed += 1
                 print("%s by %s: %s count" % (names, errors, found))
         os.chdir("/")
-    print("%d passed, %d failed" % (len(CASES) - failed, failed))
+    names = ("toy/must-fail/code_1", "toy/must-fail/code_2", "toy/must-fail/laws_1", "much/must-fail/code_1", "much/must-fail/code_2", "much/must-fail/code_3")
+    if edits.over_two(["crates/%s.edit" % name for name in names]) != ["much"]:
+        failed += 1
+        print("of a crate with two and one with three checks of wrong bodies the latter has too many")
+    print("%d passed, %d failed" % (len(CASES) + 1 - failed, failed))
     sys.exit(1 if failed else 0)
 
 

@@ -28,7 +28,8 @@ def cargo(folder, *words):
     return ["cargo", words[0], "--offline", "--quiet", "--manifest-path", folder + "/Cargo.toml", *words[1:]]
 
 
-# Parts that run one after another, each on all processors.
+# Parts that run one after another, each by itself. The last is rt: it proves every crate, and then tries the wrong programs.
+PROOFS = "proofs, wrong programs and runs"
 FIRST = [
     ("layout of the sources", ["rt", "fmt", "--check"]),
     ("crates by layer, definitions by name", ["python3", "tests/layers.py"]),
@@ -37,15 +38,17 @@ FIRST = [
     ("contracts that leave nothing open", ["python3", "tests/contracts.py"]),
     ("nothing that serves nothing", ["python3", "tests/unused.py"]),
     ("the two before on planted faults", ["python3", "tests/planted.py"]),
+    ("proof text that does not grow", ["python3", "tests/proofs.py"]),
     ("the judge of wrong programs", ["python3", "tests/judge.py"]),
-    ("proofs, wrong programs and runs", ["rt", "ci"]),
-    ("wrong programs are refused for a fact", ["python3", "tests/edits.py"]),
     ("names and links in the documents", ["python3", "tests/promises.py"]),
+    (PROOFS, ["rt", "ci"]),
 ]
-# Then the others, as many at a time as there are processors, each after the one that it names.
-LIBRARY, PLACEMENT = "the library for C", "the placement for C"
+# Then the others, as many at a time as there are processors, each after the one that it names, or else once every crate is proved: beside the
+# wrong programs, so that no processor is idle while the slowest of a batch, or the last test, goes on.
+PROVED, LIBRARY, PLACEMENT = "every crate proved", "the library for C", "the placement for C"
 THEN = [
     (LIBRARY, ["make", "--no-print-directory", "lib"], None),
+    ("wrong programs are refused for a fact", ["python3", "tests/edits.py"], PROOFS),
     ("the reference's own tests", cargo("reference", "test", "--release"), None),
     ("tests of the comparison itself", cargo("tests", "test", "--release", "--features", "mock"), None),
     ("texts and explanations for operators", ["python3", "tools/tests/run.py", "target/bin/restart", "target/bin/mondays", "target/librestart.so.1"], LIBRARY),
@@ -64,15 +67,31 @@ THEN = [
     ("the total search is never entered", ["make", "--no-print-directory", "-C", "bench", "fallback"], PLACEMENT),
 ]
 PROCESSORS = len(os.sched_getaffinity(0))
+# The first line of this kind says that rt has proved all that it will prove.
+TRIED = re.compile(r"rt: must-fail ")
+
+
+class Board:
+    """What has happened so far, by name."""
+
+    def __init__(self):
+        self.told, self.changed = set(), threading.Condition()
+
+    def tell(self, name):
+        with self.changed:
+            self.told.add(name)
+            self.changed.notify_all()
+
+
+BOARD = Board()
 
 
 class Part:
     """A part of the gate: its command, and once it has run what it printed, how many passed and failed, and how long it took."""
 
     def __init__(self, name, command, after=None):
-        self.name, self.command, self.after = name, command, after
+        self.name, self.command, self.after = name, command, after or PROVED
         self.passed = self.failed = self.seconds = 0
-        self.ended = threading.Event()
 
     def head(self):
         return "== %s: %s" % (self.name, " ".join(self.command))
@@ -81,14 +100,16 @@ class Part:
         """Runs the command; what it prints is passed on as it comes, or else all of it at the end."""
         began, lines, status = time.time(), [], 1
         if live:
-            print(self.head(), flush=True)
+            say(self.head() + "\n")
         try:
             process = subprocess.Popen(
                 self.command, cwd=ROOT, env=ENVIRONMENT, stdout=subprocess.PIPE, stderr=subprocess.STDOUT, text=True, errors="replace"
             )
             for line in process.stdout:
                 if live:
-                    print(line, end="", flush=True)
+                    say(line)
+                if self.name == PROOFS and TRIED.match(line):
+                    BOARD.tell(PROVED)
                 lines.append(line)
             status = process.wait()
         except OSError as error:
@@ -96,37 +117,44 @@ class Part:
         self.passed, self.failed = counted(status, [line.strip() for line in lines])
         self.seconds = time.time() - began
         if not live:
-            with PRINTING:
-                print(self.head() + "\n" + "".join(lines), end="", flush=True)
-        self.ended.set()
+            say(self.head() + "\n" + "".join(lines))
+        BOARD.tell(self.name)
 
 
 PRINTING = threading.Lock()
 
 
+def say(text):
+    with PRINTING:
+        print(text, end="", flush=True)
+
+
+def one_by_one(parts):
+    for part in parts:
+        part.run(live=True)
+    # where nothing was proved, or there is no wrong program
+    BOARD.tell(PROVED)
+
+
 def side_by_side(parts):
-    """Runs the parts in their order, so many at a time, each once the one that it names has ended."""
-    waiting, changed = list(parts), threading.Condition()
-    ended = {part.name: part.ended for part in parts}
+    """Starts the parts in their order, so many at a time, each once what it names has happened; gives the threads that do it."""
+    waiting = list(parts)
 
     def work():
         while True:
-            with changed:
-                while waiting and not any(part.after is None or ended[part.after].is_set() for part in waiting):
-                    changed.wait()
+            with BOARD.changed:
+                while waiting and not any(part.after in BOARD.told for part in waiting):
+                    BOARD.changed.wait()
                 if not waiting:
                     return
-                part = next(part for part in waiting if part.after is None or ended[part.after].is_set())
+                part = next(part for part in waiting if part.after in BOARD.told)
                 waiting.remove(part)
             part.run(live=False)
-            with changed:
-                changed.notify_all()
 
-    workers = [threading.Thread(target=work) for _ in range(PROCESSORS)]
+    workers = [threading.Thread(target=work, daemon=True) for _ in range(PROCESSORS)]
     for worker in workers:
         worker.start()
-    for worker in workers:
-        worker.join()
+    return workers
 
 
 def counted(status, lines):
@@ -145,10 +173,12 @@ def main():
     began = time.time()
     first = [Part(*part) for part in FIRST]
     then = [Part(*part) for part in THEN]
-    for part in first:
-        part.run(live=True)
-    side_by_side(then)
-    print("== seconds, passed, failed; after the first %d parts %d run at a time" % (len(first), PROCESSORS))
+    assert {part.after for part in then} <= {PROVED, *(part.name for part in first + then)}
+    workers = side_by_side(then)
+    one_by_one(first)
+    for worker in workers:
+        worker.join()
+    print("== seconds, passed, failed; after the first %d parts %d run at a time, from the first wrong program on" % (len(first), PROCESSORS))
     for part in first + then:
         print("%8.1f %6d %6d  %s" % (part.seconds, part.passed, part.failed, part.name))
     print("%8.1f seconds in all" % (time.time() - began))
