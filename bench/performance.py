@@ -1,9 +1,9 @@
-"""Measure the library and write docs/PERFORMANCE.md: performance.py [mock | mondays | placement].
+"""Measure the library and write docs/PERFORMANCE.md: performance.py [mock | mondays | placement | previews].
 
 Times of every call beside the reference's, of events beside a peer in C, instructions by callgrind, stack by painting, the placement beside LEMON's network
 simplex, and the program mondays beside a plain C program. With `mock` the reference stands in for the library and for mondays, the
-placement is left out and the page goes to target/performance.md; with `mondays` or `placement` that section alone is measured and written
-anew. It needs valgrind and, for the placement, LEMON (Debian: liblemon-dev)."""
+placement is left out and the page goes to target/performance.md; with `mondays`, `placement` or `previews` that section alone is measured and
+written anew. It needs valgrind and, for the placement, LEMON (Debian: liblemon-dev)."""
 import os
 import re
 import subprocess
@@ -49,10 +49,30 @@ def instructions(inputs):
     return "\n".join(lines)
 
 
-def counted(call, index):
-    command = ["valgrind", "--tool=callgrind", "--toggle-collect=measured", "--callgrind-out-file=/dev/null", BENCH, "once", call, str(index)]
+def counted(call, index, *kind):
+    """The instructions of a call on an input at full size, or on one of a kind of layout."""
+    once = [BENCH, "once", call, str(index), *map(str, kind)]
+    command = ["valgrind", "--tool=callgrind", "--toggle-collect=measured", "--callgrind-out-file=/dev/null", *once]
     done = subprocess.run(command, stdout=subprocess.PIPE, stderr=subprocess.STDOUT, text=True, check=True)
     return int(COUNTED.search(done.stdout).group(1))
+
+
+def previews(inputs):
+    """A table of the instructions of decide and of previews for each kind of layout: medians over some inputs, each with its own node, and the
+    greatest ratio of a preview to the decide without the node, and of the mask to the decide of the same input."""
+    lines = ["| layout | decide | preview | to decide without the node | preview_all | to decide |", "|---" * 6 + "|"]
+    for kind, name in enumerate(said(BENCH, "kinds").splitlines()):
+        calls = (("decide",), ("decide", "without"), ("preview",), ("preview_all",))
+        decide, without, one, every = ([counted(call, index, kind, *more) for index in range(inputs)] for call, *more in calls)
+        row = ["{:,}".format(middle(decide))]
+        for counts, beside in ((one, without), (every, decide)):
+            row += ["{:,}".format(middle(counts)), "%.2f" % max(count / own for count, own in zip(counts, beside))]
+        lines.append("| %s | %s |" % (name, " | ".join(row)))
+    return "\n".join(lines)
+
+
+def middle(counts):
+    return sorted(counts)[len(counts) // 2]
 
 
 def run_time(program, blocks):
@@ -150,7 +170,18 @@ bytes are copied by one repeated instruction, so these numbers say little about 
 
 Deepest stack of a call at full size, over {stacks} inputs: the call is made on a thread whose stack was painted before. {needs}
 
-{stack}{placement}{mondays}"""
+{stack}{previews}{placement}{mondays}"""
+
+PREVIEWS = """
+### Previews
+
+What a preview takes beside the decide of its copy, without the node, and the mask beside one decide, for kinds of layouts of 32 nodes, all held, with empty
+logs, also where the kept view is laid out already and nobody moves, and with 128 records in every report (`bench/events/src/previews.rs`): in instructions, by callgrind, over {counted} inputs of each kind, and in microseconds, over
+{count}.{apart}
+
+{instructions}
+
+{times}"""
 
 MONDAYS = """
 ### Mondays
@@ -202,10 +233,21 @@ def whole(mock):
         counted=counted_inputs,
         instructions=instructions(counted_inputs),
         stack=said(BENCH, "stack", str(stacks)),
+        previews=previews_section(mock, ""),
         needs="" if mock else needs(),
         placement="" if mock else PLACEMENT.format(solved=SOLVED, apart="", table=placement()),
         mondays=MONDAYS.format(apart="", table=mondays(mock)),
     )
+
+
+def previews_section(mock, apart):
+    inputs, count = (1, 1) if mock else (3, 20)
+    return PREVIEWS.format(apart=apart, counted=inputs, count=count, instructions=previews(inputs), times=said(BENCH, "previews", str(count)))
+
+
+def previews_apart():
+    build(False)
+    return previews_section(False, APART.format(machine=machine()))
 
 
 def placement_apart():
@@ -218,7 +260,7 @@ def mondays_apart():
 
 
 # The sections that can be measured without the others.
-SECTIONS = {"placement": placement_apart, "mondays": mondays_apart}
+SECTIONS = {"previews": previews_apart, "placement": placement_apart, "mondays": mondays_apart}
 
 
 def with_section(path, name):

@@ -21,9 +21,9 @@
  * planner may make every call; a watcher of one subgroup may read that subgroup's page and nothing
  * else (restart_page), and gets number 15 from every other call.
  *
- * What is proved: the calls under "Settings and messages", "Open views", "Events" and "Pages" are
- * proved functions. For any bytes whatever they end, touch nothing but what was lent, and answer and
- * leave what their definitions say. The functions under "Roles", "Answers", "Words in lent bytes"
+ * What is proved: the calls under "Settings and messages", "Open views", "Events", "Previews" and
+ * "Pages" are proved functions. For any bytes whatever they end, touch nothing but what was lent, and
+ * answer and leave what their definitions say. The functions under "Roles", "Answers", "Words in lent bytes"
  * and "Versions and texts" are plain C beside them (c/restart_extra.c): tested, not proved, and never
  * called by a proved one.
  *
@@ -51,9 +51,9 @@ extern "C" {
 
 #define RESTART_VERSION_MAJOR 0
 #define RESTART_VERSION_MINOR 5
-#define RESTART_VERSION_PATCH 0
-#define RESTART_VERSION "0.5.0"
-#define RESTART_VERSION_NUMBER 500 /* major * 10000 + minor * 100 + patch */
+#define RESTART_VERSION_PATCH 1
+#define RESTART_VERSION "0.5.1"
+#define RESTART_VERSION_NUMBER 501 /* major * 10000 + minor * 100 + patch */
 
 /* Of the settings, the messages and the state. It is raised when any of their words changes its
  * meaning; save it beside a state, and start fresh where it differs. */
@@ -91,7 +91,7 @@ extern "C" {
 #define RESTART_STATE_WORDS 160
 #define RESTART_DESK_WORDS 16384 /* a slot for each of 32 nodes */
 #define RESTART_SLOT_WORDS 512
-#define RESTART_BUFFER_WORDS 512   /* a buffer that a message is written to */
+#define RESTART_BUFFER_WORDS 512   /* a buffer that a message, page or preview is written to */
 #define RESTART_CONTENTS_WORDS 512 /* a buffer that contents are written to */
 #define RESTART_PAGE_WORDS 72      /* a subgroup's page; its buffer has 512 words */
 
@@ -308,7 +308,7 @@ enum restart_kind {
  * An answer is class * 16777216 + rest:
  *   class 0   0: accepted.  number + 256 * index: refused; the index is 0 where the number has none
  *   class 1   accepted; the rest is a length in words
- *   class 2   a plan stands in the state
+ *   class 2   a plan stands in the state; of a preview: in the state that would follow
  *   class 3   a wait: 256 * reason + value
  *   class 4   what is found of an open view, enum restart_view
  */
@@ -335,13 +335,13 @@ RESTART_INLINE int restart_is_refusal(uint32_t answer)
     return answer != RESTART_ACCEPTED && restart_class_of(answer) == RESTART_PLAIN;
 }
 
-/* Whether decide has put a plan into the state. */
+/* Whether decide has put a plan into the state, or would. */
 RESTART_INLINE int restart_is_plan(uint32_t answer)
 {
     return restart_class_of(answer) == RESTART_PLAN;
 }
 
-/* Whether decide waits. */
+/* Whether decide waits, or would. */
 RESTART_INLINE int restart_is_wait(uint32_t answer)
 {
     return restart_class_of(answer) == RESTART_WAIT;
@@ -644,6 +644,37 @@ uint32_t restart_fetched(uint32_t role, const uint8_t *settings, size_t settings
 uint32_t restart_prepared(uint32_t role, const uint8_t *settings, size_t settings_len,
                           uint8_t *state, size_t state_len, const uint8_t *desk, size_t desk_len,
                           uint32_t node) RESTART_NONNULL RESTART_CHECKED;
+
+/* ---- Previews ----
+ * What a restart would come to without one machine more, before it is taken out for repair. Neither
+ * state nor desk changes.
+ */
+
+/*
+ * What restart_decide would answer if this held node were dropped first, while gathering: the answer
+ * and the state of restart_drop and then restart_decide on a copy of state and desk. Kept view and
+ * termination remain, also where the node alone has reported them.
+ * Answers class 2 (a plan) or class 3 (a wait), as restart_decide, or one of the numbers 1 (desk or
+ * buffer), 2, 15, 3, 4, 6, 14; 4 in every other phase, also where restart_drop is taken.
+ * Changes the buffer, for a plan and for a wait: the 160 words of the state that would follow (enum
+ * restart_state_word), then zeros.
+ */
+uint32_t restart_preview(uint32_t role, const uint8_t *settings, size_t settings_len,
+                         const uint8_t *state, size_t state_len, const uint8_t *desk,
+                         size_t desk_len, uint32_t node, uint8_t *buffer,
+                         size_t buffer_len) RESTART_NONNULL RESTART_CHECKED;
+
+/*
+ * The held nodes without which restart_decide would wait, for whatever reason, each taken by itself,
+ * while gathering. Where it waits already these are all held nodes; where nobody is held there are
+ * none.
+ * Answers class 1 with length 1, or one of the numbers 1 (desk or buffer), 2, 15, 3, 4.
+ * Changes the buffer: word 0 is the mask of these nodes, then zeros.
+ */
+uint32_t restart_preview_all(uint32_t role, const uint8_t *settings, size_t settings_len,
+                             const uint8_t *state, size_t state_len, const uint8_t *desk,
+                             size_t desk_len, uint8_t *buffer,
+                             size_t buffer_len) RESTART_NONNULL RESTART_CHECKED;
 
 /* ---- Pages ---- */
 

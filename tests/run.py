@@ -59,6 +59,7 @@ THEN = [
     ("flat reports against the reference", cargo("tests", "run", "--release", "--bin", "flat"), LIBRARY),
     ("events against the reference", cargo("tests", "run", "--release", "--bin", "events"), LIBRARY),
     ("roles and pages against the reference", cargo("tests", "run", "--release", "--bin", "pages"), LIBRARY),
+    ("previews against the reference and the library's own events", cargo("tests", "run", "--release", "--bin", "previews"), LIBRARY),
     ("plans against the reference", cargo("tests", "run", "--release", "--bin", "plans"), LIBRARY),
     ("events against the peer in C and the reference", cargo("bench/events", "run", "--release", "--", "compare", "20000", "1"), LIBRARY),
     ("placements against the reference", cargo("tests/placement", "run", "--release"), PLACEMENT),

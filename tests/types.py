@@ -19,7 +19,7 @@ OTHERS = {
     "words of the settings, a message, its records or the desk; functions give the types out of them": "settings words message body desk buffer",
     "a word of a record: its place and its kind say what it means": "word0 word1 word2",
     "a kind of record": "kind k",
-    "a mask, of nodes or of shards, or one for each shard": "members held fetched prepared marks mask masks old known have lack passed all",
+    "a mask, of nodes or of shards, or one for each shard": "members held fetched prepared marks mask masks old known have lack passed all lost",
     "a subgroup": "g group",
     "how many words, records, shards or moves": "len hlen length total moves count",
     "a slot's words, one by one or two by two": "w b",

@@ -98,6 +98,17 @@ static uint32_t call_prepared(const struct piece *p, uint32_t node)
     return restart_prepared(caller, PIECE(0), PIECE(1), PIECE(2), node);
 }
 
+static uint32_t call_preview(const struct piece *p, uint32_t node)
+{
+    return restart_preview(caller, PIECE(0), PIECE(1), PIECE(2), node, PIECE(3));
+}
+
+static uint32_t call_preview_all(const struct piece *p, uint32_t node)
+{
+    (void)node;
+    return restart_preview_all(caller, PIECE(0), PIECE(1), PIECE(2), PIECE(3));
+}
+
 static uint32_t call_page(const struct piece *p, uint32_t subgroup)
 {
     return restart_page(caller, PIECE(0), PIECE(1), PIECE(2), subgroup, PIECE(3));
@@ -119,9 +130,11 @@ const struct entry decide = {"restart_decide", 3, 1u << 1, call_decide};
 const struct entry order = {"restart_order", 4, 1u << 3, call_order};
 const struct entry fetched = {"restart_fetched", 3, 1u << 1, call_fetched};
 const struct entry prepared = {"restart_prepared", 3, 1u << 1, call_prepared};
+const struct entry preview = {"restart_preview", 4, 1u << 3, call_preview};
+const struct entry preview_all = {"restart_preview_all", 4, 1u << 3, call_preview_all};
 const struct entry page = {"restart_page", 4, 1u << 3, call_page};
 
 const struct entry *const entries[] = {
-    &check_settings, &read_report, &read_order, &write_report, &write_order, &from_flat,
-    &to_flat,        &open_view,   &fresh,      &check_state,  &report,      &drop,
-    &decide,         &order,       &fetched,    &prepared,     &page};
+    &check_settings, &read_report, &read_order,  &write_report, &write_order, &from_flat, &to_flat,
+    &open_view,      &fresh,       &check_state, &report,       &drop,        &decide,    &order,
+    &fetched,        &prepared,    &preview,     &preview_all,  &page};

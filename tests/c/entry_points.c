@@ -362,6 +362,54 @@ static void caps(struct world *world)
     check_word("but not under a lower one", restart_check_state(LENT), RESTART_UNSOUND_STATE);
 }
 
+/* ---- Previews ---- */
+
+/* Case A without node 3, where subgroup 0 has no placement, and without node 5, where shard 2 has no
+ * holder: each leaves the state after the drop. With node 6 back all but 5 may go. preview.c has
+ * more. */
+static void previews(struct world *world)
+{
+    static uint8_t desk[RESTART_DESK_BYTES];
+    uint8_t buffer[RESTART_BUFFER_BYTES], expected[RESTART_BUFFER_BYTES];
+    uint8_t message[RESTART_MESSAGE_BYTES];
+    uint32_t mask = 63;
+
+    world_gathered(world);
+    memcpy(desk, world->desk, sizeof desk);
+    memset(expected, 0, sizeof expected);
+    memcpy(expected, world->state, RESTART_STATE_BYTES);
+    memset(buffer, 0xEE, sizeof buffer);
+    restart_put_word(expected, RESTART_HELD, 63 - 8);
+    check_word("without node 3: wait 5", restart_preview(LENT, 3, buffer, sizeof buffer),
+               50331648 + 256 * 5);
+    check_bytes("the state that would follow", buffer, expected, sizeof expected);
+    restart_put_word(expected, RESTART_HELD, 63 - 32);
+    check_word("without node 5: wait 4", restart_preview(LENT, 5, buffer, sizeof buffer),
+               50331648 + 256 * 4 + 2);
+    check_bytes("the state that would follow", buffer, expected, sizeof expected);
+    check_word("a node that is not held", restart_preview(LENT, 6, buffer, sizeof buffer),
+               RESTART_NOT_HELD);
+    check_bytes("nothing written", buffer, expected, sizeof expected);
+    check_word("all of them", restart_preview_all(LENT, buffer, sizeof buffer), 16777216 + 1);
+    check_buffer("every node is needed", buffer, &mask, 1);
+    expect_state("the same state", world, RESTART_GATHERING, 63, 63, 0, 0);
+    check_bytes("the same desk", world->desk, desk, sizeof desk);
+
+    size_t length = put_report(message, 6);
+    check_word("node 6", restart_report(LENT, message, length), RESTART_ACCEPTED);
+    memset(expected, 0, sizeof expected);
+    memcpy(expected, world->state, RESTART_STATE_BYTES);
+    restart_put_word(expected, RESTART_PHASE, RESTART_ORDERED);
+    restart_put_word(expected, RESTART_HELD, 63);
+    put_plan(expected);
+    check_word("without it: case A's plan", restart_preview(LENT, 6, buffer, sizeof buffer),
+               33554432);
+    check_bytes("the state with case A's plan", buffer, expected, sizeof expected);
+    mask = 32;
+    check_word("all of them", restart_preview_all(LENT, buffer, sizeof buffer), 16777216 + 1);
+    check_buffer("node 5 is needed", buffer, &mask, 1);
+}
+
 /* ---- Pages ---- */
 
 /* The page of case A's subgroup, which is all of it: as decide would have it, and then as the plan
@@ -430,6 +478,7 @@ int main(void)
     reporting(&world);
     carrying_out(&world);
     caps(&world);
+    previews(&world);
     pages(&world);
     return summary();
 }

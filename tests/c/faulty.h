@@ -367,4 +367,124 @@ static inline uint32_t faulty(ONLY_READ, uint32_t subgroup, uint8_t *buffer, siz
     return answer;
 }
 #define restart_page faulty
+
+#elif FAULT == 34 /* the node is not dropped */
+static inline uint32_t faulty(ONLY_READ, uint32_t node, uint8_t *buffer, size_t buffer_len)
+{
+    uint32_t answer = restart_preview(PASSED_ON, node, buffer, buffer_len);
+    if (restart_is_refusal(answer))
+        return answer;
+    memcpy(buffer, state, state_len);
+    return restart_decide(role, settings, settings_len, buffer, state_len, desk, desk_len);
+}
+#define restart_preview faulty
+
+#elif FAULT == 35 /* a wait is taken for a plan */
+static inline uint32_t faulty(ONLY_READ, uint32_t node, uint8_t *buffer, size_t buffer_len)
+{
+    uint32_t answer = restart_preview(PASSED_ON, node, buffer, buffer_len);
+    return restart_is_wait(answer) ? RESTART_PLAN * RESTART_CLASS_UNIT : answer;
+}
+#define restart_preview faulty
+
+#elif FAULT == 36 /* a refused preview clears the buffer */
+static inline uint32_t faulty(ONLY_READ, uint32_t node, uint8_t *buffer, size_t buffer_len)
+{
+    uint32_t answer = restart_preview(PASSED_ON, node, buffer, buffer_len);
+    if (restart_is_refusal(answer))
+        memset(buffer, 0, buffer_len);
+    return answer;
+}
+#define restart_preview faulty
+
+#elif FAULT == 37 /* a view that the node alone reported is not kept: the others report anew */
+static inline uint32_t faulty(ONLY_READ, uint32_t node, uint8_t *buffer, size_t buffer_len)
+{
+    static uint8_t other[RESTART_DESK_BYTES];
+    uint32_t answer = restart_preview(PASSED_ON, node, buffer, buffer_len);
+    if (restart_is_refusal(answer))
+        return answer;
+    restart_fresh(role, buffer, RESTART_STATE_BYTES);
+    for (uint32_t held = 0; held < RESTART_NODES; held++)
+        if (held != node && restart_get_word(state, RESTART_HELD) >> held & 1)
+            answer = restart_report(role, settings, settings_len, buffer, RESTART_STATE_BYTES,
+                                    other, sizeof other, desk + held * (size_t)RESTART_SLOT_BYTES,
+                                    RESTART_SLOT_BYTES);
+    memcpy(buffer + 4 * RESTART_LATEST_VIEWS, state + 4 * RESTART_LATEST_VIEWS, 4 * RESTART_NODES);
+    return restart_decide(role, settings, settings_len, buffer, RESTART_STATE_BYTES, other,
+                          sizeof other);
+}
+#define restart_preview faulty
+
+#elif FAULT == 38 /* where decide waits, nodes that are not held are in the mask */
+static inline uint32_t faulty(ONLY_READ, uint8_t *buffer, size_t buffer_len)
+{
+    uint32_t answer = restart_preview_all(PASSED_ON, buffer, buffer_len);
+    if (!restart_is_refusal(answer) &&
+        restart_get_word(buffer, 0) == restart_get_word(state, RESTART_HELD))
+        restart_put_word(buffer, 0, (UINT32_C(1) << restart_get_word(settings, 0) % 32) - 1);
+    return answer;
+}
+#define restart_preview_all faulty
+
+#elif FAULT == 39 /* a preview wherever drop is taken */
+static inline uint32_t faulty(ONLY_READ, uint32_t node, uint8_t *buffer, size_t buffer_len)
+{
+    uint8_t copy[RESTART_STATE_BYTES];
+    uint32_t answer = restart_preview(PASSED_ON, node, buffer, buffer_len);
+    if (answer != RESTART_WRONG_PHASE)
+        return answer;
+    memcpy(copy, state, sizeof copy);
+    uint32_t dropped =
+        restart_drop(role, settings, settings_len, copy, sizeof copy, desk, desk_len, node);
+    return restart_is_refusal(dropped)
+               ? dropped
+               : restart_decide(role, settings, settings_len, copy, sizeof copy, desk, desk_len);
+}
+#define restart_preview faulty
+
+#elif FAULT == 40 /* what follows the mask is left */
+static inline uint32_t faulty(ONLY_READ, uint8_t *buffer, size_t buffer_len)
+{
+    uint8_t copy[RESTART_BUFFER_BYTES];
+    if (buffer_len != sizeof copy)
+        return restart_preview_all(PASSED_ON, buffer, buffer_len);
+    memcpy(copy, buffer, sizeof copy);
+    uint32_t answer = restart_preview_all(PASSED_ON, copy, sizeof copy);
+    memcpy(buffer, copy, 4);
+    return answer;
+}
+#define restart_preview_all faulty
+
+#elif FAULT == 41 /* watchers get the mask */
+static inline uint32_t faulty(ONLY_READ, uint8_t *buffer, size_t buffer_len)
+{
+    return restart_preview_all(role / 4 == RESTART_WATCHER / 4 ? (uint32_t)RESTART_PLANNER : role,
+                               settings, settings_len, state, state_len, desk, desk_len, buffer,
+                               buffer_len);
+}
+#define restart_preview_all faulty
+
+#elif FAULT == 42 /* the mask goes by majority, least group and logs, not by placements */
+static inline uint32_t faulty(ONLY_READ, uint8_t *buffer, size_t buffer_len)
+{
+    uint8_t other[RESTART_BUFFER_BYTES];
+    uint32_t answer = restart_preview_all(PASSED_ON, buffer, buffer_len);
+    for (uint32_t node = 0; !restart_is_refusal(answer) && node < RESTART_NODES; node++)
+        if (restart_reason_of(restart_preview(PASSED_ON, node, other, sizeof other)) ==
+            RESTART_NO_PLACEMENT)
+            restart_put_word(buffer, 0, restart_get_word(buffer, 0) & ~(UINT32_C(1) << node));
+    return answer;
+}
+#define restart_preview_all faulty
+
+#elif FAULT == 43 /* what the node has reported is forgotten */
+static inline uint32_t faulty(ONLY_READ, uint32_t node, uint8_t *buffer, size_t buffer_len)
+{
+    uint32_t answer = restart_preview(PASSED_ON, node, buffer, buffer_len);
+    if (!restart_is_refusal(answer))
+        restart_put_word(buffer, RESTART_LATEST_VIEWS + node, 0);
+    return answer;
+}
+#define restart_preview faulty
 #endif

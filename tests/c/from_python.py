@@ -83,6 +83,10 @@ def restart():
     assert call("fresh", PLANNER, state) == 0
     for node in range(2):
         print("report %d, " % call("report", PLANNER, settings, state, desk, words(node, 3, 3, 1, 256, 3, 0, 0)), end="")
+        seen = ctypes.create_string_buffer(BUFFER)
+        print("%d word, must" % helper("length_of", call("preview_all", PLANNER, settings, state, desk, seen)), end="")
+        print(" stay %d, " % WORD(library.restart_get_word(seen, ctypes.c_size_t(0))).value, end="")
+        print("reason %d, " % helper("reason_of", call("preview", PLANNER, settings, state, desk, node, seen)), end="")
         answer = call("decide", PLANNER, settings, state, desk)
         if helper("is_wait", answer):
             print("wait %d" % helper("reason_of", answer))

@@ -33,6 +33,29 @@ extern "C" {
         desk: *const u8,
         desk_len: usize,
     ) -> u32;
+    fn restart_preview(
+        role: u32,
+        settings: *const u8,
+        settings_len: usize,
+        state: *const u8,
+        state_len: usize,
+        desk: *const u8,
+        desk_len: usize,
+        node: u32,
+        buffer: *mut u8,
+        buffer_len: usize,
+    ) -> u32;
+    fn restart_preview_all(
+        role: u32,
+        settings: *const u8,
+        settings_len: usize,
+        state: *const u8,
+        state_len: usize,
+        desk: *const u8,
+        desk_len: usize,
+        buffer: *mut u8,
+        buffer_len: usize,
+    ) -> u32;
     fn restart_page(
         role: u32,
         settings: *const u8,
@@ -83,6 +106,32 @@ fn main() {
                 message.as_ptr(),
                 message.len(),
             );
+            let all = restart_preview_all(
+                PLANNER,
+                settings.as_ptr(),
+                settings.len(),
+                state.as_ptr(),
+                state.len(),
+                desk.as_ptr(),
+                desk.len(),
+                page.as_mut_ptr(),
+                page.len(),
+            );
+            let (length, stay) = (restart_length_of(all), restart_get_word(page.as_ptr(), 0));
+            let without = restart_preview(
+                PLANNER,
+                settings.as_ptr(),
+                settings.len(),
+                state.as_ptr(),
+                state.len(),
+                desk.as_ptr(),
+                desk.len(),
+                node,
+                page.as_mut_ptr(),
+                page.len(),
+            );
+            let reason = restart_reason_of(without);
+            print!("report {taken}, {length} word, must stay {stay}, reason {reason}, ");
             let answer = restart_decide(
                 PLANNER,
                 settings.as_ptr(),
@@ -93,8 +142,8 @@ fn main() {
                 desk.len(),
             );
             match restart_is_wait(answer) {
-                0 => println!("report {taken}, plan {}", restart_get_word(state.as_ptr(), 55)),
-                _ => println!("report {taken}, wait {}", restart_reason_of(answer)),
+                0 => println!("plan {}", restart_get_word(state.as_ptr(), 55)),
+                _ => println!("wait {}", restart_reason_of(answer)),
             }
         }
         let mut read = |role: u32, subgroup: u32| {

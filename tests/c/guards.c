@@ -109,9 +109,11 @@ static void events(struct world *world)
     with_role(&report, pieces, 0, RESTART_ACCEPTED);
     with_role(&drop, pieces, 5, RESTART_ACCEPTED);
     with_role(&decide, pieces, 0, 33554432);
-    world_ordered(world);
     pieces[3].bytes = buffer;
     pieces[3].length = sizeof buffer;
+    with_role(&preview, pieces, 5, 50331648 + 256 * 4 + 2);
+    with_role(&preview_all, pieces, 0, 16777216 + 1);
+    world_ordered(world);
     with_role(&order, pieces, 5, 16777216 + 36);
     with_role(&page, pieces, 0, 16777216 + 72);
     with_role(&fetched, pieces, 5, RESTART_ACCEPTED);

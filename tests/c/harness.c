@@ -134,6 +134,8 @@ static void watch_ends(void)
 
 /* ---- Calls ---- */
 
+enum { AFTER_DESK = 3 }; /* the piece after settings, state and desk */
+
 uint32_t call_between(const struct entry *entry, const struct piece *pieces, uint32_t node,
                       unsigned last)
 {
@@ -151,7 +153,8 @@ uint32_t call_between(const struct entry *entry, const struct piece *pieces, uin
         whole = whole && guards_whole(&lent[i]);
         if (pieces[i].length == 0)
             continue;
-        same = same && memcmp(pieces[i].bytes, lent[i].piece.bytes, pieces[i].length) == 0;
+        if (i < AFTER_DESK || restart_is_refusal(answer))
+            same = same && memcmp(pieces[i].bytes, lent[i].piece.bytes, pieces[i].length) == 0;
         memcpy(pieces[i].bytes, lent[i].piece.bytes, pieces[i].length);
     }
     for (unsigned i = 0; i < entry->pieces; i++)

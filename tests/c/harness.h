@@ -40,18 +40,20 @@ extern uint32_t caller;
 
 extern const struct entry check_settings, read_report, read_order, write_report, write_order;
 extern const struct entry from_flat, to_flat, open_view;
-extern const struct entry fresh, check_state, report, drop, decide, order, fetched, prepared, page;
+extern const struct entry fresh, check_state, report, drop, decide, order, fetched, prepared;
+extern const struct entry preview, preview_all, page;
 
 /* All of them; those from FIRST_ROLE on take a role. */
 extern const struct entry *const entries[];
-enum { ENTRIES = 17, FIRST_ROLE = 8 };
+enum { ENTRIES = 19, FIRST_ROLE = 8 };
 
 /*
  * Calls with every piece in pages of its own between two pages without access; a piece that the
  * call does not write is read-only. Bit i of `last` puts piece i against the page after it, else
  * against the page before it. Then checks that no byte around a piece has changed and, if the call
- * was refused or waits, no byte of a piece. What the call wrote is copied back. Touching another
- * byte ends the program with a line that names the call.
+ * was refused, no byte of a piece, and where it waits none of settings, state and desk: a preview
+ * that waits has written its buffer. What the call wrote is copied back. Touching another byte ends
+ * the program with a line that names the call.
  */
 uint32_t call_between(const struct entry *entry, const struct piece *pieces, uint32_t node,
                       unsigned last);

@@ -45,7 +45,7 @@ tool_names() {
 }
 
 expected_output() {
-    printf 'report 0, wait 2\nreport 0, plan 4\npage of 72 words, placed 1\n' | diff - "$1"
+    printf 'report 0, 1 word, must stay 1, reason 2, wait 2\nreport 0, 1 word, must stay 3, reason 2, plan 4\npage of 72 words, placed 1\n' | diff - "$1"
 }
 
 # Builds the program in a folder of its own, with the flags of pkg-config under this sysroot, and runs it over the shared library; then

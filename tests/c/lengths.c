@@ -242,6 +242,20 @@ static void events(void)
     event_lengths(&drop, RESTART_ACCEPTED, &world);
     event_lengths(&decide, 33554432, &world);
 
+    take_event(&preview, 50331648 + 256 * 5, &world);
+    add(buffer, sizeof buffer);
+    settings_lengths();
+    state_lengths(1);
+    desk_lengths();
+    buffer_lengths(3);
+
+    take_event(&preview_all, 16777216 + 1, &world);
+    add(buffer, sizeof buffer);
+    settings_lengths();
+    state_lengths(1);
+    desk_lengths();
+    buffer_lengths(3);
+
     world_ordered(&world);
     take_event(&order, 16777216 + 36, &world);
     add(buffer, sizeof buffer);

@@ -1,7 +1,8 @@
 /*
  * A program outside the repository, over the installed header and library: it reports one of two
- * machines, is told to wait for a majority, reports the other and has a plan; then it reads the page
- * of subgroup 0 as its watcher, who may do nothing else.
+ * machines, is told to wait for a majority, reports the other and has a plan; each time it asks who
+ * must stay, and why the machine must. Then it reads the page of subgroup 0 as its watcher, who may
+ * do nothing else.
  */
 #include <restart.h>
 #include <stdio.h>
@@ -13,7 +14,7 @@ int main(void)
     /* Two machines in two failure sets, at least one for a group; one shard that needs one. */
     const uint32_t words[7] = {2, 2, 1, 1, 0, 1, 1};
     uint8_t settings[sizeof words], state[RESTART_STATE_BYTES], message[32];
-    uint8_t page[RESTART_BUFFER_BYTES];
+    uint8_t page[RESTART_BUFFER_BYTES], seen[RESTART_BUFFER_BYTES];
     const uint32_t watcher = restart_watcher(0);
     uint32_t answer;
     size_t i;
@@ -29,6 +30,13 @@ int main(void)
         answer = restart_report(RESTART_PLANNER, settings, sizeof settings, state, sizeof state,
                                 desk, sizeof desk, message, sizeof message);
         printf("report %lu, ", (unsigned long)answer);
+        answer = restart_preview_all(RESTART_PLANNER, settings, sizeof settings, state,
+                                     sizeof state, desk, sizeof desk, seen, sizeof seen);
+        printf("%lu word, must stay %lu, ", (unsigned long)restart_length_of(answer),
+               (unsigned long)restart_get_word(seen, 0));
+        answer = restart_preview(RESTART_PLANNER, settings, sizeof settings, state, sizeof state,
+                                 desk, sizeof desk, (uint32_t)i, seen, sizeof seen);
+        printf("reason %lu, ", (unsigned long)restart_reason_of(answer));
         answer = restart_decide(RESTART_PLANNER, settings, sizeof settings, state, sizeof state,
                                 desk, sizeof desk);
         printf("%s %lu\n", restart_is_wait(answer) ? "wait" : "plan",

@@ -3,7 +3,7 @@
  * subgroup's watcher; and worlds that agree on what a page may depend on and differ in all else, of
  * which answer and all 2048 bytes must be the same. All memory lies between pages without access.
  */
-#include "world.h"
+#include "room.h"
 
 #include <string.h>
 
@@ -12,86 +12,9 @@
 #define PLAN 33554432u
 #define WAIT(reason, value) (50331648u + 256 * (reason) + (value))
 
-enum { MOST_WORDS = 64, SHOWN = 3 };
-
-/* ---- A restart, of any settings ---- */
-
-struct room {
-    uint8_t settings[RESTART_SETTINGS_BYTES], state[RESTART_STATE_BYTES];
-    uint8_t desk[RESTART_DESK_BYTES];
-    size_t settings_len;
-};
+enum { SHOWN = 3 };
 
 static struct room here, there;
-static uint8_t message[RESTART_MESSAGE_BYTES];
-
-/* A run of a shard. */
-struct run {
-    uint32_t shard, view, count;
-};
-
-/* What a node reports: its view, the masks of the shards, positions of a termination or none, and
- * runs up to one with count 0. */
-struct told {
-    uint32_t node, view, members;
-    const uint32_t *masks, *positions;
-    struct run runs[6];
-};
-
-static void lend_room(struct piece *pieces, struct room *room)
-{
-    pieces[0] = (struct piece){room->settings, room->settings_len};
-    pieces[1] = (struct piece){room->state, sizeof room->state};
-    pieces[2] = (struct piece){room->desk, sizeof room->desk};
-}
-
-static void call_in(struct room *room, const struct entry *entry, uint32_t node, uint32_t expected)
-{
-    struct piece pieces[MOST_PIECES];
-    lend_room(pieces, room);
-    check_call(entry, pieces, node, expected);
-}
-
-/* The fresh state under these settings. */
-static void begin(struct room *room, const uint32_t *words, size_t count)
-{
-    room->settings_len = put_words(room->settings, words, count);
-    memset(room->desk, 0xEE, sizeof room->desk);
-    check_word("the fresh state", restart_fresh(RESTART_PLANNER, room->state, sizeof room->state),
-               RESTART_ACCEPTED);
-}
-
-/* The report's words; gives how many there are. */
-static size_t put_told(const struct told *told, uint32_t shards)
-{
-    uint32_t words[4 * MOST_WORDS] = {told->node, told->view, told->members, 1};
-    size_t at = 4;
-    for (uint32_t s = 0; s < shards; s++, at += 4) {
-        const uint32_t record[3] = {256 + s, told->masks[s], 0};
-        memcpy(words + at, record, sizeof record);
-    }
-    for (uint32_t s = 0; told->positions != NULL && s < shards; s++, at += 4) {
-        const uint32_t record[3] = {512 + s, told->positions[2 * s], told->positions[2 * s + 1]};
-        memcpy(words + at, record, sizeof record);
-    }
-    for (size_t i = 0; i < COUNT(told->runs) && told->runs[i].count != 0; i++, at += 4) {
-        const uint32_t record[3] = {768 + told->runs[i].shard, told->runs[i].view,
-                                    told->runs[i].count};
-        memcpy(words + at, record, sizeof record);
-    }
-    for (size_t i = 3; i < at; i += 4)
-        words[i] = i + 4 < at ? (uint32_t)(i / 4 + 1) : 0;
-    return put_words(message, words, at);
-}
-
-static void take(struct room *room, const struct told *told)
-{
-    struct piece pieces[MOST_PIECES];
-    lend_room(pieces, room);
-    size_t length = put_told(told, restart_get_word(room->settings, 3));
-    pieces[3] = (struct piece){message, length};
-    check_call(&report, pieces, 0, RESTART_ACCEPTED);
-}
 
 /* ---- Pages ---- */
 
@@ -419,7 +342,8 @@ static void unseen(void)
     memset(there.desk + 5 * RESTART_SLOT_BYTES, 0x11, 27 * RESTART_SLOT_BYTES);
     restart_put_word(there.state, RESTART_LATEST_VIEWS + 5, 4294967295);
     /* node 3 once more, with a record that its chain leaves out */
-    size_t length = put_told(&off, 4);
+    uint8_t message[RESTART_MESSAGE_BYTES];
+    size_t length = put_told(message, &off, 4);
     restart_put_word(message, 23, 0);
     struct piece pieces[MOST_PIECES];
     lend_room(pieces, &there);

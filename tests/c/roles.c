@@ -65,6 +65,8 @@ static const struct row rows[] = {
     {&order, world_ordered, 4, 16777216 + 36},
     {&fetched, world_ordered, 3, RESTART_ACCEPTED},
     {&prepared, world_preparing, 3, RESTART_ACCEPTED},
+    {&preview, world_gathered, 3, 50331648 + 256 * 5},
+    {&preview_all, world_gathered, 0, 16777216 + 1},
 };
 
 /* Lends a call what it takes: the state alone, or settings, state, desk and what comes after. */

@@ -414,6 +414,38 @@ static void orders(void)
     node_rows(&order, 16777216 + 36);
 }
 
+/* Previews while gathering alone: in every other phase number 4, also where drop is taken. Node 3 is
+ * needed: without it subgroup 0 has no placement. */
+static void previews(void)
+{
+    static phase *const others[] = {world_ordered, world_preparing, world_committed};
+    static const struct entry *const both[] = {&preview, &preview_all};
+    memset(buffer, 0xEE, sizeof buffer);
+    pieces[3] = (struct piece){buffer, sizeof buffer};
+    for (size_t i = 0; i < COUNT(both); i++) {
+        for (size_t k = 0; k < COUNT(others); k++)
+            first_rows(both[i], others[k], world_gathered, 7);
+        pieces[3].length -= 4;
+        restart_put_word(world.settings, 0, 0);
+        check_call(both[i], pieces, 7, 1);
+        pieces[3].length += 4;
+        check_call(both[i], pieces, 7, 2);
+        restart_put_word(world.settings, 0, 7);
+    }
+    node_rows(&preview, 50331648 + 256 * 5);
+    check_call(&preview_all, pieces, 0, 16777216 + 1);
+    world_fresh(&world);
+    for (uint32_t node = 0; node < 7; node++)
+        check_call(&preview, pieces, node, 14);
+    check_call(&preview, pieces, 7, 6);
+    check_call(&preview_all, pieces, 0, 16777216 + 1);
+    /* The slot of the node itself must be sound as well. */
+    world_gathered(&world);
+    restart_put_word(world.desk, 3 * RESTART_SLOT_WORDS, 2);
+    check_call(&preview, pieces, 3, 3);
+    check_call(&preview_all, pieces, 0, 3);
+}
+
 /* A page in every phase: no row 4. Its own watcher climbs from 2 to 3 with no 15 between. */
 static void pages(void)
 {
@@ -494,6 +526,7 @@ int main(void)
     reports();
     drops();
     orders();
+    previews();
     pages();
     marks();
     decisions();

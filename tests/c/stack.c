@@ -205,6 +205,22 @@ static void gather(void)
     }
 }
 
+/* What decide would answer without each held node, and those whose loss means waiting: nobody's
+ * does, then everybody's, where every shard needs eight nodes and 31 are held. */
+static void made_previews(const struct piece *lent)
+{
+    for (uint32_t node = 0; node < HELD; node++)
+        made(&preview, lent, node, RESTART_PLAN);
+    made(&preview_all, lent, 0, RESTART_LENGTH);
+    check_word("who must stay", restart_get_word(buffer, 0), 0);
+    for (uint32_t shard = 0; shard < SHARDS; shard++)
+        restart_put_word(settings, 4 + NODES + shard, shard / 4 * 256 + 8);
+    made(&preview, lent, 0, RESTART_WAIT);
+    made(&preview_all, lent, 0, RESTART_LENGTH);
+    check_word("who must stay", restart_get_word(buffer, 0), UINT32_MAX >> 1);
+    put_settings();
+}
+
 /* The page of each subgroup, as its watcher. */
 static void made_pages(const struct piece *lent)
 {
@@ -219,6 +235,7 @@ static void restart_once(void)
 {
     const struct piece lent[4] = {on_settings, on_state, on_desk, on_buffer};
     gather();
+    made_previews(lent);
     made_pages(lent);
     made(&decide, lent, 0, RESTART_PLAN);
     made(&check_state, lent, 0, RESTART_PLAIN);

@@ -13,6 +13,7 @@
 enum { THREADS = 4, ORDERS = 6 };
 
 static const struct world *alone; /* case A ordered, by one thread */
+static const struct world *early; /* and while gathering */
 static uint8_t messages[ORDERS][RESTART_MESSAGE_BYTES];
 static size_t lengths[ORDERS];
 
@@ -21,6 +22,7 @@ struct work {
     uint8_t orders[ORDERS][RESTART_BUFFER_BYTES]; /* of the shared state */
     uint8_t flat[ORDERS][RESTART_BUFFER_BYTES];   /* of the shared messages */
     uint8_t page[RESTART_BUFFER_BYTES];           /* of the shared state */
+    uint8_t preview[2][RESTART_BUFFER_BYTES];     /* of the one while gathering */
     int good;
 };
 
@@ -64,6 +66,19 @@ static int reads_page(struct work *work)
                                           sizeof work->page)) == RESTART_PAGE_WORDS;
 }
 
+/* Previews of the state that gathers: without node 5, and of all nodes. */
+static int previews(struct work *work)
+{
+    return restart_is_wait(restart_preview(RESTART_PLANNER, early->settings, sizeof early->settings,
+                                           early->state, sizeof early->state, early->desk,
+                                           sizeof early->desk, 5, work->preview[0],
+                                           RESTART_BUFFER_BYTES)) &&
+           restart_length_of(restart_preview_all(
+               RESTART_PLANNER, early->settings, sizeof early->settings, early->state,
+               sizeof early->state, early->desk, sizeof early->desk, work->preview[1],
+               RESTART_BUFFER_BYTES)) == 1;
+}
+
 /* Makes a flat report of each shared message, and the message of that. */
 static int turns(struct work *work)
 {
@@ -84,18 +99,21 @@ static int turns(struct work *work)
 static void *run(void *given)
 {
     struct work *work = (struct work *)given;
-    work->good = plans(work) && writes_orders(work) && reads_page(work) && turns(work);
+    work->good =
+        plans(work) && writes_orders(work) && reads_page(work) && previews(work) && turns(work);
     return NULL;
 }
 
 int main(void)
 {
-    static struct world world;
+    static struct world world, gathering;
     static struct work works[THREADS], one;
     pthread_t threads[THREADS];
 
     world_ordered(&world);
     alone = &world;
+    world_gathered(&gathering);
+    early = &gathering;
     for (uint32_t node = 0; node < ORDERS; node++)
         lengths[node] = put_report(messages[node], node);
     run(&one);
@@ -112,6 +130,7 @@ int main(void)
         check_bytes("its orders", works[i].orders[0], one.orders[0], sizeof one.orders);
         check_bytes("its flat reports", works[i].flat[0], one.flat[0], sizeof one.flat);
         check_bytes("its page", works[i].page, one.page, sizeof one.page);
+        check_bytes("its previews", works[i].preview[0], one.preview[0], sizeof one.preview);
     }
     return summary();
 }

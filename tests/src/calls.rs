@@ -6,9 +6,10 @@ use crate::library::{Answer, Planner, ACCEPTED, PLAN, WAIT};
 use reference::desk::DESK_WORDS;
 use reference::events::{self, Decision};
 use reference::message::MOST_WORDS;
-use reference::number::Refusal;
+use reference::number::{self, refuse_if, Refusal};
 use reference::order::{self, Choice};
 use reference::page;
+use reference::preview;
 use reference::roles::Role;
 use reference::state::STATE_WORDS;
 use reference::words;
@@ -28,10 +29,12 @@ pub enum Kind {
     Fetched,
     Prepared,
     Page,
+    Preview,
+    PreviewAll,
 }
 
 impl Kind {
-    /// The operations, which are the planner's.
+    /// The operations that a restart is made of, which are the planner's.
     pub const EVENTS: [Kind; 8] = [
         Kind::Fresh,
         Kind::CheckState,
@@ -41,6 +44,21 @@ impl Kind {
         Kind::Order,
         Kind::Fetched,
         Kind::Prepared,
+    ];
+
+    /// Every call.
+    pub const ALL: [Kind; 11] = [
+        Kind::Fresh,
+        Kind::CheckState,
+        Kind::Report,
+        Kind::Drop,
+        Kind::Decide,
+        Kind::Order,
+        Kind::Fetched,
+        Kind::Prepared,
+        Kind::Page,
+        Kind::Preview,
+        Kind::PreviewAll,
     ];
 
     pub fn name(self) -> &'static str {
@@ -54,14 +72,24 @@ impl Kind {
             Kind::Fetched => "fetched",
             Kind::Prepared => "prepared",
             Kind::Page => "page",
+            Kind::Preview => "preview",
+            Kind::PreviewAll => "preview_all",
         }
+    }
+
+    /// Whether the call changes neither state nor desk.
+    pub fn reads(self) -> bool {
+        matches!(
+            self,
+            Kind::CheckState | Kind::Order | Kind::Page | Kind::Preview | Kind::PreviewAll
+        )
     }
 
     /// Whether the call takes a node, or a page's subgroup.
     pub fn takes_node(self) -> bool {
         matches!(
             self,
-            Kind::Drop | Kind::Order | Kind::Fetched | Kind::Prepared | Kind::Page
+            Kind::Drop | Kind::Order | Kind::Fetched | Kind::Prepared | Kind::Page | Kind::Preview
         )
     }
 }
@@ -118,6 +146,14 @@ pub fn wait_word(reason: u32, value: Option<u32>) -> u32 {
     WAIT + 256 * reason + value.unwrap_or(0)
 }
 
+/// The answer word of a decision.
+fn decision_word(decision: Decision) -> u32 {
+    match decision {
+        Decision::Plan => PLAN,
+        Decision::Wait(wait) => wait_word(wait.reason(), wait.value()),
+    }
+}
+
 /// What the reference says of a call.
 pub fn expected(asked: &Asked) -> Outcome {
     expected_by(order::greedy, asked)
@@ -170,12 +206,26 @@ fn put_expected(choice: Choice, asked: &Asked, outcome: &mut Outcome) -> Result<
             outcome.buffer = words::to_bytes(&words::padded(&page, MOST_WORDS));
             return Ok(());
         }
+        Kind::Preview => {
+            let buffer = whole(&asked.buffer).len();
+            refuse_if(buffer != MOST_WORDS, number::LENT_LENGTH)?;
+            let (decision, copy) =
+                preview::preview_by(choice, role, settings, state, desk, asked.node)?;
+            outcome.answer = decision_word(decision);
+            outcome.buffer = words::to_bytes(&words::padded(&copy, MOST_WORDS));
+            return Ok(());
+        }
+        Kind::PreviewAll => {
+            let buffer = whole(&asked.buffer).len();
+            refuse_if(buffer != MOST_WORDS, number::LENT_LENGTH)?;
+            let lost = preview::losses_by(choice, role, settings, state, desk)?;
+            outcome.answer = ACCEPTED + 1;
+            outcome.buffer = words::to_bytes(&words::padded(&[lost], MOST_WORDS));
+            return Ok(());
+        }
         Kind::Decide => {
             let (decision, state) = events::decide_by(choice, role, settings, state, desk)?;
-            outcome.answer = match decision {
-                Decision::Plan => PLAN,
-                Decision::Wait(wait) => wait_word(wait.reason(), wait.value()),
-            };
+            outcome.answer = decision_word(decision);
             state
         }
     };
@@ -237,7 +287,7 @@ impl Pages {
     fn constant(&mut self, kind: Kind) -> Vec<&mut Lent> {
         let [settings, state, desk, message, _] = self.all();
         let mut constant = vec![settings, message];
-        if matches!(kind, Kind::CheckState | Kind::Order | Kind::Page) {
+        if kind.reads() {
             constant.push(state);
         }
         if kind != Kind::Report {
@@ -306,6 +356,12 @@ fn call_lent(planner: &Planner, pages: &mut Pages, asked: &Asked) -> u32 {
             Kind::Fetched => (planner.fetched)(role, settings, s, state, t, desk, d, node),
             Kind::Prepared => (planner.prepared)(role, settings, s, state, t, desk, d, node),
             Kind::Page => (planner.page)(role, settings, s, state, t, desk, d, node, buffer, b),
+            Kind::Preview => {
+                (planner.preview)(role, settings, s, state, t, desk, d, node, buffer, b)
+            }
+            Kind::PreviewAll => {
+                (planner.preview_all)(role, settings, s, state, t, desk, d, buffer, b)
+            }
         }
     }
 }

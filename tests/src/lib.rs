@@ -25,6 +25,7 @@
 //! - `plans`: the cases of the `plans` program, layouts that decide places
 //! - `pages`: the inputs of the `pages` program: roles and the pages of subgroups
 //! - `pairs`: worlds that agree on a subgroup and differ in the rest
+//! - `previews`: the inputs of the `previews` program
 //! - `regressions`, `recorder`: stored sequences of calls, read and written
 //! - `runs`: whole runs of the program `restart`
 //! - `moves`: moves files, the inputs of the program `mondays`
@@ -53,6 +54,7 @@ pub mod open_views;
 pub mod pages;
 pub mod pairs;
 pub mod plans;
+pub mod previews;
 pub mod random;
 pub mod recorder;
 pub mod records;

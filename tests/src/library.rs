@@ -1,6 +1,6 @@
 //! The C interface of the proved library, as tables of functions: one for
-//! settings, messages and open views, one for the planner's events and the pages
-//! of subgroups.
+//! settings, messages and open views, one for the planner's events, previews and
+//! the pages of subgroups.
 //!
 //! Every slice is a pointer and then a length in bytes. Every answer is a word
 //! whose highest byte is its class, see `Answer`.
@@ -132,7 +132,20 @@ pub type Write = unsafe extern "C" fn(
     usize,
 ) -> u32;
 
-/// The planner's events, and the pages of subgroups.
+/// A function of a role, settings, state, desk, and a buffer to be written.
+pub type WriteAll = unsafe extern "C" fn(
+    u32,
+    *const u8,
+    usize,
+    *const u8,
+    usize,
+    *const u8,
+    usize,
+    *mut u8,
+    usize,
+) -> u32;
+
+/// The planner's events, previews and the pages of subgroups.
 #[derive(Clone, Copy)]
 pub struct Planner {
     pub fresh: Fresh,
@@ -144,6 +157,8 @@ pub struct Planner {
     pub fetched: OfNode,
     pub prepared: OfNode,
     pub page: Write,
+    pub preview: Write,
+    pub preview_all: WriteAll,
 }
 
 /// The functions on settings, messages and open views.
@@ -302,6 +317,29 @@ mod linked {
             buffer: *mut u8,
             buffer_len: usize,
         ) -> u32;
+        pub fn restart_preview(
+            role: u32,
+            settings: *const u8,
+            settings_len: usize,
+            state: *const u8,
+            state_len: usize,
+            desk: *const u8,
+            desk_len: usize,
+            node: u32,
+            buffer: *mut u8,
+            buffer_len: usize,
+        ) -> u32;
+        pub fn restart_preview_all(
+            role: u32,
+            settings: *const u8,
+            settings_len: usize,
+            state: *const u8,
+            state_len: usize,
+            desk: *const u8,
+            desk_len: usize,
+            buffer: *mut u8,
+            buffer_len: usize,
+        ) -> u32;
     }
 }
 
@@ -339,6 +377,8 @@ pub fn tested_planner() -> Planner {
         fetched: linked::restart_fetched,
         prepared: linked::restart_prepared,
         page: linked::restart_page,
+        preview: linked::restart_preview,
+        preview_all: linked::restart_preview_all,
     }
 }
 

@@ -114,6 +114,8 @@ pub fn planner<B: Behaviour>() -> Planner {
         fetched: fetched::<B>,
         prepared: prepared::<B>,
         page: page::<B>,
+        preview: preview::<B>,
+        preview_all: preview_all::<B>,
     }
 }
 
@@ -231,6 +233,24 @@ macro_rules! written {
 
 written!(order, Kind::Order);
 written!(page, Kind::Page);
+written!(preview, Kind::Preview);
+
+unsafe extern "C" fn preview_all<B: Behaviour>(
+    role: u32,
+    settings: *const u8,
+    settings_len: usize,
+    state: *const u8,
+    state_len: usize,
+    desk: *const u8,
+    desk_len: usize,
+    buffer: *mut u8,
+    buffer_len: usize,
+) -> u32 {
+    let (settings, state) = ((settings, settings_len), (state, state_len));
+    let buffer = (buffer.cast_const(), buffer_len);
+    let pieces = [settings, state, (desk, desk_len), NONE, buffer];
+    event::<B>(role, Kind::PreviewAll, pieces, 0)
+}
 
 macro_rules! of_node {
     ($name:ident, $kind:expr) => {

@@ -104,7 +104,7 @@ pub fn every_word(
     let greater =
         (11..32).flat_map(|bit| [0, PLANNER, WATCHER, WATCHER + 3].map(|low| (1 << bit) + low));
     for role in (0..=FIRST_WORDS).chain(greater) {
-        for kind in Kind::EVENTS.into_iter().chain([Kind::Page]) {
+        for kind in Kind::ALL {
             let asked = Asked {
                 role,
                 kind,

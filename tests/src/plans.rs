@@ -65,7 +65,7 @@ impl Size {
 pub struct Case {
     pub size: Size,
     pub asked: Asked,
-    places: [Place; 5],
+    pub places: [Place; 5],
     /// The name of the fault in what is lent, if there is one.
     pub fault: Option<&'static str>,
 }
@@ -81,10 +81,16 @@ pub fn case(seed: u64, size: Size, index: u64) -> Case {
         Size::Small => small_settings(random),
         Size::Large => large_settings(random),
     };
+    let often = random.pick(&[60, 75, 90, 90, 100]);
+    case_of(random, size, words, often)
+}
+
+/// A case of these settings, where so many nodes of a hundred are held.
+pub fn case_of(random: &mut Random, size: Size, words: Vec<u32>, often: u32) -> Case {
     let settings = settings::parse(&words).expect("generated settings are good");
     let view = view(random, &settings);
     let world = world(random, words, &view);
-    let (held, stale) = held(random, &settings, &view);
+    let (held, stale) = held(random, &settings, &view, often);
     let mut asked = Asked {
         role: PLANNER,
         kind: Kind::Decide,
@@ -234,8 +240,7 @@ fn world(random: &mut Random, words: Vec<u32>, view: &View) -> World {
 
 /// The held nodes, and those of them that report the older view. Mostly a
 /// majority is held, and of each shard a member that reports the kept view.
-fn held(random: &mut Random, settings: &Settings, view: &View) -> (u32, u32) {
-    let often = random.pick(&[60, 75, 90, 90, 100]);
+fn held(random: &mut Random, settings: &Settings, view: &View, often: u32) -> (u32, u32) {
     let mut held = 0;
     for node in 0..settings.nodes {
         if random.chance(often) {

@@ -12,6 +12,7 @@
 //! decide = ANSWER                      check_state alike
 //! drop N = ANSWER                      order, fetched, prepared alike
 //! page SUBGROUP = ANSWER
+//! preview N = ANSWER                   preview_all = ANSWER
 //! as WORD LINE                         the call in the role of that word, else the planner's
 //! set PIECE INDEX WORD                 a word of settings, state or desk
 //! bytes PIECE LENGTH                   for the next call: also message and buffer
@@ -19,6 +20,8 @@
 //! plan VIEW MOVES                      must be so
 //! shard S holder N target V.K members N ..
 //! cut S V.K                            of the last order
+//! first WORD ..                        must be so: the buffer's first words; all others are zero
+//! next INDEX WORD .. | INDEX WORD ..   must be so: the buffer is the state with these words from there on, then zeros
 //! shows WORD .. | HOLDER .. | V K .. | MASK ..   the last page from words 0, 8, 24 and 56; all others are zero
 //! each FROM TO LINE                    the line with each number in the place of $
 //! ```
@@ -187,6 +190,8 @@ impl Player<'_> {
                 return same(is, value(word)?);
             }
             ("shows", parts) => return self.shows(parts),
+            ("first", words) => return self.buffer_is(&values(words)?),
+            ("next", parts) => return self.next(parts),
             ("plan", [view, moves]) => {
                 same(self.word("state", 55)?, value(view)?)?;
                 return same(self.word("state", 57)?, value(moves)?);
@@ -230,11 +235,26 @@ impl Player<'_> {
     fn shows(&mut self, parts: &[&str]) -> Check {
         let mut page = vec![0; BUFFER_BYTES / 4];
         for (part, first) in parts.split(|&part| part == "|").zip([0, 8, 24, 56]) {
-            let own = values(part)?;
-            page[first..first + own.len()].copy_from_slice(&own);
+            put(&mut page, first, &values(part)?)?;
         }
-        for (index, &wanted) in page.iter().enumerate() {
-            let said = same(self.word("buffer", index)?, wanted);
+        self.buffer_is(&page)
+    }
+
+    /// Whether the last preview leads to the state with other words, each part
+    /// from its place on.
+    fn next(&mut self, parts: &[&str]) -> Check {
+        let mut next = words::whole_words(&self.table.state);
+        for part in parts.split(|&part| part == "|") {
+            let (first, own) = part.split_first().ok_or("a part without its place")?;
+            put(&mut next, value(first)? as usize, &values(own)?)?;
+        }
+        self.buffer_is(&next)
+    }
+
+    /// Whether the buffer has these words, and zeros after them.
+    fn buffer_is(&mut self, wanted: &[u32]) -> Check {
+        for (index, wanted) in words::padded(wanted, BUFFER_BYTES / 4).iter().enumerate() {
+            let said = same(self.word("buffer", index)?, *wanted);
             said.map_err(|what| format!("word {index} is {what}"))?;
         }
         Ok(())
@@ -290,8 +310,7 @@ impl Player<'_> {
 
 fn kind(name: &str) -> Result<Kind, String> {
     let name = if name == "message" { "report" } else { name };
-    let mut kinds = Kind::EVENTS.into_iter().chain([Kind::Page]);
-    let kind = kinds.find(|kind| kind.name() == name);
+    let kind = Kind::ALL.into_iter().find(|kind| kind.name() == name);
     kind.ok_or(format!("{name} is no call"))
 }
 
@@ -305,6 +324,15 @@ fn lengthen(asked: &mut Asked, piece: &str, length: usize) -> Check {
         _ => return Err(format!("{piece} is not lent")),
     };
     bytes.resize(length, 0);
+    Ok(())
+}
+
+/// Puts words in the place of others.
+fn put(words: &mut [u32], first: usize, own: &[u32]) -> Check {
+    let place = words.get_mut(first..first + own.len());
+    place
+        .ok_or("more words than there are")?
+        .copy_from_slice(own);
     Ok(())
 }
 

@@ -32,7 +32,7 @@ pub struct Tally {
 }
 
 /// The answers that a call has, without lengths, values and indexes.
-fn wanted(kind: Kind) -> Vec<String> {
+pub fn wanted(kind: Kind) -> Vec<String> {
     let (good, numbers): (&[&str], &[u32]) = match kind {
         Kind::Fresh => (&["accepted"], &[3]),
         Kind::CheckState => (&["accepted"], &[1, 2, 3]),
@@ -47,6 +47,11 @@ fn wanted(kind: Kind) -> Vec<String> {
         Kind::Order => (&["length"], &[1, 2, 3, 4, 6, 14]),
         Kind::Drop | Kind::Fetched | Kind::Prepared => (&["accepted"], &[1, 2, 3, 4, 6, 14]),
         Kind::Page => (&["length"], &[1, 2, 3, 15]),
+        Kind::Preview => (
+            &["plan", "wait 2", "wait 3", "wait 4", "wait 5"],
+            &[1, 2, 15, 3, 4, 6, 14],
+        ),
+        Kind::PreviewAll => (&["length"], &[1, 2, 15, 3, 4]),
     };
     let numbers = numbers.iter().map(|number| format!("number {number}"));
     let good = good.iter().map(|answer| answer.to_string());
@@ -54,7 +59,7 @@ fn wanted(kind: Kind) -> Vec<String> {
 }
 
 /// An answer without its length, value and index.
-fn class(answer: Answer) -> String {
+pub fn class(answer: Answer) -> String {
     match answer {
         Answer::Length(_) => "length".into(),
         Answer::Located(number, _) => format!("number {number}"),

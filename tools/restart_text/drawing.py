@@ -1,6 +1,7 @@
 """An answer as a picture (SVG): above the machines, grouped by failure set, below the shards, grouped by subgroup.
 
-In a plan a thick arrow is a move, a thin dotted line a machine that stays. In a wait a line leads from each machine to the shards
+In a plan a thick arrow is a move, a thin dotted line a machine that stays in its shard; a machine that may not be taken out for repair has
+a red frame. In a wait a line leads from each machine to the shards
 that it carried in the kept view, and a list says which conditions are met. Each shard has a colour, and its number stands wherever
 the colour does, so that the picture can be read in black and white."""
 from .answers import Plan
@@ -28,6 +29,7 @@ class Picture:
         self.wanted = frozenset(found.sets[0]) if found and found.sets else frozenset()
         self.instead = frozenset().union(*found.sets) - self.wanted if found else frozenset()
         self.stale = dict(stale(self.gathered)) if self.kept else {}
+        self.needed = frozenset(told.repair.must) if told.repair else frozenset()
         shards = range(len(self.settings.shards))
         self.logs = [holding(self.gathered, shard) if self.kept else None for shard in shards]
         self.short = [group_number for group_number in range(4) if not self.plan and shortage(self.gathered, group_number)]
@@ -117,6 +119,8 @@ class Picture:
             return "or this", BLUE, BLUE, 1, "6 3"
         if node not in self.gathered.held:
             return "absent", GREY, GREY, 1, "4 3"
+        if node in self.needed:
+            return ("must stay, view %d" % self.stale[node] if node in self.stale else "must stay"), RED, RED, 2.5, None
         if node in self.stale:
             return "view %d" % self.stale[node], AMBER, AMBER, 2, None
         return "", "#000000", "#000000", 1.5, None
@@ -218,6 +222,7 @@ class Picture:
         if self.plan:
             signs = [(42, "moves in", level_arrow), (42, "stays", stroke(GREY, "1.5 3")),
                      (28, "moves to shard n", tag(square, True))] + signs
+            signs += [(42, "must stay: it would wait without", stroke(RED, None))] * bool(self.needed)
         else:
             signs = [(42, "back", stroke("#000000", None)), (42, "older view", stroke(AMBER, "1.5 3")),
                      (42, "absent", stroke(GREY, "6 4")), (42, "to switch on", stroke(BLUE, "6 4"))] + signs

@@ -7,6 +7,7 @@ from .gathering import Gathered, gather, waits
 from .ordering import First, first_placement
 from .planning import faults, plan_lines
 from .refusing import ADVICE, block_name, refusal_lines, to_do
+from .repairing import Repair, repair, repair_differences, repair_lines
 from .sentences import machines
 from .telling import plan_advice, refusal_advice, wait_advice
 from .waiting import wait_lines
@@ -22,15 +23,16 @@ class Explanation:
     lines: list = field(default_factory=list)
     asked: int = 0  # how often the program was started
     first: First | None = None  # for a plan: the placement that it must have
+    repair: Repair | None = None  # for a plan: who may be taken out, where that was asked for
 
     @property
     def agrees(self):
         return not self.differing
 
 
-def explain(given, answer, fault=None, program=None, gone=frozenset()):
+def explain(given, answer, fault=None, program=None, gone=frozenset(), library=None):
     """`fault` is the block that the program refuses, where the program was asked; else it is found by reading. Where there is a
-    program, it is asked about other inputs as well, for advice."""
+    program, it is asked about other inputs as well, for advice. `library` is the Source that is asked who may be taken out."""
     gathered = gather(given.blocks, given.names)
     first = first_placement(gathered) if isinstance(answer, Plan) and not gathered.refused and not waits(gathered) else None
     told = Explanation(answer, gathered, fault, differences(gathered, given, answer, fault, first), first=first)
@@ -39,6 +41,9 @@ def explain(given, answer, fault=None, program=None, gone=frozenset()):
     if told.agrees:
         told.advice = advise(given, gathered, answer, told.fault, program, gone)
         told.differing = supposed_differences(gathered.settings, told.advice.found)
+    if told.agrees and library and isinstance(answer, Plan):
+        told.repair = repair(given, gathered, library)
+        told.differing = repair_differences(gathered.settings, told.repair)
     if isinstance(answer, Number):
         told.lines = refusal_lines(answer, told.fault, given, gathered)
         told.lines += refusal_advice(given, gathered, told.advice, block_name)
@@ -46,7 +51,8 @@ def explain(given, answer, fault=None, program=None, gone=frozenset()):
     elif told.agrees and isinstance(answer, Wait):
         told.lines = parts(wait_advice(gathered, answer, told.advice, program), summary(gathered), waiting(gathered, answer))
     elif told.agrees:
-        told.lines = parts(plan_advice(gathered, answer, told.advice), summary(gathered), plan_lines(gathered, answer, told.first))
+        first = plan_advice(gathered, answer, told.advice) + (repair_lines(gathered, told.repair) if told.repair else [])
+        told.lines = parts(first, summary(gathered), plan_lines(gathered, answer, told.first))
     told.lines += warning(told.differing)
     told.asked = program.asked if program else 0
     return told
@@ -57,10 +63,10 @@ def parts(first, second, third):
     return first + [""] + second + [""] + third
 
 
-def asked(given, program, gone=frozenset()):
+def asked(given, program, gone=frozenset(), library=None):
     """What the program answers to this input, explained."""
     answer = program.ask(given.blocks)
-    return explain(given, answer, program.fault(given.blocks) if isinstance(answer, Number) else None, program, gone)
+    return explain(given, answer, program.fault(given.blocks) if isinstance(answer, Number) else None, program, gone, library)
 
 
 def summary(gathered):

@@ -6,6 +6,7 @@ from .explaining import stale
 from .gathering import holding, waits
 from .planning import log_of, moves, not_kept
 from .publishing import lines as page_lines
+from .repairing import why
 from .waiting import wait_lines
 
 SCHEMA = CONVERT_SCHEMA = PUBLISHER_SCHEMA = 1
@@ -69,7 +70,14 @@ def plan_value(gathered, plan, told):
             "moves": [{"node": node, "from": before, "to": shard} for node, before, shard in moves(gathered, plan)],
             "not_kept": [{"node": node, "shard": shard, "to": other} for node, shard, other in not_kept(gathered, plan)],
             "as_few_moves": told.first.others,
-            "with_one_more": [{"node": node, "moves": count} for node, count in sorted(told.advice.savings.items())]}
+            "with_one_more": [{"node": node, "moves": count} for node, count in sorted(told.advice.savings.items())],
+            "repair": repair_value(gathered, told.repair) if told.repair else None}
+
+
+def repair_value(gathered, found):
+    return {"asked": not found.trouble, "may_go": [{"node": node, "moves": count} for node, count in found.may.items()],
+            "must_stay": [{"node": node, "reason": wait.reason, "value": wait.value, "text": why(gathered, wait, node)}
+                          for node, wait in found.must.items()]}
 
 
 def log_value(log):

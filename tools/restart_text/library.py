@@ -1,10 +1,12 @@
-"""Asking the library for C: which one it is, its calls that convert reports, and a restart of its own up to a subgroup's page."""
+"""Asking the library for C: which one it is, its calls that convert reports, and a restart of its own up to a subgroup's page or to
+previews."""
 import ctypes
 import os
 import sys
+from dataclasses import dataclass
 
 from . import words
-from .answers import BadAnswer, Number
+from .answers import BadAnswer, Number, Wait
 from .asking import HERE
 from .encode import settings_words
 from .model import LOCATED, MOST_RECORDS
@@ -12,8 +14,11 @@ from .model import LOCATED, MOST_RECORDS
 SONAME = "librestart.so.1"
 # The calls, each with its arguments: n is a number, r a piece that is read, w one that is written.
 CONVERTING = {"restart_from_flat": "rrw", "restart_to_flat": "rrw"}
-WATCHING = {"restart_page": "nrrrnw", "restart_watcher": "n", "restart_fresh": "nw", "restart_report": "nrwwr"}
-CLASS, LENGTH, REFUSAL = 16777216, 1, 0  # an answer is class x 16777216 + rest
+REPORTING = {"restart_fresh": "nw", "restart_report": "nrwwr"}
+WATCHING = {"restart_page": "nrrrnw", "restart_watcher": "n", **REPORTING}
+PREVIEWING = {"restart_preview": "nrrrnw", "restart_preview_all": "nrrrw", **REPORTING}
+CLASS, REFUSAL, LENGTH, PLAN, WAIT = 16777216, 0, 1, 2, 3  # an answer is class x 16777216 + rest
+MOVES = 57  # the word of a state that has its plan's moves
 PLANNER = 256
 STATE_BYTES, DESK_BYTES, BUFFER_BYTES = 640, 65536, 16 * MOST_RECORDS
 WORD, SIZE = ctypes.c_uint32, ctypes.c_size_t
@@ -88,8 +93,8 @@ class Library:
 class Restart:
     """A restart in the library, from the fresh state on: the planner reports, a subgroup's watcher reads its page."""
 
-    def __init__(self, path, settings):
-        self.calls = loaded(path, WATCHING, "have pages")
+    def __init__(self, path, settings, calls=WATCHING, what="have pages"):
+        self.calls = loaded(path, calls, what)
         self.settings = words.to_bytes(settings)
         self.state, self.desk = (ctypes.create_string_buffer(size) for size in (STATE_BYTES, DESK_BYTES))
         if self.calls.restart_fresh(*lent(PLANNER, self.state)):
@@ -107,3 +112,42 @@ class Restart:
         role = self.calls.restart_watcher(subgroup)
         answer = self.calls.restart_page(*lent(role, self.settings, self.state, self.desk, subgroup, buffer))
         return taken("restart_page", answer, buffer)
+
+
+@dataclass(frozen=True)
+class Foreseen:
+    """A plan that would come of a drop."""
+
+    moves: int
+
+
+class Previews(Restart):
+    """A restart in the library after these reports, and what would be decided without a machine."""
+
+    def __init__(self, path, blocks):
+        super().__init__(path, blocks[0], PREVIEWING, "have previews")
+        for block in blocks[1:]:
+            refused = self.report(block)
+            if refused:
+                raise BadAnswer("the library refuses a report with number %d, which the program takes" % refused.number)
+
+    def without(self, node):
+        """What would be decided without a held machine: Foreseen or Wait."""
+        buffer = ctypes.create_string_buffer(BUFFER_BYTES)
+        answer = self.calls.restart_preview(*lent(PLANNER, self.settings, self.state, self.desk, node, buffer))
+        kind, rest = divmod(answer, CLASS)
+        reason, value = divmod(rest, 256)
+        if kind == PLAN:
+            return Foreseen(words.from_bytes(buffer.raw)[MOVES])
+        if kind != WAIT or not 1 <= reason <= 5:
+            raise BadAnswer("restart_preview answers %d for a held machine, which is neither a plan nor a wait" % answer)
+        return Wait(reason, value if reason > 3 else None)
+
+    def must_stay(self):
+        """The machines without which it would wait."""
+        buffer = ctypes.create_string_buffer(BUFFER_BYTES)
+        answer = self.calls.restart_preview_all(*lent(PLANNER, self.settings, self.state, self.desk, buffer))
+        found = taken("restart_preview_all", answer, buffer)
+        if isinstance(found, Number):
+            raise BadAnswer("restart_preview_all refuses with number %d what restart_preview takes" % found.number)
+        return words.nodes_of(found[0])

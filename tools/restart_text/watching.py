@@ -45,15 +45,16 @@ def stamped(path):
     return path, state.st_mtime_ns, state.st_size
 
 
-def look(files, program, gone, names):
-    """The lines of the explanation for these files, and the exit status. `gone` gives the lost machines, by the machines' names."""
+def look(files, program, gone, names, library=None):
+    """The lines of the explanation for these files, and the exit status. `gone` gives the lost machines, by the machines' names;
+    `library` is the Source that is asked who may be taken out."""
     try:
         paths = [path for path, *_ in files]
         if not paths or os.path.basename(paths[0]) not in SETTINGS:
             raise Trouble("there is no settings.txt or settings.bin")
         given = join(paths, anyway=True)
         given.names = read_names(names) if names else given.names
-        told = asked(given, program, gone(given.names))
+        told = asked(given, program, gone(given.names), library)
         return told.lines, status_of(told)
     except Unfit as trouble:
         return [str(trouble)], REFUSAL

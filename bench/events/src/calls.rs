@@ -4,7 +4,7 @@ use crate::inputs::Input;
 use differential::library::{self, Library, Planner};
 use reference::message::{self, Form};
 use reference::roles::{Role, PLANNER};
-use reference::{events, page, settings, words};
+use reference::{events, page, preview, settings, words};
 use std::hint::black_box;
 
 #[derive(Clone, Copy, Debug, PartialEq, Eq)]
@@ -17,6 +17,8 @@ pub enum Call {
     Order,
     Fetched,
     Prepared,
+    Preview,
+    PreviewAll,
     Page,
     CheckSettings,
     ReadReport,
@@ -35,6 +37,7 @@ impl Call {
         Call::Fetched,
         Call::Prepared,
     ];
+    pub const PREVIEWS: [Call; 2] = [Call::Preview, Call::PreviewAll];
     pub const MESSAGES: [Call; 5] = [
         Call::CheckSettings,
         Call::ReadReport,
@@ -46,6 +49,7 @@ impl Call {
     pub fn all() -> Vec<Call> {
         let mut all = vec![Call::Fresh];
         all.extend(Call::EVENTS);
+        all.extend(Call::PREVIEWS);
         all.push(Call::Page);
         all.extend(Call::MESSAGES);
         all
@@ -62,6 +66,8 @@ impl Call {
             Call::Order => "order",
             Call::Fetched => "fetched",
             Call::Prepared => "prepared",
+            Call::Preview => "preview",
+            Call::PreviewAll => "preview_all",
             Call::Page => "page",
             Call::CheckSettings => "check_settings",
             Call::ReadReport => "read_report",
@@ -134,6 +140,16 @@ impl Ready {
         }
     }
 
+    /// The same after a drop of the node.
+    pub fn without_node(mut self) -> Ready {
+        let call = std::mem::replace(&mut self.call, Call::Drop);
+        assert_eq!(self.make(), 0, "a held node");
+        self.call = call;
+        self.before.clone_from(&self.states[0]);
+        self.restore();
+        self
+    }
+
     /// Makes the states what they were. A report leaves the desk as it is, for
     /// it brings what the slot has.
     pub fn restore(&mut self) {
@@ -146,9 +162,19 @@ impl Ready {
         &self.desk
     }
 
-    /// Whether the last call was accepted.
-    pub fn accepted(answer: u32) -> bool {
-        answer == 0 || (library::ACCEPTED..library::WAIT).contains(&answer)
+    /// Whether the last call was accepted. A preview may wait, and so may a decide
+    /// without the node.
+    pub fn accepted(&self, answer: u32) -> bool {
+        let most = match self.call {
+            Call::Preview | Call::Decide => library::VIEW,
+            _ => library::WAIT,
+        };
+        answer == 0 || (library::ACCEPTED..most).contains(&answer)
+    }
+
+    /// The first word of the buffer.
+    pub fn first_word(&self) -> u32 {
+        words::whole_words(&self.buffer)[0]
     }
 
     pub fn make(&mut self) -> u32 {
@@ -183,6 +209,12 @@ impl Ready {
                 }
                 Call::Fetched => (planner.fetched)(role, settings, s, state, t, desk, d, node),
                 Call::Prepared => (planner.prepared)(role, settings, s, state, t, desk, d, node),
+                Call::Preview => {
+                    (planner.preview)(role, settings, s, state, t, desk, d, node, buffer, b)
+                }
+                Call::PreviewAll => {
+                    (planner.preview_all)(role, settings, s, state, t, desk, d, buffer, b)
+                }
                 Call::Page => (planner.page)(role, settings, s, state, t, desk, d, node, buffer, b),
                 Call::CheckSettings => (library.check_settings)(settings, s),
                 Call::ReadReport => (library.read_report)(settings, s, given, g, buffer, b),
@@ -223,6 +255,10 @@ pub fn by_reference(call: Call, input: &Input, node: u32) {
         Call::Prepared => drop(black_box(events::prepared(
             role, settings, state, desk, node,
         ))),
+        Call::Preview => drop(black_box(preview::preview(
+            role, settings, state, desk, node,
+        ))),
+        Call::PreviewAll => drop(black_box(preview::losses(role, settings, state, desk))),
         Call::Page => {
             let page = page::page(role, settings, state, desk, node, 512);
             drop(black_box(page));

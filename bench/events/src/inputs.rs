@@ -47,7 +47,27 @@ pub struct Input {
 pub fn input(size: Size, index: u64) -> Input {
     let random = &mut Random::of_input(SEED, index);
     let settings = settings_words(random, size);
-    let messages = reports(random, size, &settings, index % 2 == 1);
+    let masks = old_masks(random, &settings);
+    input_of(random, size, settings, &masks, index)
+}
+
+/// The members of each shard in the kept view: any.
+pub fn old_masks(random: &mut Random, settings: &[u32]) -> Vec<u32> {
+    let settings = settings::parse(settings).expect("good settings");
+    let members = mask::below(settings.nodes);
+    generate::shard_masks(random, &settings, members, 0)
+}
+
+/// Input `index` of a size with these settings, and these members of each shard
+/// in the kept view.
+pub fn input_of(
+    random: &mut Random,
+    size: Size,
+    settings: Vec<u32>,
+    masks: &[u32],
+    index: u64,
+) -> Input {
+    let messages = reports(random, size, masks, index % 2 == 1);
     let mut gathered = state::encode(&state::fresh());
     let mut desk = vec![0; DESK_WORDS];
     for message in &messages {
@@ -107,15 +127,13 @@ fn settings_words(random: &mut Random, size: Size) -> Vec<u32> {
 }
 
 /// The messages of all nodes.
-fn reports(random: &mut Random, size: Size, settings: &[u32], terminated: bool) -> Vec<Vec<u32>> {
-    let settings = settings::parse(settings).expect("good settings");
+fn reports(random: &mut Random, size: Size, masks: &[u32], terminated: bool) -> Vec<Vec<u32>> {
     let members = mask::below(size.nodes);
-    let masks = generate::shard_masks(random, &settings, members, 0);
     let beside = 1 + size.shards * (1 + u32::from(terminated));
     let runs = size.runs.min(128 - beside);
     let report = |random: &mut Random, node: u32| {
         let mut records = Vec::new();
-        for (shard, &own) in (0..).zip(&masks) {
+        for (shard, &own) in (0..).zip(masks) {
             records.push(Triple::new(MEMBERS, shard, own, 0));
         }
         if terminated {

@@ -7,14 +7,20 @@
 //!   `restart`, with so many reports more after the last node's
 //! - `events-bench stack [COUNT]`: the deepest stack of each call
 //! - `events-bench names`: the calls
-//! - `events-bench once CALL [INDEX]`: makes one call on a full-size input,
-//!   inside the function `measured`, for a program that counts instructions
+//! - `events-bench previews [COUNT]`: previews beside decide, for each kind of
+//!   layout
+//! - `events-bench kinds`: these kinds
+//! - `events-bench once CALL [INDEX [KIND [without]]]`: makes one call on a
+//!   full-size input, or on one of a kind, whose node INDEX is then previewed, or
+//!   dropped before, inside the function `measured`, for a program that counts
+//!   instructions
 
 mod calls;
 mod compare;
 mod inputs;
 mod layouts;
 mod peer;
+mod previews;
 mod ratios;
 mod stack;
 mod times;
@@ -62,12 +68,21 @@ fn main() -> ExitCode {
                 println!("no such call");
                 return ExitCode::FAILURE;
             };
-            let index = argument(3).and_then(|a| a.parse().ok()).unwrap_or(0);
-            let mut ready = Ready::new(call, &inputs::input(inputs::FULL, index), 0);
+            let given = |at| argument(at).and_then(|a| a.parse::<u64>().ok());
+            let index = given(3).unwrap_or(0);
+            let mut ready = match given(4) {
+                None => Ready::new(call, &inputs::input(inputs::FULL, index), 0),
+                Some(kind) => previews::ready(call, kind as usize, index),
+            };
+            if argument(5).is_some() {
+                ready = ready.without_node();
+            }
             println!("answer {}", measured(&mut ready));
         }
+        "previews" => previews::print(number(40)),
+        "kinds" => previews::names().iter().for_each(|name| println!("{name}")),
         _ => {
-            println!("times, peer, compare, blocks, stack, names or once");
+            println!("times, peer, compare, blocks, stack, names, previews, kinds or once");
             return ExitCode::FAILURE;
         }
     }

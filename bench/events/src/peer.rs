@@ -79,7 +79,7 @@ mod linked {
     }
 }
 
-/// The peer has no pages: no call answers with this word.
+/// The peer has no pages and no previews: no call answers with this word.
 unsafe extern "C" fn no_page(
     _role: u32,
     _settings: *const u8,
@@ -89,6 +89,21 @@ unsafe extern "C" fn no_page(
     _desk: *const u8,
     _desk_len: usize,
     _subgroup: u32,
+    _buffer: *mut u8,
+    _buffer_len: usize,
+) -> u32 {
+    u32::MAX
+}
+
+/// And no previews.
+unsafe extern "C" fn no_preview_all(
+    _role: u32,
+    _settings: *const u8,
+    _settings_len: usize,
+    _state: *const u8,
+    _state_len: usize,
+    _desk: *const u8,
+    _desk_len: usize,
     _buffer: *mut u8,
     _buffer_len: usize,
 ) -> u32 {
@@ -106,5 +121,7 @@ pub fn planner() -> Planner {
         fetched: linked::peer_fetched,
         prepared: linked::peer_prepared,
         page: no_page,
+        preview: no_page,
+        preview_all: no_preview_all,
     }
 }

@@ -30,7 +30,7 @@ impl Times {
 }
 
 /// The least of some runs: what another process took away is not counted.
-fn least_of(runs: u32, mut run: impl FnMut() -> f64) -> f64 {
+pub fn least_of(runs: u32, mut run: impl FnMut() -> f64) -> f64 {
     (0..runs).map(|_| run()).fold(f64::INFINITY, f64::min)
 }
 
@@ -40,12 +40,12 @@ pub fn microseconds(run: impl FnOnce()) -> f64 {
     from.elapsed().as_secs_f64() * 1e6
 }
 
-fn library_time(ready: &mut Ready) -> f64 {
+pub fn library_time(ready: &mut Ready) -> f64 {
     least_of(RUNS, || {
         ready.restore();
         let mut answer = 0;
         let time = microseconds(|| answer = ready.make());
-        assert!(Ready::accepted(answer), "answer {answer}");
+        assert!(ready.accepted(answer), "answer {answer}");
         time
     })
 }
@@ -55,7 +55,7 @@ fn library_time(ready: &mut Ready) -> f64 {
 pub fn nodes(call: Call, input: &Input) -> Vec<u32> {
     let last = input.nodes - 1;
     match call {
-        Call::Decide => vec![0],
+        Call::Decide | Call::PreviewAll => vec![0],
         Call::Page => (0..SUBGROUPS).collect(),
         _ => vec![0, last / 3, last / 2, last],
     }
@@ -146,7 +146,10 @@ pub fn print(count: u64) {
     let (own, reference) = whole_restart(&medians);
     println!("\nA whole restart (32 reports, decide, 32 orders, 32 fetched, 32 prepared): {own:.2} ms, the reference {reference:.1} ms.\n");
     ratios::print(&full, count);
-    println!("### Pages at full size\n");
+    println!("### Previews at full size\n");
+    println!("While gathering, of some nodes and of all; microseconds.\n");
+    calls_table(&Call::PREVIEWS, &full);
+    println!("\n### Pages at full size\n");
     println!("While gathering, each of the four subgroups; microseconds.\n");
     calls_table(&[Call::Page], &full);
     println!("\n### Settings and messages at full size\n");

@@ -19,7 +19,7 @@ fn wait_word(reason: u32, value: u32) -> u32
 }
 
 // A wait by its reason.
-fn reason_word(reason: Reason) -> u32
+pub fn reason_word(reason: Reason) -> u32
     requires { ⌜ valueOf reason ≤ 16 ⌝ }
     ensures { λ r. ⌜ r ≡ waitWord (numberOf reason) (valueOf reason) ⌝ }
 {

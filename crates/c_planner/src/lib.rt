@@ -11,6 +11,7 @@ ghost use Rattle.c_report.specs.ReportCalls.{reportAnswer, reportLeaves, report
 ghost use Rattle.c_decide.specs.Decisions.{DecideCall};
 ghost use Rattle.c_order.specs.OrderCalls.{orderAnswer, orderLeaves};
 ghost use Rattle.c_page.specs.PageCalls.{PageCall};
+ghost use Rattle.c_preview.specs.PreviewCalls.{PreviewCall, WarnCall};
 ghost use Rattle.c_views.specs.ViewAnswers.{openViewAnswer};
 
 // 0 where the settings are right, else 2.
@@ -204,4 +205,33 @@ pub extern "C" fn restart_page(
     ensures { λ r. ⌜ PageCall role (now (settings .entry)) (now (state .entry)) (now (desk .entry)) subgroup (now (buffer .entry)) r (now (buffer .exit)) ⌝ }
 {
     c_page::page(role, settings, state, desk, subgroup, buffer)
+}
+
+// What decide would answer without a held node, while gathering: rows 1 (desk or buffer), 2, 15, 3, 4, 6 and 14.
+#[no_mangle]
+pub extern "C" fn restart_preview(
+    role: u32,
+    settings: &[u8],
+    state: &[u8],
+    desk: &[u8],
+    node: u32,
+    buffer: &mut [u8],
+) -> u32
+    ensures { λ r. ⌜ PreviewCall role (now (settings .entry)) (now (state .entry)) (now (desk .entry)) node (now (buffer .entry)) r (now (buffer .exit)) ⌝ }
+{
+    c_preview::preview(role, settings, state, desk, node, buffer)
+}
+
+// Writes the mask of the held nodes whose loss means waiting, while gathering: rows 1 (desk or buffer), 2, 15, 3 and 4.
+#[no_mangle]
+pub extern "C" fn restart_preview_all(
+    role: u32,
+    settings: &[u8],
+    state: &[u8],
+    desk: &[u8],
+    buffer: &mut [u8],
+) -> u32
+    ensures { λ r. ⌜ WarnCall role (now (settings .entry)) (now (state .entry)) (now (desk .entry)) (now (buffer .entry)) r (now (buffer .exit)) ⌝ }
+{
+    c_preview::preview_all(role, settings, state, desk, buffer)
 }

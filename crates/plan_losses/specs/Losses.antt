@@ -8,7 +8,7 @@ use native.Mathlib.Omega.{arith}
 use lib.Dec.{eqb}
 use borrow.Author.Tests.{eqb-true, eq-eqb}
 use Rattle.base_laws.specs.Bools.{either, clash, or-holds, or-fails-left, or-fails-right, lt-or-le, eq-or-ne}
-use Rattle.base_laws.specs.Masks.{has, count, with, without, has-with, has-zero, has-below, minus-subset, without-lt, ext-all}
+use Rattle.base_laws.specs.Masks.{has, with, without, has-with, has-zero, has-below, minus-subset, without-lt, ext-all}
 use Rattle.settings_values.specs.Settings.{nodes, Settings}
 use Rattle.place_groups.specs.Placements.{groupValid, Lowest}
 use Rattle.report_views.specs.Quorums.{quorumOf}
@@ -20,7 +20,6 @@ use Rattle.report_views.specs.declared.Termination.{Termination}
 use Rattle.plan_masks.specs.Masks.{quorumIn}
 use Rattle.plan_masks.specs.Counting.{Given, fewer-given, quorum-given}
 use Rattle.plan_masks.specs.Numbered.{Placeable, Allowed, short-met}
-use Rattle.plan_losses.specs.Needs.{groupNeeds, Needed, needs-exceed}
 
 -- waits 1 to 4 by the masks ms, and by the desk d
 abbrev pub quorumsIn : List ℕ → Layout → List ℕ → ℕ → Quorum
@@ -78,6 +77,10 @@ pub record LostBelow (σ : List ℕ) (held : ℕ) (Q : ℕ → Quorum) (k m : �
 abbrev pub PlacedBelow : List ℕ → ℕ → ℕ → Type 0
 PlacedBelow σ held k = (g : ℕ) → g < k → (P : ℕ → ℕ) × (groupValid σ held P g ≡ true)
 
+-- a placement that was judged
+pub placed-of : (σ : List ℕ) (held g : ℕ) (P : ℕ → ℕ) (b : Bool) → b ≡ groupValid σ held P g → b ≡ true → (R : ℕ → ℕ) × (groupValid σ held R g ≡ true)
+placed-of σ held g P b e h = (P, sym e ∙ h)
+
 pub placed-more : (σ : List ℕ) (held k : ℕ) (P : ℕ → ℕ) → groupValid σ held P k ≡ true → PlacedBelow σ held k → PlacedBelow σ held (k + 1)
 placed-more σ held k P h b g l =
     ⊎-elim (λ m. b g m) (λ m. let e : k ≡ g = omega arith in subst (λ (x : ℕ). (R : ℕ → ℕ) × (groupValid σ held R x ≡ true)) e (P, h)) (lt-or-le g k)
@@ -119,20 +122,10 @@ module _ (σ : List ℕ) (held : ℕ) (Q : ℕ → Quorum) where
         plans = λ n h z. b .plans n (let q = has-below held w n small h in omega arith) h z;
       }
 
--- what the code finds: a condition that fails, too few nodes, a placement that still serves, or what the search says
+-- what the code finds: a condition that fails, a placement that still serves, or what the search says
 module _ (σ : List ℕ) (held : ℕ) (q : Quorum) where
   pub foretold-short : (reason : Reason) → q ≡ Short reason → Foretold σ held q true
   foretold-short reason e = record { none = λ h r. short-met reason (sym e ∙ r .quorum); some = λ h. clash refl h }
-
-  pub foretold-few : held < 2 ^ nodes σ → (k : ℕ) → Needed σ k → count held < k → Foretold σ held q true
-  foretold-few inside k w l =
-      record {
-        none = λ h r.
-            let few : count held < groupNeeds σ (w .group) = let m = w .needs in omega arith in
-            let p = r .placements (w .group) (w .below) in
-            needs-exceed σ held (w .group) inside few .none (p .0) (p .1);
-        some = λ h. clash refl h;
-      }
 
   pub foretold-placed : q ≡ Met → Placeable σ held → Foretold σ held q false
   foretold-placed e p = record { none = λ h r. clash h refl; some = λ h. record { quorum = e; placements = p } }

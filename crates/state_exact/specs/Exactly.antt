@@ -1,13 +1,13 @@
 -- Demand 3, from what decide promises alone: nobody finds a restart that it missed, where it plans one exists, and it waits just for
 -- the first reason that applies.
-use Prim.Native.Nat.{ℕ, _<_}
+use Prim.Native.Nat.{ℕ}
 use mathlib.Core.Bool.{true}
 use mathlib.Core.List.{List}
 use mathlib.Core.Logic.{_⊎_, inl, inr, ⊎-elim}
 use mathlib.Core.Path.{_≡_, refl, sym, ap, _∙_}
 use native.Mathlib.Omega.{arith}
 use Rattle.base_ids.specs.Refusals.{accepted}
-use Rattle.place_groups.specs.Placements.{groupValid, Lowest}
+use Rattle.place_groups.specs.Placements.{Lowest}
 use Rattle.place_groups.specs.Chosen.{lowest-one}
 use Rattle.report_views.specs.declared.Reason.{Reason}
 use Rattle.report_views.specs.declared.Reason.the-variants.{NoView, NoPlacement}
@@ -15,16 +15,16 @@ use Rattle.report_views.specs.declared.Quorum.{Quorum}
 use Rattle.report_views.specs.declared.Quorum.the-variants.{Met, Short}
 use Rattle.report_views.specs.Reports.{maskAt}
 use Rattle.report_views.specs.Quorums.{quorumOf}
+use Rattle.plan_masks.specs.Numbered.{Restartable}
 use Rattle.state_planner.specs.declared.State.{State}
 use Rattle.state_planner.specs.declared.Decision.{Decision}
 use Rattle.state_planner.specs.declared.Decided.{Decided}
 use Rattle.state_planner.specs.Refusing.{decideRefusal}
 use Rattle.state_planner.specs.Decide.{still, Decides, WithPlan}
 
--- a restart exists: no quorum condition fails, and every subgroup has a valid placement
-pub record Possible (σ : List ℕ) (x : State) (d : List ℕ) : Type 0 where
-  pub quorum : quorumOf σ (x .kept) (x .termination) (x .held) d ≡ Met
-  pub placements : (g : ℕ) → g < 4 → (P : ℕ → ℕ) × (groupValid σ (x .held) P g ≡ true)
+-- a restart exists with the held nodes
+abbrev pub Possible : List ℕ → State → List ℕ → Type 0
+Possible σ x d = Restartable σ (x .kept) (x .termination) (x .held) d
 
 module _ (σ : List ℕ) (x : State) (d : List ℕ) (r : Decided) (decides : Decides σ x d r) (taken : accepted (decideRefusal σ x d) ≡ true) where
   -- where a restart exists decide plans one

@@ -6,6 +6,7 @@ from ..asking import SECONDS, Program
 from ..explaining import asked, explain
 from ..files import Trouble, read, read_input
 from ..lines import BadText, node_list
+from ..repairing import NOT_ASKED, Source
 
 
 def file_argument(parser, name="file", about="the file to read, text or words, - for standard input"):
@@ -35,6 +36,7 @@ def program_arguments(parser, with_answer=True):
     program_argument(source)
     if with_answer:
         source.add_argument("--answer", metavar="FILE", help="a file with what restart printed; then it is not started")
+    library_argument(parser)
     names_argument(parser)
     parser.add_argument("--gone", metavar="MACHINES", help="machines that will not come back, by number or name, such as 3,5-7")
     parser.add_argument("--search", metavar="SECONDS", type=seconds, default=SECONDS,
@@ -62,5 +64,6 @@ def explained(chosen):
     given = read_input(chosen.file, chosen.names)
     if chosen.answer:
         answer = parse(read(chosen.answer).decode("ascii", "replace"))
-        return given, explain(given, answer, None, None, gone_nodes(chosen, given.names))
-    return given, asked(given, Program(chosen.program, chosen.search), gone_nodes(chosen, given.names))
+        source = Source(chosen.library, None if chosen.library else NOT_ASKED)
+        return given, explain(given, answer, None, None, gone_nodes(chosen, given.names), source)
+    return given, asked(given, Program(chosen.program, chosen.search), gone_nodes(chosen, given.names), Source(chosen.library))

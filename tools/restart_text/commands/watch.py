@@ -4,6 +4,7 @@ import time
 
 from ..asking import Program
 from ..files import name_of
+from ..repairing import Source
 from ..statuses import OTHER
 from ..watching import Screen, files_in, look
 from .shared import gone_nodes, program_arguments, seconds
@@ -25,7 +26,7 @@ def work(chosen):
                 files = files_in(chosen.file)
                 if files != seen:
                     program.start(chosen.search)
-                    lines, status = look(files, program, lambda names: gone_nodes(chosen, names), chosen.names)
+                    lines, status = look(files, program, lambda names: gone_nodes(chosen, names), chosen.names, Source(chosen.library))
                     screen.show(name_of(chosen.file), changed(seen, files), lines)
                     seen = files
                 left = end - time.monotonic()

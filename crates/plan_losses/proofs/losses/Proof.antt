@@ -9,17 +9,17 @@ use Rattle.plan_losses.proofs.losses.Statement.{statement}
 use Rattle.plan_losses.proofs.losses.Tie as tie
 
 abbrev Inv-loop : tie.InvT-loop
-Inv-loop settings v held masks laid most lost₀ n₀ lost n = (n ≤ 32) × LostBelow settings held (quorumsIn settings v masks) n lost
+Inv-loop settings v held masks laid tight lost₀ n₀ lost n = (n ≤ 32) × LostBelow settings held (quorumsIn settings v masks) n lost
 
 abbrev μ-loop : tie.MeasureT-loop
-μ-loop settings v held masks laid most lost₀ n₀ lost n = 32 - n
+μ-loop settings v held masks laid tight lost₀ n₀ lost n = 32 - n
 
 loop-holds : tie.Need-loop-holds Inv-loop μ-loop
 loop-holds c = let a = c .before .before .before .before .before .before .args in (search needs, lost-none (a .settings .now) (a .held) (quorumsIn (a .settings .now) (a .v) (a .masks .now)))
 
 lost-with-requires : tie.Need-lost-with-requires Inv-loop μ-loop
 lost-with-requires c κs = let s = c .before .before .before .before .before .before .before .before .before in
-    (s .pre .0, ((s .pre .1, c .before .loop-test .taken), (c .before .before .before .most-needed .ensures, c .before .before .loop .inv .1)))
+    (s .pre .0, ((s .pre .1, c .before .loop-test .taken), (c .before .before .before .tight-sets .ensures, c .before .before .loop .inv .1)))
 
 loop-again : tie.Need-loop-again Inv-loop μ-loop
 loop-again c = (omega (arith, c .before .before .loop-test .taken), c .lost-with .ensures)

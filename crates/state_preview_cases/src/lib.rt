@@ -1,0 +1,1 @@
+// Previews worked: theorems, in specs/. No code.
