@@ -45,7 +45,7 @@ performance:
 # ---- The operators' tool: its program, its package and its page
 
 TOOLDIR ?= $(PREFIX)/share/restart
-SCHEMAS := explain.schema.json convert.schema.json publisher.schema.json
+SCHEMAS := explain.schema.json convert.schema.json publisher.schema.json readiness.schema.json
 TOOL_FILES := $(patsubst tools/%,%,$(wildcard tools/restart_text/*.py tools/restart_text/*/*.py))
 
 .PHONY: install-tool uninstall-tool
@@ -75,6 +75,7 @@ SHARED := librestart.so.$(VERSION)
 ARCHIVE ?= target/staticlib/libc_planner.a
 PROGRAM ?= target/bin/restart
 MONDAYS ?= target/bin/mondays
+SHEET ?= target/bin/sheet
 SOURCES := crates.txt $(shell find crates -name '*.rt' -o -name '*.antt')
 CFLAGS ?= -O2
 CHECKED := -std=c11 -Wall -Wextra -Werror -pedantic
@@ -87,7 +88,7 @@ target/staticlib/libc_planner.a: $(SOURCES)
 	rt staticlib c_planner
 	touch $@
 
-target/bin/restart target/bin/mondays: $(SOURCES)
+target/bin/restart target/bin/mondays target/bin/sheet: $(SOURCES)
 	@python3 tests/prove.py $(@F)
 	touch $@
 
@@ -114,7 +115,7 @@ target/c/service: examples/service.c include/restart.h target/librestart.a
 	mkdir -p $(@D)
 	$(CC) $(CHECKED) $(CFLAGS) -Iinclude $(LDFLAGS) -o $@ examples/service.c target/librestart.a
 
-test-c: lib $(PROGRAM) $(MONDAYS)
+test-c: lib $(PROGRAM) $(MONDAYS) $(SHEET)
 	@sh tests/c/run.sh
 
 # ---- Installation
@@ -129,9 +130,9 @@ PKGCONFIGDIR := $(LIBDIR)/pkgconfig
 CMAKEDIR := $(LIBDIR)/cmake/restart
 # The functions that the header declares: each has a manual page of its own name.
 CALLS := $(shell sh c/names.sh)
-EXAMPLES := service.c settings.bin events.txt publishers.txt output.txt moves.bin moves.txt
+EXAMPLES := service.c settings.bin events.txt publishers.txt output.txt moves.bin moves.txt seven.bin seven.sheet
 REPORTS := $(notdir $(wildcard examples/reports/*.bin))
-PAGES_1 := restart.1 restart-service.1 mondays.1
+PAGES_1 := restart.1 restart-service.1 mondays.1 sheet.1
 PAGES_7 := restart.7 restart-model.7
 CONFIGS := restart-config.cmake restart-config-version.cmake
 TO := $(DESTDIR)
@@ -147,11 +148,12 @@ $(MADE): target/%: c/%.in
 	    -e 's|@VERSION@|$(VERSION)|; s|@SONUMBER@|$(SONUMBER)|; s|@SINCE@|$(SINCE)|' $< > $@
 
 .PHONY: $(MADE)
-install: lib target/c/service $(MADE) $(PROGRAM) $(MONDAYS)
+install: lib target/c/service $(MADE) $(PROGRAM) $(MONDAYS) $(SHEET)
 	install -d $(TO)$(BINDIR) $(TO)$(INCLUDEDIR) $(TO)$(PKGCONFIGDIR) $(TO)$(CMAKEDIR) $(TO)$(EXAMPLEDIR)/reports
 	install -d $(TO)$(MANDIR)/man1 $(TO)$(MANDIR)/man3 $(TO)$(MANDIR)/man7
 	install -m 755 $(PROGRAM) $(TO)$(BINDIR)/restart
 	install -m 755 $(MONDAYS) $(TO)$(BINDIR)/mondays
+	install -m 755 $(SHEET) $(TO)$(BINDIR)/sheet
 	install -m 755 target/c/service $(TO)$(BINDIR)/restart-service
 	install -m 644 include/restart.h $(TO)$(INCLUDEDIR)
 	install -m 644 target/librestart.a $(TO)$(LIBDIR)
@@ -168,7 +170,7 @@ install: lib target/c/service $(MADE) $(PROGRAM) $(MONDAYS)
 	install -m 644 $(REPORTS:%=examples/reports/%) $(TO)$(EXAMPLEDIR)/reports
 
 uninstall:
-	rm -f $(TO)$(BINDIR)/restart $(TO)$(BINDIR)/mondays $(TO)$(BINDIR)/restart-service $(TO)$(INCLUDEDIR)/restart.h
+	rm -f $(TO)$(BINDIR)/restart $(TO)$(BINDIR)/mondays $(TO)$(BINDIR)/sheet $(TO)$(BINDIR)/restart-service $(TO)$(INCLUDEDIR)/restart.h
 	rm -f $(TO)$(LIBDIR)/librestart.a $(TO)$(LIBDIR)/$(SHARED) $(TO)$(LIBDIR)/librestart.so.$(SONUMBER) $(TO)$(LIBDIR)/librestart.so
 	rm -f $(TO)$(PKGCONFIGDIR)/restart.pc $(CONFIGS:%=$(TO)$(CMAKEDIR)/%)
 	rm -f $(PAGES_1:%=$(TO)$(MANDIR)/man1/%) $(TO)$(MANDIR)/man3/restart.3 $(PAGES_7:%=$(TO)$(MANDIR)/man7/%)

@@ -1,11 +1,12 @@
-"""Measure the library and write docs/PERFORMANCE.md: performance.py [mock | mondays | placement | previews].
+"""Measure the library and write docs/PERFORMANCE.md: performance.py [mock | mondays | placement | previews | sheet].
 
 Times of every call beside the reference's, of events beside a peer in C, instructions by callgrind, stack by painting, the placement beside LEMON's network
-simplex, and the program mondays beside a plain C program. With `mock` the reference stands in for the library and for mondays, the
-placement is left out and the page goes to target/performance.md; with `mondays`, `placement` or `previews` that section alone is measured and
-written anew. It needs valgrind and, for the placement, LEMON (Debian: liblemon-dev)."""
+simplex, the program mondays beside a plain C program, and the program sheet beside as many decisions. With `mock` the reference stands in for
+the library and the programs, the placement is left out and the page goes to target/performance.md; with `mondays`, `placement`, `previews` or `sheet` that
+section alone is measured and written anew. It needs valgrind and, for the placement, LEMON (Debian: liblemon-dev)."""
 import os
 import re
+import struct
 import subprocess
 import sys
 import time
@@ -34,7 +35,7 @@ def build(mock):
     if not mock:
         for name in ("c_planner", "c_placement"):
             subprocess.run(["rt", "staticlib", name], cwd=ROOT, env=ENVIRONMENT, check=True, stdout=subprocess.DEVNULL)
-        said("make", "--no-print-directory", "target/bin/restart")
+        said("make", "--no-print-directory", "target/bin/restart", "target/bin/sheet")
     features = ["--features", "mock"] if mock else []
     for folder, more in (("bench/events", features), ("reference", [])):
         said("cargo", "build", "--release", "--offline", "--quiet", "--manifest-path", folder + "/Cargo.toml", *more)
@@ -127,6 +128,34 @@ def mondays(mock):
     return lines[lines.index("| moves |") :].strip()
 
 
+def sheet(mock):
+    """The table of `events-bench sheet times` with the instructions of each kind's first input: of the program after reading, and of the
+    decisions."""
+    program = os.path.join(CARGO, "release", "sheet-reference") if mock else os.path.join(TARGET, "bin", "sheet")
+    head, rule, *rows = said(BENCH, "sheet", "times", program, *(("1", "1") if mock else ("6",))).splitlines()
+    if mock:
+        return "\n".join([head, rule, *rows])
+    lines = [head + " sheet, instructions | decisions |", rule + "---|---|"]
+    for kind, row in enumerate(rows):
+        lines.append("%s %s | %s |" % (row, *("{:,}".format(count) for count in sheet_instructions(program, kind))))
+    return "\n".join(lines)
+
+
+def sheet_instructions(program, kind):
+    """Those by which the program takes more than on the same input with a bad last block, and those of the decisions."""
+    whole = subprocess.run([BENCH, "sheet", "blocks", str(kind), "0"], stdout=subprocess.PIPE, check=True).stdout
+    refused = whole + struct.pack("<7I", 6, *[0] * 6)
+    decides = inside([BENCH, "sheet", "once", str(kind), "0"], b"", "--toggle-collect=measured_decides")
+    return inside([program], whole) - inside([program], refused), decides
+
+
+def inside(command, data, *more):
+    """The instructions of a program on an input."""
+    counting = ["valgrind", "--tool=callgrind", *more, "--callgrind-out-file=/dev/null", *command]
+    done = subprocess.run(counting, input=data, stdout=subprocess.DEVNULL, stderr=subprocess.PIPE, check=True)
+    return int(COUNTED.search(done.stderr.decode()).group(1))
+
+
 def needs():
     """What the archive takes from outside, which has to be no allocator."""
     names = {line.split()[-1] for line in said("nm", "-u", "target/staticlib/libc_planner.a").splitlines() if line.strip().startswith("U ")}
@@ -170,7 +199,7 @@ bytes are copied by one repeated instruction, so these numbers say little about 
 
 Deepest stack of a call at full size, over {stacks} inputs: the call is made on a thread whose stack was painted before. {needs}
 
-{stack}{previews}{placement}{mondays}"""
+{stack}{previews}{placement}{mondays}{sheet}"""
 
 PREVIEWS = """
 ### Previews
@@ -189,6 +218,17 @@ MONDAYS = """
 The program `mondays` beside a plain C program with a running sum, a queue of falling moves and digits of its own
 (`bench/mondays/mondays.c`, gcc -O3), from the same file to nowhere; seconds. The last column is the ratio by the processor's time,
 which other work on the machine disturbs less.{apart}
+
+{table}
+"""
+
+SHEET = """
+### Sheet
+
+The program `sheet` after reading, ten nodes with reports of 128 records, beside 1,024 calls of `restart_decide`, one for each set of
+held nodes; milliseconds, over six inputs a kind, and instructions by callgrind for one. The program's time is that by which a run takes longer than
+one on the same input with a bad last block, each the least of 60 runs. Where fewer than all ten are members of the kept view, the
+others report the one before.{apart}
 
 {table}
 """
@@ -237,6 +277,7 @@ def whole(mock):
         needs="" if mock else needs(),
         placement="" if mock else PLACEMENT.format(solved=SOLVED, apart="", table=placement()),
         mondays=MONDAYS.format(apart="", table=mondays(mock)),
+        sheet=SHEET.format(apart="", table=sheet(mock)),
     )
 
 
@@ -259,8 +300,13 @@ def mondays_apart():
     return MONDAYS.format(apart=APART.format(machine=machine()), table=mondays(False))
 
 
+def sheet_apart():
+    build(False)
+    return SHEET.format(apart=APART.format(machine=machine()), table=sheet(False))
+
+
 # The sections that can be measured without the others.
-SECTIONS = {"previews": previews_apart, "placement": placement_apart, "mondays": mondays_apart}
+SECTIONS = {"previews": previews_apart, "placement": placement_apart, "mondays": mondays_apart, "sheet": sheet_apart}
 
 
 def with_section(path, name):

@@ -1,7 +1,7 @@
-"""Run the program restart on the runs that documents 01 and 02 name, on a run for each number that it can give, on inputs that are
-cut, and where reading or writing fails. What it must print is written here by hand.
+"""Run the programs restart and sheet on the runs that documents 01 and 02 name, on a run for each number that they can give, on inputs
+that are cut, and where reading or writing fails. What they must print is written here by hand.
 
-    python3 tests/cases.py [PROGRAM]        target/bin/restart unless told otherwise
+    python3 tests/cases.py [RESTART [SHEET]]        target/bin/restart and target/bin/sheet unless told otherwise
 
 The last line is `N passed, M failed`."""
 import contextlib
@@ -16,7 +16,8 @@ import termios
 import time
 
 ROOT = os.path.dirname(os.path.dirname(os.path.abspath(__file__)))
-PROGRAM = sys.argv[1] if len(sys.argv) > 1 else os.path.join(ROOT, "target", "bin", "restart")
+RESTART, SHEET = [sys.argv[1 + place] if len(sys.argv) > 1 + place else os.path.join(ROOT, "target", "bin", name)
+                  for place, name in enumerate(("restart", "sheet"))]
 LARGEST = 2**32 - 1
 
 # Document 01's settings and masks: nodes a to g as 0 to 6, view 7.
@@ -322,10 +323,8 @@ def with_gap(last, following=0):
     return words + [LARGEST] * 4 + last + [following]
 
 
-def cut_at(at):
-    """What case A cut after so many bytes must print. Blocks start at 0 (15 words), 60, 128, 212, 280, 348 and 432."""
-    starts = [0, 60, 128, 212, 280, 348, 432, len(CASE_A)]
-    decided = ["number 2\n", "wait 1\n", "wait 2\n", "wait 2\n", "wait 2\n", "wait 4 2\n", "wait 4 2\n", PLAN]
+def cut_at(starts, decided, at):
+    """What an input cut after so many bytes must print: `decided` after the blocks that start at each place, or inside one its number."""
     block = max(i for i, start in enumerate(starts) if start <= at)
     inside = at - starts[block]
     if inside < 4:
@@ -339,8 +338,11 @@ def cut_at(at):
 
 
 def cut():
+    """Case A cut at every byte. Blocks start at 0 (15 words), 60, 128, 212, 280, 348 and 432."""
+    starts = [0, 60, 128, 212, 280, 348, 432, len(CASE_A)]
+    decided = ["number 2\n", "wait 1\n", "wait 2\n", "wait 2\n", "wait 2\n", "wait 4 2\n", "wait 4 2\n", PLAN]
     for at in range(len(CASE_A) + 1):
-        yield "A cut at %d" % at, CASE_A[:at], cut_at(at)
+        yield "A cut at %d" % at, CASE_A[:at], cut_at(starts, decided, at)
 
 
 def counts():
@@ -377,18 +379,136 @@ def long_runs():
     yield "reports of 512 words", after(*full), PLAN
 
 
+# ---- the sheet
+
+
+SEVEN = case(ALL + [6])
+
+
+def count(mask):
+    """How many nodes a mask has."""
+    return bin(mask).count("1")
+
+
+def sheet(nodes, number, last):
+    """The text of a sheet: a line for each mask with its number, then the last line."""
+    return "".join("%d %d\n" % (mask, number(mask)) for mask in range(2**nodes)) + last + "\n"
+
+
+def of_seven(plans, logs=MASKS):
+    """The number of each mask of case A's settings with all seven reporting: four are a majority, a shard has a log where one of `logs` is up,
+    and of the others these have a plan."""
+
+    def number(mask):
+        if count(mask) < 4:
+            return 2
+        if any(mask & log == 0 for log in logs):
+            return 4
+        return 0 if mask in plans else 5
+
+    return number
+
+
+PLANS = (63, 111, 119, 123, 125, 126, 127)
+SHEET_SEVEN = sheet(7, of_seven(PLANS), "7 64 0 28 29")
+
+
+def one_set(nodes, back=None, view=1):
+    """Settings with so many nodes in one failure set and one shard, which node 0 carried, and the reports of these."""
+    told = [report(node, view=view, members=2**nodes - 1, masks=[1]) for node in (range(nodes) if back is None else back)]
+    return [[nodes, 1, 1, 1] + [0] * nodes + [1]] + told
+
+
+def sheets():
+    """Whole sheets."""
+    yield "one node", blocks(*one_set(1)), "0 2\n1 0\n1 1 0 0 0\n"
+    yield "A and node 6", SEVEN, SHEET_SEVEN
+    yield "A and node 6, node 0 twice", SEVEN + blocks(of_case_a(0)), SHEET_SEVEN
+    yield "A and node 6, the other way round", case([6, 5, 4, 3, 2, 1, 0]), SHEET_SEVEN
+    # node 6 missed view 7: its log of shard 1 counts no more, and it can still be placed
+    yield "node 6 under view 6", CASE_A + blocks(report(6, view=6)), sheet(7, of_seven(PLANS, [5, 18, 32]), "7 64 0 32 25")
+    yield "node 6 under view 6, then 7", CASE_A + blocks(report(6, view=6), of_case_a(6)), SHEET_SEVEN
+    # the update with which the kept termination ends is in node 1's log alone, whoever reported the termination
+    ended = termination([(0, 0), (7, 5), (0, 0)])
+    kept = sheet(7, of_seven((63, 111, 119, 123, 126, 127), [5, 2, 32]), "6 64 0 42 16")
+    for node in (6, 0):
+        yield "a termination of node %d" % node, SEVEN + blocks(report(node, ended)), kept
+    # wait 2 before 3, and 3 before 4
+    all_seven = sheet(7, lambda mask: 2 if count(mask) < 4 else 3 if count(mask) < 7 else 0, "1 64 63 0 0")
+    yield "least size 7", case(ALL + [6], changed(SETTINGS, 2, 7)), all_seven
+    # view 7 is the kept one, whether its members 0, 1 and 2 are up or not
+    four = [4, 2, 1, 1, 0, 0, 1, 1, 2]
+    told = [report(node, members=7, masks=[3]) for node in range(3)] + [report(3, view=6, members=15, masks=[8])]
+    text = sheet(4, lambda mask: int("2225200022202000"[mask]), "7 8 0 0 1")
+    yield "four nodes", blocks(four, *told), text
+    yield "four nodes, node 3 first", blocks(four, told[3], *told[:3]), text
+    # caps change no line
+    for cap in (0, 2, 4, 16):
+        six = [report(node, members=63, masks=[15]) for node in range(6)]
+        text = sheet(6, lambda mask: 0 if count(mask) > 3 else 2, "22 42 0 0 0")
+        yield "cap %d" % cap, blocks([6, 3, 3, 1, 0, 0, 1, 1, 2, 2, capped(2, cap)], *six), text
+    # 1,025 lines: a majority, and node 0, which alone has a log
+    ten = sheet(10, lambda mask: 2 if count(mask) < 6 else 0 if mask % 2 else 4, "256 638 0 130 0")
+    yield "ten nodes", blocks(*one_set(10)), ten
+    yield "ten nodes, the greatest view", blocks(*one_set(10, view=LARGEST - 1)), ten
+
+
+def no_sheets():
+    """Numbers 22 and 23, after every block was read and judged, and 22 first."""
+    yield "number 23: no report", case([]), 23
+    for missing in range(7):
+        yield "number 23: without node %d" % missing, case([node for node in ALL + [6] if node != missing]), 23
+    yield "number 23: node 0 seven times", case([0] * 7), 23
+    yield "number 23: ten nodes, no report", blocks(*one_set(10, [])), 23
+    yield "number 23: ten nodes, nine reports", blocks(*one_set(10, range(1, 10))), 23
+    yield "number 18 before 23", CASE_A + blocks(report(0, view=6)), 18
+    for nodes in (11, 12, 31, 32):
+        for back in ([], [0], range(nodes - 1), range(nodes)):
+            yield "number 22: %d nodes, %d reports" % (nodes, len(back)), blocks(*one_set(nodes, back)), 22
+        yield "%d nodes, and a bad last block" % nodes, blocks(*one_set(nodes), [0] * 6), 5
+        yield "%d nodes, and a bad first report" % nodes, blocks(*one_set(nodes, []), of_case_a(0)[:6], of_case_a(0)), 5
+        yield "%d nodes, and a node too many" % nodes, blocks(*one_set(nodes), report(nodes)), 6
+    yield "number 2 before 22", blocks(one_set(11)[0] + [0]), 2
+
+
+def cut_sheets():
+    """Case A and node 6 cut at every byte, counts that are wrong, and what follows the last block."""
+    starts = [0, 60, 128, 212, 280, 348, 432, 500, len(SEVEN)]
+    decided = ["number 2\n"] + ["number 23\n"] * 7 + [SHEET_SEVEN]
+    for at in range(len(SEVEN) + 1):
+        yield "sheet cut at %d" % at, SEVEN[:at], cut_at(starts, decided, at)
+    for more in (b"\x00", b"\x09\x00", b"\xff\xff\xff"):
+        yield "sheet and %d bytes" % len(more), SEVEN + more, SHEET_SEVEN
+    for count in (0, 9, LARGEST):
+        yield "sheet and a count of %d" % count, SEVEN + bytes_of([count]), "number 5\n"
+    for count in (17, 512, 2**30, LARGEST):
+        yield "sheet, last count %d" % count, CASE_A + bytes_of([count] + of_case_a(6)) + b"abc", SHEET_SEVEN
+    for count in (15, 53, LARGEST):
+        yield "sheet, settings of count %d" % count, bytes_of([count] + SETTINGS), "number 23\n"
+
+
+def long_sheets():
+    many = [of_case_a(node) for node in ALL + [6]] * 200
+    yield "1,400 reports", after(*many), SHEET_SEVEN
+    yield "1,400 reports and one that is refused", after(*many, report(7)), "number 6\n"
+    yield "reports of 512 words", after(*[of_case_a(node) + [0] * (512 - len(of_case_a(node))) for node in ALL + [6]]), SHEET_SEVEN
+
+
+# ---- running a program
+
+
 def waiting(read_end):
     """How many bytes lie in a pipe."""
     return struct.unpack("i", fcntl.ioctl(read_end, termios.FIONREAD, b"\0" * 4))[0]
 
 
-def printed(data, piece):
-    """What the program prints and says on standard error, given the input whole, or so many bytes a read."""
+def printed(program, data, piece):
+    """What a program prints and says on standard error, given the input whole, or so many bytes a read."""
     if piece is None:
-        done = subprocess.run([PROGRAM], input=data, capture_output=True, check=False)
+        done = subprocess.run([program], input=data, capture_output=True, check=False)
         return done.stdout, done.stderr
     read_end, write_end = os.pipe()
-    child = subprocess.Popen([PROGRAM], stdin=read_end, stdout=subprocess.PIPE, stderr=subprocess.PIPE)
+    child = subprocess.Popen([program], stdin=read_end, stdout=subprocess.PIPE, stderr=subprocess.PIPE)
     for at in range(0, len(data), piece):
         os.write(write_end, data[at : at + piece])
         while waiting(read_end):
@@ -403,37 +523,37 @@ def printed(data, piece):
 # ---- where reading or writing fails
 
 
-def run_with(stdin, stdout=subprocess.PIPE):
-    done = subprocess.run([PROGRAM], stdin=stdin, stdout=stdout, stderr=subprocess.PIPE, check=False)
+def run_with(program, stdin, stdout=subprocess.PIPE):
+    done = subprocess.run([program], stdin=stdin, stdout=stdout, stderr=subprocess.PIPE, check=False)
     return done.stdout or b"", done.stderr
 
 
-def redirected(words, data=b""):
-    """The program in a shell, with its descriptors changed by these words."""
-    done = subprocess.run(["sh", "-c", 'exec "$0" ' + words, PROGRAM], input=data, capture_output=True, check=False)
+def redirected(program, words, data=b""):
+    """A program in a shell, with its descriptors changed by these words."""
+    done = subprocess.run(["sh", "-c", 'exec "$0" ' + words, program], input=data, capture_output=True, check=False)
     return done.stdout, done.stderr
 
 
-def opened(path, flags, data=None):
-    """The program with a file as standard input, or as standard output if there is data to read."""
+def opened(program, path, flags, data=None):
+    """A program with a file as standard input, or as standard output if there is data to read."""
     file = os.open(path, flags)
     try:
         if data is None:
-            return run_with(file)
-        done = subprocess.run([PROGRAM], input=data, stdout=file, stderr=subprocess.PIPE, check=False)
+            return run_with(program, file)
+        done = subprocess.run([program], input=data, stdout=file, stderr=subprocess.PIPE, check=False)
         return b"", done.stderr
     finally:
         os.close(file)
 
 
-def broken(data):
+def broken(program, data):
     """A stream that breaks after these bytes: its other end is closed while bytes to it were not read."""
     ours, theirs = socket.socketpair()
     with theirs:
         theirs.send(b"x")
         ours.sendall(data)
         ours.close()
-        return run_with(theirs)
+        return run_with(program, theirs)
 
 
 def state_of(child):
@@ -447,7 +567,7 @@ def until(child, state):
 
 
 def interrupt(child):
-    """Stop the program while it waits in a read, and let it go on: the read ends with EINTR, for its stream has a time limit."""
+    """Stop a program while it waits in a read, and let it go on: the read ends with EINTR, for its stream has a time limit."""
     until(child, "S")
     child.send_signal(signal.SIGSTOP)
     until(child, "T")
@@ -455,11 +575,11 @@ def interrupt(child):
     until(child, "S")
 
 
-def interrupted(data, pieces):
-    """The program with a read interrupted before each of so many pieces of the input, and before its end."""
+def interrupted(program, data, pieces):
+    """A program with a read interrupted before each of so many pieces of the input, and before its end."""
     ours, theirs = socket.socketpair()
     theirs.setsockopt(socket.SOL_SOCKET, socket.SO_RCVTIMEO, struct.pack("ll", 600, 0))
-    child = subprocess.Popen([PROGRAM], stdin=theirs, stdout=subprocess.PIPE, stderr=subprocess.PIPE)
+    child = subprocess.Popen([program], stdin=theirs, stdout=subprocess.PIPE, stderr=subprocess.PIPE)
     theirs.close()
     size = -(-len(data) // pieces)
     for at in range(0, len(data), size):
@@ -471,46 +591,69 @@ def interrupted(data, pieces):
     return child.communicate()
 
 
-def failures():
-    """(name, what is printed and said, what must be printed, what must be said)."""
-    read = b"restart: standard input: "
-    written = b"restart: standard output: "
-    yield "a folder as input", opened("/", os.O_RDONLY), b"", read + b"Is a directory\n"
-    yield "an input for writing only", opened("/dev/null", os.O_WRONLY), b"", read + b"Bad file descriptor\n"
-    yield "a closed input", redirected("<&-"), b"", read + b"Bad file descriptor\n"
-    for name, data in (("at once", b""), ("after settings", case([])), ("after three reports", case([0, 1, 2])), ("after case A", CASE_A)):
-        yield "a stream that breaks %s" % name, broken(data), b"", read + b"Connection reset by peer\n"
+def failures(own, program, data, text):
+    """(name, what is printed and said, what must be printed, what must be said). `own` is the program's name, `data` a good input, and `text`
+    what is printed for it."""
+    read, written = b"%s: standard input: " % own, b"%s: standard output: " % own
+    yield "a folder as input", opened(program, "/", os.O_RDONLY), b"", read + b"Is a directory\n"
+    yield "an input for writing only", opened(program, "/dev/null", os.O_WRONLY), b"", read + b"Bad file descriptor\n"
+    yield "a closed input", redirected(program, "<&-"), b"", read + b"Bad file descriptor\n"
+    for name, part in (("at once", b""), ("after settings", case([])), ("after three reports", case([0, 1, 2])), ("after all reports", data)):
+        yield "a stream that breaks %s" % name, broken(program, part), b"", read + b"Connection reset by peer\n"
     # a refusal ends the run, so nothing after it is read
-    yield "a stream that breaks after a refusal", broken(case([0]) + blocks([0])), b"number 5\n", b""
+    yield "a stream that breaks after a refusal", broken(program, case([0]) + blocks([0])), b"number 5\n", b""
     for pieces in (1, 3):
-        yield "interrupted, %d pieces" % pieces, interrupted(CASE_A, pieces), PLAN.encode(), b""
-    yield "a full device as output", opened("/dev/full", os.O_WRONLY, CASE_A), b"", written + b"No space left on device\n"
-    yield "a closed output", redirected(">&-", CASE_A), b"", written + b"Bad file descriptor\n"
+        yield "interrupted, %d pieces" % pieces, interrupted(program, data, pieces), text.encode(), b""
+    yield "a full device as output", opened(program, "/dev/full", os.O_WRONLY, data), b"", written + b"No space left on device\n"
+    yield "a closed output", redirected(program, ">&-", data), b"", written + b"Bad file descriptor\n"
 
 
-def own_input():
-    """The input of the program's own test."""
-    with open(os.path.join(ROOT, "crates", "restart", "stdin"), "rb") as file:
+def own_input(name):
+    """The input of the program's own test, nothing where it has none."""
+    with contextlib.suppress(FileNotFoundError), open(os.path.join(ROOT, "crates", name, "stdin"), "rb") as file:
         return file.read()
+    return b""
+
+
+def numbered(rows):
+    """Rows that end with a number, and perhaps a record's index, as rows that end with the text."""
+    return [(name, data, "number %s\n" % " ".join(map(str, told))) for name, data, *told in rows]
+
+
+def tried(program, rows, in_pieces):
+    """Each row given to the program whole, and these (row, bytes a read) in pieces: name, what it printed and said, and what it must."""
+    for name, data, text in rows:
+        yield name, printed(program, data, None), text.encode(), b""
+    for (name, data, text), piece in in_pieces:
+        yield "%s, %d bytes a read" % (name, piece), printed(program, data, piece), text.encode(), b""
+
+
+def of_restart():
+    rows = [*named(), *logs_of_cuts(), *more_plans(), *cures(), *cut(), *counts(), *long_runs(), *numbered(refused())]
+    in_pieces = [(row, 1) for row in named()] + [(row, piece) for row in long_runs() for piece in (1021, 4095, 4096)]
+    yield from tried(RESTART, rows, in_pieces)
+    yield from failures(b"restart", RESTART, CASE_A, PLAN)
+    yield "crates/restart/stdin is case A", (own_input("restart"), b""), CASE_A, b""
+
+
+def of_sheet():
+    rows = [*sheets(), *cut_sheets(), *long_sheets(), *numbered(no_sheets()), *numbered(refused())]
+    in_pieces = [(row, 1) for row in list(sheets())[:2]] + [(row, piece) for row in long_sheets() for piece in (1021, 4095, 4096)]
+    yield from tried(SHEET, rows, in_pieces)
+    yield from failures(b"sheet", SHEET, SEVEN, SHEET_SEVEN)
+    yield "crates/sheet/stdin is case A and node 6", (own_input("sheet"), b""), SEVEN, b""
 
 
 def main():
-    rows = list(named()) + list(logs_of_cuts()) + list(more_plans()) + list(cures()) + list(cut()) + list(counts()) + list(long_runs())
-    rows += [(name, data, "number %s\n" % " ".join(map(str, told))) for name, data, *told in refused()]
-    tried = [(name, data, text, None) for name, data, text in rows]
-    tried += [(name + ", byte by byte", data, text, 1) for name, data, text in named()]
-    tried += [("%s, %d bytes a read" % (name, piece), data, text, piece) for name, data, text in long_runs() for piece in (1021, 4095, 4096)]
-    results = [(name, printed(data, piece), text.encode(), b"") for name, data, text, piece in tried]
-    results += list(failures())
-    failed = 0
-    for name, got, text, said in results:
-        if got != (text, said):
+    passed = failed = 0
+    for program, results in (("restart", of_restart()), ("sheet", of_sheet())):
+        for name, got, text, said in results:
+            if got == (text, said):
+                passed += 1
+                continue
             failed += 1
-            print("%s: printed %r, said %r, and must print %r and say %r" % (name, *got, text, said))
-    if own_input() != CASE_A:
-        failed += 1
-        print("crates/restart/stdin is not case A")
-    print("%d passed, %d failed" % (len(results) + 1 - failed, failed))
+            print("%s, %s: printed %r, said %r, and must print %r and say %r" % (program, name, *got, text, said))
+    print("%d passed, %d failed" % (passed, failed))
     sys.exit(1 if failed else 0)
 
 

@@ -1,7 +1,7 @@
 """Run the comparisons with fresh seeds until the time is over: fuzz.py SECONDS [mock].
 
-A round is one call of each program: messages, flat, events, pages, previews, plans, runs and mondays. The first that finds a difference has printed its input and how
-to make it again, and ends all. With `mock` the reference stands in for the library, `restart` and `mondays`. The last line
+A round is one call of each program: messages, flat, events, pages, previews, plans, runs, mondays and sheets. The first that finds a difference has printed its
+input and how to make it again, and ends all. With `mock` the reference stands in for the library, `restart`, `mondays` and `sheet`. The last line
 is `N passed, M failed`, counted by rounds of a program."""
 import os
 import secrets
@@ -12,6 +12,7 @@ import time
 ROOT = os.path.dirname(os.path.dirname(os.path.abspath(__file__)))
 TARGET = os.path.join(ROOT, "target")
 CARGO = os.path.join(TARGET, "cargo")
+PROGRAMS = ("restart", "mondays", "sheet")
 ENVIRONMENT = dict(os.environ, CARGO_TARGET_DIR=CARGO, RESTART_LIB_DIR=os.path.join(TARGET, "staticlib"))
 
 
@@ -24,10 +25,10 @@ def build(mock):
     release = os.path.join(CARGO, "release")
     if mock:
         commands = [cargo("reference"), cargo("tests", "--bins", "--features", "mock")]
-        restart, mondays = os.path.join(release, "restart-reference"), os.path.join(release, "mondays-reference")
+        restart, mondays, sheet = [os.path.join(release, name + "-reference") for name in PROGRAMS]
     else:
-        commands = [["rt", "staticlib", "c_planner"], ["rt", "check", "restart", "mondays"], cargo("tests", "--bins")]
-        restart, mondays = os.path.join(TARGET, "bin", "restart"), os.path.join(TARGET, "bin", "mondays")
+        commands = [["rt", "staticlib", "c_planner"], ["rt", "check", *PROGRAMS], cargo("tests", "--bins")]
+        restart, mondays, sheet = [os.path.join(TARGET, "bin", name) for name in PROGRAMS]
     for command in commands:
         done = subprocess.run(command, cwd=ROOT, env=ENVIRONMENT, stdout=subprocess.PIPE, stderr=subprocess.STDOUT, text=True, errors="replace")
         if done.returncode != 0:
@@ -41,6 +42,7 @@ def build(mock):
         ([os.path.join(release, "plans")], ["900", "100"]),
         ([os.path.join(release, "runs"), restart], ["300"]),
         ([os.path.join(release, "mondays"), mondays], ["200"]),
+        ([os.path.join(release, "sheets"), sheet], ["200"]),
     ]
 
 

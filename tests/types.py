@@ -29,6 +29,7 @@ OTHERS = {
     "the number of a row of refusals": "row",
     "a number and its limits": "low high x",
     "the placement sheet, bytes by shard and failure set": "sheet",
+    "the number of a wait, or 0, for each mask": "rows",
 }
 
 # The functions that give a plain number.
@@ -37,7 +38,7 @@ GIVEN = {
     "a failure set or a subgroup": "settings_values::set_of settings_values::subgroup",
     "a word, or words": "settings_values::shard_word message_fields::tag message_fields::word1 message_fields::word2 report_desk::slot_words",
     "a kind of record": "message_fields::kind",
-    "the number of a wait, or 0": "plan_masks::number",
+    "the number of a wait, or 0, and those of all masks": "plan_masks::number plan_rows::rows_of",
     "the index of a record": "message_passes::kinds message_passes::shards message_passes::sequence message_passes::positions report_walk::told",
     "two words as one number": "report_walk::pairs",
     "positions as numbers or words": "report_ends::ends_of report_walk::end_at report_walk::goal_at",

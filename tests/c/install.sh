@@ -22,14 +22,14 @@ check() { # WHAT COMMAND ..
 
 # What must stand under the prefix.
 names() {
-    echo bin/restart bin/mondays bin/restart-service include/restart.h lib/librestart.a lib/pkgconfig/restart.pc
+    echo bin/restart bin/mondays bin/sheet bin/restart-service include/restart.h lib/librestart.a lib/pkgconfig/restart.pc
     echo "lib/librestart.so lib/librestart.so.1 lib/librestart.so.$version"
     echo lib/cmake/restart/restart-config.cmake lib/cmake/restart/restart-config-version.cmake
-    echo share/man/man1/restart.1 share/man/man1/restart-service.1 share/man/man1/mondays.1 share/man/man3/restart.3
+    echo share/man/man1/restart.1 share/man/man1/restart-service.1 share/man/man1/mondays.1 share/man/man1/sheet.1 share/man/man3/restart.3
     echo share/man/man7/restart.7 share/man/man7/restart-model.7
     sh c/names.sh | sed 's|.*|share/man/man3/&.3|'
     for report in examples/reports/*.bin; do echo "share/restart/example/reports/${report##*/}"; done
-    for name in service.c settings.bin events.txt publishers.txt output.txt moves.bin moves.txt; do echo "share/restart/example/$name"; done
+    for name in service.c settings.bin events.txt publishers.txt output.txt moves.bin moves.txt seven.bin seven.sheet; do echo "share/restart/example/$name"; done
 }
 
 all_there() { # FOLDER
@@ -40,7 +40,7 @@ all_there() { # FOLDER
 
 # The operators' tool.
 tool_names() {
-    echo bin/restart-text share/man/man1/restart-text.1 share/restart/explain.schema.json share/restart/convert.schema.json share/restart/publisher.schema.json
+    echo bin/restart-text share/man/man1/restart-text.1 share/restart/explain.schema.json share/restart/convert.schema.json share/restart/publisher.schema.json share/restart/readiness.schema.json
     (cd tools && find restart_text -name '*.py' | sed 's|^|share/restart/|')
 }
 
@@ -156,6 +156,11 @@ installed_mondays() { # PREFIX-FOLDER
     cd "$1/share/restart/example" && "$1/bin/mondays" <moves.bin >"$room/printed" && test -s moves.txt && diff moves.txt "$room/printed"
 }
 
+installed_sheet() { # PREFIX-FOLDER
+    cd "$1/share/restart/example" && "$1/bin/sheet" <seven.bin >"$room/printed" && test -s seven.sheet && diff seven.sheet "$room/printed" || return
+    "$1/bin/restart-text" readiness seven.bin >"$room/printed" && grep -q '^With all 7 machines up a restart exists' "$room/printed"
+}
+
 version_is() { # VERSION LIBRARY-FOLDER
     test "$(PKG_CONFIG_PATH=$2/pkgconfig pkg-config --modversion restart)" = "$1"
 }
@@ -173,6 +178,7 @@ try() { # DESTDIR PREFIX CHECK
     check "the example" installed_example "$1$2"
     check "the program restart" installed_program "$1$2"
     check "the program mondays" installed_mondays "$1$2"
+    check "the program sheet" installed_sheet "$1$2"
     check "the tool" installed_tool "$1$2"
     check "a manual page" groff -t -man -Tutf8 -ww "$1$2/share/man/man3/restart_decide.3"
     "$3" "$1$2"

@@ -78,6 +78,37 @@ impl Program {
             ran
         })
     }
+
+    /// Runs the program on a file. It must print the reference's text, and say
+    /// nothing beside it.
+    pub fn must_print(&self, file: &[u8], feeding: Feeding, text: &str) -> Result<(), String> {
+        let ran = self.run(file, feeding)?;
+        if ran.printed != text.as_bytes() {
+            let what = first_difference(&ran.printed, text);
+            return Err(format!("{} bytes, {feeding:?}: {what}", file.len()));
+        }
+        if !ran.told.is_empty() || !ran.status.success() {
+            let (status, told) = (ran.status, ran.told);
+            return Err(format!("{feeding:?}: ended with {status}, told {told:?}"));
+        }
+        Ok(())
+    }
+}
+
+/// Where a text that was printed first differs from another one.
+fn first_difference(printed: &[u8], expected: &str) -> String {
+    let printed = String::from_utf8_lossy(printed);
+    let (mut ours, mut theirs) = (
+        printed.split_inclusive('\n'),
+        expected.split_inclusive('\n'),
+    );
+    for line in 1.. {
+        let (own, other) = (ours.next(), theirs.next());
+        if own != other || own.is_none() {
+            return format!("output line {line} is {own:?}, the reference's {other:?}");
+        }
+    }
+    unreachable!("a text has an end")
 }
 
 /// Starts a command whose outputs are kept.
@@ -167,7 +198,7 @@ impl Stored {
     fn new(bytes: &[u8]) -> io::Result<Stored> {
         let thread = format!("{:?}", thread::current().id());
         let number: String = thread.chars().filter(char::is_ascii_digit).collect();
-        let name = format!("moves-{}-{number}", std::process::id());
+        let name = format!("input-{}-{number}", std::process::id());
         let path = std::env::temp_dir().join(name);
         std::fs::write(&path, bytes)?;
         Ok(Stored(path))

@@ -32,6 +32,7 @@
 //! - `feeding`: ways to give a program its input
 //! - `failing`: reads and writes of `mondays` that fail
 //! - `mondays`: the comparison of `mondays` with the reference
+//! - `sheets`: the inputs of the program `sheet` and their comparison
 
 pub mod calls;
 pub mod damage;
@@ -61,6 +62,7 @@ pub mod records;
 pub mod regressions;
 pub mod runs;
 pub mod sequences;
+pub mod sheets;
 pub mod situations;
 pub mod stored;
 pub mod tally;

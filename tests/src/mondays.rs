@@ -82,32 +82,9 @@ pub fn compare(program: &Program, seed: u64, index: u64, tally: &mut Tally) -> R
 /// The answer to a file, which must be the reference's, with nothing said
 /// beside it.
 fn same(program: &Program, file: &[u8], feeding: Feeding) -> Result<Vec<u8>, String> {
-    let ran = program.run(file, feeding)?;
     let expected = mondays::answer(file);
-    if ran.printed != expected.as_bytes() {
-        let what = first_difference(&ran.printed, &expected);
-        return Err(format!("{} bytes, {feeding:?}: {what}", file.len()));
-    }
-    if !ran.told.is_empty() || !ran.status.success() {
-        let (status, told) = (ran.status, ran.told);
-        return Err(format!("{feeding:?}: ended with {status}, told {told:?}"));
-    }
-    Ok(ran.printed)
-}
-
-fn first_difference(printed: &[u8], expected: &str) -> String {
-    let printed = String::from_utf8_lossy(printed);
-    let (mut ours, mut theirs) = (
-        printed.split_inclusive('\n'),
-        expected.split_inclusive('\n'),
-    );
-    for line in 1.. {
-        let (own, other) = (ours.next(), theirs.next());
-        if own != other || own.is_none() {
-            return format!("output line {line} is {own:?}, the reference's {other:?}");
-        }
-    }
-    unreachable!("a text has an end")
+    program.must_print(file, feeding, &expected)?;
+    Ok(expected.into_bytes())
 }
 
 /// The tests beside the files of a seed: the example, reads and writes that

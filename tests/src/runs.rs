@@ -16,7 +16,12 @@ const SHORT: usize = 700;
 /// blocks, now and then cut, with a wrong count or with other bytes.
 pub fn input(seed: u64, index: u64) -> Vec<u8> {
     let random = &mut Random::of_input(seed, index);
-    let mut bytes = whole(random);
+    let bytes = whole(random);
+    mangled(random, bytes)
+}
+
+/// Bytes that are now and then cut, longer or others.
+pub fn mangled(random: &mut Random, mut bytes: Vec<u8>) -> Vec<u8> {
     if random.chance(8) {
         bytes.truncate(random.below(bytes.len() + 1));
     }
@@ -86,7 +91,7 @@ fn whole(random: &mut Random) -> Vec<u8> {
 }
 
 /// Words preceded by their count, which is seldom wrong.
-fn block(random: &mut Random, words: &[u32]) -> Vec<u8> {
+pub fn block(random: &mut Random, words: &[u32]) -> Vec<u8> {
     let count = words.len() as u32;
     let wrong = random.pick(&[0, 1, count + 1, count * 2, 1000, 1 << 30, u32::MAX]);
     let mut block = vec![if random.chance(99) { count } else { wrong }];

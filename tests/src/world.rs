@@ -26,10 +26,27 @@ pub struct World {
 /// Makes a group.
 pub fn world(random: &mut Random) -> World {
     let words = if random.chance(75) {
-        roomy_settings(random)
+        let nodes = random.pick(&[3, 4, 5, 6, 7, 8, 12, 20, 32, 32]);
+        roomy_settings(random, nodes)
     } else {
         generate::settings_words(random)
     };
+    with_settings(random, words)
+}
+
+/// Makes a group of so many nodes, each of which is a member of the first view.
+pub fn of_size(random: &mut Random, nodes: u32) -> World {
+    let mut words = roomy_settings(random, nodes);
+    if random.chance(25) {
+        words[2] = random.between(1, nodes);
+    }
+    let mut world = with_settings(random, words);
+    world.eras[0].view.members = mask::below(nodes);
+    world
+}
+
+/// Makes a group with these settings.
+fn with_settings(random: &mut Random, words: Vec<u32>) -> World {
     let settings = settings::parse(&words).expect("generated settings are good");
     let numbers = view_numbers(random);
     let logs: Vec<_> = (0..settings.shards)
@@ -68,9 +85,8 @@ pub fn of_views(random: &mut Random, words: Vec<u32>, views: Vec<View>) -> World
 }
 
 /// Settings that most sets of nodes can satisfy.
-fn roomy_settings(random: &mut Random) -> Vec<u32> {
-    let nodes = random.pick(&[3, 4, 5, 6, 7, 8, 12, 20, 32, 32]);
-    let sets = random.between(2, 16.min(nodes));
+fn roomy_settings(random: &mut Random, nodes: u32) -> Vec<u32> {
+    let sets = random.between(2.min(nodes), 16.min(nodes));
     let shards = random.between(1, 16.min(nodes));
     let mut words = vec![nodes, sets, random.between(1, nodes / 2 + 1), shards];
     words.extend((0..nodes).map(|node| {
@@ -296,7 +312,7 @@ impl World {
 }
 
 /// Makes the first position that is not (0, 0) another one.
-fn other_termination(report: &mut Contents) {
+pub fn other_termination(report: &mut Contents) {
     let position = |record: &&mut Triple| record.kind() == TERMINATION && record.word1 != 0;
     if let Some(record) = report.records.iter_mut().find(position) {
         record.word2 ^= if record.word2 == 1 { 3 } else { 1 };

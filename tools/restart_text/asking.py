@@ -15,15 +15,20 @@ class OutOfTime(Exception):
     """The time for further questions is over."""
 
 
-def default_program():
+def default_program(name="restart"):
     """In a checkout the program that was built there; else the one beside this tool's own; else the first on the path."""
     places = [os.path.dirname(os.path.realpath(sys.argv[0]))]
     if os.path.exists(os.path.join(HERE, "..", "crates.txt")):
         places.insert(0, os.path.normpath(os.path.join(HERE, "..", "target", "bin")))
-    found = shutil.which("restart", path=os.pathsep.join(places)) or shutil.which("restart")
+    found = shutil.which(name, path=os.pathsep.join(places)) or shutil.which(name)
     if not found:
-        raise BadAnswer("there is no program restart on the path; give --program PATH, or --answer FILE with what it printed")
+        raise BadAnswer("there is no program %s on the path; give --program PATH, or --answer FILE with what it printed" % name)
     return found
+
+
+def absolute(path):
+    """The path of a program that is there, whatever the folder; else its name."""
+    return os.path.abspath(path) if os.path.exists(path) else path
 
 
 class Clock:
@@ -46,8 +51,7 @@ class Program(Clock):
 
     def __init__(self, path=None, seconds=SECONDS):
         super().__init__(seconds)
-        path = path or default_program()
-        self.path = os.path.abspath(path) if os.path.exists(path) else path
+        self.path = absolute(path or default_program())
         self.answers = {}
 
     @property

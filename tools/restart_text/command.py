@@ -3,7 +3,7 @@ import argparse
 import sys
 
 from .answers import BadAnswer
-from .commands import convert, diff, draw, explain, join, page, publisher, split, text, watch, windows, words
+from .commands import convert, diff, draw, explain, join, page, publisher, readiness, split, text, watch, windows, words
 from .files import Trouble, Unfit
 from .lines import BadText
 from .model import Refused
@@ -20,6 +20,7 @@ COMMANDS = [
     ("draw", draw, "draw what restart answers to an input, a plan or a wait, as SVG"),
     ("page", page, "write drawing, table and explanation as one file of HTML"),
     ("publisher", publisher, "say what a subgroup's publisher may see of a restart, as text or as one file of HTML"),
+    ("readiness", readiness, "say and draw how often a layout could restart, or two layouts side by side"),
     ("watch", watch, "explain anew whenever a report appears in a folder"),
     ("diff", diff, "compare two answers"),
     ("windows", windows, "draw the windows that mondays prints for a moves file, as SVG"),

@@ -32,9 +32,14 @@ def page(told, name):
         parts += ["<h2>Shards</h2>", table(shard_rows(told.gathered, told.answer) if kind == "plan" else wait_rows(told.gathered))]
     if first != told.lines:
         parts += ["<h2>Explanation</h2>", "<pre>%s</pre>" % escape("\n".join(told.lines))]
+    return whole(title, parts)
+
+
+def whole(title, parts, style=STYLE):
+    """The file that has these parts."""
     head = '<meta charset="utf-8"><meta name="viewport" content="width=device-width"><title>%s</title><style>%s</style>'
     return "<!DOCTYPE html>\n<html lang=\"en\"><head>%s</head>\n<body>\n%s\n</body></html>\n" % (
-        head % (escape(title), STYLE), "\n".join(parts))
+        head % (escape(title), style), "\n".join(parts))
 
 
 def headline(answer):

@@ -6,6 +6,7 @@ from html import escape
 from .model import MOST_NODES, MOST_SHARDS, START
 from .page import STYLE as PAGE_STYLE
 from .page import table as html_table
+from .page import whole
 from .sentences import counted, listed, pair, table, update
 from .state import PHASES
 from .words import nodes_of
@@ -201,6 +202,4 @@ def html(page):
         "<li%s>%s</li>" % (' class="now"' * (name == page.phase), name) for name in PHASES))
     if page.shards:
         parts += ["<h2>Shards</h2>", html_table(rows(page))] + ["<p>%s</p>" % escape(line) for line in notes(page)]
-    head = '<meta charset="utf-8"><meta name="viewport" content="width=device-width"><title>%s</title><style>%s</style>'
-    return "<!DOCTYPE html>\n<html lang=\"en\"><head>%s</head>\n<body>\n%s\n</body></html>\n" % (
-        head % (escape(title), STYLE), "\n".join(parts))
+    return whole(title, parts, STYLE)

@@ -9,6 +9,8 @@ TABLE = {
     15: "operation or page not allowed to the role, or a subgroup above 3",
     3: "state unsound",
     4: "event not in its phase",
+    22: "a sheet of more than 10 nodes",
+    23: "a sheet without a kept view, or with a slot that would not be sound if its node were held",
     19: "flat report whose counts do not explain its length, or with a termination word above 1",
     20: "flat report with a triple of count 0",
     21: "flat report of over 128 records",

@@ -16,11 +16,11 @@ BUILT = ["target/bin/%s", "target/cargo/release/%s-reference", "reference/target
 
 
 def program(name="restart"):
-    """The program under test: named by RESTART_PROGRAM or MONDAYS_PROGRAM, else the first that has been built."""
+    """The program under test: named by RESTART_PROGRAM, MONDAYS_PROGRAM or SHEET_PROGRAM, else the first that has been built."""
     named = os.environ.get(name.upper() + "_PROGRAM")
     found = [named] if named else [path for path in (os.path.join(ROOT, place % name) for place in BUILT) if os.path.exists(path)]
     if not found:
-        sys.exit("no program to test: name both, as in tools/tests/run.py target/bin/restart target/bin/mondays")
+        sys.exit("no program %s to test: name it, as in tools/tests/run.py RESTART MONDAYS LIBRARY SHEET" % name)
     return os.path.abspath(found[0])
 
 

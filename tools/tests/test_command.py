@@ -84,7 +84,8 @@ class Readme(unittest.TestCase):
         with tempfile.TemporaryDirectory() as folder:
             for name in ("tools", "examples"):
                 os.symlink(os.path.join(support.ROOT, name), os.path.join(folder, name))
-            paths = dict(os.environ, RESTART=support.program(), MONDAYS=support.program("mondays"), LIBRARY=support.library())
+            paths = dict(os.environ, RESTART=support.program(), MONDAYS=support.program("mondays"), LIBRARY=support.library(),
+                         SHEET=support.program("sheet"))
             for line, printed in shown:
                 done = subprocess.run(["bash", "-c", line], cwd=folder, env=paths, capture_output=True, text=True, check=False)
                 self.assertEqual((done.returncode, done.stderr), (0, ""), line)

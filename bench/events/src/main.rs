@@ -14,6 +14,8 @@
 //!   full-size input, or on one of a kind, whose node INDEX is then previewed, or
 //!   dropped before, inside the function `measured`, for a program that counts
 //!   instructions
+//! - `events-bench sheet ..`: the program `sheet` beside as many decisions; see
+//!   `sheet.rs`
 
 mod calls;
 mod compare;
@@ -22,6 +24,7 @@ mod layouts;
 mod peer;
 mod previews;
 mod ratios;
+mod sheet;
 mod stack;
 mod times;
 
@@ -81,8 +84,9 @@ fn main() -> ExitCode {
         }
         "previews" => previews::print(number(40)),
         "kinds" => previews::names().iter().for_each(|name| println!("{name}")),
+        "sheet" => return sheet::run(&std::env::args().skip(2).collect::<Vec<String>>()),
         _ => {
-            println!("times, peer, compare, blocks, stack, names, previews, kinds or once");
+            println!("times, peer, compare, blocks, stack, names, previews, kinds, once or sheet");
             return ExitCode::FAILURE;
         }
     }

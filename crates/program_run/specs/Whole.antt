@@ -10,7 +10,7 @@ use Rattle.program_text.specs.Puts.{puts-first}
 use Rattle.program_run.specs.declared.Stage.{Stage}
 use Rattle.program_run.specs.declared.Stage.the-variants.{Opening, Open, Closed}
 use Rattle.program_run.specs.declared.Run.{Run}
-use Rattle.program_run.specs.Runs.{Progress, atStart, deskIn, after, Prints, Printed}
+use Rattle.program_run.specs.Runs.{Progress, Started, atStart, deskIn, after, Prints, Printed}
 use Rattle.program_run.specs.RunLaws.{after-ended}
 use Rattle.program_run.specs.Machine.{started, progressAt, progress, closedAt, ahead, ReadyRun, Feeds, Closes, Writes}
 
@@ -58,16 +58,24 @@ closed-desk run d bytes r e closes = sym (desk-at r e) ∙ ap deskIn (closes .le
 
 -- ---- the whole run
 
-module _ (input bytes : List ℕ) (r : Run) (e b : List ℕ) (last : Run) (f out text : List ℕ) (n : ℕ) (fed : Feeds started (replicate 16384 0) bytes input r e b) (closes : Closes r e b last f) (writes : Writes (progress last f) out text n) (room : 8192 ≤ length out) where
-  -- what is put into the bytes `out` is what is printed for the bytes that were fed and for those that follow, if they change nothing
-  pub run-prints-with : (rest : List ℕ) → ahead r e b rest ≡ ahead r e b [] → Printed (input ++ rest) (take n text)
-  unfolding Printed ahead progressAt
-  run-prints-with rest same =
-      let whole : progress last f ≡ after atStart (blocks (input ++ rest)) = closes .leads ∙ sym same ∙ fed .same rest in
-      subst⁻¹ (λ (t : List ℕ). Prints (after atStart (blocks (input ++ rest))) t)
-      (puts-first out (writes .text) text n (omega (arith, writes .fits)) (writes .puts) .1)
-      (subst (λ (p : Progress). Prints p (writes .text)) whole (writes .prints))
+module _ (d input bytes : List ℕ) (r : Run) (e b : List ℕ) (last : Run) (f : List ℕ) (fed : Feeds started d bytes input r e b) (closes : Closes r e b last f) where
+  -- what the bytes that were fed lead to, and those that follow, if they change nothing
+  pub run-comes : (rest : List ℕ) → ahead r e b rest ≡ ahead r e b [] → progress last f ≡ after (Started d) (blocks (input ++ rest))
+  unfolding ahead progressAt
+  run-comes rest same = closes .leads ∙ sym same ∙ fed .same rest
 
-  -- nothing follows
-  pub run-prints : Printed input (take n text)
-  run-prints = subst (λ (l : List ℕ). Printed l (take n text)) (append-nil input) (run-prints-with [] refl)
+-- what is put into the bytes `out` is what is printed for an input that leads there
+pub writes-printed : (p : Progress) (out text : List ℕ) (n : ℕ) → Writes p out text n → 8192 ≤ length out → (input : List ℕ) → p ≡ after atStart (blocks input)
+    → Printed input (take n text)
+unfolding Printed
+writes-printed p out text n writes room input whole =
+    subst⁻¹ (λ (t : List ℕ). Prints (after atStart (blocks input)) t)
+    (puts-first out (writes .text) text n (omega (arith, writes .fits)) (writes .puts) .1)
+    (subst (λ (q : Progress). Prints q (writes .text)) whole (writes .prints))
+
+-- the bytes fed, the close and the print give what is printed for those bytes
+pub run-prints : (input bytes : List ℕ) (r : Run) (e b : List ℕ) (last : Run) (f out text : List ℕ) (n : ℕ) → Feeds started (replicate 16384 0) bytes input r e b
+    → Closes r e b last f → Writes (progress last f) out text n → 8192 ≤ length out → Printed input (take n text)
+run-prints input bytes r e b last f out text n fed closes writes room =
+    writes-printed (progress last f) out text n writes room input
+    (run-comes (replicate 16384 0) input bytes r e b last f fed closes [] refl ∙ ap (λ (l : List ℕ). after atStart (blocks l)) (append-nil input))

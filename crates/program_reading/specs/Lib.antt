@@ -1,0 +1,3 @@
+-- What reading promises of the bytes that come, and what a program that answers them promises.
+pub mod Reading
+pub mod Laws

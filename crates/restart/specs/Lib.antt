@@ -1,2 +1,0 @@
--- What the program promises of the bytes that it reads and prints.
-pub mod Program

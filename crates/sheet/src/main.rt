@@ -1,0 +1,36 @@
+// Reads settings and reports from standard input as `restart` does and prints the readiness sheet: a line for every set of held nodes, then
+// how many of them have a plan and how many each wait; or the number of a refusal. Where standard input cannot be read to its end nothing is
+// printed.
+use libc::STDOUT_FILENO;
+use program_reading::Reply;
+ghost use Rattle.program_reading.specs.Reading.{Answers};
+ghost use Rattle.program_sheet.specs.Printing.{Sheeted};
+
+// The sheet of the input, as text in lent bytes; none if the input was cut.
+fn answer(out: &mut [u8; 32768]) -> Reply
+    ensures { λ r. ⌜ Answers Sheeted (now (out .exit)) r ⌝ }
+{
+    let mut desk = [0u8; 65536];
+    let intake = program_reading::read_run(&mut desk);
+    let input = intake.input;
+    if input.is_cut() {
+        return Reply { len: 0, input };
+    }
+    let run = intake.run;
+    let len = program_sheet::print(run, &desk, out);
+    Reply { len, input }
+}
+
+fn main() {
+    let mut out = [0u8; 32768];
+    let reply = answer(&mut out);
+    let input = reply.input;
+    if input.is_cut() {
+        os::fail(b"sheet: standard input");
+        return;
+    }
+    let n = reply.len;
+    if !io::write_all(STDOUT_FILENO, &out[0..n]) {
+        os::fail(b"sheet: standard output");
+    }
+}
