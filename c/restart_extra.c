@@ -33,6 +33,8 @@ static const char numbers[][WIDTH] = {
     "the flat report's counts do not fit its length",
     "a run of the flat report has count 0",
     "the flat report needs over 128 records",
+    "too many machines or rounds, or no such machine",
+    "no kept view, or a machine has no valid report",
     "unknown number",
 };
 

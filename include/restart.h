@@ -14,18 +14,18 @@
  *
  * Every call answers with a word: see "Answers". A refused call changes no lent byte, and its
  * number says why: of those that are named at the call the first that applies, in the order of
- * enum restart_number. That order is 1, 2, 15, 3, 4, 19, 20, 21, 5, 6, 7, 8, 9, 16, 17, 10, 11, 18,
- * 12, 13, 14, not the order of their size.
+ * enum restart_number. That order is 1, 2, 15, 3, 4, 22, 23, 19, 20, 21, 5, 6, 7, 8, 9, 16, 17, 10,
+ * 11, 18, 12, 13, 14, not the order of their size.
  *
  * Every call over a restart's state has the caller's role as its first argument: see "Roles". The
  * planner may make every call; a watcher of one subgroup may read that subgroup's page and nothing
  * else (restart_page), and gets number 15 from every other call.
  *
- * What is proved: the calls under "Settings and messages", "Open views", "Events", "Previews" and
- * "Pages" are proved functions. For any bytes whatever they end, touch nothing but what was lent, and
- * answer and leave what their definitions say. The functions under "Roles", "Answers", "Words in lent bytes"
- * and "Versions and texts" are plain C beside them (c/restart_extra.c): tested, not proved, and never
- * called by a proved one.
+ * What is proved: the calls under "Settings and messages", "Open views", "Events", "Previews", "Pages"
+ * and "Shifts" are proved functions. For any bytes whatever they end, touch nothing but what was lent,
+ * and answer and leave what their definitions say. The functions under "Roles", "Answers", "Words in
+ * lent bytes" and "Versions and texts" are plain C beside them (c/restart_extra.c): tested, not
+ * proved, and never called by a proved one.
  *
  * Stack: a call needs up to RESTART_STACK_BYTES of it. No call allocates memory.
  *
@@ -51,9 +51,9 @@ extern "C" {
 
 #define RESTART_VERSION_MAJOR 0
 #define RESTART_VERSION_MINOR 5
-#define RESTART_VERSION_PATCH 2
-#define RESTART_VERSION "0.5.2"
-#define RESTART_VERSION_NUMBER 502 /* major * 10000 + minor * 100 + patch */
+#define RESTART_VERSION_PATCH 3
+#define RESTART_VERSION "0.5.3"
+#define RESTART_VERSION_NUMBER 503 /* major * 10000 + minor * 100 + patch */
 
 /* Of the settings, the messages and the state. It is raised when any of their words changes its
  * meaning; save it beside a state, and start fresh where it differs. */
@@ -94,6 +94,8 @@ extern "C" {
 #define RESTART_BUFFER_WORDS 512   /* a buffer that a message, page or preview is written to */
 #define RESTART_CONTENTS_WORDS 512 /* a buffer that contents are written to */
 #define RESTART_PAGE_WORDS 72      /* a subgroup's page; its buffer has 512 words */
+#define RESTART_GAME_NODES 10      /* most nodes of a game */
+#define RESTART_GAME_ROUNDS 3      /* most rounds of a game */
 
 #define RESTART_SETTINGS_BYTES 208
 #define RESTART_STATE_BYTES 640
@@ -149,6 +151,10 @@ enum restart_number {
     RESTART_UNSOUND_STATE = 3,
     /* the event is not for this phase */
     RESTART_WRONG_PHASE = 4,
+    /* game: more than 10 nodes or 3 rounds, or a held bit from the number of nodes up */
+    RESTART_TOO_LARGE = 22,
+    /* game: no kept view, or a slot that would be unsound if its node were held */
+    RESTART_NOT_READY = 23,
     /* flat report: no whole words, or a length that its counts do not explain; a termination word
      * above 1 */
     RESTART_FLAT_LENGTH = 19,
@@ -311,6 +317,8 @@ enum restart_kind {
  *   class 2   a plan stands in the state; of a preview: in the state that would follow
  *   class 3   a wait: 256 * reason + value
  *   class 4   what is found of an open view, enum restart_view
+ *   class 5   a game: 0 the crew can hold; 256 + node the outage wins by taking this node first,
+ *             256 + 32 by passing
  */
 
 enum restart_class {
@@ -318,7 +326,8 @@ enum restart_class {
     RESTART_LENGTH = 1,
     RESTART_PLAN = 2,
     RESTART_WAIT = 3,
-    RESTART_VIEW = 4
+    RESTART_VIEW = 4,
+    RESTART_GAME = 5
 };
 
 #define RESTART_ACCEPTED UINT32_C(0)
@@ -395,6 +404,25 @@ RESTART_INLINE uint32_t restart_length_of(uint32_t answer)
 RESTART_INLINE uint32_t restart_view_of(uint32_t answer)
 {
     return restart_class_of(answer) == RESTART_VIEW ? answer % RESTART_CLASS_UNIT : 0;
+}
+
+/* Whether a game was played. */
+RESTART_INLINE int restart_is_game(uint32_t answer)
+{
+    return restart_class_of(answer) == RESTART_GAME;
+}
+
+/* Whether the outage can force the win of a game. */
+RESTART_INLINE int restart_outage_wins(uint32_t answer)
+{
+    return restart_is_game(answer) && answer % RESTART_CLASS_UNIT != 0;
+}
+
+/* The node that the outage takes first where it wins; RESTART_NODES where it wins by passing, and of
+ * any other answer. */
+RESTART_INLINE uint32_t restart_first_of(uint32_t answer)
+{
+    return restart_outage_wins(answer) ? answer % 256 : (uint32_t)RESTART_NODES;
 }
 
 /* ---- Words in lent bytes ---- */
@@ -696,6 +724,25 @@ uint32_t restart_page(uint32_t role, const uint8_t *settings, size_t settings_le
                       const uint8_t *state, size_t state_len, const uint8_t *desk, size_t desk_len,
                       uint32_t subgroup, uint8_t *buffer,
                       size_t buffer_len) RESTART_NONNULL RESTART_CHECKED;
+
+/* ---- Shifts ---- */
+
+/*
+ * The game of outage and crew, for planning repairs, while gathering: with the nodes of `held` up, in
+ * place of those that the state holds, the outage takes one node down, then the crew brings back one
+ * that is down, other than that one; so in turn, for 0 to 3 rounds. A side that can move has to, and
+ * passes where it cannot. The crew wins if restart_decide would give a plan after each of its turns;
+ * so a game of 0 rounds is the crew's. There are up to 10 nodes, and the slot of every one of them,
+ * held or not, has a valid report; a node counts as remembered at the view of that report.
+ * Answers class 5: who can force the win, and for the outage its first node, the lowest with which it
+ * can, or passing, where nobody is held (restart_outage_wins, restart_first_of). Or one of the
+ * numbers 1, 2, 15, 3, 4, 22 (more nodes or rounds, or a held bit from the number of nodes up), 23
+ * (no kept view, or a slot that would not be sound if its node were held).
+ * Changes nothing.
+ */
+uint32_t restart_game(uint32_t role, const uint8_t *settings, size_t settings_len,
+                      const uint8_t *state, size_t state_len, const uint8_t *desk, size_t desk_len,
+                      uint32_t held, uint32_t rounds) RESTART_NONNULL RESTART_CHECKED;
 
 #ifdef __cplusplus
 }

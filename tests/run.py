@@ -61,6 +61,7 @@ THEN = [
     ("events against the reference", cargo("tests", "run", "--release", "--bin", "events"), LIBRARY),
     ("roles and pages against the reference", cargo("tests", "run", "--release", "--bin", "pages"), LIBRARY),
     ("previews against the reference and the library's own events", cargo("tests", "run", "--release", "--bin", "previews"), LIBRARY),
+    ("games against the reference", cargo("tests", "run", "--release", "--bin", "games"), LIBRARY),
     ("plans against the reference", cargo("tests", "run", "--release", "--bin", "plans"), LIBRARY),
     ("events against the peer in C and the reference", cargo("bench/events", "run", "--release", "--", "compare", "20000", "1"), LIBRARY),
     ("placements against the reference", cargo("tests/placement", "run", "--release"), PLACEMENT),

@@ -21,6 +21,7 @@ OTHERS = {
     "a kind of record": "kind k",
     "a mask, of nodes or of shards, or one for each shard": "members held fetched prepared marks mask masks old known have lack passed all lost",
     "a subgroup": "g group",
+    "how many rounds a game has": "rounds",
     "how many words, records, shards or moves": "len hlen length total moves count",
     "a slot's words, one by one or two by two": "w b",
     "a flat report's lent bytes": "flat",

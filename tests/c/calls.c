@@ -2,6 +2,7 @@
 #include "harness.h"
 
 uint32_t caller = RESTART_PLANNER;
+uint32_t rounds = 1;
 
 #define PIECE(i) p[i].bytes, p[i].length
 
@@ -109,6 +110,11 @@ static uint32_t call_preview_all(const struct piece *p, uint32_t node)
     return restart_preview_all(caller, PIECE(0), PIECE(1), PIECE(2), PIECE(3));
 }
 
+static uint32_t call_game(const struct piece *p, uint32_t held)
+{
+    return restart_game(caller, PIECE(0), PIECE(1), PIECE(2), held, rounds);
+}
+
 static uint32_t call_page(const struct piece *p, uint32_t subgroup)
 {
     return restart_page(caller, PIECE(0), PIECE(1), PIECE(2), subgroup, PIECE(3));
@@ -132,9 +138,10 @@ const struct entry fetched = {"restart_fetched", 3, 1u << 1, call_fetched};
 const struct entry prepared = {"restart_prepared", 3, 1u << 1, call_prepared};
 const struct entry preview = {"restart_preview", 4, 1u << 3, call_preview};
 const struct entry preview_all = {"restart_preview_all", 4, 1u << 3, call_preview_all};
+const struct entry game = {"restart_game", 3, 0, call_game};
 const struct entry page = {"restart_page", 4, 1u << 3, call_page};
 
 const struct entry *const entries[] = {
     &check_settings, &read_report, &read_order,  &write_report, &write_order, &from_flat, &to_flat,
     &open_view,      &fresh,       &check_state, &report,       &drop,        &decide,    &order,
-    &fetched,        &prepared,    &preview,     &preview_all,  &page};
+    &fetched,        &prepared,    &preview,     &preview_all,  &game,        &page};

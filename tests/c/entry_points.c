@@ -45,31 +45,39 @@ struct taken {
     uint32_t number;
     int located; /* whether it has an index */
     uint32_t index, reason, value, length, view;
+    int game, outage;
+    uint32_t first; /* what the outage begins with */
 };
 
 static void answers(void)
 {
     static const struct taken rows[] = {
-        {0, 0, 0, 0, 0, 0, 0, 0, 0, 0, 0, 0},
-        {7, 0, 1, 0, 0, 7, 0, 0, 0, 0, 0, 0},
-        {8, 0, 1, 0, 0, 8, 1, 0, 0, 0, 0, 0},
-        {9 + 256 * 127, 0, 1, 0, 0, 9, 1, 127, 0, 0, 0, 0},
-        {10, 0, 1, 0, 0, 10, 0, 0, 0, 0, 0, 0},
-        {14, 0, 1, 0, 0, 14, 0, 0, 0, 0, 0, 0},
-        {15, 0, 1, 0, 0, 15, 0, 0, 0, 0, 0, 0},
-        {16 + 256 * 5, 0, 1, 0, 0, 16, 1, 5, 0, 0, 0, 0},
-        {17, 0, 1, 0, 0, 17, 1, 0, 0, 0, 0, 0},
-        {18, 0, 1, 0, 0, 18, 0, 0, 0, 0, 0, 0},
-        {19, 0, 1, 0, 0, 19, 0, 0, 0, 0, 0, 0},
-        {20, 0, 1, 0, 0, 20, 0, 0, 0, 0, 0, 0},
-        {21, 0, 1, 0, 0, 21, 0, 0, 0, 0, 0, 0},
-        {16777216 + 512, 1, 0, 0, 0, 0, 0, 0, 0, 0, 512, 0},
-        {16777216 + 8, 1, 0, 0, 0, 0, 0, 0, 0, 0, 8, 0},
-        {33554432, 2, 0, 1, 0, 0, 0, 0, 0, 0, 0, 0},
-        {50331648 + 256, 3, 0, 0, 1, 0, 0, 0, 1, 0, 0, 0},
-        {50331648 + 256 * 4 + 15, 3, 0, 0, 1, 0, 0, 0, 4, 15, 0, 0},
-        {67108864 + 1, 4, 0, 0, 0, 0, 0, 0, 0, 0, 0, 1},
-        {67108864 + 4, 4, 0, 0, 0, 0, 0, 0, 0, 0, 0, 4},
+        {0, 0, 0, 0, 0, 0, 0, 0, 0, 0, 0, 0, 0, 0, 32},
+        {7, 0, 1, 0, 0, 7, 0, 0, 0, 0, 0, 0, 0, 0, 32},
+        {8, 0, 1, 0, 0, 8, 1, 0, 0, 0, 0, 0, 0, 0, 32},
+        {9 + 256 * 127, 0, 1, 0, 0, 9, 1, 127, 0, 0, 0, 0, 0, 0, 32},
+        {10, 0, 1, 0, 0, 10, 0, 0, 0, 0, 0, 0, 0, 0, 32},
+        {14, 0, 1, 0, 0, 14, 0, 0, 0, 0, 0, 0, 0, 0, 32},
+        {15, 0, 1, 0, 0, 15, 0, 0, 0, 0, 0, 0, 0, 0, 32},
+        {16 + 256 * 5, 0, 1, 0, 0, 16, 1, 5, 0, 0, 0, 0, 0, 0, 32},
+        {17, 0, 1, 0, 0, 17, 1, 0, 0, 0, 0, 0, 0, 0, 32},
+        {18, 0, 1, 0, 0, 18, 0, 0, 0, 0, 0, 0, 0, 0, 32},
+        {19, 0, 1, 0, 0, 19, 0, 0, 0, 0, 0, 0, 0, 0, 32},
+        {20, 0, 1, 0, 0, 20, 0, 0, 0, 0, 0, 0, 0, 0, 32},
+        {21, 0, 1, 0, 0, 21, 0, 0, 0, 0, 0, 0, 0, 0, 32},
+        {22, 0, 1, 0, 0, 22, 0, 0, 0, 0, 0, 0, 0, 0, 32},
+        {23, 0, 1, 0, 0, 23, 0, 0, 0, 0, 0, 0, 0, 0, 32},
+        {16777216 + 512, 1, 0, 0, 0, 0, 0, 0, 0, 0, 512, 0, 0, 0, 32},
+        {16777216 + 8, 1, 0, 0, 0, 0, 0, 0, 0, 0, 8, 0, 0, 0, 32},
+        {33554432, 2, 0, 1, 0, 0, 0, 0, 0, 0, 0, 0, 0, 0, 32},
+        {50331648 + 256, 3, 0, 0, 1, 0, 0, 0, 1, 0, 0, 0, 0, 0, 32},
+        {50331648 + 256 * 4 + 15, 3, 0, 0, 1, 0, 0, 0, 4, 15, 0, 0, 0, 0, 32},
+        {67108864 + 1, 4, 0, 0, 0, 0, 0, 0, 0, 0, 0, 1, 0, 0, 32},
+        {67108864 + 4, 4, 0, 0, 0, 0, 0, 0, 0, 0, 0, 4, 0, 0, 32},
+        {83886080, 5, 0, 0, 0, 0, 0, 0, 0, 0, 0, 0, 1, 0, 32},
+        {83886080 + 256, 5, 0, 0, 0, 0, 0, 0, 0, 0, 0, 0, 1, 1, 0},
+        {83886080 + 256 + 9, 5, 0, 0, 0, 0, 0, 0, 0, 0, 0, 0, 1, 1, 9},
+        {83886080 + 256 + 32, 5, 0, 0, 0, 0, 0, 0, 0, 0, 0, 0, 1, 1, 32},
     };
     for (size_t i = 0; i < sizeof rows / sizeof rows[0]; i++) {
         uint32_t answer = rows[i].answer;
@@ -84,6 +92,10 @@ static void answers(void)
         check_word("value", restart_value_of(answer), rows[i].value);
         check_word("length", restart_length_of(answer), rows[i].length);
         check_word("open view", restart_view_of(answer), rows[i].view);
+        check_word("is a game", (uint32_t)restart_is_game(answer), (uint32_t)rows[i].game);
+        check_word("is the outage's", (uint32_t)restart_outage_wins(answer),
+                   (uint32_t)rows[i].outage);
+        check_word("the first move", restart_first_of(answer), rows[i].first);
     }
 }
 
@@ -129,7 +141,11 @@ static void texts(void)
                "a run of the flat report has count 0");
     check_text("number 21", restart_number_text(RESTART_FLAT_RECORDS),
                "the flat report needs over 128 records");
-    check_text("number 22", restart_number_text(22), "unknown number");
+    check_text("number 22", restart_number_text(RESTART_TOO_LARGE),
+               "too many machines or rounds, or no such machine");
+    check_text("number 23", restart_number_text(RESTART_NOT_READY),
+               "no kept view, or a machine has no valid report");
+    check_text("number 24", restart_number_text(24), "unknown number");
     check_text("reason 6", restart_reason_text(RESTART_NO_PLACEMENT + 1), "unknown reason");
     check_text("phase 4", restart_phase_text(RESTART_COMMITTED + 1), "unknown phase");
     check_text("finding 1", restart_view_text(RESTART_VIEW_SURE), "the open view counts");
@@ -137,8 +153,8 @@ static void texts(void)
                "the open view is said to count and not to");
     check_text("finding 5", restart_view_text(RESTART_VIEW_CONTRADICTED + 1), "unknown finding");
     check_text("the last number", restart_number_text(UINT32_MAX), "unknown number");
-    for (uint32_t one = 0; one <= RESTART_FLAT_RECORDS; one++)
-        for (uint32_t other = one + 1; other <= RESTART_FLAT_RECORDS + 1; other++)
+    for (uint32_t one = 0; one <= RESTART_NOT_READY; one++)
+        for (uint32_t other = one + 1; other <= RESTART_NOT_READY + 1; other++)
             check_word("two numbers have two texts",
                        strcmp(restart_number_text(one), restart_number_text(other)) != 0, 1);
     for (uint32_t one = 0; one <= RESTART_VIEW_CONTRADICTED; one++)
@@ -454,6 +470,23 @@ static void pages(struct world *world)
     expect_state("the same state", world, RESTART_ORDERED, 63, 63, 0, 0);
 }
 
+/* ---- Games ---- */
+
+/* Case A with a report of each node: without node 5 there is no plan, and it may not come back at
+ * once; game.c has the others. */
+static void games(struct world *world)
+{
+    world_ready(world);
+    check_word("no rounds", restart_game(LENT, 127, 0), 83886080);
+    check_word("one round", restart_game(LENT, 127, 1), 83886080 + 256 + 5);
+    check_word("nobody held", restart_game(LENT, 0, 1), 83886080 + 256 + 32);
+    check_word("node 5 is back in time", restart_game(LENT, 95, 1), 83886080);
+    check_word("four rounds", restart_game(LENT, 127, 4), RESTART_TOO_LARGE);
+    expect_state("the same state", world, RESTART_GATHERING, 127, 127, 0, 0);
+    world_gathered(world);
+    check_word("no report of node 6", restart_game(LENT, 63, 1), RESTART_NOT_READY);
+}
+
 /* ---- Open views ---- */
 
 /* A view of nodes 0, 1 and 2: one answer of each kind; views.c has the others. */
@@ -480,5 +513,6 @@ int main(void)
     caps(&world);
     previews(&world);
     pages(&world);
+    games(&world);
     return summary();
 }

@@ -487,4 +487,58 @@ static inline uint32_t faulty(ONLY_READ, uint32_t node, uint8_t *buffer, size_t 
     return answer;
 }
 #define restart_preview faulty
+
+#elif FAULT == 44 /* row 23 before row 22 */
+static inline uint32_t faulty(ONLY_READ, uint32_t held, uint32_t rounds)
+{
+    uint32_t answer = restart_game(PASSED_ON, held, rounds);
+    uint32_t ready = restart_game(PASSED_ON, 0, 0);
+    return answer == RESTART_TOO_LARGE && ready == RESTART_NOT_READY ? ready : answer;
+}
+#define restart_game faulty
+
+#elif FAULT == 45 /* the state's own nodes are held */
+static inline uint32_t faulty(ONLY_READ, uint32_t held, uint32_t rounds)
+{
+    uint32_t answer = restart_game(PASSED_ON, held, rounds);
+    return restart_is_game(answer)
+               ? restart_game(PASSED_ON, restart_get_word(state, RESTART_HELD), rounds)
+               : answer;
+}
+#define restart_game faulty
+
+#elif FAULT == 46 /* the start has to have a plan */
+static inline uint32_t faulty(ONLY_READ, uint32_t held, uint32_t rounds)
+{
+    uint32_t answer = restart_game(PASSED_ON, held, rounds);
+    uint8_t copy[RESTART_STATE_BYTES];
+    if (!restart_is_game(answer) || restart_outage_wins(answer) || rounds == 0)
+        return answer;
+    memcpy(copy, state, sizeof copy);
+    restart_put_word(copy, RESTART_HELD, held);
+    return restart_is_wait(
+               restart_decide(role, settings, settings_len, copy, sizeof copy, desk, desk_len))
+               ? answer + 256
+               : answer;
+}
+#define restart_game faulty
+
+#elif FAULT == 47 /* a game has one round at most */
+static inline uint32_t faulty(ONLY_READ, uint32_t held, uint32_t rounds)
+{
+    uint32_t answer = restart_game(PASSED_ON, held, rounds);
+    return restart_is_game(answer) ? restart_game(PASSED_ON, held, rounds < 2 ? rounds : 1)
+                                   : answer;
+}
+#define restart_game faulty
+
+#elif FAULT == 48 /* passing is node 0 */
+static inline uint32_t faulty(ONLY_READ, uint32_t held, uint32_t rounds)
+{
+    uint32_t answer = restart_game(PASSED_ON, held, rounds);
+    return restart_outage_wins(answer) && restart_first_of(answer) == RESTART_NODES
+               ? answer - RESTART_NODES
+               : answer;
+}
+#define restart_game faulty
 #endif

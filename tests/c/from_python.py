@@ -60,9 +60,10 @@ def small_functions():
     assert helper("number_text", 15) == b"not allowed to this role"
     assert helper("number_text", 16) == b"a record names an unknown shard"
     assert helper("number_text", 18) == b"the machine has reported a later view before"
+    assert helper("number_text", 23) == b"no kept view, or a machine has no valid report"
     assert helper("number_text", 20) == b"a run of the flat report has count 0"
     assert helper("view_text", 2) == b"the open view was never served"
-    for name, first, called in (("number", 22, "number"), ("reason", 6, "reason"), ("phase", 4, "phase"), ("view", 5, "finding")):
+    for name, first, called in (("number", 24, "number"), ("reason", 6, "reason"), ("phase", 4, "phase"), ("view", 5, "finding")):
         assert {helper(name + "_text", word) for word in (first, 255, 4294967295)} == {b"unknown " + called.encode()}
     wait = 3 * 16777216 + 256 * 4 + 15
     found = [helper(name, wait) for name in ("class_of", "is_wait", "is_plan", "is_refusal", "reason_of", "value_of", "number_of")]
@@ -71,6 +72,8 @@ def small_functions():
     assert [helper("has_index", number) for number in (7, 8, 10, 16, 17, 18)] == [0, 1, 0, 1, 1, 0]
     assert helper("length_of", 16777216 + 512) == 512
     assert [helper("view_of", helper("open_view", *masks)) for masks in ((7, 8, 0, 0, 0), (7, 0, 5, 0, 8), (7, 0, 5, 8, 0))] == [1, 2, 3]
+    games = [5 * 16777216 + rest for rest in (0, 256, 256 + 9, 256 + 32)]
+    assert [(helper("is_game", game), helper("outage_wins", game), helper("first_of", game)) for game in games] == [(1, 0, 32), (1, 1, 0), (1, 1, 9), (1, 1, 32)]
     assert [helper("watcher", subgroup) for subgroup in (0, 3, 4, 4294967295)] == [512, 515, 516, 516]
     lent = words(1, 2, 3)
     library.restart_put_word(lent, ctypes.c_size_t(1), WORD(4026531841))
@@ -87,6 +90,7 @@ def restart():
         print("%d word, must" % helper("length_of", call("preview_all", PLANNER, settings, state, desk, seen)), end="")
         print(" stay %d, " % WORD(library.restart_get_word(seen, ctypes.c_size_t(0))).value, end="")
         print("reason %d, " % helper("reason_of", call("preview", PLANNER, settings, state, desk, node, seen)), end="")
+        assert call("game", PLANNER, settings, state, desk, 3, 1) == (23, 5 * 16777216 + 256)[node]
         answer = call("decide", PLANNER, settings, state, desk)
         if helper("is_wait", answer):
             print("wait %d" % helper("reason_of", answer))

@@ -56,6 +56,18 @@ extern "C" {
         buffer: *mut u8,
         buffer_len: usize,
     ) -> u32;
+    fn restart_game(
+        role: u32,
+        settings: *const u8,
+        settings_len: usize,
+        state: *const u8,
+        state_len: usize,
+        desk: *const u8,
+        desk_len: usize,
+        held: u32,
+        rounds: u32,
+    ) -> u32;
+    fn restart_first_of(answer: u32) -> u32;
     fn restart_page(
         role: u32,
         settings: *const u8,
@@ -132,6 +144,18 @@ fn main() {
             );
             let reason = restart_reason_of(without);
             print!("report {taken}, {length} word, must stay {stay}, reason {reason}, ");
+            let game = restart_game(
+                PLANNER,
+                settings.as_ptr(),
+                settings.len(),
+                state.as_ptr(),
+                state.len(),
+                desk.as_ptr(),
+                desk.len(),
+                3,
+                1,
+            );
+            assert_eq!(restart_first_of(game), [32, 0][node as usize]);
             let answer = restart_decide(
                 PLANNER,
                 settings.as_ptr(),

@@ -113,6 +113,8 @@ static void events(struct world *world)
     pieces[3].length = sizeof buffer;
     with_role(&preview, pieces, 5, 50331648 + 256 * 4 + 2);
     with_role(&preview_all, pieces, 0, 16777216 + 1);
+    world_ready(world);
+    with_role(&game, pieces, 127, 83886080 + 256 + 5);
     world_ordered(world);
     with_role(&order, pieces, 5, 16777216 + 36);
     with_role(&page, pieces, 0, 16777216 + 72);

@@ -40,7 +40,7 @@ all_there() { # FOLDER
 
 # The operators' tool.
 tool_names() {
-    echo bin/restart-text share/man/man1/restart-text.1 share/restart/explain.schema.json share/restart/convert.schema.json share/restart/publisher.schema.json share/restart/readiness.schema.json
+    echo bin/restart-text share/man/man1/restart-text.1 share/restart/explain.schema.json share/restart/convert.schema.json share/restart/publisher.schema.json share/restart/readiness.schema.json share/restart/shift.schema.json
     (cd tools && find restart_text -name '*.py' | sed 's|^|share/restart/|')
 }
 

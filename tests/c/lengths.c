@@ -37,7 +37,8 @@ static void add(const uint8_t *bytes, size_t length)
     right.pieces++;
 }
 
-/* The call with one piece of another length. Node 3 or subgroup 3 is used where one is. */
+/* The call with one piece of another length. Node 3, subgroup 3 or held nodes 0 and 1
+ * are used where one is. */
 static void check_length(unsigned piece, size_t length, uint32_t expected)
 {
     static uint8_t bytes[MOST_PIECES][ROOM];
@@ -255,6 +256,9 @@ static void events(void)
     state_lengths(1);
     desk_lengths();
     buffer_lengths(3);
+
+    world_ready(&world);
+    event_lengths(&game, 83886080 + 256, &world);
 
     world_ordered(&world);
     take_event(&order, 16777216 + 36, &world);

@@ -1,8 +1,8 @@
 /*
  * A program outside the repository, over the installed header and library: it reports one of two
  * machines, is told to wait for a majority, reports the other and has a plan; each time it asks who
- * must stay, and why the machine must. Then it reads the page of subgroup 0 as its watcher, who may
- * do nothing else.
+ * must stay, and why the machine must, and at the end finds that the outage wins by the first. Then
+ * it reads the page of subgroup 0 as its watcher, who may do nothing else.
  */
 #include <restart.h>
 #include <stdio.h>
@@ -37,6 +37,11 @@ int main(void)
         answer = restart_preview(RESTART_PLANNER, settings, sizeof settings, state, sizeof state,
                                  desk, sizeof desk, (uint32_t)i, seen, sizeof seen);
         printf("reason %lu, ", (unsigned long)restart_reason_of(answer));
+        answer = restart_game(RESTART_PLANNER, settings, sizeof settings, state, sizeof state, desk,
+                              sizeof desk, 3, 1);
+        if (i == 0 ? restart_number_of(answer) != RESTART_NOT_READY
+                   : !restart_outage_wins(answer) || restart_first_of(answer) != 0)
+            return 1;
         answer = restart_decide(RESTART_PLANNER, settings, sizeof settings, state, sizeof state,
                                 desk, sizeof desk);
         printf("%s %lu\n", restart_is_wait(answer) ? "wait" : "plan",

@@ -67,6 +67,7 @@ static const struct row rows[] = {
     {&prepared, world_preparing, 3, RESTART_ACCEPTED},
     {&preview, world_gathered, 3, 50331648 + 256 * 5},
     {&preview_all, world_gathered, 0, 16777216 + 1},
+    {&game, world_ready, 127, 83886080 + 256 + 5},
 };
 
 /* Lends a call what it takes: the state alone, or settings, state, desk and what comes after. */

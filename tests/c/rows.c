@@ -473,6 +473,50 @@ static void pages(void)
     }
 }
 
+/* Rows 22 and 23 after 4. A mask with node 7 of 7 and 4 rounds, then one of the two; then no kept
+ * view, node 2's report in node 6's slot, a view that is not there yet, and a termination that is
+ * not kept. */
+static void games(void)
+{
+    static const uint32_t many[] = {4, 5, 256, 4294967295u};
+    static const uint32_t above[] = {128, 255, 1024, 2147483648u, 4294967295u};
+    static const size_t first = 6 * (size_t)RESTART_SLOT_WORDS;
+    uint8_t message[RESTART_MESSAGE_BYTES];
+    rounds = 4;
+    first_rows(&game, world_ordered, world_fresh, 255);
+    check_call(&game, pieces, 255, 22);
+    check_call(&game, pieces, 127, 22);
+    rounds = 3;
+    for (size_t i = 0; i < COUNT(above); i++)
+        check_call(&game, pieces, above[i], 22);
+    check_call(&game, pieces, 127, 23);
+    check_call(&game, pieces, 0, 23);
+    world_gathered(&world);
+    check_call(&game, pieces, 255, 22);
+    check_call(&game, pieces, 63, 23); /* node 6 has not reported */
+    put_report(message, 2);
+    memcpy(world.desk + 4 * first, message, 64);
+    check_call(&game, pieces, 63, 23);
+    restart_put_word(world.desk, first, 6);
+    check_call(&game, pieces, 127, 83886080 + 256);
+    restart_put_word(world.desk, first + 1, 8);
+    check_call(&game, pieces, 63, 23);
+    restart_put_word(world.desk, first + 1, 7);
+    restart_put_word(world.desk, first + 15, 4);
+    for (size_t i = 0; i < 12; i++)
+        restart_put_word(world.desk, first + 16 + i, i % 4 == 0 ? 512 + (uint32_t)i / 4 : 0);
+    restart_put_word(world.desk, first + 19, 5);
+    restart_put_word(world.desk, first + 23, 6);
+    check_call(&game, pieces, 63, 23);
+    world_ready(&world);
+    for (size_t i = 0; i < COUNT(many); i++) {
+        rounds = many[i];
+        check_call(&game, pieces, 127, 22);
+    }
+    rounds = 1;
+    check_call(&game, pieces, 127, 83886080 + 256 + 5);
+}
+
 static void marks(void)
 {
     first_rows(&fetched, world_gathered, world_ordered, 7);
@@ -528,6 +572,7 @@ int main(void)
     orders();
     previews();
     pages();
+    games();
     marks();
     decisions();
     return summary();

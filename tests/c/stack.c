@@ -253,6 +253,41 @@ static void restart_once(void)
     made(&drop, lent, 3, RESTART_PLAIN);
 }
 
+/* ---- A game at full size: ten nodes, whose reports have 128 records ---- */
+
+static void put_small_report(uint32_t node)
+{
+    put_record(0, node, VIEW, 1023);
+    for (uint32_t shard = 0; shard < SHARDS; shard++)
+        put_record(1 + shard, RESTART_KIND_MEMBERS * 256 + shard, 3u << 2 * (shard % 4), 0);
+    for (uint32_t run = 0; run + 1 + SHARDS < RESTART_RECORDS; run++)
+        put_record(1 + SHARDS + run, RESTART_KIND_RUN * 256 + run / 7, VIEW - 6 + run % 7,
+                   1 + node);
+}
+
+static void play_once(void)
+{
+    const uint32_t nodes = RESTART_GAME_NODES;
+    const uint32_t head[4] = {nodes, nodes, 1, SHARDS};
+    const struct piece small = {settings, 4 * (4 + (size_t)nodes + SHARDS)};
+    const struct piece lent[4] = {small, on_state, on_desk, on_message};
+    for (uint32_t i = 0; i < 4; i++)
+        restart_put_word(settings, i, head[i]);
+    for (uint32_t node = 0; node < nodes; node++)
+        restart_put_word(settings, 4 + node, node);
+    for (uint32_t shard = 0; shard < SHARDS; shard++)
+        restart_put_word(settings, 4 + nodes + shard, 5 * 65536 + shard / 4 * 256 + 1);
+    made(&fresh, &on_state, 0, RESTART_PLAIN);
+    for (uint32_t node = 0; node < nodes; node++) {
+        put_small_report(node);
+        made(&report, lent, 0, RESTART_PLAIN);
+    }
+    rounds = RESTART_GAME_ROUNDS;
+    for (uint32_t held = 0; held < 1024; held += 31)
+        made(&game, lent, held, RESTART_GAME);
+    made(&game, lent, 1023, RESTART_GAME);
+}
+
 /* ---- The same on a thread ---- */
 
 #define LENT RESTART_PLANNER, settings, sizeof settings, state, sizeof state, desk, sizeof desk
@@ -294,6 +329,8 @@ int main(int count, char **arguments)
     flat_and_back();
     made(&open_view, NULL, 31, RESTART_VIEW);
     restart_once();
+    play_once();
+    put_settings();
     for (size_t i = 0; i < ENTRIES; i++) {
         check_word("the call was made", rows[i].entry != NULL, 1);
         check_word("the stack was enough", rows[i].most < stack_size, 1);

@@ -1,15 +1,18 @@
 """Bound the stack of every call from the library's machine code, for any input: stack.py ARCHIVE HEADER
 
 Along every path of a function the pushes and the subtractions from %rsp are added up; a call adds the frames of what it calls. The only
-function that may call itself is in TURNS, with how often at most. The greatest bound has to be below RESTART_STACK_BYTES of the header.
+functions that may call themselves are in TURNS, with how often at most. The greatest bound has to be below RESTART_STACK_BYTES of the header.
 The last line is `N passed, M failed`, one for each call."""
 import re
 import subprocess
 import sys
 
 # The total search calls itself where it ends one of 16 lists or takes one of 32 nodes; the last turn only looks at what was found. Every
-# other way on is a jump: each call of itself passes a flag of 0, the last of its arguments, and `untried` looks for it.
-TURNS = {"search_total::seek": 49}
+# other way on is a jump: each call of itself passes a flag of 0, the last of its arguments, and `untried` looks for it. The rows of all
+# masks are stored by a function that calls itself with one undecided node less, from ten down to none. The crew's turn in a game, with the
+# outage's in it, calls itself with two half-rounds less, from five down to one.
+SEEK = "search_total::seek"
+TURNS = {SEEK: 49, "plan_rows::fill": 11, "game_turns::crew": 3}
 # What comes from outside, with what the loader does at a first call.
 OUTSIDE = {"memcpy": 8192, "memset": 8192, "memmove": 8192, "memcmp": 8192}
 FUNCTION = re.compile(r"^[0-9a-f]+ <(.*)>:$")
@@ -114,7 +117,8 @@ def bounds(found):
             own = depths(found[name]) + PUSHED
             below = [bound(callee) for callee in {item.callee for item in found[name] if item.callee} if callee != name]
             itself = any(item.callee == name for item in found[name])
-            untried(name, found[name])
+            if name == SEEK:
+                untried(name, found[name])
             known[name] = own * (TURNS[name] if itself else 1) + max(below, default=0)
         return known[name]
 

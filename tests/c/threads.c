@@ -79,6 +79,12 @@ static int previews(struct work *work)
                RESTART_BUFFER_BYTES)) == 1;
 }
 
+/* Asks for a game on the shared state, which is no longer gathering. */
+static int plays(void)
+{
+    return restart_game(SHARED(RESTART_PLANNER), 63, 3) == RESTART_WRONG_PHASE;
+}
+
 /* Makes a flat report of each shared message, and the message of that. */
 static int turns(struct work *work)
 {
@@ -99,8 +105,8 @@ static int turns(struct work *work)
 static void *run(void *given)
 {
     struct work *work = (struct work *)given;
-    work->good =
-        plans(work) && writes_orders(work) && reads_page(work) && previews(work) && turns(work);
+    work->good = plans(work) && writes_orders(work) && reads_page(work) && previews(work) &&
+                 plays() && turns(work);
     return NULL;
 }
 

@@ -63,6 +63,14 @@ void world_gathered(struct world *world)
     }
 }
 
+void world_ready(struct world *world)
+{
+    uint8_t message[RESTART_MESSAGE_BYTES];
+    world_gathered(world);
+    size_t length = put_report(message, 6);
+    check_word("the report of node 6", restart_report(LENT, message, length), RESTART_ACCEPTED);
+}
+
 void world_ordered(struct world *world)
 {
     world_gathered(world);

@@ -27,6 +27,8 @@ size_t put_report(uint8_t *message, uint32_t node);
 /* Case A in each phase, reached through the library. Nothing held yet; nodes 0 to 5 held; */
 void world_fresh(struct world *world);
 void world_gathered(struct world *world);
+/* node 6 has reported as well, and all seven are held; */
+void world_ready(struct world *world);
 /* the plan made; all fetched; all prepared. */
 void world_ordered(struct world *world);
 void world_preparing(struct world *world);

@@ -24,6 +24,7 @@
 //! - `situations`, `tally`: what the sequences came to, and how often
 //! - `plans`: the cases of the `plans` program, layouts that decide places
 //! - `pages`: the inputs of the `pages` program: roles and the pages of subgroups
+//! - `games`: the inputs of the `games` program: outage against crew
 //! - `pairs`: worlds that agree on a subgroup and differ in the rest
 //! - `previews`: the inputs of the `previews` program
 //! - `regressions`, `recorder`: stored sequences of calls, read and written
@@ -44,6 +45,7 @@ pub mod flat;
 pub mod flat_faults;
 pub mod flat_huge;
 pub mod flat_traps;
+pub mod games;
 pub mod generate;
 pub mod lent;
 pub mod library;

@@ -15,6 +15,10 @@ pub const PLAN: u32 = 2 * ACCEPTED;
 pub const WAIT: u32 = 3 * ACCEPTED;
 /// Added to what is found of an open view.
 pub const VIEW: u32 = 4 * ACCEPTED;
+/// The crew can force the win of a game; added to what the outage begins with.
+pub const GAME: u32 = 5 * ACCEPTED;
+/// Where the outage wins, it begins with a node or with this, for passing.
+pub const PASSING: u32 = 32;
 
 /// The numbers that have the index of a record, which lies below 128.
 pub const LOCATED: [u32; 4] = [8, 9, 16, 17];
@@ -30,6 +34,10 @@ pub enum Answer {
     Wait(u32, u32),
     /// What is found of an open view, 1 to 4.
     View(u32),
+    /// The crew can force the win.
+    Crew,
+    /// The outage can, beginning with this node or with `PASSING`.
+    Outage(u32),
     Number(u32),
     /// A number that has the index of a record.
     Located(u32, u32),
@@ -50,6 +58,8 @@ impl Answer {
             2 if rest == 0 => Answer::Plan,
             3 if rest < 65536 => Answer::Wait(rest / 256, rest % 256),
             4 if (1..=4).contains(&rest) => Answer::View(rest),
+            5 if rest == 0 => Answer::Crew,
+            5 if (256..=256 + PASSING).contains(&rest) => Answer::Outage(rest - 256),
             _ => Answer::Other(word),
         }
     }
@@ -80,6 +90,9 @@ impl fmt::Display for Answer {
             Answer::Wait(reason, 0) => write!(f, "wait {reason}"),
             Answer::Wait(reason, value) => write!(f, "wait {reason} with value {value}"),
             Answer::View(finding) => write!(f, "open view {finding}"),
+            Answer::Crew => write!(f, "the crew"),
+            Answer::Outage(PASSING) => write!(f, "the outage by passing"),
+            Answer::Outage(node) => write!(f, "the outage by node {node}"),
             Answer::Number(number) => write!(f, "number {number}"),
             Answer::Located(number, index) => write!(f, "number {number} {index}"),
             Answer::Other(word) => write!(f, "word {word}"),
@@ -145,7 +158,21 @@ pub type WriteAll = unsafe extern "C" fn(
     usize,
 ) -> u32;
 
-/// The planner's events, previews and the pages of subgroups.
+/// A function of a role, settings, state and desk, which are only read, a mask of
+/// held nodes and a number of rounds.
+pub type Game = unsafe extern "C" fn(
+    u32,
+    *const u8,
+    usize,
+    *const u8,
+    usize,
+    *const u8,
+    usize,
+    u32,
+    u32,
+) -> u32;
+
+/// The planner's events, previews, games and the pages of subgroups.
 #[derive(Clone, Copy)]
 pub struct Planner {
     pub fresh: Fresh,
@@ -340,6 +367,17 @@ mod linked {
             buffer: *mut u8,
             buffer_len: usize,
         ) -> u32;
+        pub fn restart_game(
+            role: u32,
+            settings: *const u8,
+            settings_len: usize,
+            state: *const u8,
+            state_len: usize,
+            desk: *const u8,
+            desk_len: usize,
+            held: u32,
+            rounds: u32,
+        ) -> u32;
     }
 }
 
@@ -388,6 +426,18 @@ pub fn tested_planner() -> Planner {
     crate::mock::planner::<crate::mock::Faithful>()
 }
 
+/// The proved game.
+#[cfg(linked)]
+pub fn tested_game() -> Game {
+    linked::restart_game
+}
+
+/// Without the library, the reference stands in.
+#[cfg(not(linked))]
+pub fn tested_game() -> Game {
+    crate::mock::game::<crate::mock::Faithful>
+}
+
 /// The name of what is tested, for the programs' first line.
 pub fn tested_name() -> &'static str {
     if cfg!(linked) {
@@ -423,7 +473,13 @@ mod tests {
             (67_108_864 + 4, "open view 4"),
             (67_108_864 + 5, "word 67108869"),
             (4 * 16_777_216, "word 67108864"),
-            (5 * 16_777_216, "word 83886080"),
+            (5 * 16_777_216, "the crew"),
+            (5 * 16_777_216 + 256, "the outage by node 0"),
+            (5 * 16_777_216 + 256 + 9, "the outage by node 9"),
+            (5 * 16_777_216 + 256 + 32, "the outage by passing"),
+            (5 * 16_777_216 + 256 + 33, "word 83886369"),
+            (5 * 16_777_216 + 1, "word 83886081"),
+            (6 * 16_777_216, "word 100663296"),
         ];
         for (word, text) in words {
             assert_eq!(Answer::of(word).to_string(), text);

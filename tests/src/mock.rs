@@ -4,6 +4,7 @@
 
 use crate::calls::{self, Asked, Kind, Outcome, Table};
 use crate::expected::{self, Expected};
+use crate::games;
 use crate::library::{Library, Planner};
 use crate::open_views::{self, Question};
 use reference::message::Form;
@@ -31,6 +32,9 @@ pub trait Behaviour {
     }
     fn event(asked: &Asked) -> Outcome {
         calls::expected(asked)
+    }
+    fn game(asked: &games::Asked) -> u32 {
+        games::expected(asked)
     }
 }
 
@@ -274,3 +278,32 @@ macro_rules! of_node {
 of_node!(drop_node, Kind::Drop);
 of_node!(fetched, Kind::Fetched);
 of_node!(prepared, Kind::Prepared);
+
+/// A stand-in's game.
+///
+/// # Safety
+/// The pointers are to memory of those lengths.
+#[allow(clippy::too_many_arguments)]
+pub unsafe extern "C" fn game<B: Behaviour>(
+    role: u32,
+    settings: *const u8,
+    settings_len: usize,
+    state: *const u8,
+    state_len: usize,
+    desk: *const u8,
+    desk_len: usize,
+    held: u32,
+    rounds: u32,
+) -> u32 {
+    let table = Table {
+        settings: from_raw_parts(settings, settings_len).to_vec(),
+        state: from_raw_parts(state, state_len).to_vec(),
+        desk: from_raw_parts(desk, desk_len).to_vec(),
+    };
+    B::game(&games::Asked {
+        role,
+        table,
+        held,
+        rounds,
+    })
+}

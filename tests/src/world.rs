@@ -84,6 +84,30 @@ pub fn of_views(random: &mut Random, words: Vec<u32>, views: Vec<View>) -> World
     }
 }
 
+/// A group in whose first view all nodes are, so that every one of them has
+/// something to report.
+pub fn whole_group(random: &mut Random, words: Vec<u32>) -> World {
+    let settings = settings::parse(&words).expect("good settings");
+    let numbers = view_numbers(random);
+    let logs: Vec<_> = (0..settings.shards)
+        .map(|_| longest_log(random, &numbers))
+        .collect();
+    let mut eras = Vec::new();
+    for &number in &numbers {
+        let members = match eras.is_empty() || random.chance(60) {
+            true => mask::below(settings.nodes),
+            false => generate::members(random, &settings),
+        };
+        eras.push(era_of(random, &settings, &logs, number, members));
+    }
+    World {
+        words,
+        settings,
+        eras,
+        logs,
+    }
+}
+
 /// Settings that most sets of nodes can satisfy.
 fn roomy_settings(random: &mut Random, nodes: u32) -> Vec<u32> {
     let sets = random.between(2.min(nodes), 16.min(nodes));
@@ -132,6 +156,17 @@ fn longest_log(random: &mut Random, numbers: &[u32]) -> Vec<(u32, u32)> {
 
 fn era(random: &mut Random, settings: &Settings, logs: &[Vec<(u32, u32)>], number: u32) -> Era {
     let members = generate::members(random, settings);
+    era_of(random, settings, logs, number, members)
+}
+
+/// A view with these members.
+fn era_of(
+    random: &mut Random,
+    settings: &Settings,
+    logs: &[Vec<(u32, u32)>],
+    number: u32,
+    members: u32,
+) -> Era {
     let node = random.pick(&mask::nodes(members));
     let masks = generate::shard_masks(random, settings, members, node);
     let position = |random: &mut Random, log: &Vec<(u32, u32)>| {

@@ -3,7 +3,7 @@ import argparse
 import sys
 
 from .answers import BadAnswer
-from .commands import convert, diff, draw, explain, join, page, publisher, readiness, split, text, watch, windows, words
+from .commands import convert, diff, draw, explain, join, page, publisher, readiness, shift, split, text, watch, windows, words
 from .files import Trouble, Unfit
 from .lines import BadText
 from .model import Refused
@@ -21,11 +21,12 @@ COMMANDS = [
     ("page", page, "write drawing, table and explanation as one file of HTML"),
     ("publisher", publisher, "say what a subgroup's publisher may see of a restart, as text or as one file of HTML"),
     ("readiness", readiness, "say and draw how often a layout could restart, or two layouts side by side"),
+    ("shift", shift, "say who wins outage against crew, and what to bring back for each machine that is lost"),
     ("watch", watch, "explain anew whenever a report appears in a folder"),
     ("diff", diff, "compare two answers"),
     ("windows", windows, "draw the windows that mondays prints for a moves file, as SVG"),
 ]
-STATUSES = "Exit status: 0 a plan, or done; 1 a wait (diff: the answers differ); 2 a refusal; 3 anything else."
+STATUSES = "Exit status: 0 a plan, or done; 1 a wait (diff: the answers differ; shift: the outage wins); 2 a refusal; 3 anything else."
 
 
 class Parser(argparse.ArgumentParser):

@@ -1,15 +1,17 @@
-"""An explanation, a conversion and a page as values for JSON; docs/explain.schema.json, docs/convert.schema.json and
-docs/publisher.schema.json say what they have."""
+"""An explanation, a conversion, a page and a shift as values for JSON; docs/explain.schema.json, docs/convert.schema.json,
+docs/publisher.schema.json and docs/shift.schema.json say what they have."""
 from .answers import Plan, Wait
 from .converting import last_lines
 from .explaining import stale
 from .gathering import holding, waits
+from .library import PASSING
 from .planning import log_of, moves, not_kept
 from .publishing import lines as page_lines
 from .repairing import why
+from .shifting import lines as shift_lines
 from .waiting import wait_lines
 
-SCHEMA = CONVERT_SCHEMA = PUBLISHER_SCHEMA = 1
+SCHEMA = CONVERT_SCHEMA = PUBLISHER_SCHEMA = SHIFT_SCHEMA = 1
 
 
 def json_of(given, told):
@@ -146,3 +148,18 @@ def shown_value(shard):
     return {"shard": shard.number, "needs": shard.wanted.needs if shard.wanted else None, "cap": shard.wanted.cap if shard.wanted else None,
             "holder": shard.holder, "target": position(shard.target) if shard.target else None,
             "machines": None if shard.members is None else sorted(shard.members)}
+
+
+def shift_value(found):
+    return {"schema": SHIFT_SCHEMA, "rounds": found.rounds, "on": list(found.on), "winner": "crew" if found.first is None else "outage",
+            "first": None if found.first in (None, PASSING) else found.first, "blows": [blow_value(blow) for blow in found.blows],
+            "keep": found.keep, "needed": found.needed,
+            "machines": [{"node": node, "name": found.settings.names[node] if found.settings.names else None}
+                         for node in range(len(found.settings.set_of))],
+            "text": shift_lines(found)}
+
+
+def blow_value(blow):
+    wait = {"reason": blow.wait.reason, "value": blow.wait.value if blow.wait.reason in (4, 5) else None} if blow.wait else None
+    return {"lost": blow.lost, "held": blow.held, "back": list(blow.answers), "plan": blow.plan,
+            "next": None if blow.next_loss in (None, PASSING) else blow.next_loss, "wait": wait}

@@ -1,5 +1,5 @@
-"""Asking the library for C: which one it is, its calls that convert reports, and a restart of its own up to a subgroup's page or to
-previews."""
+"""Asking the library for C: which one it is, its calls that convert reports, and a restart of its own up to a subgroup's page, to
+previews, or to a game of outage and crew."""
 import ctypes
 import os
 import sys
@@ -17,8 +17,10 @@ CONVERTING = {"restart_from_flat": "rrw", "restart_to_flat": "rrw"}
 REPORTING = {"restart_fresh": "nw", "restart_report": "nrwwr"}
 WATCHING = {"restart_page": "nrrrnw", "restart_watcher": "n", **REPORTING}
 PREVIEWING = {"restart_preview": "nrrrnw", "restart_preview_all": "nrrrw", **REPORTING}
-CLASS, REFUSAL, LENGTH, PLAN, WAIT = 16777216, 0, 1, 2, 3  # an answer is class x 16777216 + rest
+PLAYING = {"restart_game": "nrrrnn", "restart_drop": "nrwrn", "restart_decide": "nrwr", **REPORTING}
+CLASS, REFUSAL, LENGTH, PLAN, WAIT, GAME = 16777216, 0, 1, 2, 3, 5  # an answer is class x 16777216 + rest
 MOVES = 57  # the word of a state that has its plan's moves
+PASSING = 32  # where the outage begins with no node
 PLANNER = 256
 STATE_BYTES, DESK_BYTES, BUFFER_BYTES = 640, 65536, 16 * MOST_RECORDS
 WORD, SIZE = ctypes.c_uint32, ctypes.c_size_t
@@ -151,3 +153,33 @@ class Previews(Restart):
         if isinstance(found, Number):
             raise BadAnswer("restart_preview_all refuses with number %d what restart_preview takes" % found.number)
         return words.nodes_of(found[0])
+
+
+class Games(Restart):
+    """A restart in which every machine has reported, and games of outage and crew on it."""
+
+    def __init__(self, path, settings):
+        super().__init__(path, settings, PLAYING, "play games")
+
+    def game(self, held, rounds):
+        """What the outage begins with where it wins, a node or PASSING, or None where the crew can hold; and the Number by which the
+        game is refused, or None."""
+        answer = self.calls.restart_game(*lent(PLANNER, self.settings, self.state, self.desk, held, rounds))
+        kind, rest = divmod(answer, CLASS)
+        if kind == GAME and rest == 0:
+            return None, None
+        if kind == GAME and 256 <= rest <= 256 + PASSING:
+            return rest - 256, None
+        return None, refusal("restart_game", answer)
+
+    def decided(self, dropped):
+        """The Wait of restart_decide once these nodes are dropped, or None where there is a plan: on a copy of the state."""
+        state = ctypes.create_string_buffer(self.state.raw, STATE_BYTES)
+        for node in dropped:
+            answer = self.calls.restart_drop(*lent(PLANNER, self.settings, state, self.desk, node))
+            if answer:
+                raise BadAnswer("restart_drop answers %d for machine %d, which has reported" % (answer, node))
+        kind, rest = divmod(self.calls.restart_decide(*lent(PLANNER, self.settings, state, self.desk)), CLASS)
+        if kind not in (PLAN, WAIT):
+            raise BadAnswer("restart_decide answers %d x %d + %d, which is neither a plan nor a wait" % (kind, CLASS, rest))
+        return Wait(rest // 256, rest % 256) if kind == WAIT else None

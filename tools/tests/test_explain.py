@@ -309,7 +309,7 @@ class Refusals(unittest.TestCase):
 
     def test_a_number_that_restart_does_not_give(self):
         for number, piece in ((14, "node not held"), (15, "not allowed to the role"), (22, "sheet of more than 10 nodes"), (23, "sheet with"),
-                              (99, "is not among those of restart(7)")):
+                              (26, "is not among those"), (99, "is not among those of restart(7)")):
             told = explain(support.given(A), answers.Number(number))
             self.assertIn(piece, told.lines[0])
             self.assertFalse(told.agrees)

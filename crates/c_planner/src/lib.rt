@@ -12,6 +12,7 @@ ghost use Rattle.c_decide.specs.Decisions.{DecideCall};
 ghost use Rattle.c_order.specs.OrderCalls.{orderAnswer, orderLeaves};
 ghost use Rattle.c_page.specs.PageCalls.{PageCall};
 ghost use Rattle.c_preview.specs.PreviewCalls.{PreviewCall, WarnCall};
+ghost use Rattle.c_game.specs.GameCalls.{GameCall};
 ghost use Rattle.c_views.specs.ViewAnswers.{openViewAnswer};
 
 // 0 where the settings are right, else 2.
@@ -234,4 +235,19 @@ pub extern "C" fn restart_preview_all(
     ensures { λ r. ⌜ WarnCall role (now (settings .entry)) (now (state .entry)) (now (desk .entry)) (now (buffer .entry)) r (now (buffer .exit)) ⌝ }
 {
     c_preview::preview_all(role, settings, state, desk, buffer)
+}
+
+// Who can force the win of outage and crew in so many rounds with these nodes held: rows 1, 2, 15, 3, 4, 22 and 23.
+#[no_mangle]
+pub extern "C" fn restart_game(
+    role: u32,
+    settings: &[u8],
+    state: &[u8],
+    desk: &[u8],
+    held: u32,
+    rounds: u32,
+) -> u32
+    ensures { λ r. ⌜ GameCall role (now (settings .entry)) (now (state .entry)) (now (desk .entry)) held rounds r ⌝ }
+{
+    c_game::game(role, settings, state, desk, held, rounds)
 }
