@@ -45,7 +45,7 @@ performance:
 # ---- The operators' tool: its program, its package and its page
 
 TOOLDIR ?= $(PREFIX)/share/restart
-SCHEMAS := explain.schema.json convert.schema.json publisher.schema.json readiness.schema.json shift.schema.json
+SCHEMAS := explain.schema.json convert.schema.json publisher.schema.json readiness.schema.json shift.schema.json rounds.schema.json
 TOOL_FILES := $(patsubst tools/%,%,$(wildcard tools/restart_text/*.py tools/restart_text/*/*.py))
 
 .PHONY: install-tool uninstall-tool

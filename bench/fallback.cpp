@@ -1,6 +1,7 @@
 // Counts how often the placement enters its total search: never, over seeded instances of every
-// kind, for the least weight, for a weight of at most a random k, and for at most 32 moves where a
-// move costs 1 and a node placed nowhere nothing.
+// kind, for the least weight and for a weight of at most a random k; for at most a random number of
+// moves and for the fewest, where a move costs 1 and a node placed nowhere nothing, as in improving
+// rounds; and for any placement, where nothing costs anything, as at their start.
 //     fallback [instances a kind] [seed]
 // No call tells it, so a trap stands at the total search's first instruction (the Makefile gives that
 // place a name): a call that comes there is left at once and counted. That the trap works is tried
@@ -75,6 +76,13 @@ static uint32_t random_weight(Random &r, const Instance &x) {
     return static_cast<uint32_t>(r.below(NODES + 1) * move_cost(x) + r.below(NODES + 1));
 }
 
+// The same where a move costs nothing.
+static Instance free_of(Instance x) {
+    for (auto &cost : x.costs)
+        if (cost != 255) cost = 0;
+    return x;
+}
+
 // What the instances of one kind come to: how often the search is entered, and at which instance first.
 struct Entered {
     long times = 0, first = -1;
@@ -86,7 +94,10 @@ static Entered tried(int kind, long count, uint64_t seed) {
     for (long k = 0; k < count; ++k) {
         Draft d = draft(kind, r);
         Instance x = finished(d);
-        int missed = least_enters(x) + within_enters(x, random_weight(r, x)) + within_enters(finished(d, true), NODES);
+        Instance moves = finished(d, true);
+        int missed = least_enters(x) + within_enters(x, random_weight(r, x)) +
+                     within_enters(moves, static_cast<uint32_t>(r.below(NODES + 1))) + within_enters(free_of(moves), 0);
+        if (k % 2) missed += least_enters(moves);
         if (missed && e.times == 0) e.first = k;
         e.times += missed;
     }

@@ -1,9 +1,9 @@
-"""Measure the library and write docs/PERFORMANCE.md: performance.py [mock | mondays | placement | previews | sheet].
+"""Measure the library and write docs/PERFORMANCE.md: performance.py [mock | mondays | placement | previews | rounds | sheet].
 
 Times of every call beside the reference's, of events beside a peer in C, instructions by callgrind, stack by painting, the placement beside LEMON's network
 simplex, the program mondays beside a plain C program, and the program sheet beside as many decisions. With `mock` the reference stands in for
-the library and the programs, the placement is left out and the page goes to target/performance.md; with `mondays`, `placement`, `previews` or `sheet` that
-section alone is measured and written anew. It needs valgrind and, for the placement, LEMON (Debian: liblemon-dev)."""
+the library and the programs, the placement is left out and the page goes to target/performance.md; with `mondays`, `placement`, `previews`, `rounds` or
+`sheet` that section alone is measured and written anew. It needs valgrind and, for the placement, LEMON (Debian: liblemon-dev)."""
 import os
 import re
 import struct
@@ -68,6 +68,24 @@ def previews(inputs):
         row = ["{:,}".format(middle(decide))]
         for counts, beside in ((one, without), (every, decide)):
             row += ["{:,}".format(middle(counts)), "%.2f" % max(count / own for count, own in zip(counts, beside))]
+        lines.append("| %s | %s |" % (name, " | ".join(row)))
+    return "\n".join(lines)
+
+
+ROUNDS = (0, 1, 8, 32, 128)
+
+
+def rounds(inputs):
+    """A table of the instructions of decide and of decisions by rounds for each kind of layout: medians over some inputs; the greatest ratio of 0
+    rounds to decide once what check_state takes of the same state is taken off both, and of 128 rounds to the whole of decide."""
+    lines = ["| layout | decide | %s0 rounds, placement, greatest ratio | 128 rounds, greatest ratio |" % "".join("%d rounds | " % count for count in ROUNDS),
+             "|---" * (len(ROUNDS) + 4) + "|"]
+    for kind, name in enumerate(said(BENCH, "kinds").splitlines()):
+        decide, opened = ([counted(call, index, kind) for index in range(inputs)] for call in ("decide", "check_gathered"))
+        within = [[counted("decide_within", index, kind, count) for index in range(inputs)] for count in ROUNDS]
+        row = ["{:,}".format(middle(counts)) for counts in (decide, *within)]
+        row.append("%.2f" % max((own - base) / (full - base) for own, full, base in zip(within[0], decide, opened)))
+        row.append("%.2f" % max(own / full for own, full in zip(within[-1], decide)))
         lines.append("| %s | %s |" % (name, " | ".join(row)))
     return "\n".join(lines)
 
@@ -199,7 +217,7 @@ bytes are copied by one repeated instruction, so these numbers say little about 
 
 Deepest stack of a call at full size, over {stacks} inputs: the call is made on a thread whose stack was painted before. {needs}
 
-{stack}{previews}{placement}{mondays}{sheet}"""
+{stack}{previews}{rounds}{placement}{mondays}{sheet}"""
 
 PREVIEWS = """
 ### Previews
@@ -207,6 +225,20 @@ PREVIEWS = """
 What a preview takes beside the decide of its copy, without the node, and the mask beside one decide, for kinds of layouts of 32 nodes, all held, with empty
 logs, also where the kept view is laid out already and nobody moves, and with 128 records in every report (`bench/events/src/previews.rs`): in instructions, by callgrind, over {counted} inputs of each kind, and in microseconds, over
 {count}.{apart}
+
+{instructions}
+
+{times}"""
+
+WITHIN = """
+### Rounds
+
+What a decision by improving rounds takes beside a decide of the same state, for the same kinds of layouts
+(`bench/events/src/rounds.rs`): in instructions, by callgrind, over {counted} inputs of each kind, and in microseconds, over {count}. The
+column of 0 rounds compares placements: what check_state takes of the same state and desk is taken off both. Where nodes are scarce 0 rounds
+take about half of decide's placement; where there is much room decide's search is short already and the start's is as long. One round takes
+about a whole search of its subgroup, so some rounds are dearer than decide; 128 rounds are always enough, so one search for the fewest moves
+replaces them.{apart}
 
 {instructions}
 
@@ -274,6 +306,7 @@ def whole(mock):
         instructions=instructions(counted_inputs),
         stack=said(BENCH, "stack", str(stacks)),
         previews=previews_section(mock, ""),
+        rounds=rounds_section(mock, ""),
         needs="" if mock else needs(),
         placement="" if mock else PLACEMENT.format(solved=SOLVED, apart="", table=placement()),
         mondays=MONDAYS.format(apart="", table=mondays(mock)),
@@ -291,6 +324,16 @@ def previews_apart():
     return previews_section(False, APART.format(machine=machine()))
 
 
+def rounds_section(mock, apart):
+    inputs, count = (1, 1) if mock else (3, 20)
+    return WITHIN.format(apart=apart, counted=inputs, count=count, instructions=rounds(inputs), times=said(BENCH, "rounds", str(count)))
+
+
+def rounds_apart():
+    build(False)
+    return rounds_section(False, APART.format(machine=machine()))
+
+
 def placement_apart():
     subprocess.run(["rt", "staticlib", "c_placement"], cwd=ROOT, env=ENVIRONMENT, check=True, stdout=subprocess.DEVNULL)
     return PLACEMENT.format(solved=SOLVED, apart=APART.format(machine=machine()), table=placement())
@@ -306,7 +349,7 @@ def sheet_apart():
 
 
 # The sections that can be measured without the others.
-SECTIONS = {"previews": previews_apart, "placement": placement_apart, "mondays": mondays_apart, "sheet": sheet_apart}
+SECTIONS = {"previews": previews_apart, "rounds": rounds_apart, "placement": placement_apart, "mondays": mondays_apart, "sheet": sheet_apart}
 
 
 def with_section(path, name):

@@ -51,9 +51,9 @@ extern "C" {
 
 #define RESTART_VERSION_MAJOR 0
 #define RESTART_VERSION_MINOR 5
-#define RESTART_VERSION_PATCH 3
-#define RESTART_VERSION "0.5.3"
-#define RESTART_VERSION_NUMBER 503 /* major * 10000 + minor * 100 + patch */
+#define RESTART_VERSION_PATCH 4
+#define RESTART_VERSION "0.5.4"
+#define RESTART_VERSION_NUMBER 504 /* major * 10000 + minor * 100 + patch */
 
 /* Of the settings, the messages and the state. It is raised when any of their words changes its
  * meaning; save it beside a state, and start fresh where it differs. */
@@ -248,7 +248,8 @@ enum restart_state_word {
     RESTART_PLAN_MEMBERS = 56,
     /* total of moves; a move is a node in a shard that it did not carry in the kept view */
     RESTART_PLAN_MOVES = 57,
-    /* 16 words: each shard's members mask in the new view; which, restart_decide says */
+    /* 16 words: each shard's members mask in the new view; which, restart_decide says, or
+     * restart_decide_within of its own plan */
     RESTART_PLAN_MASKS = 58,
     /* 16 words: for each shard the node whose log is taken */
     RESTART_PLAN_HOLDERS = 74,
@@ -314,7 +315,8 @@ enum restart_kind {
  * An answer is class * 16777216 + rest:
  *   class 0   0: accepted.  number + 256 * index: refused; the index is 0 where the number has none
  *   class 1   accepted; the rest is a length in words
- *   class 2   a plan stands in the state; of a preview: in the state that would follow
+ *   class 2   a plan stands in the state; of a preview: in the state that would follow. The rest is
+ *             the gap of restart_decide_within's plan, and 0 of every other
  *   class 3   a wait: 256 * reason + value
  *   class 4   what is found of an open view, enum restart_view
  *   class 5   a game: 0 the crew can hold; 256 + node the outage wins by taking this node first,
@@ -392,6 +394,14 @@ RESTART_INLINE uint32_t restart_reason_of(uint32_t answer)
 RESTART_INLINE uint32_t restart_value_of(uint32_t answer)
 {
     return restart_is_wait(answer) ? answer % 256 : 0;
+}
+
+/* The gap of a plan of restart_decide_within, at most 128: no valid placement has fewer moves than
+ * the plan's by more. 0 of another answer. Of restart_decide's plan and of a preview's it is 0 too,
+ * and says nothing there: they have the fewest moves, whatever the gap would be. */
+RESTART_INLINE uint32_t restart_gap_of(uint32_t answer)
+{
+    return restart_is_plan(answer) ? answer % RESTART_CLASS_UNIT : 0;
 }
 
 /* The length in words of what was read or written; 0 of another answer. */
@@ -637,6 +647,26 @@ uint32_t restart_drop(uint32_t role, const uint8_t *settings, size_t settings_le
 uint32_t restart_decide(uint32_t role, const uint8_t *settings, size_t settings_len, uint8_t *state,
                         size_t state_len, const uint8_t *desk,
                         size_t desk_len) RESTART_NONNULL RESTART_CHECKED;
+
+/*
+ * Decides as restart_decide, while gathering, with a placement that a number of improving rounds
+ * reaches: a plan sooner, or a better one later. It starts in each subgroup from the first valid
+ * placement, in restart_decide's order and whatever its moves. Each round takes, in the lowest
+ * subgroup that has a valid placement of fewer moves than the one reached there, the first of
+ * those; how many members stay plays no part. It stops early only where no subgroup has one. More
+ * than 128 rounds count as 128, and with 128 no valid placement has fewer moves.
+ * It waits where restart_decide waits, with the same reason. Its plan differs from restart_decide's
+ * in the shards' members and in the moves alone, leads to ordered as that one does, and orders and
+ * marks follow as ever.
+ * Answers class 2 (a plan) with the gap, restart_gap_of: the plan's moves less the sum, over shards,
+ * of m minus the lesser of m and the number of sets among the shard's held old members. No valid
+ * placement has fewer moves than the plan's by more than the gap; it may be above 0 where none has
+ * fewer. Or class 3 (a wait), or one of the numbers 1, 2, 15, 3, 4.
+ * Changes the state where there is a plan.
+ */
+uint32_t restart_decide_within(uint32_t role, const uint8_t *settings, size_t settings_len,
+                               uint8_t *state, size_t state_len, const uint8_t *desk,
+                               size_t desk_len, uint32_t rounds) RESTART_NONNULL RESTART_CHECKED;
 
 /*
  * Writes a held node's order, while ordered: the new view with its members, each shard's members

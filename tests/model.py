@@ -3,7 +3,7 @@
 The example's text, turned into words, gives PROGRAM's answer as it stands in the page, and waits 2 before the last report; the report's
 words are those of the text; the order's words and the page's are those that LIBRARY writes; with a termination the target is its position. The two logs
 of the page's cut, reported by two machines, give an order with that cut; the page's shards get the members that it names, with a cap and
-without. The last line is `N passed, M failed`."""
+without; rounds reach what its table says. The last line is `N passed, M failed`."""
 import ctypes
 import itertools
 import os
@@ -132,6 +132,20 @@ def with_caps(page, program):
         check("the members%s" % cap, tuple(line.partition(" members ")[2] for line in found[2:]), expected)
 
 
+def by_rounds(lines, library):
+    """What the library decides by rounds where shards 0 and 1 of a subgroup, had by machines 2 and 0 of three, need one each."""
+    text = ["settings", "failure sets 1", "least group size 1", *("node %d set 0" % node for node in range(3))]
+    text += ["shard %d subgroup 0 needs 1" % shard for shard in range(2)]
+    members = "members 0-2\nshard 0 members 2\nshard 1 members 0"
+    settings, *messages = blocks("\n\n".join(["\n".join(text), *("report node %d view 5\n%s" % (node, members) for node in range(3))]))
+    for line in lines.splitlines()[1:]:
+        rounds, *expected = map(int, line.split())
+        restart = Restart(library, settings, messages)
+        gap = restart.library.restart_gap_of(restart.call("decide_within", PLANNER, *restart.lent, rounds))
+        state = struct.unpack("<160I", restart.state.raw)
+        check("after %d rounds" % rounds, [mask.bit_length() - 1 for mask in state[58:60]] + [state[57], gap], expected)
+
+
 def main():
     path, program, library = sys.argv[1:]
     with open(path) as file:
@@ -151,6 +165,7 @@ def main():
     check("what machine 2 throws out", thrown_out[-4:-1], [1280, 4, 1])
     cut_of_two_logs(example(page, "cut"), library)
     with_caps(page, program)
+    by_rounds(example(page, "rounds"), library)
     print("%d passed, %d failed" % (COUNTS[True], COUNTS[False]))
     sys.exit(1 if COUNTS[False] else 0)
 

@@ -24,7 +24,7 @@ ROOTS = {"c_planner": 'pub extern "C" fn ', "state_planner": "pub fn ", "state_o
 ROOTS.update({path.split("/")[1]: "fn " for path in sorted(glob.glob("crates/*/src/main.rt"))})
 # Not delivered: public for the page call alone, which has a promise of its own.
 INNER = {"state_planner::enter"}
-DECIDE = {"state_planner": "pub fn decide"}
+DECIDE = {"state_planner": "pub fn decide("}
 
 NAME = r'[^\s(){}.;,@"]+'
 TOKEN = re.compile(r'"[^"]*"|%s(?:\.%s)*|\.%s|[(){}.;,@]' % (NAME, NAME, NAME))

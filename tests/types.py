@@ -23,6 +23,7 @@ OTHERS = {
     "a subgroup": "g group",
     "how many rounds a game has": "rounds",
     "how many words, records, shards or moves": "len hlen length total moves count",
+    "improving rounds, and how many moves a placement may have above the least": "rounds gap",
     "a slot's words, one by one or two by two": "w b",
     "a flat report's lent bytes": "flat",
     "where each shard's last run stands": "last",
@@ -43,13 +44,14 @@ GIVEN = {
     "the index of a record": "message_passes::kinds message_passes::shards message_passes::sequence message_passes::positions report_walk::told",
     "two words as one number": "report_walk::pairs",
     "positions as numbers or words": "report_ends::ends_of report_walk::end_at report_walk::goal_at",
-    "a mask, or one for each shard": "place_groups::sets_of message_records::carried_more message_records::masks_of state_rows::mark plan_losses::losses",
+    "a mask, or one for each shard": "place_groups::sets_of message_records::carried_more message_records::masks_of state_rows::mark place_layout::masks_with plan_losses::losses",
     "bytes for the search, by node, shard or failure set": "place_sheet::sheet place_tables::sets place_tables::needs place_tables::caps place_tables::costs",
 }
 
 # What OTHERS and GIVEN do not cover, by its place, and why it is right.
 EXCEPTIONS = {
     "plan_page::Page.shards": "a mask of the subgroup's shards",
+    "place_layout::masks_with.owners": "the shard of each node, as the search has it",
     "report_cuts::cut.holder": "the words of the holder's report, not its number",
     "report_walk::told.positions": "the pairs of records, not positions",
     "report_walk::end_at.s": "an index into the list of last runs",

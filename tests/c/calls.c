@@ -84,6 +84,11 @@ static uint32_t call_decide(const struct piece *p, uint32_t node)
     return restart_decide(caller, PIECE(0), PIECE(1), PIECE(2));
 }
 
+static uint32_t call_decide_within(const struct piece *p, uint32_t rounds)
+{
+    return restart_decide_within(caller, PIECE(0), PIECE(1), PIECE(2), rounds);
+}
+
 static uint32_t call_order(const struct piece *p, uint32_t node)
 {
     return restart_order(caller, PIECE(0), PIECE(1), PIECE(2), node, PIECE(3));
@@ -133,6 +138,7 @@ const struct entry check_state = {"restart_check_state", 3, 0, call_check_state}
 const struct entry report = {"restart_report", 4, 1u << 1 | 1u << 2, call_report};
 const struct entry drop = {"restart_drop", 3, 1u << 1, call_drop};
 const struct entry decide = {"restart_decide", 3, 1u << 1, call_decide};
+const struct entry decide_within = {"restart_decide_within", 3, 1u << 1, call_decide_within};
 const struct entry order = {"restart_order", 4, 1u << 3, call_order};
 const struct entry fetched = {"restart_fetched", 3, 1u << 1, call_fetched};
 const struct entry prepared = {"restart_prepared", 3, 1u << 1, call_prepared};
@@ -142,6 +148,7 @@ const struct entry game = {"restart_game", 3, 0, call_game};
 const struct entry page = {"restart_page", 4, 1u << 3, call_page};
 
 const struct entry *const entries[] = {
-    &check_settings, &read_report, &read_order,  &write_report, &write_order, &from_flat, &to_flat,
-    &open_view,      &fresh,       &check_state, &report,       &drop,        &decide,    &order,
-    &fetched,        &prepared,    &preview,     &preview_all,  &game,        &page};
+    &check_settings, &read_report,   &read_order, &write_report, &write_order, &from_flat,
+    &to_flat,        &open_view,     &fresh,      &check_state,  &report,      &drop,
+    &decide,         &decide_within, &order,      &fetched,      &prepared,    &preview,
+    &preview_all,    &game,          &page};

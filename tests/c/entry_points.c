@@ -96,6 +96,14 @@ static void answers(void)
         check_word("is the outage's", (uint32_t)restart_outage_wins(answer),
                    (uint32_t)rows[i].outage);
         check_word("the first move", restart_first_of(answer), rows[i].first);
+        check_word("no gap", restart_gap_of(answer), 0);
+    }
+    for (uint32_t gap = 0; gap <= 128; gap++) {
+        check_word("is a plan", (uint32_t)restart_is_plan(33554432 + gap), 1);
+        check_word("its gap", restart_gap_of(33554432 + gap), gap);
+        check_word("no refusal", (uint32_t)restart_is_refusal(33554432 + gap), 0);
+        check_word("no length", restart_length_of(33554432 + gap), 0);
+        check_word("no gap of a length", restart_gap_of(16777216 + gap), 0);
     }
 }
 
@@ -317,6 +325,7 @@ static void reporting(struct world *world)
     check_word("a drop of what is not held", restart_drop(LENT, 4), RESTART_NOT_HELD);
     check_word("the holder of shard 2", restart_drop(LENT, 5), RESTART_ACCEPTED);
     check_word("shard 2 without holder: wait 4", restart_decide(LENT), 50331648 + 256 * 4 + 2);
+    check_word("by rounds too", restart_decide_within(LENT, 0), 50331648 + 256 * 4 + 2);
 }
 
 static void carrying_out(struct world *world)
@@ -376,6 +385,33 @@ static void caps(struct world *world)
     check_word("under a greater cap too", restart_check_state(LENT), RESTART_ACCEPTED);
     restart_put_word(world->settings, 11, 65536 + 1);
     check_word("but not under a lower one", restart_check_state(LENT), RESTART_UNSOUND_STATE);
+}
+
+/* ---- Rounds ---- */
+
+/* Case A by rounds: the start has masks 5, 42, 16, three moves and a gap of 2; after one round it is
+ * decide's plan, with a gap of 1. rounds.c has more. */
+static void within(struct world *world)
+{
+    static const uint32_t start[4] = {3, 5, 42, 16};
+    static uint8_t desk[RESTART_DESK_BYTES];
+    uint8_t expected[RESTART_STATE_BYTES];
+
+    for (uint32_t rounds = 0; rounds < 3; rounds++) {
+        world_gathered(world);
+        memcpy(desk, world->desk, sizeof desk);
+        memcpy(expected, world->state, sizeof expected);
+        restart_put_word(expected, RESTART_PHASE, RESTART_ORDERED);
+        put_plan(expected);
+        if (rounds == 0)
+            put_words(expected + 4 * RESTART_PLAN_MOVES, start, 4);
+        check_word("a plan by rounds", restart_decide_within(LENT, rounds),
+                   33554432 + (rounds == 0 ? 2u : 1u));
+        check_bytes("the state with it", world->state, expected, sizeof expected);
+        check_bytes("the same desk", world->desk, desk, sizeof desk);
+        check_word("it is sound", restart_check_state(LENT), RESTART_ACCEPTED);
+        check_word("not once more", restart_decide_within(LENT, rounds), RESTART_WRONG_PHASE);
+    }
 }
 
 /* ---- Previews ---- */
@@ -511,6 +547,7 @@ int main(void)
     reporting(&world);
     carrying_out(&world);
     caps(&world);
+    within(&world);
     previews(&world);
     pages(&world);
     games(&world);

@@ -541,4 +541,97 @@ static inline uint32_t faulty(ONLY_READ, uint32_t held, uint32_t rounds)
                : answer;
 }
 #define restart_game faulty
+
+#elif FAULT == 49 /* the gap is not told */
+static inline uint32_t faulty(EVENT, uint32_t rounds)
+{
+    uint32_t answer = restart_decide_within(PASSED_ON, rounds);
+    return answer - restart_gap_of(answer);
+}
+#define restart_decide_within faulty
+
+#elif FAULT == 50 /* decides in full, whatever the rounds */
+static inline uint32_t faulty(EVENT, uint32_t rounds)
+{
+    (void)rounds;
+    return restart_decide_within(PASSED_ON, 128);
+}
+#define restart_decide_within faulty
+
+#elif FAULT == 51 /* a round more than given */
+static inline uint32_t faulty(EVENT, uint32_t rounds)
+{
+    return restart_decide_within(PASSED_ON, rounds == UINT32_MAX ? rounds : rounds + 1);
+}
+#define restart_decide_within faulty
+
+#elif FAULT == 52 /* the rounds are kept in a byte */
+static inline uint32_t faulty(EVENT, uint32_t rounds)
+{
+    return restart_decide_within(PASSED_ON, rounds % 256);
+}
+#define restart_decide_within faulty
+
+#elif FAULT == 53 /* at most 31 rounds */
+static inline uint32_t faulty(EVENT, uint32_t rounds)
+{
+    return restart_decide_within(PASSED_ON, rounds > 31 ? 31 : rounds);
+}
+#define restart_decide_within faulty
+
+#elif FAULT == 54 /* a wait's value has something added */
+static inline uint32_t faulty(EVENT, uint32_t rounds)
+{
+    uint32_t answer = restart_decide_within(PASSED_ON, rounds);
+    return restart_reason_of(answer) == RESTART_NO_PLACEMENT ? answer + 1 : answer;
+}
+#define restart_decide_within faulty
+
+#elif FAULT == 55 /* the moves are those of the full plan */
+static inline uint32_t faulty(EVENT, uint32_t rounds)
+{
+    uint8_t copy[RESTART_STATE_BYTES];
+    if (state_len == sizeof copy)
+        memcpy(copy, state, sizeof copy);
+    uint32_t answer = restart_decide_within(PASSED_ON, rounds);
+    if (restart_is_plan(answer) &&
+        restart_is_plan(
+            restart_decide(role, settings, settings_len, copy, sizeof copy, desk, desk_len)))
+        restart_put_word(state, RESTART_PLAN_MOVES, restart_get_word(copy, RESTART_PLAN_MOVES));
+    return answer;
+}
+#define restart_decide_within faulty
+
+#elif FAULT == 56 /* any desk that is long enough is taken */
+static inline uint32_t faulty(EVENT, uint32_t rounds)
+{
+    return restart_decide_within(role, settings, settings_len, state, state_len, desk,
+                                 desk_len > RESTART_DESK_BYTES ? RESTART_DESK_BYTES : desk_len,
+                                 rounds);
+}
+#define restart_decide_within faulty
+
+#elif FAULT == 57 /* watchers may decide by rounds */
+static inline uint32_t faulty(EVENT, uint32_t rounds)
+{
+    return restart_decide_within(role / 4 == RESTART_WATCHER / 4 ? (uint32_t)RESTART_PLANNER : role,
+                                 settings, settings_len, state, state_len, desk, desk_len, rounds);
+}
+#define restart_decide_within faulty
+
+#elif FAULT == 58 /* a state that is ordered decides anew */
+static inline uint32_t faulty(EVENT, uint32_t rounds)
+{
+    uint32_t answer = restart_decide_within(PASSED_ON, rounds);
+    return answer == RESTART_WRONG_PHASE ? RESTART_PLAN * RESTART_CLASS_UNIT : answer;
+}
+#define restart_decide_within faulty
+
+#elif FAULT == 59 /* memory that is only read is written, with what it held */
+static inline uint32_t faulty(EVENT, uint32_t rounds)
+{
+    *(volatile uint8_t *)(uintptr_t)desk = desk[0];
+    return restart_decide_within(PASSED_ON, rounds);
+}
+#define restart_decide_within faulty
 #endif

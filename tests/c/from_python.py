@@ -71,6 +71,7 @@ def small_functions():
     assert [helper(name, 256 * 7 + 9) for name in ("is_refusal", "number_of", "has_index", "index_of", "length_of")] == [1, 9, 1, 7, 0]
     assert [helper("has_index", number) for number in (7, 8, 10, 16, 17, 18)] == [0, 1, 0, 1, 1, 0]
     assert helper("length_of", 16777216 + 512) == 512
+    assert [helper("gap_of", answer) for answer in (33554432, 33554432 + 1, 33554432 + 128, 16777216 + 5, 50331648 + 1280, 7)] == [0, 1, 128, 0, 0, 0]
     assert [helper("view_of", helper("open_view", *masks)) for masks in ((7, 8, 0, 0, 0), (7, 0, 5, 0, 8), (7, 0, 5, 8, 0))] == [1, 2, 3]
     games = [5 * 16777216 + rest for rest in (0, 256, 256 + 9, 256 + 32)]
     assert [(helper("is_game", game), helper("outage_wins", game), helper("first_of", game)) for game in games] == [(1, 0, 32), (1, 1, 0), (1, 1, 9), (1, 1, 32)]
@@ -91,6 +92,8 @@ def restart():
         print(" stay %d, " % WORD(library.restart_get_word(seen, ctypes.c_size_t(0))).value, end="")
         print("reason %d, " % helper("reason_of", call("preview", PLANNER, settings, state, desk, node, seen)), end="")
         assert call("game", PLANNER, settings, state, desk, 3, 1) == (23, 5 * 16777216 + 256)[node]
+        copy = ctypes.create_string_buffer(state.raw, STATE)
+        print("gap %d, " % helper("gap_of", call("decide_within", PLANNER, settings, copy, desk, 0)), end="")
         answer = call("decide", PLANNER, settings, state, desk)
         if helper("is_wait", answer):
             print("wait %d" % helper("reason_of", answer))

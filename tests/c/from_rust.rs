@@ -12,6 +12,7 @@ extern "C" {
     fn restart_view_of(answer: u32) -> u32;
     fn restart_watcher(subgroup: u32) -> u32;
     fn restart_length_of(answer: u32) -> u32;
+    fn restart_gap_of(answer: u32) -> u32;
     fn restart_fresh(role: u32, state: *mut u8, state_len: usize) -> u32;
     fn restart_report(
         role: u32,
@@ -32,6 +33,16 @@ extern "C" {
         state_len: usize,
         desk: *const u8,
         desk_len: usize,
+    ) -> u32;
+    fn restart_decide_within(
+        role: u32,
+        settings: *const u8,
+        settings_len: usize,
+        state: *mut u8,
+        state_len: usize,
+        desk: *const u8,
+        desk_len: usize,
+        rounds: u32,
     ) -> u32;
     fn restart_preview(
         role: u32,
@@ -156,6 +167,18 @@ fn main() {
                 1,
             );
             assert_eq!(restart_first_of(game), [32, 0][node as usize]);
+            let mut copy = state;
+            let within = restart_decide_within(
+                PLANNER,
+                settings.as_ptr(),
+                settings.len(),
+                copy.as_mut_ptr(),
+                copy.len(),
+                desk.as_ptr(),
+                desk.len(),
+                0,
+            );
+            print!("gap {}, ", restart_gap_of(within));
             let answer = restart_decide(
                 PLANNER,
                 settings.as_ptr(),

@@ -109,6 +109,7 @@ static void events(struct world *world)
     with_role(&report, pieces, 0, RESTART_ACCEPTED);
     with_role(&drop, pieces, 5, RESTART_ACCEPTED);
     with_role(&decide, pieces, 0, 33554432);
+    with_role(&decide_within, pieces, 0, 33554432 + 2);
     pieces[3].bytes = buffer;
     pieces[3].length = sizeof buffer;
     with_role(&preview, pieces, 5, 50331648 + 256 * 4 + 2);

@@ -27,7 +27,7 @@ struct piece {
 enum { MOST_PIECES = 4 };
 
 /* An entry point: its pieces in order, which of them it writes, and the call, with a node, a
- * subgroup or a game's held mask where it takes one. */
+ * subgroup, rounds or a game's held mask where it takes one. */
 struct entry {
     const char *name;
     unsigned pieces;
@@ -44,11 +44,11 @@ extern uint32_t rounds;
 extern const struct entry check_settings, read_report, read_order, write_report, write_order;
 extern const struct entry from_flat, to_flat, open_view;
 extern const struct entry fresh, check_state, report, drop, decide, order, fetched, prepared;
-extern const struct entry preview, preview_all, game, page;
+extern const struct entry decide_within, preview, preview_all, game, page;
 
 /* All of them; those from FIRST_ROLE on take a role. */
 extern const struct entry *const entries[];
-enum { ENTRIES = 20, FIRST_ROLE = 8 };
+enum { ENTRIES = 21, FIRST_ROLE = 8 };
 
 /*
  * Calls with every piece in pages of its own between two pages without access; a piece that the

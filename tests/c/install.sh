@@ -40,12 +40,12 @@ all_there() { # FOLDER
 
 # The operators' tool.
 tool_names() {
-    echo bin/restart-text share/man/man1/restart-text.1 share/restart/explain.schema.json share/restart/convert.schema.json share/restart/publisher.schema.json share/restart/readiness.schema.json share/restart/shift.schema.json
+    echo bin/restart-text share/man/man1/restart-text.1 share/restart/explain.schema.json share/restart/convert.schema.json share/restart/publisher.schema.json share/restart/readiness.schema.json share/restart/shift.schema.json share/restart/rounds.schema.json
     (cd tools && find restart_text -name '*.py' | sed 's|^|share/restart/|')
 }
 
 expected_output() {
-    printf 'report 0, 1 word, must stay 1, reason 2, wait 2\nreport 0, 1 word, must stay 3, reason 2, plan 4\npage of 72 words, placed 1\n' | diff - "$1"
+    printf 'report 0, 1 word, must stay 1, reason 2, gap 0, wait 2\nreport 0, 1 word, must stay 3, reason 2, gap 0, plan 4\npage of 72 words, placed 1\n' | diff - "$1"
 }
 
 # Builds the program in a folder of its own, with the flags of pkg-config under this sysroot, and runs it over the shared library; then

@@ -37,8 +37,8 @@ static void add(const uint8_t *bytes, size_t length)
     right.pieces++;
 }
 
-/* The call with one piece of another length. Node 3, subgroup 3 or held nodes 0 and 1
- * are used where one is. */
+/* The call with one piece of another length. Node 3, subgroup 3, 3 rounds or held nodes 0
+ * and 1 are used where one is. */
 static void check_length(unsigned piece, size_t length, uint32_t expected)
 {
     static uint8_t bytes[MOST_PIECES][ROOM];
@@ -242,6 +242,7 @@ static void events(void)
     event_lengths(&check_state, RESTART_ACCEPTED, &world);
     event_lengths(&drop, RESTART_ACCEPTED, &world);
     event_lengths(&decide, 33554432, &world);
+    event_lengths(&decide_within, 33554432 + 1, &world);
 
     take_event(&preview, 50331648 + 256 * 5, &world);
     add(buffer, sizeof buffer);

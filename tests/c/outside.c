@@ -1,8 +1,9 @@
 /*
  * A program outside the repository, over the installed header and library: it reports one of two
- * machines, is told to wait for a majority, reports the other and has a plan; each time it asks who
- * must stay, and why the machine must, and at the end finds that the outage wins by the first. Then
- * it reads the page of subgroup 0 as its watcher, who may do nothing else.
+ * machines, is told to wait for a majority, reports the other and has a plan, by rounds on a copy and
+ * in full; each time it asks who must stay, and why the machine must, and at the end finds that the
+ * outage wins by the first. Then it reads the page of subgroup 0 as its watcher, who may do nothing
+ * else.
  */
 #include <restart.h>
 #include <stdio.h>
@@ -14,6 +15,7 @@ int main(void)
     /* Two machines in two failure sets, at least one for a group; one shard that needs one. */
     const uint32_t words[7] = {2, 2, 1, 1, 0, 1, 1};
     uint8_t settings[sizeof words], state[RESTART_STATE_BYTES], message[32];
+    uint8_t copy[RESTART_STATE_BYTES];
     uint8_t page[RESTART_BUFFER_BYTES], seen[RESTART_BUFFER_BYTES];
     const uint32_t watcher = restart_watcher(0);
     uint32_t answer;
@@ -42,6 +44,11 @@ int main(void)
         if (i == 0 ? restart_number_of(answer) != RESTART_NOT_READY
                    : !restart_outage_wins(answer) || restart_first_of(answer) != 0)
             return 1;
+        for (k = 0; k < sizeof state; k++)
+            copy[k] = state[k];
+        answer = restart_decide_within(RESTART_PLANNER, settings, sizeof settings, copy,
+                                       sizeof copy, desk, sizeof desk, 0);
+        printf("gap %lu, ", (unsigned long)restart_gap_of(answer));
         answer = restart_decide(RESTART_PLANNER, settings, sizeof settings, state, sizeof state,
                                 desk, sizeof desk);
         printf("%s %lu\n", restart_is_wait(answer) ? "wait" : "plan",

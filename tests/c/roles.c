@@ -62,6 +62,7 @@ static const struct row rows[] = {
     {&report, world_gathered, 0, RESTART_ACCEPTED},
     {&drop, world_gathered, 3, RESTART_ACCEPTED},
     {&decide, world_gathered, 0, 33554432},
+    {&decide_within, world_gathered, 0, 33554432 + 2},
     {&order, world_ordered, 4, 16777216 + 36},
     {&fetched, world_ordered, 3, RESTART_ACCEPTED},
     {&prepared, world_preparing, 3, RESTART_ACCEPTED},

@@ -529,14 +529,22 @@ static void marks(void)
 
 /* ---- Decisions: cases B, D, E, F, I of document 01, and A ---- */
 
+static const uint32_t some_rounds[] = {0, 1, 128, 4294967295};
+
+/* Decide waits so, and with any number of rounds. */
 static void check_wait(uint32_t reason, uint32_t value)
 {
     check_call(&decide, pieces, 0, 50331648 + 256 * reason + value);
+    for (size_t i = 0; i < COUNT(some_rounds); i++)
+        check_call(&decide_within, pieces, some_rounds[i], 50331648 + 256 * reason + value);
 }
 
 static void decisions(void)
 {
+    static phase *const others[] = {world_ordered, world_preparing, world_committed};
     first_rows(&decide, world_ordered, world_gathered, 0);
+    for (size_t i = 0; i < COUNT(others); i++)
+        first_rows(&decide_within, others[i], world_gathered, some_rounds[i]);
     world_fresh(&world);
     check_wait(1, 0);
     world_gathered(&world);
@@ -558,6 +566,10 @@ static void decisions(void)
     check_wait(5, 3);
     world_gathered(&world);
     check_call(&decide, pieces, 0, 33554432);
+    for (size_t i = 0; i < COUNT(some_rounds); i++) {
+        world_gathered(&world);
+        check_call(&decide_within, pieces, some_rounds[i], 33554432 + (i == 0 ? 2u : 1u));
+    }
 }
 
 int main(void)

@@ -15,7 +15,7 @@ strict="-D_DEFAULT_SOURCE -Iinclude -Wall -Wextra -Werror -pedantic -Wconversion
 sanitizers="-fsanitize=address,undefined -fno-sanitize-recover=all"
 memcheck="valgrind -q --error-exitcode=9 --leak-check=full --show-leak-kinds=all"
 shared="tests/c/harness.c tests/c/calls.c tests/c/world.c tests/c/room.c"
-tests="entry_points rows lengths guards roles preview page game cuts remembered caps views flat"
+tests="entry_points rows lengths guards roles preview rounds page game cuts remembered caps views flat"
 passed=0 failed=0
 mkdir -p $out
 
@@ -123,7 +123,7 @@ symbols() {
     sh c/names.sh | sort >$out/declared && sh c/names.sh proved | sort >$out/proved
     nm $library | sed -n 's/^[0-9a-f]* [A-Z] //p' | sort >$out/defined
     nm target/staticlib/libc_planner.a | sed -n 's/^[0-9a-f]* [A-Z] //p' | sort >$out/defined-proved
-    test "$(wc -l <$out/proved)" -ge 20 && diff $out/declared $out/defined && diff $out/proved $out/defined-proved
+    test "$(wc -l <$out/proved)" -ge 21 && diff $out/declared $out/defined && diff $out/proved $out/defined-proved
 }
 
 # The shared library exports the same, under its version and by its soname.
@@ -237,7 +237,7 @@ check "the example with a report that was cut off" cut_report
 check "the example without files" service_ends 2 $out/none
 
 fault=0
-for name in lengths entry_points entry_points entry_points guards rows guards rows entry_points guards rows lengths rows cuts rows remembered remembered caps caps views views views flat flat flat rows roles roles roles rows page page page preview preview rows preview preview rows entry_points roles preview preview rows game game game game; do
+for name in lengths entry_points entry_points entry_points guards rows guards rows entry_points guards rows lengths rows cuts rows remembered remembered caps caps views views views flat flat flat rows roles roles roles rows page page page preview preview rows preview preview rows entry_points roles preview preview rows game game game game rounds rounds entry_points rounds rounds rows rounds lengths roles rows guards; do
     fault=$((fault + 1))
     check "fault $fault is found by $name" found $fault $name
 done

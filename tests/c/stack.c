@@ -221,6 +221,17 @@ static void made_previews(const struct piece *lent)
     put_settings();
 }
 
+/* By rounds from the start to the end, each from the state that has gathered. */
+static void made_within(const struct piece *lent)
+{
+    static uint8_t gathered[RESTART_STATE_BYTES];
+    memcpy(gathered, state, sizeof gathered);
+    for (uint32_t rounds = 0; rounds <= 129; rounds += rounds < 4 ? 1 : 25) {
+        made(&decide_within, lent, rounds, RESTART_PLAN);
+        memcpy(state, gathered, sizeof gathered);
+    }
+}
+
 /* The page of each subgroup, as its watcher. */
 static void made_pages(const struct piece *lent)
 {
@@ -237,6 +248,7 @@ static void restart_once(void)
     gather();
     made_previews(lent);
     made_pages(lent);
+    made_within(lent);
     made(&decide, lent, 0, RESTART_PLAN);
     made(&check_state, lent, 0, RESTART_PLAIN);
     made_pages(lent);

@@ -19,6 +19,7 @@ static size_t lengths[ORDERS];
 
 struct work {
     struct world world;                           /* this thread's own */
+    uint8_t within[RESTART_STATE_BYTES];          /* its state by no rounds */
     uint8_t orders[ORDERS][RESTART_BUFFER_BYTES]; /* of the shared state */
     uint8_t flat[ORDERS][RESTART_BUFFER_BYTES];   /* of the shared messages */
     uint8_t page[RESTART_BUFFER_BYTES];           /* of the shared state */
@@ -45,7 +46,11 @@ static int plans(struct work *work)
     for (uint32_t node = 0; node < ORDERS; node++)
         if (restart_report(OWN(work), messages[node], lengths[node]) != RESTART_ACCEPTED)
             return 0;
-    return restart_is_plan(restart_decide(OWN(work)));
+    memcpy(work->within, work->world.state, sizeof work->within);
+    return restart_gap_of(restart_decide_within(
+               RESTART_PLANNER, alone->settings, sizeof alone->settings, work->within,
+               sizeof work->within, work->world.desk, sizeof work->world.desk, 0)) == 2 &&
+           restart_is_plan(restart_decide(OWN(work)));
 }
 
 static int writes_orders(struct work *work)
@@ -135,6 +140,7 @@ int main(void)
         check_bytes("its desk", works[i].world.desk, world.desk, sizeof world.desk);
         check_bytes("its orders", works[i].orders[0], one.orders[0], sizeof one.orders);
         check_bytes("its flat reports", works[i].flat[0], one.flat[0], sizeof one.flat);
+        check_bytes("its state by no rounds", works[i].within, one.within, sizeof one.within);
         check_bytes("its page", works[i].page, one.page, sizeof one.page);
         check_bytes("its previews", works[i].preview[0], one.preview[0], sizeof one.preview);
     }

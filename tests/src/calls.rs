@@ -11,6 +11,7 @@ use reference::order::{self, Choice};
 use reference::page;
 use reference::preview;
 use reference::roles::Role;
+use reference::rounds::{self, Way};
 use reference::state::STATE_WORDS;
 use reference::words;
 
@@ -31,6 +32,7 @@ pub enum Kind {
     Page,
     Preview,
     PreviewAll,
+    DecideWithin,
 }
 
 impl Kind {
@@ -47,7 +49,7 @@ impl Kind {
     ];
 
     /// Every call.
-    pub const ALL: [Kind; 11] = [
+    pub const ALL: [Kind; 12] = [
         Kind::Fresh,
         Kind::CheckState,
         Kind::Report,
@@ -59,6 +61,7 @@ impl Kind {
         Kind::Page,
         Kind::Preview,
         Kind::PreviewAll,
+        Kind::DecideWithin,
     ];
 
     pub fn name(self) -> &'static str {
@@ -74,6 +77,7 @@ impl Kind {
             Kind::Page => "page",
             Kind::Preview => "preview",
             Kind::PreviewAll => "preview_all",
+            Kind::DecideWithin => "decide_within",
         }
     }
 
@@ -85,11 +89,17 @@ impl Kind {
         )
     }
 
-    /// Whether the call takes a node, or a page's subgroup.
+    /// Whether the call takes a node, a page's subgroup, or rounds.
     pub fn takes_node(self) -> bool {
         matches!(
             self,
-            Kind::Drop | Kind::Order | Kind::Fetched | Kind::Prepared | Kind::Page | Kind::Preview
+            Kind::Drop
+                | Kind::Order
+                | Kind::Fetched
+                | Kind::Prepared
+                | Kind::Page
+                | Kind::Preview
+                | Kind::DecideWithin
         )
     }
 }
@@ -110,7 +120,7 @@ pub struct Asked {
     pub kind: Kind,
     pub table: Table,
     pub message: Vec<u8>,
-    /// The node, or the subgroup of a page.
+    /// The node, the subgroup of a page, or the rounds of decide_within.
     pub node: u32,
     /// What the buffer holds before the call.
     pub buffer: Vec<u8>,
@@ -169,6 +179,30 @@ pub fn expected_by(choice: Choice, asked: &Asked) -> Outcome {
     outcome
 }
 
+/// What the reference says of a decision by rounds, where `way` finds the
+/// placements.
+pub fn expected_within(way: Way, asked: &Asked) -> Outcome {
+    let mut outcome = Outcome::unchanged(asked, 0);
+    if let Err(refusal) = put_within(way, asked, &mut outcome) {
+        outcome.answer = refusal.word();
+    }
+    outcome
+}
+
+fn put_within(way: Way, asked: &Asked, outcome: &mut Outcome) -> Result<(), Refusal> {
+    let Table {
+        settings,
+        state,
+        desk,
+    } = &asked.table;
+    let (settings, state, desk) = (&whole(settings), &whole(state), &whole(desk));
+    let role = Role::of(asked.role);
+    let reached = rounds::rounds_by(way, role, settings, state, desk, asked.node)?;
+    outcome.answer = decision_word(reached.decision) + reached.gap;
+    outcome.state = words::to_bytes(&reached.state);
+    Ok(())
+}
+
 /// A part word makes a length wrong, and so do no words: the reference gets
 /// none instead.
 fn whole(bytes: &[u8]) -> Vec<u32> {
@@ -223,6 +257,7 @@ fn put_expected(choice: Choice, asked: &Asked, outcome: &mut Outcome) -> Result<
             outcome.buffer = words::to_bytes(&words::padded(&[lost], MOST_WORDS));
             return Ok(());
         }
+        Kind::DecideWithin => return put_within(rounds::GREEDY, asked, outcome),
         Kind::Decide => {
             let (decision, state) = events::decide_by(choice, role, settings, state, desk)?;
             outcome.answer = decision_word(decision);
@@ -361,6 +396,9 @@ fn call_lent(planner: &Planner, pages: &mut Pages, asked: &Asked) -> u32 {
             }
             Kind::PreviewAll => {
                 (planner.preview_all)(role, settings, s, state, t, desk, d, buffer, b)
+            }
+            Kind::DecideWithin => {
+                (planner.decide_within)(role, settings, s, state, t, desk, d, node)
             }
         }
     }

@@ -27,6 +27,7 @@
 //! - `games`: the inputs of the `games` program: outage against crew
 //! - `pairs`: worlds that agree on a subgroup and differ in the rest
 //! - `previews`: the inputs of the `previews` program
+//! - `rounds`: the inputs of the `rounds` program
 //! - `regressions`, `recorder`: stored sequences of calls, read and written
 //! - `runs`: whole runs of the program `restart`
 //! - `moves`: moves files, the inputs of the program `mondays`
@@ -62,6 +63,7 @@ pub mod random;
 pub mod recorder;
 pub mod records;
 pub mod regressions;
+pub mod rounds;
 pub mod runs;
 pub mod sequences;
 pub mod sheets;

@@ -9,8 +9,10 @@ use std::fmt;
 
 /// Added to the length of what was accepted.
 pub const ACCEPTED: u32 = 16_777_216;
-/// A plan stands in the state.
+/// A plan stands in the state. Its gap is added, where it was made by rounds.
 pub const PLAN: u32 = 2 * ACCEPTED;
+/// The greatest gap.
+pub const MOST_GAP: u32 = 128;
 /// Added to 256 times the reason of a wait and to its shard or subgroup.
 pub const WAIT: u32 = 3 * ACCEPTED;
 /// Added to what is found of an open view.
@@ -30,6 +32,8 @@ pub enum Answer {
     /// Accepted, with a length in words.
     Length(u32),
     Plan,
+    /// A plan made by rounds, with a gap above 0.
+    PlanWithin(u32),
     /// The reason, and its shard or subgroup or 0.
     Wait(u32, u32),
     /// What is found of an open view, 1 to 4.
@@ -56,6 +60,7 @@ impl Answer {
             0 if rest < 256 => Answer::Number(rest),
             1 => Answer::Length(rest),
             2 if rest == 0 => Answer::Plan,
+            2 if rest <= MOST_GAP => Answer::PlanWithin(rest),
             3 if rest < 65536 => Answer::Wait(rest / 256, rest % 256),
             4 if (1..=4).contains(&rest) => Answer::View(rest),
             5 if rest == 0 => Answer::Crew,
@@ -69,6 +74,11 @@ impl Answer {
             self,
             Answer::Number(_) | Answer::Located(_, _) | Answer::Other(_)
         )
+    }
+
+    /// Whether a plan was made, by rounds or not.
+    pub fn planned(self) -> bool {
+        matches!(self, Answer::Plan | Answer::PlanWithin(_))
     }
 
     /// The number of a refusal.
@@ -86,6 +96,7 @@ impl fmt::Display for Answer {
             Answer::Accepted => write!(f, "accepted"),
             Answer::Length(length) => write!(f, "length {length}"),
             Answer::Plan => write!(f, "plan"),
+            Answer::PlanWithin(gap) => write!(f, "plan with gap {gap}"),
             Answer::Wait(reason @ (4 | 5), value) => write!(f, "wait {reason} {value}"),
             Answer::Wait(reason, 0) => write!(f, "wait {reason}"),
             Answer::Wait(reason, value) => write!(f, "wait {reason} with value {value}"),
@@ -127,7 +138,8 @@ pub type Report = unsafe extern "C" fn(
 /// A function of a role, settings, state, which is written, and desk.
 pub type Decide =
     unsafe extern "C" fn(u32, *const u8, usize, *mut u8, usize, *const u8, usize) -> u32;
-/// A function of a role, settings, state, which is written, desk and node.
+/// A function of a role, settings, state, which is written, desk, and a node or
+/// rounds.
 pub type OfNode =
     unsafe extern "C" fn(u32, *const u8, usize, *mut u8, usize, *const u8, usize, u32) -> u32;
 /// A function of a role, settings, state, desk, a node or subgroup, and a buffer
@@ -186,6 +198,7 @@ pub struct Planner {
     pub page: Write,
     pub preview: Write,
     pub preview_all: WriteAll,
+    pub decide_within: OfNode,
 }
 
 /// The functions on settings, messages and open views.
@@ -378,6 +391,16 @@ mod linked {
             held: u32,
             rounds: u32,
         ) -> u32;
+        pub fn restart_decide_within(
+            role: u32,
+            settings: *const u8,
+            settings_len: usize,
+            state: *mut u8,
+            state_len: usize,
+            desk: *const u8,
+            desk_len: usize,
+            rounds: u32,
+        ) -> u32;
     }
 }
 
@@ -417,6 +440,7 @@ pub fn tested_planner() -> Planner {
         page: linked::restart_page,
         preview: linked::restart_preview,
         preview_all: linked::restart_preview_all,
+        decide_within: linked::restart_decide_within,
     }
 }
 
@@ -464,7 +488,9 @@ mod tests {
             (256, "word 256"),
             (16_777_216 + 60, "length 60"),
             (33_554_432, "plan"),
-            (33_554_433, "word 33554433"),
+            (33_554_433, "plan with gap 1"),
+            (33_554_432 + 128, "plan with gap 128"),
+            (33_554_432 + 129, "word 33554561"),
             (50_331_648 + 256, "wait 1"),
             (50_331_648 + 256 * 4, "wait 4 0"),
             (50_331_648 + 256 * 5 + 3, "wait 5 3"),

@@ -120,6 +120,7 @@ pub fn planner<B: Behaviour>() -> Planner {
         page: page::<B>,
         preview: preview::<B>,
         preview_all: preview_all::<B>,
+        decide_within: decide_within::<B>,
     }
 }
 
@@ -278,6 +279,7 @@ macro_rules! of_node {
 of_node!(drop_node, Kind::Drop);
 of_node!(fetched, Kind::Fetched);
 of_node!(prepared, Kind::Prepared);
+of_node!(decide_within, Kind::DecideWithin);
 
 /// A stand-in's game.
 ///

@@ -89,6 +89,12 @@ pub fn case(seed: u64, size: Size, index: u64) -> Case {
 pub fn case_of(random: &mut Random, size: Size, words: Vec<u32>, often: u32) -> Case {
     let settings = settings::parse(&words).expect("generated settings are good");
     let view = view(random, &settings);
+    case_with(random, size, words, view, often)
+}
+
+/// A case of these settings and this kept view.
+pub fn case_with(random: &mut Random, size: Size, words: Vec<u32>, view: View, often: u32) -> Case {
+    let settings = settings::parse(&words).expect("generated settings are good");
     let world = world(random, words, &view);
     let (held, stale) = held(random, &settings, &view, often);
     let mut asked = Asked {

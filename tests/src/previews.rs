@@ -342,7 +342,7 @@ fn preview(random: &mut Random, table: &Table) -> Asked {
 
 /// Settings whose shards need as many nodes as there are, or one or two fewer, in
 /// one subgroup or in some.
-fn tight_settings(random: &mut Random) -> Vec<u32> {
+pub fn tight_settings(random: &mut Random) -> Vec<u32> {
     let nodes = random.pick(&[4, 6, 9, 12, 16, 20, 25, 32, 32, 32]);
     let sets = random.between(2, 16).min(nodes);
     let subgroups = random.pick(&[1, 1, 1, 2, 4]);

@@ -14,11 +14,14 @@
 //! page SUBGROUP = ANSWER
 //! preview N = ANSWER                   preview_all = ANSWER
 //! as WORD LINE                         the call in the role of that word, else the planner's
+//! decide_within ROUNDS = ANSWER
+//! back                                 the state is what it was before the last call
 //! set PIECE INDEX WORD                 a word of settings, state or desk
 //! bytes PIECE LENGTH                   for the next call: also message and buffer
 //! word PIECE INDEX WORD                must be so: a word of state, desk or buffer
 //! plan VIEW MOVES                      must be so
 //! shard S holder N target V.K members N ..
+//! masks MASK ..                        must be so: the plan's masks from shard 0 on
 //! cut S V.K                            of the last order
 //! first WORD ..                        must be so: the buffer's first words; all others are zero
 //! next INDEX WORD .. | INDEX WORD ..   must be so: the buffer is the state with these words from there on, then zeros
@@ -114,6 +117,8 @@ struct Player<'a> {
     planner: &'a Planner,
     pages: &'a mut Pages,
     table: Table,
+    /// The state before the last call.
+    before: Vec<u8>,
     /// Lengths in bytes for the next call.
     lengths: Vec<(String, usize)>,
     last: Option<Outcome>,
@@ -130,6 +135,7 @@ impl Player<'_> {
                 state: vec![0; STATE_BYTES],
                 desk: vec![0; DESK_BYTES],
             },
+            before: vec![0; STATE_BYTES],
             lengths: Vec::new(),
             last: None,
             calls: 0,
@@ -172,6 +178,12 @@ impl Player<'_> {
     fn change_or_check(&mut self, first: &str, rest: &[&str]) -> Check {
         match (first, rest) {
             ("settings", words) => self.table.settings = words::to_bytes(&values(words)?),
+            ("back", []) => self.table.state.clone_from(&self.before),
+            ("masks", masks) => {
+                for (shard, wanted) in values(masks)?.into_iter().enumerate() {
+                    same(self.word("state", 58 + shard)?, wanted)?;
+                }
+            }
             ("fill", [word]) => {
                 self.table.desk = words::to_bytes(&vec![value(word)?; DESK_BYTES / 4]);
             }
@@ -293,6 +305,7 @@ impl Player<'_> {
             lengthen(&mut asked, &piece, length)?;
         }
         self.calls += 1;
+        self.before.clone_from(&self.table.state);
         let outcome = calls::compare(self.planner, self.pages, &asked, [Place::Last; 5])?;
         if outcome.answer().to_string() != answer {
             return Err(format!("the answer is {}, not {answer}", outcome.answer()));

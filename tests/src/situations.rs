@@ -168,7 +168,8 @@ pub fn of(asked: &Asked, outcome: &Outcome) -> Vec<&'static str> {
             names.put(!last, "prepared: one of some");
             names.put(last, "prepared: the last");
         }
-        (Kind::Fresh | Kind::CheckState | Kind::Page | Kind::Preview | Kind::PreviewAll, _) => {}
+        (Kind::Fresh | Kind::CheckState | Kind::Page, _) => {}
+        (Kind::Preview | Kind::PreviewAll | Kind::DecideWithin, _) => {}
     }
     names.0
 }

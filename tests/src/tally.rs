@@ -52,6 +52,18 @@ pub fn wanted(kind: Kind) -> Vec<String> {
             &[1, 2, 15, 3, 4, 6, 14],
         ),
         Kind::PreviewAll => (&["length"], &[1, 2, 15, 3, 4]),
+        Kind::DecideWithin => (
+            &[
+                "plan",
+                "plan with gap",
+                "wait 1",
+                "wait 2",
+                "wait 3",
+                "wait 4",
+                "wait 5",
+            ],
+            &[1, 2, 15, 3, 4],
+        ),
     };
     let numbers = numbers.iter().map(|number| format!("number {number}"));
     let good = good.iter().map(|answer| answer.to_string());
@@ -62,6 +74,7 @@ pub fn wanted(kind: Kind) -> Vec<String> {
 pub fn class(answer: Answer) -> String {
     match answer {
         Answer::Length(_) => "length".into(),
+        Answer::PlanWithin(_) => "plan with gap".into(),
         Answer::Located(number, _) => format!("number {number}"),
         Answer::Wait(reason, _) => format!("wait {reason}"),
         other => other.to_string(),

@@ -3,7 +3,7 @@ import argparse
 import sys
 
 from .answers import BadAnswer
-from .commands import convert, diff, draw, explain, join, page, publisher, readiness, shift, split, text, watch, windows, words
+from .commands import convert, diff, draw, explain, join, page, publisher, readiness, rounds, shift, split, text, watch, windows, words
 from .files import Trouble, Unfit
 from .lines import BadText
 from .model import Refused
@@ -22,6 +22,7 @@ COMMANDS = [
     ("publisher", publisher, "say what a subgroup's publisher may see of a restart, as text or as one file of HTML"),
     ("readiness", readiness, "say and draw how often a layout could restart, or two layouts side by side"),
     ("shift", shift, "say who wins outage against crew, and what to bring back for each machine that is lost"),
+    ("rounds", rounds, "say, and draw as SVG, what a plan costs after each improving round, and how far it may be from the fewest moves"),
     ("watch", watch, "explain anew whenever a report appears in a folder"),
     ("diff", diff, "compare two answers"),
     ("windows", windows, "draw the windows that mondays prints for a moves file, as SVG"),

@@ -1,5 +1,5 @@
-"""An explanation, a conversion, a page and a shift as values for JSON; docs/explain.schema.json, docs/convert.schema.json,
-docs/publisher.schema.json and docs/shift.schema.json say what they have."""
+"""An explanation, a conversion, a page, a shift and a course of rounds as values for JSON; docs/explain.schema.json, docs/convert.schema.json,
+docs/publisher.schema.json, docs/shift.schema.json and docs/rounds.schema.json say what they have."""
 from .answers import Plan, Wait
 from .converting import last_lines
 from .explaining import stale
@@ -8,10 +8,12 @@ from .library import PASSING
 from .planning import log_of, moves, not_kept
 from .publishing import lines as page_lines
 from .repairing import why
+from .rounding import lines as course_lines
 from .shifting import lines as shift_lines
 from .waiting import wait_lines
+from .words import nodes_of
 
-SCHEMA = CONVERT_SCHEMA = PUBLISHER_SCHEMA = SHIFT_SCHEMA = 1
+SCHEMA = CONVERT_SCHEMA = PUBLISHER_SCHEMA = SHIFT_SCHEMA = ROUNDS_SCHEMA = 1
 
 
 def json_of(given, told):
@@ -163,3 +165,19 @@ def blow_value(blow):
     wait = {"reason": blow.wait.reason, "value": blow.wait.value if blow.wait.reason in (4, 5) else None} if blow.wait else None
     return {"lost": blow.lost, "held": blow.held, "back": list(blow.answers), "plan": blow.plan,
             "next": None if blow.next_loss in (None, PASSING) else blow.next_loss, "wait": wait}
+
+
+def rounds_value(course, settings):
+    """What is reached round by round, or the wait."""
+    wait = course.wait
+    return {"schema": ROUNDS_SCHEMA, "wait": {"reason": wait.reason, "value": wait.value} if wait else None,
+            "fewest": course.fewest, "unavoidable": course.floor, "enough": course.enough,
+            "rounds": [step_value(number, course) for number in range(len(course.steps))],
+            "machines": [{"node": node, "name": settings.names[node] if node < len(settings.names) else None} for node in sorted(settings.nodes)],
+            "text": course_lines(course, settings)}
+
+
+def step_value(number, course):
+    step = course.steps[number]
+    return {"rounds": number, "moves": step.moves, "gap": step.gap, "subgroup": course.subgroups[number],
+            "shards": [{"shard": shard, "machines": sorted(nodes_of(mask))} for shard, mask in enumerate(step.masks)]}

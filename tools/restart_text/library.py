@@ -1,5 +1,5 @@
 """Asking the library for C: which one it is, its calls that convert reports, and a restart of its own up to a subgroup's page, to
-previews, or to a game of outage and crew."""
+previews, to decisions by rounds, or to a game of outage and crew."""
 import ctypes
 import os
 import sys
@@ -18,8 +18,9 @@ REPORTING = {"restart_fresh": "nw", "restart_report": "nrwwr"}
 WATCHING = {"restart_page": "nrrrnw", "restart_watcher": "n", **REPORTING}
 PREVIEWING = {"restart_preview": "nrrrnw", "restart_preview_all": "nrrrw", **REPORTING}
 PLAYING = {"restart_game": "nrrrnn", "restart_drop": "nrwrn", "restart_decide": "nrwr", **REPORTING}
+DECIDING = {"restart_decide": "nrwr", "restart_decide_within": "nrwrn", **REPORTING}
 CLASS, REFUSAL, LENGTH, PLAN, WAIT, GAME = 16777216, 0, 1, 2, 3, 5  # an answer is class x 16777216 + rest
-MOVES = 57  # the word of a state that has its plan's moves
+MOVES, MASKS = 57, 58  # the words of a state that have its plan's moves, and from where on its shards' members
 PASSING = 32  # where the outage begins with no node
 PLANNER = 256
 STATE_BYTES, DESK_BYTES, BUFFER_BYTES = 640, 65536, 16 * MOST_RECORDS
@@ -123,6 +124,46 @@ class Foreseen:
     moves: int
 
 
+@dataclass(frozen=True)
+class Reached:
+    """A plan that so many rounds reach, or the full one."""
+
+    moves: int
+    gap: int  # 0 of the full one, where it says nothing
+    masks: tuple  # by shard
+
+
+class Decisions(Restart):
+    """A restart in the library, and what would be decided by rounds and in full. Its state stays."""
+
+    def __init__(self, path, settings):
+        super().__init__(path, settings, DECIDING, "decide by rounds")
+        self.shards = settings[3] if len(settings) > 3 else 0
+
+    def within(self, rounds):
+        """What so many rounds reach: Reached, Wait, or the Number of a refusal."""
+        return self.decided("restart_decide_within", rounds)
+
+    def full(self):
+        return self.decided("restart_decide")
+
+    def decided(self, name, *rounds):
+        copy = ctypes.create_string_buffer(self.state.raw, STATE_BYTES)
+        answer = getattr(self.calls, name)(*lent(PLANNER, self.settings, copy, self.desk, *rounds))
+        kind, rest = divmod(answer, CLASS)
+        if kind == PLAN:
+            state = words.from_bytes(copy.raw)
+            return Reached(state[MOVES], rest, tuple(state[MASKS : MASKS + self.shards]))
+        return waited(answer) or refusal(name, answer)
+
+
+def waited(answer):
+    """The Wait that an answer is, or None."""
+    kind, rest = divmod(answer, CLASS)
+    reason, value = divmod(rest, 256)
+    return Wait(reason, value if reason > 3 else None) if kind == WAIT and 1 <= reason <= 5 else None
+
+
 class Previews(Restart):
     """A restart in the library after these reports, and what would be decided without a machine."""
 
@@ -137,13 +178,12 @@ class Previews(Restart):
         """What would be decided without a held machine: Foreseen or Wait."""
         buffer = ctypes.create_string_buffer(BUFFER_BYTES)
         answer = self.calls.restart_preview(*lent(PLANNER, self.settings, self.state, self.desk, node, buffer))
-        kind, rest = divmod(answer, CLASS)
-        reason, value = divmod(rest, 256)
-        if kind == PLAN:
+        if answer // CLASS == PLAN:
             return Foreseen(words.from_bytes(buffer.raw)[MOVES])
-        if kind != WAIT or not 1 <= reason <= 5:
+        found = waited(answer)
+        if found is None:
             raise BadAnswer("restart_preview answers %d for a held machine, which is neither a plan nor a wait" % answer)
-        return Wait(reason, value if reason > 3 else None)
+        return found
 
     def must_stay(self):
         """The machines without which it would wait."""

@@ -94,7 +94,7 @@ def lines(found):
         told.append("The crew can hold for %s: whatever machine is lost in each, there is a plan once it has brought one back." % rounds
                     if found.rounds else "A shift of no rounds is the crew's.")
     elif found.first == PASSING:
-        told.append("The outage wins within %s without taking anything: nothing that the crew brings back is enough." % rounds)
+        told.append("The outage can win within %s: it passes first, for no machine is on." % rounds)
     else:
         told.append("The outage can win within %s: it takes %s first." % (rounds, machine(settings, found.first)))
     if found.blows:

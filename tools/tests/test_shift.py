@@ -161,8 +161,7 @@ class Telling(unittest.TestCase):
 
     def test_nobody_on(self):
         said = self.said("examples/shift.txt", "--held", "none", status=1)
-        self.assertEqual(said[:2], ["No machine is on.", "The outage wins within 3 rounds without taking anything: nothing that the crew brings"
-                                    " back is enough."])
+        self.assertEqual(said[:2], ["No machine is on.", "The outage can win within 3 rounds: it passes first, for no machine is on."])
         self.assertEqual(said[-1], "Keep on at all costs: none, for none is on. Switch machines on first.")
 
     def test_refusals(self):

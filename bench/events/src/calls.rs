@@ -4,7 +4,7 @@ use crate::inputs::Input;
 use differential::library::{self, Library, Planner};
 use reference::message::{self, Form};
 use reference::roles::{Role, PLANNER};
-use reference::{events, page, preview, settings, words};
+use reference::{events, page, preview, rounds, settings, words};
 use std::hint::black_box;
 
 #[derive(Clone, Copy, Debug, PartialEq, Eq)]
@@ -19,6 +19,9 @@ pub enum Call {
     Prepared,
     Preview,
     PreviewAll,
+    DecideWithin,
+    /// check_state of what decide meets.
+    CheckGathered,
     Page,
     CheckSettings,
     ReadReport,
@@ -50,6 +53,7 @@ impl Call {
         let mut all = vec![Call::Fresh];
         all.extend(Call::EVENTS);
         all.extend(Call::PREVIEWS);
+        all.push(Call::DecideWithin);
         all.push(Call::Page);
         all.extend(Call::MESSAGES);
         all
@@ -68,6 +72,8 @@ impl Call {
             Call::Prepared => "prepared",
             Call::Preview => "preview",
             Call::PreviewAll => "preview_all",
+            Call::DecideWithin => "decide_within",
+            Call::CheckGathered => "check_gathered",
             Call::Page => "page",
             Call::CheckSettings => "check_settings",
             Call::ReadReport => "read_report",
@@ -106,7 +112,7 @@ pub const CALLS: usize = 8;
 /// A call of a planner with memory of its own.
 pub struct Ready {
     call: Call,
-    /// The node, or the subgroup of a page.
+    /// The node, the subgroup of a page, or the rounds of decide_within.
     node: u32,
     planner: Planner,
     library: Library,
@@ -215,6 +221,10 @@ impl Ready {
                 Call::PreviewAll => {
                     (planner.preview_all)(role, settings, s, state, t, desk, d, buffer, b)
                 }
+                Call::DecideWithin => {
+                    (planner.decide_within)(role, settings, s, state, t, desk, d, node)
+                }
+                Call::CheckGathered => (planner.check_state)(role, settings, s, state, t, desk, d),
                 Call::Page => (planner.page)(role, settings, s, state, t, desk, d, node, buffer, b),
                 Call::CheckSettings => (library.check_settings)(settings, s),
                 Call::ReadReport => (library.read_report)(settings, s, given, g, buffer, b),
@@ -239,6 +249,7 @@ pub fn by_reference(call: Call, input: &Input, node: u32) {
     match call {
         Call::Fresh => drop(black_box(reference::state::fresh())),
         Call::CheckState => drop(black_box(events::check(role, settings, state, desk))),
+        Call::CheckGathered => drop(black_box(events::check(role, settings, state, desk))),
         Call::Report => drop(black_box(events::report(
             role, settings, state, desk, given,
         ))),
@@ -259,6 +270,7 @@ pub fn by_reference(call: Call, input: &Input, node: u32) {
             role, settings, state, desk, node,
         ))),
         Call::PreviewAll => drop(black_box(preview::losses(role, settings, state, desk))),
+        Call::DecideWithin => drop(black_box(rounds::rounds(role, settings, state, desk, node))),
         Call::Page => {
             let page = page::page(role, settings, state, desk, node, 512);
             drop(black_box(page));

@@ -9,11 +9,13 @@
 //! - `events-bench names`: the calls
 //! - `events-bench previews [COUNT]`: previews beside decide, for each kind of
 //!   layout
+//! - `events-bench rounds [COUNT]`: decisions by rounds beside decide, for each
+//!   kind of layout
 //! - `events-bench kinds`: these kinds
-//! - `events-bench once CALL [INDEX [KIND [without]]]`: makes one call on a
-//!   full-size input, or on one of a kind, whose node INDEX is then previewed, or
-//!   dropped before, inside the function `measured`, for a program that counts
-//!   instructions
+//! - `events-bench once CALL [INDEX [KIND [MORE]]]`: makes one call on a full-size
+//!   input, or on one of a kind, whose node INDEX is then previewed, or with
+//!   `without` dropped before, or which is decided by MORE rounds, inside the
+//!   function `measured`, for a program that counts instructions
 //! - `events-bench sheet ..`: the program `sheet` beside as many decisions; see
 //!   `sheet.rs`
 
@@ -24,6 +26,7 @@ mod layouts;
 mod peer;
 mod previews;
 mod ratios;
+mod rounds;
 mod sheet;
 mod stack;
 mod times;
@@ -67,7 +70,8 @@ fn main() -> ExitCode {
             .for_each(|call| println!("{}", call.name())),
         "once" => {
             let named = |call: &Call| Some(call.name()) == second.as_deref();
-            let Some(call) = Call::all().into_iter().find(named) else {
+            let mut calls = Call::all().into_iter().chain([Call::CheckGathered]);
+            let Some(call) = calls.find(named) else {
                 println!("no such call");
                 return ExitCode::FAILURE;
             };
@@ -75,7 +79,10 @@ fn main() -> ExitCode {
             let index = given(3).unwrap_or(0);
             let mut ready = match given(4) {
                 None => Ready::new(call, &inputs::input(inputs::FULL, index), 0),
-                Some(kind) => previews::ready(call, kind as usize, index),
+                Some(kind) => match given(5) {
+                    None => previews::ready(call, kind as usize, index),
+                    Some(rounds) => rounds::ready(call, kind as usize, index, rounds as u32),
+                },
             };
             if argument(5).is_some() {
                 ready = ready.without_node();
@@ -83,10 +90,11 @@ fn main() -> ExitCode {
             println!("answer {}", measured(&mut ready));
         }
         "previews" => previews::print(number(40)),
+        "rounds" => rounds::print(number(40)),
         "kinds" => previews::names().iter().for_each(|name| println!("{name}")),
         "sheet" => return sheet::run(&std::env::args().skip(2).collect::<Vec<String>>()),
         _ => {
-            println!("times, peer, compare, blocks, stack, names, previews, kinds, once or sheet");
+            println!("times, peer, compare, blocks, stack, names, previews, rounds, kinds, once or sheet");
             return ExitCode::FAILURE;
         }
     }

@@ -79,7 +79,8 @@ mod linked {
     }
 }
 
-/// The peer has no pages and no previews: no call answers with this word.
+/// The peer has no pages, no previews and no rounds: no call answers with this
+/// word.
 unsafe extern "C" fn no_page(
     _role: u32,
     _settings: *const u8,
@@ -110,6 +111,20 @@ unsafe extern "C" fn no_preview_all(
     u32::MAX
 }
 
+/// And no rounds.
+unsafe extern "C" fn no_rounds(
+    _role: u32,
+    _settings: *const u8,
+    _settings_len: usize,
+    _state: *mut u8,
+    _state_len: usize,
+    _desk: *const u8,
+    _desk_len: usize,
+    _rounds: u32,
+) -> u32 {
+    u32::MAX
+}
+
 pub fn planner() -> Planner {
     Planner {
         fresh: linked::peer_fresh,
@@ -123,5 +138,6 @@ pub fn planner() -> Planner {
         page: no_page,
         preview: no_page,
         preview_all: no_preview_all,
+        decide_within: no_rounds,
     }
 }

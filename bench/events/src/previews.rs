@@ -174,7 +174,7 @@ pub fn names() -> Vec<String> {
 }
 
 /// Input `index` of a kind.
-fn input(kind: usize, index: u64) -> Input {
+pub fn input(kind: usize, index: u64) -> Input {
     let layout = &LAYOUTS[kind / REPORTS.len()];
     let Reports { runs, placed, .. } = REPORTS[kind % REPORTS.len()];
     let random = &mut Random::of_input(SEED, index);

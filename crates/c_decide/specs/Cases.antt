@@ -41,7 +41,7 @@ use Rattle.c_decide.specs.Decisions.{decisionWord, decisionValue, decisi
 same-reason : (r reason : Reason) → Short r ≡ Short reason → valueOf r ≤ 16 → valueOf reason ≤ 16
 same-reason r reason e h = let z : r ≡ reason = cc in subst (λ (q : Reason). valueOf q ≤ 16) z h
 
-quorum-small : (σ : List ℕ) (v : Layout) (t : Termination) (held : ℕ) (d : List ℕ) (reason : Reason) → settingsOk σ ≡ true
+pub quorum-small : (σ : List ℕ) (v : Layout) (t : Termination) (held : ℕ) (d : List ℕ) (reason : Reason) → settingsOk σ ≡ true
     → quorumOf σ v t held d ≡ Short reason → valueOf reason ≤ 16
 unfolding quorumOf valueOf
 quorum-small σ v t held d reason ok h =
@@ -90,7 +90,7 @@ decision-small σ x d o ok decides = ⊎-elim accepting refusing (either (accept
     accepting h = by h (quorumOf σ (x .kept) (x .termination) (x .held) d) refl
 
 module _ (role : ℕ) (settings state desk : List ℕ) (e : Entry) (given : e ≡ entry (byPlanner role) (eqb (length desk) 65536) settings state) where
-  refusal-is : e .refusal ≡ decideEntry role settings state desk
+  pub refusal-is : e .refusal ≡ decideEntry role settings state desk
   unfolding entry decideEntry
   refusal-is = ap (λ (x : Entry). x .refusal) (desk-entry (byPlanner role) settings state desk e given)
 

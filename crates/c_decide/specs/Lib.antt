@@ -3,3 +3,4 @@ pub mod Decisions
 pub mod Cases
 pub mod Once
 pub mod Roles
+pub mod Withins

@@ -13,7 +13,7 @@ use Rattle.c_state.specs.Barred.{barred, barred-refuses, entry-barred, Bars}
 use Rattle.c_decide.specs.Decisions.{decideEntry, DecideCall}
 
 module _ (role : ℕ) (settings state desk : List ℕ) (h : byPlanner role ≡ false) where
-  entry-is : decideEntry role settings state desk ≡ barred (deskOk (wordsIn desk)) settings
+  pub entry-is : decideEntry role settings state desk ≡ barred (deskOk (wordsIn desk)) settings
   unfolding decideEntry
   entry-is = entry-barred (byPlanner role) (deskOk (wordsIn desk)) settings (isState (wordsIn state)) h
 

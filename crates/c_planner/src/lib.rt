@@ -9,6 +9,7 @@ ghost use Rattle.c_flat.specs.FlatCalls.{fromFlatAnswer, fromFlatLeaves, toFlat
 ghost use Rattle.c_events.specs.Events.{freshAnswer, freshLeaves, checkStateAnswer, takeAnswer, takeLeaves};
 ghost use Rattle.c_report.specs.ReportCalls.{reportAnswer, reportLeaves, reportDesk};
 ghost use Rattle.c_decide.specs.Decisions.{DecideCall};
+ghost use Rattle.c_decide.specs.Withins.{WithinCall};
 ghost use Rattle.c_order.specs.OrderCalls.{orderAnswer, orderLeaves};
 ghost use Rattle.c_page.specs.PageCalls.{PageCall};
 ghost use Rattle.c_preview.specs.PreviewCalls.{PreviewCall, WarnCall};
@@ -145,6 +146,21 @@ pub extern "C" fn restart_decide(role: u32, settings: &[u8], state: &mut [u8], d
     ensures { λ r. ⌜ DecideCall role (now (settings .entry)) (now (state .entry)) (now (desk .entry)) r (now (state .exit)) ⌝ }
 {
     c_decide::decide(role, settings, state, desk)
+}
+
+// Plans a restart by so many improving rounds, more than 128 counting as 128, or says why there is none: rows 1, 2, 15, 3 and 4. The answer of
+// a plan has its gap.
+#[no_mangle]
+pub extern "C" fn restart_decide_within(
+    role: u32,
+    settings: &[u8],
+    state: &mut [u8],
+    desk: &[u8],
+    rounds: u32,
+) -> u32
+    ensures { λ r. ⌜ WithinCall role (now (settings .entry)) (now (state .entry)) (now (desk .entry)) rounds r (now (state .exit)) ⌝ }
+{
+    c_decide::decide_within(role, settings, state, desk, rounds)
 }
 
 // Writes a held node's order: rows 1 (desk or buffer), 2, 15, 3, 4, 6 and 14.

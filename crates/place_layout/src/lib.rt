@@ -37,7 +37,7 @@ pub struct Offer {
 }
 
 // Some shard is of subgroup g.
-fn has_shards(settings: &[u32], g: u32) -> bool
+pub fn has_shards(settings: &[u32], g: u32) -> bool
     requires { ⌜ Settings (now settings) ⌝ }
     ensures { λ r. ⌜ r ≡ anyBelow 16 (ofGroup (now (settings .entry)) g) ⌝ }
 {
@@ -115,7 +115,7 @@ fn mask_with(settings: &[u32], g: u32, owners: &[u8; 32], was: u32, s: Shard) ->
 }
 
 // The masks, with those of subgroup g from its owners.
-fn masks_with(settings: &[u32], g: u32, owners: &[u8; 32], masks: &[u32; 16]) -> [u32; 16]
+pub fn masks_with(settings: &[u32], g: u32, owners: &[u8; 32], masks: &[u32; 16]) -> [u32; 16]
     requires { ⌜ Settings (now settings) ⌝ }
     ensures { λ r. ⌜ r ≡ masksWith (now (settings .entry)) g (now (owners .entry)) (now (masks .entry)) ⌝ }
 {

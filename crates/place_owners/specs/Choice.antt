@@ -113,6 +113,31 @@ module _ {σ : List ℕ} {held g : ℕ} {K : Case} (stands : CaseFor σ held g K
           (λ n p q. none-owned v (e .shard) (e .below) o n (omega arith) ∙ sym (none-owned w (e .shard) (e .below) o n (omega arith))))
           (e .smaller))
 
+  module _ (right : Settings σ) (inside : held < 2 ^ nodes σ) where
+    -- the first of the placements with P, as masks, is not later than the masks of any that has P
+    pub first-by-masks : {P : (ℕ → ℕ) → Type 0} {z masks : ℕ → ℕ} → Masked σ g z masks → Valid K z → First P z → (other : ℕ → ℕ)
+        → groupValid σ held other g ≡ true → P (owner σ g other) → NotLater (ofGroup σ g) masks other
+    first-by-masks {P} {z} {masks} k v f other w has =
+        ⊎-elim
+        (λ d. inl (record { alike = λ s o. masked-listed k s o ∙ (d .alike s (shard-below σ g right s o) ∙ sym (masked-listed theirs s o)) }))
+        (λ d. inr (sooner d))
+        (first-listed f (owner σ g other) has)
+      where
+        theirs : Masked σ g (owner σ g other) other
+        theirs = owner-masked σ held g other right inside w
+
+        sooner : Earlier z (owner σ g other) → Sooner (ofGroup σ g) masks other
+        sooner d =
+            let o : ofGroup σ g (d .shard) ≡ true = parts-within v (from-masks right inside stands other w) d in
+            record {
+              shard = d .shard;
+              picked = o;
+              alike = λ s h i. masked-listed k s i ∙ (d .alike s h ∙ sym (masked-listed theirs s i));
+              smaller =
+                  subst (λ (a : List ℕ). listBefore a (nodesIn (other (d .shard))) ≡ true) (sym (masked-listed k (d .shard) o))
+                  (subst (λ (a : List ℕ). listBefore (nodesOf z (d .shard)) a ≡ true) (sym (masked-listed theirs (d .shard) o)) (d .smaller));
+            }
+
   module _ (right : Settings σ) (inside : held < 2 ^ nodes σ) {old : ℕ → ℕ} where
     -- the best owners, from masks
     pub best-owners : {z by : ℕ → ℕ} → Masked σ g z by → Best K (priceIn old) z → {masks : ℕ → ℕ} → LeastMoves σ held old masks g
@@ -154,26 +179,4 @@ module _ {σ : List ℕ} {held g : ℕ} {K : Case} (stands : CaseFor σ held g K
         least = least-moves right inside stands k (best .is)
 
         listed : (other : ℕ → ℕ) → LeastMoves σ held old other g → groupStays σ old other g ≡ groupStays σ old masks g → NotLater (ofGroup σ g) masks other
-        listed other l e =
-            ⊎-elim
-            (λ d. inl (record { alike = λ s o. masked-listed k s o ∙ (d .alike s (shard-below σ g right s o) ∙ sym (masked-listed theirs s o)) }))
-            (λ d. inr (sooner d))
-            (first-listed best (owner σ g other) good)
-          where
-            theirs : Masked σ g (owner σ g other) other
-            theirs = owner-masked σ held g other right inside (l .valid)
-
-            good : Best K (priceIn old) (owner σ g other)
-            good = best-owners k (best .is) l e
-
-            sooner : Earlier z (owner σ g other) → Sooner (ofGroup σ g) masks other
-            sooner d =
-                let o : ofGroup σ g (d .shard) ≡ true = parts-within (best .is .valid) (good .valid) d in
-                record {
-                  shard = d .shard;
-                  picked = o;
-                  alike = λ s h i. masked-listed k s i ∙ (d .alike s h ∙ sym (masked-listed theirs s i));
-                  smaller =
-                      subst (λ (a : List ℕ). listBefore a (nodesIn (other (d .shard))) ≡ true) (sym (masked-listed k (d .shard) o))
-                      (subst (λ (a : List ℕ). listBefore (nodesOf z (d .shard)) a ≡ true) (sym (masked-listed theirs (d .shard) o)) (d .smaller));
-                }
+        listed other l e = first-by-masks right inside k (best .is .valid) best other (l .valid) (best-owners k (best .is) l e)

@@ -88,7 +88,7 @@ module _ (σ : List ℕ) (v : Layout) (held : ℕ) (x : Seen) (q : Quorum) (give
       }
 
 -- nothing stands from S up
-tidy-of : (σ : List ℕ) (w : Layout) → ((s : ℕ) → shards σ ≤ s → maskAt w s ≡ 0) → layoutTidy σ w ≡ true
+pub tidy-of : (σ : List ℕ) (w : Layout) → ((s : ℕ) → shards σ ≤ s → maskAt w s ≡ 0) → layoutTidy σ w ≡ true
 unfolding layoutTidy
 tidy-of σ w rest =
     all-of 16 (λ s. ltb s (shards σ) || eqb (maskAt w s) 0)

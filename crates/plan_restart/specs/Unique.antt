@@ -34,11 +34,11 @@ tidy-past σ w t s l k =
     ⊎-elim (λ e. clash e (le-ltb s (shards σ) l)) (λ e. eqb-true (maskAt w s) 0 e)
     (or-holds (ltb s (shards σ)) (eqb (maskAt w s) 0) (all-at 16 (λ i. ltb i (shards σ) || eqb (maskAt w i) 0) t s k))
 
-layout-as : {n n' m m' : ℕ} {k k' : List ℕ} → n ≡ n' → m ≡ m' → k ≡ k'
+pub layout-as : {n n' m m' : ℕ} {k k' : List ℕ} → n ≡ n' → m ≡ m' → k ≡ k'
     → _≡_ {A = Layout} (record { number = record { 0 = n }; members = m; masks = k }) (record { number = record { 0 = n' }; members = m'; masks = k' })
 layout-as a b c = λ i. record { number = record { 0 = a i }; members = b i; masks = c i }
 
-plan-as : {l l' : Layout} {t t' : ℕ} {h h' : List Node} {p p' : List Position} → l ≡ l' → t ≡ t' → h ≡ h' → p ≡ p'
+pub plan-as : {l l' : Layout} {t t' : ℕ} {h h' : List Node} {p p' : List Position} → l ≡ l' → t ≡ t' → h ≡ h' → p ≡ p'
     → _≡_ {A = Plan} (record { layout = l; total = t; holders = h; targets = p }) (record { layout = l'; total = t'; holders = h'; targets = p' })
 plan-as a b c d = λ i. record { layout = a i; total = b i; holders = c i; targets = d i }
 
@@ -48,15 +48,15 @@ plan-or-none {r = r} a b =
     b .lowest .none .none (maskAt (r .plan .layout)) (a .plans .chosen (b .group) (b .lowest .below) .least .valid)
 
 module _ (σ : List ℕ) (v : Layout) (t : Termination) (held : ℕ) (d e : List ℕ) (same : standingOf σ v t held d ≡ standingOf σ v t held e) where
-  quorum-same : quorumOf σ v t held d ≡ quorumOf σ v t held e
+  pub quorum-same : quorumOf σ v t held d ≡ quorumOf σ v t held e
   unfolding standingOf
   quorum-same = ap (λ (s : Standing). s .quorum) same
 
-  holders-same : holdersOf σ v t held d ≡ holdersOf σ v t held e
+  pub holders-same : holdersOf σ v t held d ≡ holdersOf σ v t held e
   unfolding standingOf
   holders-same = ap (λ (s : Standing). s .holders) same
 
-  targets-same : targetsOf σ v t held d ≡ targetsOf σ v t held e
+  pub targets-same : targetsOf σ v t held d ≡ targetsOf σ v t held e
   unfolding standingOf
   targets-same = ap (λ (s : Standing). s .targets) same
 

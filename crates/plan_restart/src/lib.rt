@@ -45,7 +45,7 @@ pub fn no_plan() -> Plan
 }
 
 // A wait for a reason.
-fn waiting(reason: Reason) -> Verdict
+pub fn waiting(reason: Reason) -> Verdict
     ensures { λ r. ⌜ r ≡ Restarts.waiting reason ⌝ }
 {
     Verdict {
@@ -76,7 +76,7 @@ fn plan_by(kept: Layout, held: u32, seen: Seen, placed: Placed) -> Plan
 }
 
 // The plan if every subgroup is placed, else wait 5.
-fn verdict_by(kept: Layout, held: u32, seen: Seen, placed: Placed) -> Verdict
+pub fn verdict_by(kept: Layout, held: u32, seen: Seen, placed: Placed) -> Verdict
     requires { ⌜ kept .number .0 ≤ 4294967294 ⌝ }
     ensures { λ r. ⌜ r ≡ Planning.verdictBy kept held seen placed ⌝ }
 {

@@ -25,12 +25,14 @@ use Rattle.report_views.specs.Slots.{samePosition}
 use Rattle.report_views.specs.Quorums.{target, holder, quorumOf}
 use Rattle.report_views.specs.Soundness.{isMet, shardPlanned, planSound}
 use Rattle.report_views.specs.PlanLaws.{holders-at, targets-at}
-use Rattle.plan_restart.specs.Restarts.{Plans}
+use Rattle.plan_rounds.specs.Offers.{NextView, plans-next}
 use Rattle.state_planner.specs.declared.State.{State}
 use Rattle.state_planner.specs.declared.Decided.{Decided}
 use Rattle.state_planner.specs.States.{sound, planned}
 use Rattle.state_planner.specs.Refusing.{isGathering, deskOk, decideRefusal}
+use Rattle.state_planner.specs.declared.DecidedWithin.{DecidedWithin}
 use Rattle.state_planner.specs.Decide.{Decides}
+use Rattle.state_planner.specs.DecideWithin.{DecidesWithin}
 use Rattle.state_invariant.specs.Parts.{entry-given}
 use Rattle.state_invariant.specs.AfterPlan.{plan-sound}
 
@@ -44,7 +46,7 @@ shard-at false h k p q e f =
     and-both (eq-eqb h 0 e)
     (and-both (eq-eqb (p .view .0) 0 (ap (λ (r : Position). r .view .0) f)) (eq-eqb (p .k) 0 (ap (λ (r : Position). r .k) f)))
 
-module _ (σ : List ℕ) (x : State) (d : List ℕ) (p : Plan) (w : Plans σ (x .kept) (x .termination) (x .held) d p) where
+module _ (σ : List ℕ) (x : State) (d : List ℕ) (p : Plan) (w : NextView σ (x .kept) (x .termination) (x .held) d p) where
   holder-read : (s : ℕ) → s < 16 → holderAt p s ≡ cond (ltb s (shards σ)) (holder (x .kept) (x .termination) (x .held) d s) 0
   holder-read s l = ap (λ (h : List Node). nodeAt h s) (w .holders) ∙ holders-at σ (x .kept) (x .termination) (x .held) d s l
 
@@ -61,7 +63,7 @@ module _ (σ : List ℕ) (x : State) (d : List ℕ) (p : Plan) (w : Plans σ (x 
       (holder-read s l)
       (target-read s l))
 
-  -- what decide promises of a plan makes it sound
+  -- what is promised of a plan makes it sound
   pub plans-sound : quorumOf σ (x .kept) (x .termination) (x .held) d ≡ Met → planSound σ (x .kept) (x .termination) (x .held) d p ≡ true
   unfolding planSound isMet
   plans-sound met =
@@ -70,31 +72,57 @@ module _ (σ : List ℕ) (x : State) (d : List ℕ) (p : Plan) (w : Plans σ (x 
       (and-both
       (and-both (and-both (and-both (ap isMet met) (eq-eqb _ _ (w .number))) (eq-eqb _ _ (w .members))) (w .tidy))
       shards-planned)
-      (all-of 4 (groupValid σ (x .held) (maskAt (p .layout))) (λ g l. w .chosen g l .least .valid)))
+      (all-of 4 (groupValid σ (x .held) (maskAt (p .layout))) (w .valid)))
       (eq-eqb _ _ (w .total))
+
+-- the state as it was, or with a sound plan
+abbrev pub SoundPlanned : List ℕ → State → List ℕ → State → Type 0
+SoundPlanned σ x d y = (y ≡ x) ⊎ ((p : Plan) × (y ≡ planned x p) × (planSound σ (x .kept) (x .termination) (x .held) d p ≡ true))
+
+-- it is sound
+planned-sound : (σ : List ℕ) (x : State) (d : List ℕ) (y : State) → decideRefusal σ x d ≡ none → SoundPlanned σ x d y → sound σ y d ≡ true
+unfolding decideRefusal
+planned-sound σ x d y h k =
+    ⊎-elim
+    (λ e. subst⁻¹ (λ (z : State). sound σ z d ≡ true) e (entry-given (deskOk d) σ x d (isGathering (x .phase)) h .state-sound))
+    (λ k. subst⁻¹ (λ (z : State). sound σ z d ≡ true) (k .1) (plan-sound σ x d (k .0) h (k .2)))
+    k
 
 module _ (σ : List ℕ) (x : State) (d : List ℕ) (r : Decided) (h : decideRefusal σ x d ≡ none) (w : Decides σ x d r) where
   -- decide hands back the state as it was, or with a sound plan
-  pub decided-state : (r .state ≡ x)
-      ⊎ ((p : Plan) × (r .state ≡ planned x p) × (planSound σ (x .kept) (x .termination) (x .held) d p ≡ true))
+  pub decided-state : SoundPlanned σ x d (r .state)
   decided-state = go (quorumOf σ (x .kept) (x .termination) (x .held) d) refl
     where
       ok : accepted (decideRefusal σ x d) ≡ true
       ok = ap (λ (k : Refusal). accepted k) h
 
       go : (q : Quorum) → quorumOf σ (x .kept) (x .termination) (x .held) d ≡ q
-          → (r .state ≡ x) ⊎ ((p : Plan) × (r .state ≡ planned x p) × (planSound σ (x .kept) (x .termination) (x .held) d p ≡ true))
+          → SoundPlanned σ x d (r .state)
       go Met e =
           ⊎-elim
-          (λ k. inr (k .plan, ap (λ (y : Decided). y .state) (k .given), plans-sound σ x d (k .plan) (k .plans) e))
+          (λ k. inr (k .plan, ap (λ (y : Decided). y .state) (k .given), plans-sound σ x d (k .plan) (plans-next (k .plans)) e))
           (λ k. inl (ap (λ (y : Decided). y .state) (k .given)))
           (w .answers ok e)
       go (Short reason) e = inl (ap (λ (y : Decided). y .state) (w .waits ok reason e))
 
   pub decide-sound : sound σ (r .state) d ≡ true
-  unfolding decideRefusal
-  decide-sound =
-      ⊎-elim
-      (λ e. subst⁻¹ (λ (y : State). sound σ y d ≡ true) e (entry-given (deskOk d) σ x d (isGathering (x .phase)) h .state-sound))
-      (λ k. subst⁻¹ (λ (y : State). sound σ y d ≡ true) (k .1) (plan-sound σ x d (k .0) h (k .2)))
-      decided-state
+  decide-sound = planned-sound σ x d (r .state) h decided-state
+
+module _ (σ : List ℕ) (x : State) (d : List ℕ) (n : ℕ) (r : DecidedWithin) (h : decideRefusal σ x d ≡ none) (w : DecidesWithin σ x d n r) where
+  -- with rounds: the same
+  pub within-state : SoundPlanned σ x d (r .state)
+  within-state = go (quorumOf σ (x .kept) (x .termination) (x .held) d) refl
+    where
+      ok : accepted (decideRefusal σ x d) ≡ true
+      ok = ap (λ (k : Refusal). accepted k) h
+
+      go : (q : Quorum) → quorumOf σ (x .kept) (x .termination) (x .held) d ≡ q → SoundPlanned σ x d (r .state)
+      go Met e =
+          ⊎-elim
+          (λ k. inr (k .plan, ap (λ (y : DecidedWithin). y .state) (k .given), plans-sound σ x d (k .plan) (k .plans .next) e))
+          (λ k. inl (ap (λ (y : DecidedWithin). y .state) (k .given)))
+          (w .answers ok e)
+      go (Short reason) e = inl (ap (λ (y : DecidedWithin). y .state) (w .waits ok reason e))
+
+  pub within-sound : sound σ (r .state) d ≡ true
+  within-sound = planned-sound σ x d (r .state) h within-state

@@ -18,17 +18,19 @@ use Rattle.report_latest.specs.Remembered.{latestAt}
 use Rattle.report_latest.specs.Laws.{noted-at, none-latest}
 use Rattle.state_planner.specs.declared.State.{State}
 use Rattle.state_planner.specs.declared.Decided.{Decided}
+use Rattle.state_planner.specs.declared.DecidedWithin.{DecidedWithin}
 use Rattle.state_planner.specs.States.{sound, fresh, keeping, marked, planned}
 use Rattle.state_planner.specs.Refusing.{deskOk, entryRefusal, reportRefusal, dropRefusal, decideRefusal, fetchedRefusal, preparedRefusal}
 use Rattle.state_planner.specs.Events.{afterReport, afterDrop, afterFetched, afterPrepared}
 use Rattle.report_desk.specs.Desk.{deskWith}
 use Rattle.state_planner.specs.Decide.{Decides}
+use Rattle.state_planner.specs.DecideWithin.{DecidesWithin}
 use Rattle.state_invariant.specs.Fresh.{fresh-sound}
 use Rattle.state_invariant.specs.Noting.{RecallsReports}
 use Rattle.state_invariant.specs.AfterReport.{report-sound, report-recalled, report-desk}
 use Rattle.state_invariant.specs.AfterDrop.{drop-latest, drop-exact, drop-sound}
 use Rattle.state_invariant.specs.AfterMarks.{fetched-sound, prepared-sound}
-use Rattle.state_invariant.specs.AfterDecide.{decided-state, decide-sound}
+use Rattle.state_invariant.specs.AfterDecide.{SoundPlanned, decided-state, decide-sound, within-state, within-sound}
 
 pub data Reached (σ : List ℕ) : State → List ℕ → Type 0 where
   starting : (d : List ℕ) → settingsOk σ ≡ true → deskOk d ≡ true → Reached σ fresh d
@@ -36,6 +38,7 @@ pub data Reached (σ : List ℕ) : State → List ℕ → Type 0 where
       → Reached σ (afterReport σ x (contentsOf w)) (deskWith d (getD w 0 0) w)
   dropping : (x : State) (d : List ℕ) (n : ℕ) → Reached σ x d → dropRefusal σ x d n ≡ none → Reached σ (afterDrop x n) d
   deciding : (x : State) (d : List ℕ) (a : Decided) → Reached σ x d → decideRefusal σ x d ≡ none → Decides σ x d a → Reached σ (a .state) d
+  improving : (x : State) (d : List ℕ) (n : ℕ) (a : DecidedWithin) → Reached σ x d → decideRefusal σ x d ≡ none → DecidesWithin σ x d n a → Reached σ (a .state) d
   fetching : (x : State) (d : List ℕ) (n : ℕ) → Reached σ x d → fetchedRefusal σ x d n ≡ none → Reached σ (afterFetched x n) d
   preparing : (x : State) (d : List ℕ) (n : ℕ) → Reached σ x d → preparedRefusal σ x d n ≡ none → Reached σ (afterPrepared x n) d
 
@@ -45,6 +48,7 @@ module _ (σ : List ℕ) where
   reached-sound (reporting x d w r h) = report-sound σ x d w h
   reached-sound (dropping x d n r h) = drop-sound σ x d n h
   reached-sound (deciding x d a r h w) = decide-sound σ x d a h w
+  reached-sound (improving x d n a r h w) = within-sound σ x d n a h w
   reached-sound (fetching x d n r h) = fetched-sound σ x d n h
   reached-sound (preparing x d n r h) = prepared-sound σ x d n h
 
@@ -53,6 +57,7 @@ module _ (σ : List ℕ) where
   reached-settings (reporting x d w r h) = reached-settings r
   reached-settings (dropping x d n r h) = reached-settings r
   reached-settings (deciding x d a r h w) = reached-settings r
+  reached-settings (improving x d n a r h w) = reached-settings r
   reached-settings (fetching x d n r h) = reached-settings r
   reached-settings (preparing x d n r h) = reached-settings r
 
@@ -61,8 +66,20 @@ module _ (σ : List ℕ) where
   reached-desk (reporting x d w r h) = eq-eqb (length (deskWith d (getD w 0 0) w)) 16384 (report-desk σ x d w h)
   reached-desk (dropping x d n r h) = reached-desk r
   reached-desk (deciding x d a r h w) = reached-desk r
+  reached-desk (improving x d n a r h w) = reached-desk r
   reached-desk (fetching x d n r h) = reached-desk r
   reached-desk (preparing x d n r h) = reached-desk r
+
+  -- a decision leaves held nodes and what is remembered
+  recalls-on : (x y : State) (d : List ℕ) → SoundPlanned σ x d y → RecallsReports (x .held) d (x .latest) → RecallsReports (y .held) d (y .latest)
+  unfolding planned
+  recalls-on x y d k r =
+      ⊎-elim (λ e. subst⁻¹ (λ (z : State). RecallsReports (z .held) d (z .latest)) e r)
+      (λ b. subst⁻¹ (λ (z : State). RecallsReports (z .held) d (z .latest)) (b .1) r) k
+
+  latest-on : (x y : State) (d : List ℕ) → SoundPlanned σ x d y → y .latest ≡ x .latest
+  unfolding planned
+  latest-on x y d k = ⊎-elim (λ e. ap (λ (z : State). z .latest) e) (λ b. ap (λ (z : State). z .latest) (b .1)) k
 
   -- of each held node the view of its report is remembered
   pub reached-recalls : {x : State} {d : List ℕ} → Reached σ x d → RecallsReports (x .held) d (x .latest)
@@ -70,10 +87,8 @@ module _ (σ : List ℕ) where
   reached-recalls (starting d s l) = λ n k h. clash h (has-zero n)
   reached-recalls (reporting x d w r h) = report-recalled σ x d w h (reached-recalls r)
   reached-recalls (dropping x d n r h) = drop-exact (x .phase) x d n (reached-recalls r)
-  reached-recalls (deciding x d a r h w) =
-      ⊎-elim (λ e. subst⁻¹ (λ (y : State). RecallsReports (y .held) d (y .latest)) e (reached-recalls r))
-      (λ k. subst⁻¹ (λ (y : State). RecallsReports (y .held) d (y .latest)) (k .1) (reached-recalls r))
-      (decided-state σ x d a h w)
+  reached-recalls (deciding x d a r h w) = recalls-on x (a .state) d (decided-state σ x d a h w) (reached-recalls r)
+  reached-recalls (improving x d n a r h w) = recalls-on x (a .state) d (within-state σ x d n a h w) (reached-recalls r)
   reached-recalls (fetching x d n r h) = reached-recalls r
   reached-recalls (preparing x d n r h) = reached-recalls r
 
@@ -83,6 +98,7 @@ module _ (σ : List ℕ) where
   greatestReported (reporting x d w r h) n = cond (eqb n (getD w 0 0)) (max (greatestReported r n) (getD w 1 0)) (greatestReported r n)
   greatestReported (dropping x d m r h) n = greatestReported r n
   greatestReported (deciding x d a r h w) n = greatestReported r n
+  greatestReported (improving x d m a r h w) n = greatestReported r n
   greatestReported (fetching x d m r h) n = greatestReported r n
   greatestReported (preparing x d m r h) n = greatestReported r n
 
@@ -94,9 +110,8 @@ module _ (σ : List ℕ) where
       noted-at (x .latest) (getD w 0 0) (getD w 1 0) n k
       ∙ ap (λ (v : ℕ). cond (eqb n (getD w 0 0)) (max v (getD w 1 0)) v) (reached-greatest r n k)
   reached-greatest (dropping x d m r h) n k = ap (λ (q : Latest). latestAt q n) (drop-latest (x .phase) x m) ∙ reached-greatest r n k
-  reached-greatest (deciding x d a r h w) n k =
-      ap (λ (q : Latest). latestAt q n) (⊎-elim (λ e. ap (λ (y : State). y .latest) e) (λ b. ap (λ (y : State). y .latest) (b .1)) (decided-state σ x d a h w))
-      ∙ reached-greatest r n k
+  reached-greatest (deciding x d a r h w) n k = ap (λ (q : Latest). latestAt q n) (latest-on x (a .state) d (decided-state σ x d a h w)) ∙ reached-greatest r n k
+  reached-greatest (improving x d m a r h w) n k = ap (λ (q : Latest). latestAt q n) (latest-on x (a .state) d (within-state σ x d m a h w)) ∙ reached-greatest r n k
   reached-greatest (fetching x d m r h) n k = reached-greatest r n k
   reached-greatest (preparing x d m r h) n k = reached-greatest r n k
 

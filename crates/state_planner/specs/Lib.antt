@@ -8,3 +8,4 @@ pub mod CallLaws
 pub mod EventLaws
 pub mod ReportLaws
 pub mod DecideLaws
+pub mod DecideWithin

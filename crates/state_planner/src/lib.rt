@@ -2,6 +2,7 @@
 use base_ids::Node;
 use base_ids::Refusal;
 use plan_restart::Verdict;
+use plan_rounds::Offered;
 use plan_seen::Seen;
 use report_kept::Received;
 use report_latest::Latest;
@@ -26,6 +27,7 @@ ghost use Rattle.state_planner.specs.States as States;
 ghost use Rattle.state_planner.specs.Refusing as Refusing;
 ghost use Rattle.state_planner.specs.Events as Events;
 ghost use Rattle.state_planner.specs.Decide as Decide;
+ghost use Rattle.state_planner.specs.DecideWithin as DecideWithin;
 
 // The planner's state: the phase, the kept view and its termination, the masks of held, fetched and prepared nodes, the plan, and each
 // node's greatest reported view.
@@ -63,6 +65,13 @@ pub struct Outcome {
 pub struct Decided {
     pub state: State,
     pub decision: Decision,
+}
+
+// What decide with improving rounds hands back; no gap beside a wait or a refusal.
+pub struct DecidedWithin {
+    pub state: State,
+    pub decision: Decision,
+    pub gap: u32,
 }
 
 // What an event has found of rows 3 and 4, what the desk tells, and what slots and messages are compared with.
@@ -302,6 +311,19 @@ fn after_verdict(x: State, verdict: Verdict) -> Decided
     }
 }
 
+// The next state, the decision and the gap that an offer leads to.
+fn after_offer(x: State, offered: Offered) -> DecidedWithin
+    ensures { λ r. ⌜ r ≡ DecideWithin.withinBy (offered .verdict .quorum) x (offered .verdict .plan) (offered .gap) ⌝ }
+{
+    let verdict = offered.verdict;
+    let quorum = verdict.quorum;
+    DecidedWithin {
+        state: after_quorum(x, quorum, verdict.plan),
+        decision: decision_of(quorum),
+        gap: offered.gap,
+    }
+}
+
 impl State {
     // The state before any report.
     pub fn fresh() -> State
@@ -493,6 +515,42 @@ impl State {
             };
         }
         State::decide_under(self, settings, desk)
+    }
+
+    // A plan that so many improving rounds reach, or the first reason to wait, where rows 1 and 2 do not refuse.
+    pub fn decide_within_under(self, settings: &[u32], desk: &[u8], rounds: u32) -> DecidedWithin
+        requires { ⌜ Settings (now settings) ⌝ }
+        requires { ⌜ length (now desk) ≡ 65536 ⌝ }
+        ensures { λ r. ⌜ DecideWithin.DecidesWithin (now (settings .entry)) self (wordsIn (now (desk .entry))) rounds r ⌝ }
+    {
+        let phase = self.phase;
+        let in_phase = state_rows::is_gathering(phase);
+        let sighted = enter(settings, self, desk, in_phase);
+        let refusal = sighted.refusal;
+        if refusal.code != 0 {
+            return DecidedWithin {
+                state: self,
+                decision: Decision::Refused(refusal),
+                gap: 0,
+            };
+        }
+        let offered = plan_rounds::offer(settings, self.kept, self.held, sighted.seen, rounds);
+        after_offer(self, offered)
+    }
+
+    // A plan that so many improving rounds reach, or the first reason to wait.
+    pub fn decide_within(self, settings: &[u32], desk: &[u8], rounds: u32) -> DecidedWithin
+        ensures { λ r. ⌜ DecideWithin.DecidesWithin (now (settings .entry)) self (wordsIn (now (desk .entry))) rounds r ⌝ }
+    {
+        let refusal = call_refusal(settings, desk);
+        if refusal.code != 0 {
+            return DecidedWithin {
+                state: self,
+                decision: Decision::Refused(refusal),
+                gap: 0,
+            };
+        }
+        State::decide_within_under(self, settings, desk, rounds)
     }
 
     // Whether the state is sound beside these settings and this desk, where rows 1 and 2 do not refuse: row 3.

@@ -2,7 +2,7 @@
 import json
 
 from .. import words
-from ..answers import BadAnswer, Number
+from ..answers import BadAnswer
 from ..decode import settings_from
 from ..files import Unfit, name_of, read, read_input, read_named, write, write_lines
 from ..inputs import is_text
@@ -10,8 +10,7 @@ from ..jsoned import published_value
 from ..library import Restart
 from ..model import SUBGROUPS, Refused
 from ..publishing import BadPage, html, lines, published
-from ..refusing import TABLE, block_name
-from .shared import file_argument, library_argument, names_argument
+from .shared import file_argument, library_argument, names_argument, refused
 
 FORMS = ("input", "page")
 
@@ -62,10 +61,3 @@ def of_page(chosen):
         return published(words.from_bytes(data), chosen.subgroup, *((settings.names, settings.shards) if settings else ()))
     except BadPage as bad:
         raise Unfit("%s is no page: %s" % (name_of(chosen.file), bad)) from None
-
-
-def refused(answer, given, block):
-    """What to say where the library has refused."""
-    if isinstance(answer, Number):
-        raise Refused(answer.number, "%s is refused, given when: %s; restart-text explain says more"
-                      % (block_name(block, given), TABLE[answer.number]), answer.index)

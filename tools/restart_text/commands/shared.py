@@ -1,11 +1,13 @@
 """What several subcommands share: their arguments, and an answer with its explanation."""
 import argparse
 
-from ..answers import parse
+from ..answers import Number, parse
 from ..asking import SECONDS, Program
 from ..explaining import asked, explain
 from ..files import Trouble, read, read_input
 from ..lines import BadText, node_list
+from ..model import Refused
+from ..refusing import TABLE, block_name
 from ..repairing import NOT_ASKED, Source
 
 
@@ -67,3 +69,10 @@ def explained(chosen):
         source = Source(chosen.library, None if chosen.library else NOT_ASKED)
         return given, explain(given, answer, None, None, gone_nodes(chosen, given.names), source)
     return given, asked(given, Program(chosen.program, chosen.search), gone_nodes(chosen, given.names), Source(chosen.library))
+
+
+def refused(answer, given, block):
+    """What to say where the library has refused."""
+    if isinstance(answer, Number):
+        raise Refused(answer.number, "%s is refused, given when: %s; restart-text explain says more"
+                      % (block_name(block, given), TABLE[answer.number]), answer.index)

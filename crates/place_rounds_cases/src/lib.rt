@@ -1,0 +1,1 @@
+// Worked rounds, from the definition: theorems, in specs/. No code.

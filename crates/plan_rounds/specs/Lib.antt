@@ -1,0 +1,4 @@
+-- A plan that improving rounds reach.
+pub mod Offers
+pub mod Offering
+pub mod Unique
