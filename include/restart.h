@@ -51,9 +51,9 @@ extern "C" {
 
 #define RESTART_VERSION_MAJOR 0
 #define RESTART_VERSION_MINOR 5
-#define RESTART_VERSION_PATCH 4
-#define RESTART_VERSION "0.5.4"
-#define RESTART_VERSION_NUMBER 504 /* major * 10000 + minor * 100 + patch */
+#define RESTART_VERSION_PATCH 5
+#define RESTART_VERSION "0.5.5"
+#define RESTART_VERSION_NUMBER 505 /* major * 10000 + minor * 100 + patch */
 
 /* Of the settings, the messages and the state. It is raised when any of their words changes its
  * meaning; save it beside a state, and start fresh where it differs. */

@@ -1,6 +1,6 @@
 """Run the comparisons with fresh seeds until the time is over: fuzz.py SECONDS [mock].
 
-A round is one call of each program: messages, flat, events, pages, previews, games, rounds, plans, runs, mondays and sheets. The first that finds a difference has
+A round is one call of each program: messages, flat, events, pages, previews, games, rounds, arrivals, plans, runs, mondays and sheets. The first that finds a difference has
 printed its input and how to make it again, and ends all. With `mock` the reference stands in for the library, `restart`, `mondays` and `sheet`. The last line
 is `N passed, M failed`, counted by rounds of a program."""
 import os
@@ -41,6 +41,7 @@ def build(mock):
         ([os.path.join(release, "previews")], ["40", "60"]),
         ([os.path.join(release, "games")], ["400"]),
         ([os.path.join(release, "rounds")], ["40", "60"]),
+        ([os.path.join(release, "arrivals")], ["400", "300"]),
         ([os.path.join(release, "plans")], ["900", "100"]),
         ([os.path.join(release, "runs"), restart], ["300"]),
         ([os.path.join(release, "mondays"), mondays], ["200"]),

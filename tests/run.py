@@ -63,6 +63,7 @@ THEN = [
     ("previews against the reference and the library's own events", cargo("tests", "run", "--release", "--bin", "previews"), LIBRARY),
     ("games against the reference", cargo("tests", "run", "--release", "--bin", "games"), LIBRARY),
     ("rounds against the reference and the library's own decide", cargo("tests", "run", "--release", "--bin", "rounds"), LIBRARY),
+    ("reports in any order, and commits by a log", cargo("tests", "run", "--release", "--bin", "arrivals"), LIBRARY),
     ("plans against the reference", cargo("tests", "run", "--release", "--bin", "plans"), LIBRARY),
     ("events against the peer in C and the reference", cargo("bench/events", "run", "--release", "--", "compare", "20000", "1"), LIBRARY),
     ("placements against the reference", cargo("tests/placement", "run", "--release"), PLACEMENT),

@@ -28,6 +28,8 @@
 //! - `pairs`: worlds that agree on a subgroup and differ in the rest
 //! - `previews`: the inputs of the `previews` program
 //! - `rounds`: the inputs of the `rounds` program
+//! - `arrivals`: the inputs of the `arrivals` program: reports in two orders
+//! - `commits`: and sequences of calls beside a log of what happened
 //! - `regressions`, `recorder`: stored sequences of calls, read and written
 //! - `runs`: whole runs of the program `restart`
 //! - `moves`: moves files, the inputs of the program `mondays`
@@ -36,7 +38,9 @@
 //! - `mondays`: the comparison of `mondays` with the reference
 //! - `sheets`: the inputs of the program `sheet` and their comparison
 
+pub mod arrivals;
 pub mod calls;
+pub mod commits;
 pub mod damage;
 pub mod events;
 pub mod expected;

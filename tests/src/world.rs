@@ -272,6 +272,11 @@ impl World {
         member.then(|| self.report_in(random, node, era))
     }
 
+    /// The numbers of its views, ascending.
+    pub fn numbers(&self) -> Vec<u32> {
+        self.eras.iter().map(|era| era.view.number).collect()
+    }
+
     /// The termination of the last view.
     pub fn last_termination(&self) -> Option<&Vec<(u32, u32)>> {
         self.eras.last()?.termination.as_ref()
