@@ -17,7 +17,7 @@ import re
 import sys
 
 import unused
-from edits import parts_of, read
+from edits import parts_of, read, room_of
 
 HEAD = "## Contracts without an equation\n"
 FUNCTION = re.compile(r'pub (extern "C" )?fn (\w+)(?:<[^>]*>)?\((.*?)\)(?:\s*->\s*(.*?))?\s*$', re.S)
@@ -231,7 +231,7 @@ def functions():
             start = re.search(r"(?m)^\s*(?:requires|ensures)\b", text)
             signature = text[: start.start()] if start else text.rstrip("{ \n")
             _, name, parameters, result = FUNCTION.match(signature).groups()
-            yield path, "%s::%s" % (crate, name), parameters, result, text[start.start() :] if start else ""
+            yield path, "%s::%s" % (room_of(path), name), parameters, result, text[start.start() :] if start else ""
 
 
 def faults(reader, file, parameters, given, contract, fields):

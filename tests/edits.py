@@ -80,6 +80,17 @@ def read(path):
         return source.read()
 
 
+def module_of(file):
+    """The module of a crate's code that a file under src/ holds; none where it is the root."""
+    name = os.path.basename(file)[: -len(".rt")]
+    return "" if name in ("lib", "main") else name
+
+
+def room_of(path):
+    """A crate's file of code as its functions' names have it: CRATE, or CRATE::MODULE."""
+    return "::".join(filter(None, [path.split("/")[1], module_of(path)]))
+
+
 class Crate:
     """The parts of a crate, as (file, what the lines belong to), and what each is checked from."""
 
@@ -102,14 +113,12 @@ class Crate:
         for file, text in (specs | code | proofs).items():
             self.add_names(file, text)
         for file, text in proofs.items():
-            for name in file.split("/")[-2].split("+"):
-                for part in self.bodies(name):
-                    self.words[part].update((file, word) for word in WORD.findall(text))
+            for part in self.bodies(file.split("/")[1:-1]):
+                self.words[part].update((file, word) for word in WORD.findall(text))
         # what has no proof file is proved by search, perhaps from anything that its file names
-        written = {name for file in proofs for name in file.split("/")[-2].split("+")}
-        for name in self.functions.keys() - written:
-            for part in self.bodies(name):
-                self.words[part].update((part[0], word) for word in self.names[part[0]])
+        written = {part for file in proofs for part in self.bodies(file.split("/")[1:-1])}
+        for part in [part for part in self.words if is_body(part) and part not in written]:
+            self.words[part].update((part[0], word) for word in self.names[part[0]])
 
     def add_specs(self, file, text):
         names = self.names.setdefault(file, {})
@@ -144,9 +153,12 @@ class Crate:
                 for name in [pair[-1].strip(), *pair[-1].strip().split("_")]:
                     names.setdefault(name, set()).update(named)
 
-    def bodies(self, name):
-        """The bodies of the functions of that name."""
-        return {(file, (*owner[:2], True)) for file, owner in self.functions.get(name, ())} & self.words.keys()
+    def bodies(self, path):
+        """The bodies of the functions that a path of the proofs names: the module, if any, the type, if any, and the function, or several
+        joined by `+`."""
+        names, module = path[-1].split("+"), "/".join(word for word in path[:-1] if not word[0].isupper())
+        heads = [head for name in names for head in self.functions.get(name, ()) if module_of(head[0]) == module]
+        return {(file, (*owner[:2], True)) for file, owner in heads} & self.words.keys()
 
     @functools.lru_cache(maxsize=None)
     def checked_from(self, part):
@@ -214,15 +226,14 @@ def errors_of(crate, path):
     for line in lines:
         proof, specs, search = IN_PROOF.search(line), IN_SPECS.search(line), UNPROVED.search(line)
         if proof:
-            names = proof.group(1).split("/")[-1].split("+")
-            errors.append((line, set().union(*(crate.bodies(name) for name in names))))
+            errors.append((line, crate.bodies(proof.group(1).split("/"))))
         elif specs:
             at = int(specs.group(2))
             errors.append((line, set(crate.lines.get(specs.group(1), [])[at - 1 : at])))
         elif ": error" in line:
             errors.append((line, set()))
         elif search:
-            unproved.append((line, crate.bodies(search.group(1).split("::")[-1])))
+            unproved.append((line, crate.bodies(search.group(1).split("::"))))
     return errors + unproved
 
 
@@ -258,9 +269,10 @@ def judged(name, path, log):
 
 
 def over_two(paths):
-    """The crates with more than two of these files that hold wrong bodies."""
+    """The crates with more than two of these files that hold wrong bodies, or four where the code has modules: a wrong function leaves the
+    proofs of its callers open, so the wrong bodies of modules that call one another need checks of their own."""
     crates = [path.split("/")[-3] for path in paths if os.path.basename(path).startswith("code_")]
-    return sorted({crate for crate in crates if crates.count(crate) > 2})
+    return sorted({crate for crate in crates if crates.count(crate) > (4 if len(glob.glob("crates/%s/src/*.rt" % crate)) > 1 else 2)})
 
 
 crate_of = functools.lru_cache(maxsize=None)(Crate)
@@ -286,13 +298,13 @@ def main():
         asking = {owner[0] for owner, line in parts if not owner[2] and line.strip().startswith("requires ")}
         for name in sorted({owner[0] for owner, _ in parts}):
             count = len(wrong.get((crate, file, name), ()))
-            enough = count >= (1 if name in asking or "%s::%s" % (crate, name) in FEWER else 2)
+            enough = count >= (1 if name in asking or "%s::%s" % (room_of(path), name) in FEWER else 2)
             passed, failed = passed + enough, failed + (not enough)
             if not enough:
-                print("%s::%s has %d wrong programs of its own" % (crate, name, count))
+                print("%s::%s has %d wrong programs of its own" % (room_of(path), name, count))
     for crate in over_two(paths):
         failed += 1
-        print("%s has more than two checks of wrong bodies: the others belong in crates/%s/wrong/" % (crate, crate))
+        print("%s has too many checks of wrong bodies: some belong in crates/%s/wrong/" % (crate, crate))
     print("%d wrong programs in %d files" % (tried, len(paths)))
     print("%d passed, %d failed" % (passed, failed))
     sys.exit(1 if failed else 0)

@@ -2,8 +2,9 @@
 layer's (a program, which gives its binary its name, may have any). Checked, one test each:
 - no crate uses a crate of a later layer, nor a later one of its own layer;
 - no two names differ by a short ending only;
+- a crate without code ends in `_laws`, one of worked rows in `_cases`, and no other does;
 - README's table of crates has the same layers with the same words and crates, each once and in the same order;
-- no two definitions of the specs, and no two types of the code, have one name.
+- no two definitions of the specs, and no two types of the code, have one name, whatever their capitals.
 Prints a last line `N passed, M failed`."""
 import glob
 import os
@@ -52,6 +53,15 @@ def confusable(layers):
                 yield "%s and %s differ by an ending" % (name, other)
 
 
+def unlike_contents(layers):
+    for _, _, crates in layers:
+        for crate, _ in crates:
+            code = "".join(open(path, encoding="utf-8").read() for path in glob.glob("crates/%s/src/*.rt" % crate))
+            bare = not re.search(r'(?m)^\s*(?:pub )?(?:extern "C" )?(?:fn|struct|enum)\b', code)
+            if bare != crate.endswith(("_laws", "_cases")):
+                yield "%s has %s code" % (crate, "no" if bare else "some")
+
+
 def mapped(path):
     """The rows of README's table of crates, in order: (layer, what it has, [crate])."""
     with open(path, encoding="utf-8") as page:
@@ -98,15 +108,15 @@ def definitions():
 def homonyms(_):
     seen = {}
     for name, path in definitions():
-        if name in seen:
-            yield "%s is defined in %s and in %s" % (name, seen[name], path)
-        seen.setdefault(name, path)
+        if name.lower() in seen:
+            yield "%s is defined in %s, and %s in %s" % (name, path, *seen[name.lower()])
+        seen.setdefault(name.lower(), (name, path))
 
 
 def main():
     layers = layers_of("crates.txt")
     passed = failed = 0
-    for test in (misnamed, backward, confusable, unlike_map, homonyms):
+    for test in (misnamed, backward, confusable, unlike_contents, unlike_map, homonyms):
         faults = list(test(layers))
         for fault in faults:
             print(fault)

@@ -1,15 +1,17 @@
 """What has to be read to believe the delivered calls: the definitions that their contracts cite, those that these cite, and so on.
-docs/PROMISES.md lists their files and types under "What has to be read"; this script finds them. Checked, one test each:
+docs/READING.md, which this script writes, has them call by call. Checked, one test each:
 - every word of what is cited is understood, so that nothing is missed;
-- the page lists exactly these files of specs and these types;
-- it lists each after those that it builds on, and within its file each definition stands before every law;
-- its figures are right, to a twentieth.
+- each of these definitions stands in specs/Definitions.antt of its crate or is a type of the code, and such a file has nothing else: no law,
+  and no definition that no delivered contract cites;
+- within such a file each definition stands after those that it builds on;
+- the page is what would be written.
 
 Delivered are the calls for C, the planner's calls, and the programs with restart's library (ROOTS). A definition is whatever the text of
 a contract or of another definition names: a definition with its equations, a record or data type with its fields, a struct or enum of the
 code. Its lines are counted without comments and empty lines. Laws, which no definition names, and what the kit defines do not count.
 
-    python3 tests/read.py [--list]          --list prints the definitions by file, in an order to read them in
+    python3 tests/read.py [--list [CALL]] [--write]
+        --list prints the definitions by file, in an order to read them in, of all calls or of one; --write writes docs/READING.md
 
 The last line is `N passed, M failed`."""
 import functools
@@ -90,10 +92,10 @@ def joined(lines):
 class Definition:
     """Where it stands (a file of specs, or none for a type of the code), how many lines it has, and its texts, (kind, tokens, more) each:
     a head, which binds names for all that follows; an equation, with the lines below its `where`; a type, with names that it binds; and a
-    field, with its name. It is late where a law stands above it."""
+    field, with its name."""
 
-    def __init__(self, crate, file, name, scope, late=False):
-        self.crate, self.file, self.name, self.scope, self.late = crate, file, name, scope, late
+    def __init__(self, crate, file, name, scope):
+        self.crate, self.file, self.name, self.scope = crate, file, name, scope
         self.lines, self.texts, self.constructors = 0, [], []
 
     def place(self):
@@ -115,10 +117,10 @@ class Definition:
 
 
 class Scope:
-    """What the names of a file stand for: a Definition, or KIT."""
+    """What the names of a file of a crate stand for: a Definition, or KIT."""
 
-    def __init__(self):
-        self.names, self.aliases = dict.fromkeys(PRIM, KIT), {}
+    def __init__(self, crate):
+        self.crate, self.names, self.aliases = crate, dict.fromkeys(PRIM, KIT), {}
 
     def use(self, text):
         """`use PATH.{a, b as c}`, `use PATH as X` or, in code, `use crate::Type`."""
@@ -130,8 +132,8 @@ class Scope:
         elif rest:
             self.aliases[rest] = path
         else:
-            crate, name = path.split("::")
-            self.put(name, types_of(crate).get(name, KIT))
+            crate, *_, name = path.split("::")
+            self.put(name, types_of(self.crate if crate == "crate" else crate).get(name, KIT))
 
     def put(self, name, found):
         """An operator is known by its parts too."""
@@ -150,7 +152,7 @@ class Scope:
 
 def found_in(path, name):
     """What a name of a module stands for."""
-    module = re.fullmatch(r"Rattle·([a-z0-9_]+)(?:·specs)?\.specs\.(?:declared\.(\w+)(?:\.the-variants)?|(\w+))", path)
+    module = re.fullmatch(r"Rattle·([a-z0-9_]+)(?:·specs)?\.specs\.(?:declared\.(?:[a-z_]+\.)?(\w+)(?:\.the-variants)?|(\w+))", path)
     if not module or not os.path.isdir("crates/" + module.group(1)):
         return KIT
     crate, declared, file = module.groups()
@@ -246,9 +248,7 @@ class Reader:
 
 class Specs:
     def __init__(self, crate, file):
-        self.crate, self.file, self.scope = crate, file, Scope()
-        # whether a law has come, and whether what comes is unfolded by its block
-        self.laws = self.unfolds = False
+        self.crate, self.file, self.scope = crate, file, Scope(crate)
         self.declare(lines_of("crates/%s/specs/%s.antt" % (crate, file)), [])
 
     def declare(self, lines, around):
@@ -261,16 +261,14 @@ class Specs:
                 head, body = split_where(part)
                 self.declare(body, around + [("head", joined(head)[2:-1], [])])
             elif kind == "mutual":
-                self.unfolds = True
                 self.declare(part[1:], around)
-                self.unfolds = False
             elif kind in ("record", "data"):
                 self.built(kind, part, around)
             elif kind not in ("mod", "unfolding"):
                 self.defined(part, around)
 
     def new(self, name, around):
-        made = self.scope.names[name] = Definition(self.crate, self.file, name, lambda: self.scope, self.laws)
+        made = self.scope.names[name] = Definition(self.crate, self.file, name, lambda: self.scope)
         made.texts = list(around)
         return made
 
@@ -293,8 +291,6 @@ class Specs:
         end = closing(tokens, 1) + 1 if tokens[1] == "{" else 1
         if tokens[end] == ":":
             self.new(tokens[0], around).texts.append(("type", tokens[end + 1 :], tokens[2 : end - 1]))
-            # a law is never unfolded
-            self.laws = self.laws or not self.unfolds and not {"abbrev", "unfoldable"} & set(part[0][1].split())
         elif getattr(self.scope.names.get(tokens[0]), "file", None) != self.file:
             sys.exit("not read: %s/%s: %s" % (self.crate, self.file, part[0][1]))
         else:
@@ -340,7 +336,7 @@ def types_of(crate):
 @functools.lru_cache(None)
 def scope_of(crate):
     """What the names of a crate's code stand for."""
-    scope = Scope()
+    scope = Scope(crate)
     for line in re.findall(r"(?m)^(?:pub |ghost )*use .*;$", source_of(crate)):
         scope.use(line)
     scope.names.update(types_of(crate))
@@ -367,14 +363,15 @@ def delivered(roots):
             yield made
 
 
-# ---- The page.
-
-PAGE, HEAD = "docs/PROMISES.md", "\n## What has to be read\n"
-FIGURES = re.compile(r"about ([\d,]+)(?: definitions)? of ([\d,]+) lines in ([\d,]+)")
+# ---- What is reached.
 
 
-def reached(roots):
-    """The definitions, each after those that it cites, and the words that stand for nothing."""
+def label(made):
+    return made.place() + ("." + made.name if made.file else "")
+
+
+def reached(functions):
+    """The definitions behind delivered functions, each after those that it cites, and the words that stand for nothing."""
     order, strange, met = [], [], set()
 
     def visit(made):
@@ -386,15 +383,11 @@ def reached(roots):
                 visit(other)
             order.append(made)
 
-    for function in delivered(roots):
+    for function in functions:
         for cited in sorted(function.read[0], key=label):
             visit(cited)
         strange.extend("%s: %s stands for nothing that is known" % (label(function), word) for word in sorted(function.read[1]))
     return order, strange
-
-
-def label(made):
-    return made.place() + ("." + made.name if made.file else "")
 
 
 def figures(order):
@@ -402,79 +395,186 @@ def figures(order):
     return len(order), sum(made.lines for made in order), len({(made.crate, made.file) for made in order})
 
 
-def below(order):
-    """By place the places that it builds on."""
-    places = {}
+@functools.lru_cache(None)
+def crates():
+    with open("crates.txt", encoding="utf-8") as file:
+        return re.findall(r"(?m)^([a-z0-9_]+):", file.read())
+
+
+@functools.lru_cache(None)
+def found_at(made):
+    """The file of a definition and its line there."""
+    paths = ["crates/%s/specs/%s.antt" % (made.crate, made.file)] if made.file else sorted(glob.glob("crates/%s/src/**/*.rt" % made.crate, recursive=True))
+    head = r"^\s*(?:(?:%s) )*(?:(?:record|data|struct|enum) )?%s(?=[ :({<;]|$)" % ("|".join(MARKS), re.escape(made.name))
+    for path in paths:
+        with open(path, encoding="utf-8") as file:
+            for number, line in enumerate(file, 1):
+                if re.match(head, line) and (made.file or re.match(r"(?:pub )?(?:struct|enum) ", line)):
+                    return path, number
+    sys.exit("not found: %s" % label(made))
+
+
+def by_file(order):
+    """(the file's crate, whether it is of specs, [definitions]) in reading order: crates as crates.txt has them, types first, and each file
+    from its top."""
+    files = {}
     for made in order:
-        places.setdefault(made.place(), set()).update(other.place() for other in made.read[0])
-    return places
+        files.setdefault((crates().index(made.crate), made.file is not None), []).append(made)
+    return [(crates()[at], specs, sorted(files[at, specs], key=found_at)) for at, specs in sorted(files)]
 
 
-def section():
-    with open(PAGE, encoding="utf-8") as page:
-        return page.read().split(HEAD, 1)[1].split("\n## ", 1)[0]
+# ---- Rooms: files of definitions and nothing else.
+
+ROOM = "Definitions"
 
 
-def listed():
-    """The places of the page's table, in its order."""
-    return [place for row in re.findall(r"(?m)^\|([^|]*)\|", section()) for place in re.findall(r"`([a-z_]+(?:/|::)\w+)`", row)]
-
-
-def other_list(order):
-    places = below(order)
-    for place in sorted(set(places) - set(listed())):
-        yield "%s does not list %s" % (PAGE, place)
-    for place in sorted(place for place in set(listed()) if place not in places or listed().count(place) > 1):
-        yield "%s lists %s, which no contract cites, or twice" % (PAGE, place)
-
-
-def other_order(order):
-    places, at = below(order), {place: k for k, place in enumerate(listed())}
-    for place in places:
-        for other in sorted(places[place]):
-            if at.get(other, -1) > at.get(place, len(at)):
-                yield "%s lists %s before %s, which it builds on" % (PAGE, place, other)
+def elsewhere(order):
     for made in order:
-        if made.late:
-            yield "%s stands below a law of its file" % label(made)
+        if made.file not in (None, ROOM):
+            yield "%s is cited, and does not stand in %s" % (label(made), ROOM)
+    for path in sorted(glob.glob("crates/*/specs/%s.antt" % ROOM)):
+        crate = path.split("/")[1]
+        for name, made in specs_of(crate, ROOM).names.items():
+            if made is not KIT and (made.crate, made.file, made.name) == (crate, ROOM, name) and made not in order:
+                yield "%s is cited by no delivered contract" % label(made)
 
 
-def other_figures(order):
-    told = [tuple(int(number.replace(",", "")) for number in found) for found in FIGURES.findall(section())]
-    true = [figures(order), figures(reached(DECIDE)[0])]
-    if len(told) != 2 or any(20 * abs(a - b) > b for one, two in zip(told, true) for a, b in zip(one, two)):
-        yield "%s says %s, and right is %s" % (PAGE, told, true)
+def backward(order):
+    for made in order:
+        for other in made.read[0]:
+            if (other.crate, other.file) == (made.crate, made.file) and made.file and found_at(other) > found_at(made):
+                yield "%s stands above %s, which it builds on" % (label(made), other.name)
+
+
+# ---- The page.
+
+PAGE = "docs/READING.md"
+SORTS = (
+    ("The planner's calls", lambda crate: crate.startswith("state_")),
+    ("The calls for C", lambda crate: crate.startswith("c_")),
+    ("The programs", lambda crate: True),
+)
+
+
+def linked(crate, specs, mades):
+    return "[%s%s](../%s)" % ("" if specs else "types of ", crate, found_at(mades[0])[0])
+
+
+def call_linked(function):
+    for path in sorted(glob.glob("crates/%s/src/**/*.rt" % function.crate, recursive=True)):
+        with open(path, encoding="utf-8") as file:
+            for number, line in enumerate(file, 1):
+                if re.match(r'\s*(?:pub )?(?:extern "C" )?fn %s\(' % function.name, line):
+                    return "[`%s`](../%s#L%d)" % (function.name, path, number)
+    sys.exit("not found: fn %s of %s" % (function.name, function.crate))
+
+
+def named(mades, every):
+    """The names of some of a file's definitions, the shorter way."""
+    others = [made for made in every if made not in mades]
+    if not others:
+        return "all"
+    if 2 * len(others) < len(mades):
+        return "all but " + ", ".join(made.name for made in others)
+    return ", ".join(made.name for made in mades)
+
+
+def titles(crate, specs):
+    """What a file says: the first sentences of its head, or of the heads of its parts."""
+    if not specs:
+        return ""
+    with open("crates/%s/specs/%s.antt" % (crate, ROOM), encoding="utf-8") as file:
+        lines = file.read().split("\n")
+    starts = [at for at, line in enumerate(lines) if line.startswith("-- ---- ")] or [0]
+    said = []
+    for at in starts:
+        end = at
+        while lines[end].startswith("-- "):
+            end += 1
+        text = " ".join(line[3:] for line in lines[at:end]).removeprefix("---- ")
+        # the pages of this repository have the table in restart(7)
+        said.append(re.split(r"(?<=[a-z)0-9])[.:;](?= |$)", text)[0].replace("document 01's table", "the table of numbers"))
+    return "; ".join(said) + "." if said else ""
+
+
+def page(functions):
+    order = reached(functions)[0]
+    every = {(crate, specs): mades for crate, specs, mades in by_file(order)}
+    yield "# What has to be read"
+    yield ""
+    yield "The definitions and types that the contracts of the delivered calls cite, and what those cite in turn. They stand in the files"
+    yield "specs/Definitions.antt of their crates, which hold nothing else, and among the types of the code. Whatever else stands in specs serves the"
+    yield "proofs, and nothing there has to be believed. Lines are counted without comments and empty lines; the types of a crate's code count as a"
+    yield "file. `python3 tests/read.py --write` writes this page, and `make test` compares it."
+    yield ""
+    yield "| To believe | Definitions | Lines | Files |"
+    yield "|---|---:|---:|---:|"
+    for what, some in totals(functions):
+        yield "| %s | %s |" % (what, " | ".join("{:,}".format(number) for number in figures(reached(some)[0])))
+    yield ""
+    yield "## The definitions, in reading order"
+    yield ""
+    yield "Each file builds on those before it, and each definition on those above it."
+    for (crate, specs), mades in every.items():
+        yield ""
+        about = titles(crate, specs)
+        yield "**%s**, %s of %s.%s" % (linked(crate, specs, mades), counted(len(mades), "definition" if specs else "type"), counted(sum(made.lines for made in mades), "line"), " " + about if about else "")
+        yield ", ".join("[%s](../%s#L%d)" % (made.name, *found_at(made)) for made in mades)
+    for sort, some in sorted_calls(functions):
+        yield ""
+        yield "## " + sort
+        for function in some:
+            needed = reached([function])[0]
+            yield ""
+            yield "**%s** of %s: %s, %s, %s.  " % (call_linked(function), function.crate, *(counted(*pair) for pair in zip(figures(needed), ("definition", "line", "file"))))
+            yield " · ".join("%s%s: %s" % ("" if specs else "types of ", crate, named(mades, every[crate, specs])) for crate, specs, mades in by_file(needed))
+
+
+def counted(number, what):
+    return "%s %s" % ("{:,}".format(number), what if number == 1 else what + "s")
+
+
+def sorted_calls(functions):
+    left = list(functions)
+    for sort, fits in SORTS:
+        yield sort, [function for function in left if fits(function.crate)]
+        left = [function for function in left if not fits(function.crate)]
+
+
+def totals(functions):
+    yield "`decide`", list(delivered(DECIDE))
+    yield "all calls for C", [function for function in functions if function.crate.startswith("c_")]
+    yield "everything delivered", functions
+
+
+def other_page(functions):
+    with open(PAGE, encoding="utf-8") as file:
+        if file.read() != "\n".join(page(functions)) + "\n":
+            yield "%s is not current: python3 tests/read.py --write" % PAGE
 
 
 def print_list(order):
-    """File by file, each after those that it builds on."""
-    places, done = below(order), []
-
-    def visit(place):
-        if place not in done:
-            for other in sorted(places[place] - {place}):
-                visit(other)
-            done.append(place)
-
-    for made in order:
-        visit(made.place())
-    for place in done:
-        names = [made for made in order if made.place() == place]
-        print("%-32s %3d lines: %s" % (place, sum(made.lines for made in names), " ".join(made.name for made in names)))
+    for crate, specs, mades in by_file(order):
+        print("%-32s %3d lines: %s" % (("" if specs else "types of ") + crate, sum(made.lines for made in mades), " ".join(made.name for made in mades)))
 
 
 def main():
-    order, strange = reached(ROOTS)
+    functions = list(delivered(ROOTS))
+    order, strange = reached(functions)
     if "--list" in sys.argv:
-        print_list(order)
+        wanted = sys.argv[sys.argv.index("--list") + 1 :]
+        print_list(reached([function for function in functions if not wanted or function.name == wanted[0]])[0])
+    if "--write" in sys.argv:
+        with open(PAGE, "w", encoding="utf-8") as file:
+            file.write("\n".join(page(functions)) + "\n")
     passed = failed = 0
-    for faults in (strange, other_list(order), other_order(order), other_figures(order)):
+    for faults in (strange, elsewhere(order), backward(order), other_page(functions)):
         faults = list(faults)
         for fault in faults:
             print(fault)
         passed, failed = passed + (not faults), failed + bool(faults)
-    print("to read: %d definitions of %d lines in %d files" % figures(order))
-    print("of them for decide: %d definitions of %d lines in %d files" % figures(reached(DECIDE)[0]))
+    for what, some in totals(functions):
+        print("to read for %s: %d definitions of %d lines in %d files" % (what, *figures(reached(some)[0])))
     print("%d passed, %d failed" % (passed, failed))
     sys.exit(1 if failed else 0)
 

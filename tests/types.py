@@ -12,6 +12,8 @@ import glob
 import re
 import sys
 
+from edits import room_of
+
 LAYERS = ("settings", "message", "place", "report", "history", "plan", "state")
 
 # What else a plain number is, by the name of its parameter or field.
@@ -36,16 +38,16 @@ OTHERS = {
 
 # The functions that give a plain number.
 GIVEN = {
-    "how many": "settings_values::nodes settings_values::sets settings_values::least settings_values::shards settings_values::need settings_values::cap message_to_flat::write message_writer::fill place_check::group_moves",
+    "how many": "settings_values::nodes settings_values::sets settings_values::least settings_values::shards settings_values::need settings_values::cap message_flat::to_flat::write message_writer::fill place_groups::check::group_moves",
     "a failure set or a subgroup": "settings_values::set_of settings_values::subgroup",
-    "a word, or words": "settings_values::shard_word message_fields::tag message_fields::word1 message_fields::word2 report_desk::slot_words",
-    "a kind of record": "message_fields::kind",
-    "the number of a wait, or 0, and those of all masks": "plan_masks::number plan_rows::rows_of",
-    "the index of a record": "message_passes::kinds message_passes::shards message_passes::sequence message_passes::positions report_walk::told",
+    "a word, or words": "settings_values::shard_word message_rows::fields::tag message_rows::fields::word1 message_rows::fields::word2 report_desk::slot_words",
+    "a kind of record": "message_rows::fields::kind",
+    "the number of a wait, or 0, and those of all masks": "plan_masks::number plan_masks::rows::rows_of",
+    "the index of a record": "message_contents::passes::kinds message_contents::passes::shards message_contents::passes::sequence message_contents::passes::positions report_walk::told",
     "two words as one number": "report_walk::pairs",
-    "positions as numbers or words": "report_ends::ends_of report_walk::end_at report_walk::goal_at",
-    "a mask, or one for each shard": "place_groups::sets_of message_records::carried_more message_records::masks_of state_rows::mark place_layout::masks_with plan_losses::losses",
-    "bytes for the search, by node, shard or failure set": "place_sheet::sheet place_tables::sets place_tables::needs place_tables::caps place_tables::costs",
+    "positions as numbers or words": "report_desk::ends::ends_of report_walk::end_at report_walk::goal_at",
+    "a mask, or one for each shard": "place_groups::sets_of message_contents::records::carried_more message_contents::records::masks_of state_rows::mark place_layout::masks_with plan_losses::losses",
+    "bytes for the search, by node, shard or failure set": "place_groups::sheet::sheet place_tables::sets place_tables::needs place_tables::caps place_tables::costs",
 }
 
 # What OTHERS and GIVEN do not cover, by its place, and why it is right.
@@ -103,11 +105,11 @@ def declared(crate, text):
 
 
 def sources():
-    """(crate, text without comments) of every file of the layers."""
+    """(crate and module, text without comments) of every file of the layers."""
     for layer in LAYERS:
         for path in sorted(glob.glob("crates/%s_*/src/**/*.rt" % layer, recursive=True)):
             with open(path, encoding="utf-8") as file:
-                yield path.split("/")[1], re.sub(r"//.*", "", file.read())
+                yield room_of(path), re.sub(r"//.*", "", file.read())
 
 
 def names(table):

@@ -17,7 +17,7 @@ import os
 import re
 import sys
 
-from edits import declarations_of, parts_of, programs_of, read
+from edits import declarations_of, module_of, parts_of, programs_of, read, room_of
 
 NAME = r'[^\s(){}.;,@"]+'
 TOKEN = re.compile(r'"[^"]*"|%s(?:\.%s)*|\.%s|[(){}.;,@]' % (NAME, NAME, NAME))
@@ -151,7 +151,7 @@ class Tree:
         """The crates of the types that a crate's code touches: those that it names, those of the functions that it calls, and of fields."""
         code = "\n".join("\n".join(file.texts + [use.line for use in file.uses]) for file in self.of("src", crate))
         todo = re.findall(r"\b[A-Z]\w*", code)
-        for other, name in set(re.findall(r"\b([a-z0-9_]+)::(\w+)", code)):
+        for other, name in set(re.findall(r"\b([a-z0-9_]+)::(?:[a-z0-9_]+::)?(\w+)", code)):
             todo += self.signatures.get((other, name), [])
         for name in set(re.findall(r"(?:\.|\b[A-Z]\w*::)(\w+)\(", code)):
             for other in self.edges[crate]:
@@ -184,18 +184,23 @@ class Tree:
         for file, text in code.items():
             if os.path.exists("crates/%s/src/main.rt" % file.crate):
                 continue
-            others = [code[other] for other in code if other.crate != file.crate and file.crate in self.edges[other.crate]]
+            beside = [other for other in code if other is not file and (other.crate == file.crate or file.crate in self.edges[other.crate])]
+            others = [code[other] for other in beside]
+            # the path of a function from another crate, and from another module of its own
+            module = module_of(file.path)
+            paths = ["%s::%s" % (start, module + "::" if module else "") for start in (r"(?<!::)\b" + file.crate, r"\bcrate")]
             for line in file.texts:
                 public = PUBLIC.match(line)
                 if public and not public.group(2):
                     method, _, name = public.groups()
-                    called = re.compile((r"(?:\.|\b[A-Z]\w*::)%s\(" if method else r"\b%s::%%s\b" % file.crate) % name)
-                    if not any(map(called.search, others)):
-                        yield "%s::%s" % (file.crate, name), "no other crate's code calls it"
+                    ways = [r"(?:\.|\b[A-Z]\w*::)%s\(" % name] if method else [path + name + r"\b" for path in paths]
+                    called = [re.compile(ways[-1 if other.crate == file.crate else 0]) for other in beside]
+                    if not any(way.search(text) for way, text in zip(called, others)):
+                        yield "%s::%s" % (room_of(file.path), name), "no other file's code calls it"
             for name in TYPE.findall(text):
                 naming = re.compile(r"\b%s\b" % name)
                 if len(naming.findall(text)) == 1 and not any(map(naming.search, others)):
-                    yield "%s::%s" % (file.crate, name), "no code names it"
+                    yield "%s::%s" % (room_of(file.path), name), "no code names it"
 
     # ---- declarations of specs
 

@@ -12,7 +12,7 @@ import sys
 # masks are stored by a function that calls itself with one undecided node less, from ten down to none. The crew's turn in a game, with the
 # outage's in it, calls itself with two half-rounds less, from five down to one.
 SEEK = "search_total::seek"
-TURNS = {SEEK: 49, "plan_rows::fill": 11, "game_turns::crew": 3}
+TURNS = {SEEK: 49, "plan_masks::rows::fill": 11, "game_turns::crew": 3}
 # What comes from outside, with what the loader does at a first call.
 OUTSIDE = {"memcpy": 8192, "memset": 8192, "memmove": 8192, "memcmp": 8192}
 FUNCTION = re.compile(r"^[0-9a-f]+ <(.*)>:$")

@@ -1,37 +1,17 @@
--- Words as bytes: a word is four bytes, the lowest first. Definitions, then their laws: lengths, bounds, one element of each list, and that
--- the two ways are inverse.
+-- Laws of words as bytes: lengths, bounds, one element of each list, and that the two ways are inverse.
 use mathlib.Core.Path.{_≡_, refl, sym, ap, _∙_, subst}
 use mathlib.Core.List.{List}
 use Prim.Native.Nat.{ℕ, zero, suc, _+_, _*_, _/_, _%_, _^_, _≤_, _<_}
 use native.Mathlib.Nat.{add-zero, div-div-eq-div-mul, mod-lt, zero-lt-suc}
 use native.Mathlib.Omega.{arith}
 use lib.ListN.{length, getD, set, length-set}
-use Rattle.base_laws.specs.Tables.{tabulate, filled, length-tabulate, getD-tabulate, tabulate-ext, filled-more, filled-all}
-
--- the word that four bytes make
-abbrev pub wordFrom : ℕ → ℕ → ℕ → ℕ → ℕ
-wordFrom a b c d = a + 256 * b + 65536 * c + 16777216 * d
-
--- word i of the bytes: bytes 4 i to 4 i + 3
-unfoldable pub wordAt : List ℕ → ℕ → ℕ
-wordAt bytes i =
-    wordFrom (getD bytes (4 * i) 0) (getD bytes (4 * i + 1) 0) (getD bytes (4 * i + 2) 0) (getD bytes (4 * i + 3) 0)
+use Rattle.base_laws.specs.Tables.{filled, length-tabulate, getD-tabulate, tabulate-ext, filled-more, filled-all}
+use Rattle.base_bytes.specs.Definitions.{wordAt, wordsOf, byteAt, bytesOf}
+use Rattle.base_bytes.specs.Shorthands.{wordFrom}
 
 -- words 2 i and 2 i + 1 of the bytes as one number, word 2 i in the lower half
 abbrev pub pairAt : List ℕ → ℕ → ℕ
 pairAt bytes i = wordAt bytes (2 * i) + 4294967296 * wordAt bytes (2 * i + 1)
-
--- the first n words of the bytes
-unfoldable pub wordsOf : List ℕ → ℕ → List ℕ
-wordsOf bytes n = tabulate n (wordAt bytes)
-
--- byte k of the words: byte k % 4 of word k / 4
-unfoldable pub byteAt : List ℕ → ℕ → ℕ
-byteAt words k = getD words (k / 4) 0 / 256 ^ (k % 4) % 256
-
--- the bytes of the words
-unfoldable pub bytesOf : List ℕ → List ℕ
-bytesOf words = tabulate (4 * length words) (byteAt words)
 
 -- the bytes with the word w stored from place at on
 abbrev pub stored : List ℕ → ℕ → ℕ → List ℕ

@@ -2,8 +2,10 @@
 ghost use mathlib.Core.Path.{_≡_};
 ghost use Prim.Native.Nat.{_+_, _*_, _≤_};
 ghost use lib.ListN.{length};
-ghost use Rattle.base_laws.specs.Tables.{tabulate};
-ghost use Rattle.base_bytes.specs.Words.{wordFrom, wordAt, wordsOf, bytesOf, stored, pairAt};
+ghost use Rattle.base_laws.specs.Definitions.{tabulate};
+ghost use Rattle.base_bytes.specs.Definitions.{wordAt, wordsOf, bytesOf};
+ghost use Rattle.base_bytes.specs.Shorthands.{wordFrom};
+ghost use Rattle.base_bytes.specs.Words.{stored, pairAt};
 
 fn wide(x: u8) -> u32
     ensures { λ r. ⌜ r ≡ x ⌝ }

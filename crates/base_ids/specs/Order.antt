@@ -1,15 +1,13 @@
--- The order of positions, by view, then k, and its laws.
+-- Laws of the order of positions.
 use Prim.Native.Nat.{ℕ, _<_, _≤_}
 use native.Mathlib.Omega.{arith}
-use mathlib.Core.Bool.{Bool, true}
+use mathlib.Core.Bool.{true}
 use mathlib.Core.Logic.{_⊎_, inl, inr, ⊎-elim}
 use mathlib.Core.Path.{_≡_, ap₂, subst}
-use Rattle.base_laws.specs.Positions.{pairNotAfter as not-after, not-after-antisym, not-after-trans, not-after-views, not-after-view, not-after-place, not-after-cases}
+use Rattle.base_laws.specs.Definitions.{pairNotAfter as not-after}
+use Rattle.base_laws.specs.Positions.{not-after-antisym, not-after-trans, not-after-views, not-after-view, not-after-place, not-after-cases}
 use Rattle.base_ids.specs.declared.Position.{Position}
-
--- p is q or before it
-abbrev pub notAfter : Position → Position → Bool
-notAfter p q = not-after (p .view .0) (p .k) (q .view .0) (q .k)
+use Rattle.base_ids.specs.Definitions.{notAfter}
 
 pub same-position : (p q : Position) → notAfter p q ≡ true → notAfter q p ≡ true → p ≡ q
 same-position p q l m =

@@ -1,5 +1,5 @@
--- All, some, the lowest, and how many of the numbers below a bound: definitions, then their laws.
--- A law takes the bound and the test first, so that `all-at n f h` is the statement for every number.
+-- Laws of all, some, the lowest, and how many of the numbers below a bound. A law takes the bound and the test first, so that `all-at n f
+-- h` is the statement for every number.
 use mathlib.Core.Path.{_≡_, refl, sym, ap, ap₂, _∙_, subst, subst⁻¹}
 use mathlib.Core.Logic.{_⊎_, inl, inr, ⊎-elim}
 use mathlib.Core.Bool.{Bool, true, false, cond, not, _&&_, _||_}
@@ -11,26 +11,7 @@ use native.Mathlib.Omega.{arith}
 use lib.Dec.{eqb}
 use borrow.Author.Tests.{eq-eqb, ne-eqb, eqb-true}
 use Rattle.base_laws.specs.Bools.{either, clash, no-true, and-both, and-left, and-right, and-fails, and-fails-left, and-fails-right, or-holds, or-neither, or-fails-left, or-fails-right}
-
--- f holds of every number below n
-unfoldable pub allBelow : ℕ → (ℕ → Bool) → Bool
-allBelow zero f = true
-allBelow (suc n) f = allBelow n f && f n
-
--- f holds of some number below n
-unfoldable pub anyBelow : ℕ → (ℕ → Bool) → Bool
-anyBelow zero f = false
-anyBelow (suc n) f = anyBelow n f || f n
-
--- the lowest number below n of which f holds, or n where there is none
-unfoldable pub lowest : ℕ → (ℕ → Bool) → ℕ
-lowest zero f = zero
-lowest (suc n) f = cond (anyBelow n f) (lowest n f) (cond (f n) n (suc n))
-
--- how many numbers below n f holds of
-unfoldable pub countBelow : ℕ → (ℕ → Bool) → ℕ
-countBelow zero f = 0
-countBelow (suc n) f = countBelow n f + cond (f n) 1 0
+use Rattle.base_laws.specs.Definitions.{allBelow, anyBelow, lowest, countBelow}
 
 -- what holds below n and at n holds below suc n
 below-suc : (P : ℕ → Type 0) (n : ℕ) → ((k : ℕ) → k < n → P k) → P n → (k : ℕ) → k < suc n → P k

@@ -7,7 +7,8 @@ use native.Mathlib.Nat.{le-antisymm}
 use native.Mathlib.Numerals.{add-one}
 use native.Mathlib.Omega.{arith}
 use Rattle.base_laws.specs.Bools.{not-of-true, not-of-false, of-not-true, of-not-false}
-use Rattle.base_laws.specs.Below.{allBelow, anyBelow, countBelow, lowest, all-at, all-of, all-fails, any-none-of, count-step, lowest-at, lowest-none, lowest-first, lowest-some, lowest-holds}
+use Rattle.base_laws.specs.Definitions.{allBelow, anyBelow, countBelow, lowest}
+use Rattle.base_laws.specs.Below.{all-at, all-of, all-fails, any-none-of, count-step, lowest-at, lowest-none, lowest-first, lowest-some, lowest-holds}
 
 pub count-turn : (n total r : ℕ) (f : ℕ → Bool) → total ≡ countBelow n f → r ≡ cond (f n) 1 0 → total + r ≡ countBelow (n + 1) f
 count-turn n total r f e d = omega (arith, count-step n f)

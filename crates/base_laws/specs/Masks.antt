@@ -1,5 +1,4 @@
--- A mask is a number: bit n stands for node n. Definitions, then their laws.
--- Most laws on bits go by one step: the lowest bit is `m % 2`, and the others are the bits of `m / 2`.
+-- Laws of masks. Most go by one step: the lowest bit is `m % 2`, and the others are the bits of `m / 2`.
 use mathlib.Core.Path.{_≡_, refl, sym, ap, ap₂, _∙_, subst}
 use mathlib.Core.Logic.{_⊎_, inl, inr, ⊎-elim}
 use mathlib.Core.Bool.{Bool, true, false, cond, not, _&&_, _||_, and-true}
@@ -7,46 +6,15 @@ use Prim.Native.Nat.{ℕ, zero, suc, _+_, _-_, _*_, _/_, _%_, _^_, _≤_, _<_, z
 use native.Mathlib.Nat.{le-refl, lt-of-lt-of-le, le-of-suc-le-suc, not-suc-le-zero, mod-lt, div-eq-of-lt, one-mul, zero-lt-suc, lt-of-le-of-lt}
 use native.Mathlib.Numerals.{one-add}
 use native.Mathlib.Omega.{arith}
-use lib.Dec.{eqb, ltb, eqb·suc-suc, eqb·suc-zero, eqb·zero-suc}
+use lib.Dec.{eqb, eqb·suc-suc, eqb·suc-zero, eqb·zero-suc}
 use lib.Arith.{lt-one}
 use lib.Pow.{pow-pos, pow-mono, pow-lt, shl-exact, shr-shr}
 use lib.Bits.{bitAnd, bitOr, and-step, or-step, and-le-l, and-le-r, or-lt}
 use lib.Count.{ones, ones-step, ones-le}
 use borrow.Author.Tests.{eqb-true, eq-eqb, ne-eqb, ltb-true, lt-ltb}
 use Rattle.base_laws.specs.Bools.{lt-or-le, either, clash, no-true, and-both, and-left, and-right, and-fails-left, or-holds, or-fails-left, or-fails-right, not-of-false, of-not-false}
-use Rattle.base_laws.specs.Below.{allBelow, anyBelow, countBelow, all-at, all-counter, any-witness, any-fails, count-cong, count-front, count-mono, count-some, count-split, count-without, count-meet}
-
--- bit n of the mask m is set
-abbrev pub has : ℕ → ℕ → Bool
-has m n = eqb (m / 2 ^ n % 2) 1
-
--- how many bits of m are set
-abbrev pub count : ℕ → ℕ
-count m = ones m
-
--- no bit from n up is set
-abbrev pub within : ℕ → ℕ → Bool
-within n m = ltb m (2 ^ n)
-
--- every bit of a is a bit of b
-abbrev pub subset : ℕ → ℕ → Bool
-subset a b = eqb (bitAnd a b) a
-
--- no bit is in both
-abbrev pub disjoint : ℕ → ℕ → Bool
-disjoint a b = eqb (bitAnd a b) 0
-
--- the bits of a that are not bits of b
-abbrev pub minus : ℕ → ℕ → ℕ
-minus a b = a - bitAnd a b
-
--- m with bit n set
-abbrev pub with : ℕ → ℕ → ℕ
-with m n = bitOr m (2 ^ n)
-
--- m with bit n cleared
-abbrev pub without : ℕ → ℕ → ℕ
-without m n = minus m (2 ^ n)
+use Rattle.base_laws.specs.Definitions.{allBelow, anyBelow, countBelow, has, within, subset, disjoint, count, minus, with, without}
+use Rattle.base_laws.specs.Below.{all-at, all-counter, any-witness, any-fails, count-cong, count-front, count-mono, count-some, count-split, count-without, count-meet}
 
 -- ---- one step: the lowest bit, and the others
 

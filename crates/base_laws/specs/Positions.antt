@@ -1,5 +1,4 @@
--- The order of positions: a position is a view's number and a place within that view, both numbers.
--- Positions are ordered by the view first, and within a view by the place.
+-- Laws of the order of positions by their two numbers.
 use mathlib.Core.Path.{_≡_, refl, sym, _∙_, subst}
 use mathlib.Core.Logic.{_⊎_, inl, inr, ⊎-elim}
 use mathlib.Core.Bool.{Bool, true, false, not, _&&_, _||_}
@@ -9,14 +8,11 @@ use lib.Dec.{eqb, ltb, leb}
 use lib.Arith.{lt-of-le-ne}
 use borrow.Author.Tests.{eqb-true, eq-eqb, ltb-true, lt-ltb, leb-true, le-leb}
 use Rattle.base_laws.specs.Bools.{either, clash, same, no-true, and-both, and-left, and-right, or-left, or-right, or-holds, not-of-false, of-not-true, lt-or-le, eq-or-ne}
+use Rattle.base_laws.specs.Definitions.{pairNotAfter}
 
 -- position v k comes before position u j
 unfoldable pub pairBefore : ℕ → ℕ → ℕ → ℕ → Bool
 pairBefore v k u j = ltb v u || (eqb v u && ltb k j)
-
--- position v k is position u j, or comes before it
-unfoldable pub pairNotAfter : ℕ → ℕ → ℕ → ℕ → Bool
-pairNotAfter v k u j = ltb v u || (eqb v u && leb k j)
 
 -- ---- what they say of the numbers
 

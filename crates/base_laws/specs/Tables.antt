@@ -1,5 +1,4 @@
--- Lists made element by element: definitions, then their laws.
--- `tabulate n f` is the list of f below n; a loop that stores f i at i turns l into `filled n f l`; `padded n ws` is ws with zeros to length n.
+-- Laws of lists made element by element. A loop that stores f i at i turns l into `filled n f l`.
 use mathlib.Core.Path.{_≡_, refl, sym, ap, ap₂, _∙_, subst, subst⁻¹}
 use mathlib.Core.Logic.{_⊎_, inl, inr, ⊎-elim}
 use mathlib.Core.Bool.{cond}
@@ -14,27 +13,11 @@ use lib.Seq.{ext-getD, take-nil, take-at, drop-at, getD-append-add, set-split, l
 use borrow.Author.Tests.{lt-ltb, le-ltb}
 use borrow.Rule.Slice.PartMut.{putMid}
 use Rattle.base_laws.specs.Bools.{lt-or-le, eq-or-ne}
-
--- f 0, f 1, .. f (n - 1)
-unfoldable pub tabulate {ℓ} : {A : Type ℓ} → ℕ → (ℕ → A) → List A
-tabulate zero f = []
-tabulate (suc n) f = tabulate n f ++ (f n ∷ [])
+use Rattle.base_laws.specs.Definitions.{tabulate, part, padded, replaced}
 
 -- l with its first n elements replaced by f 0, f 1, .. f (n - 1)
 unfoldable pub filled {ℓ} : {A : Type ℓ} → ℕ → (ℕ → A) → List A → List A
 filled n f l = tabulate n f ++ drop n l
-
--- the first n elements of ws, with zeros for those that it lacks
-unfoldable pub padded : ℕ → List ℕ → List ℕ
-padded n ws = tabulate n (λ k. getD ws k 0)
-
--- the elements from a up to e
-abbrev pub part {ℓ} : {A : Type ℓ} → ℕ → ℕ → List A → List A
-part a e l = take (e - a) (drop a l)
-
--- l with ys in the place of its elements from a on
-unfoldable pub replaced {ℓ} : {A : Type ℓ} → ℕ → List A → List A → List A
-replaced a ys l = take a l ++ (ys ++ drop (a + length ys) l)
 
 module _ {ℓ} {A : Type ℓ} where
   -- an element past the first list

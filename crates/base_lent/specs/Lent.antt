@@ -1,5 +1,4 @@
--- What bytes lent by a C caller mean: little-endian words. Bytes that are no whole words are read as no words at all, which is
--- as wrong a length. A call that looks at no more than so many words reads a longer list as no words too.
+-- A call that looks at no more than so many words reads a longer list as no words. And the laws of bytes as words.
 use mathlib.Core.Path.{_≡_, sym, ap, _∙_}
 use mathlib.Core.Logic.{_⊎_, inl, inr, ⊎-elim}
 use mathlib.Core.Bool.{false, cond}
@@ -11,20 +10,15 @@ use lib.ListN.{length, take, drop, length-append, length-take, length-drop, leng
 use lib.Seq.{take-at}
 use borrow.Author.Tests.{leb-true, leb-false, eqb-true, eq-eqb}
 use Rattle.base_laws.specs.Bools.{either, same}
-use Rattle.base_laws.specs.Tables.{padded, padded-append, zeros, zeros-left}
-use Rattle.base_bytes.specs.Words.{wordsOf, length-words}
-
--- how many words n bytes are
-unfoldable pub wordCount : ℕ → ℕ
-wordCount n = cond (eqb (n % 4) 0) (n / 4) 0
+use Rattle.base_laws.specs.Definitions.{padded}
+use Rattle.base_laws.specs.Tables.{padded-append, zeros, zeros-left}
+use Rattle.base_bytes.specs.Definitions.{wordsOf}
+use Rattle.base_bytes.specs.Words.{length-words}
+use Rattle.base_lent.specs.Definitions.{wordCount, wordsIn}
 
 -- how many of them a call looks at that takes at most so many
 unfoldable pub countWithin : ℕ → ℕ → ℕ
 countWithin most n = cond (leb (wordCount n) most) (wordCount n) 0
-
--- the words that the bytes are
-unfoldable pub wordsIn : List ℕ → List ℕ
-wordsIn bytes = wordsOf bytes (wordCount (length bytes))
 
 -- the words that a call looks at
 unfoldable pub wordsWithin : ℕ → List ℕ → List ℕ

@@ -1,7 +1,7 @@
 // Bytes that a C caller lends, as words.
 ghost use mathlib.Core.Path.{_≡_};
 ghost use Prim.Native.Nat.{_≤_};
-ghost use Rattle.base_lent.specs.Answers.{withLength};
+ghost use Rattle.base_lent.specs.Definitions.{withLength};
 ghost use Rattle.base_lent.specs.Lent.{countWithin, HoldsWords, HoldsSettings};
 
 // The words of lent bytes: the first len of the table.

@@ -2,7 +2,7 @@
 use mathlib.Core.Bool.{true, false}
 use mathlib.Core.Path.{_≡_, refl}
 use Rattle.base_roles.specs.declared.Role.the-variants.{Planner, Watcher}
-use Rattle.base_roles.specs.Roles.{roleOf, mayPlan, mayRead}
+use Rattle.base_roles.specs.Definitions.{roleOf, mayPlan, mayRead}
 
 pub record RoleClauses : Type 0 where
   -- words: 256 alone is the planner's, 512 + g a watcher's; those beside them are nobody's, 0 among them

@@ -1,4 +1,22 @@
 -- The fresh state, the check of a state, and drop, fetched and prepared, over lent bytes.
-pub mod Events
-pub mod Cases
-pub mod Roles
+pub mod Definitions
+pub mod EventCases
+pub mod EventRoles
+pub mod ReportCases
+pub mod ReportRoles
+pub mod Decisions
+pub mod DecideCases
+pub mod DecideOnce
+pub mod DecideRoles
+pub mod Withins
+pub mod OrderCases
+pub mod OrderRoles
+pub mod PageCases
+pub mod Blind
+pub mod PreviewCases
+pub mod PreviewOnce
+pub mod PreviewRoles
+pub mod GameCalls
+pub mod GameCases
+pub mod GameOnce
+pub mod GameRows

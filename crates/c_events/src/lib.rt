@@ -1,12 +1,19 @@
 // The fresh state, the check of a state, and drop, fetched and prepared, over lent bytes.
+pub mod decide;
+pub mod game;
+pub mod order;
+pub mod page;
+pub mod preview;
+pub mod report;
+
 use base_ids::Node;
 use state_planner::Outcome;
 use state_planner::State;
 ghost use mathlib.Core.Path.{_≡_};
 ghost use lib.ListN.{length};
-ghost use Rattle.base_lent.specs.Lent.{wordsIn};
-ghost use Rattle.settings_values.specs.Settings.{Settings};
-ghost use Rattle.c_events.specs.Events as Events;
+ghost use Rattle.base_lent.specs.Definitions.{wordsIn};
+ghost use Rattle.settings_values.specs.Definitions.{Settings};
+ghost use Rattle.c_events.specs.Definitions as Definitions;
 
 // An event that names a node.
 pub enum Event {
@@ -17,8 +24,8 @@ pub enum Event {
 
 // Stores the fresh state: row 15, and row 3 where the bytes are not 640.
 pub fn fresh(role: u32, state: &mut [u8]) -> u32
-    ensures answer { λ r. ⌜ r ≡ Events.freshAnswer role (now (state .entry)) ⌝ }
-    ensures bytes { λ r. ⌜ now (state .exit) ≡ Events.freshLeaves role (now (state .entry)) ⌝ }
+    ensures answer { λ r. ⌜ r ≡ Definitions.freshAnswer role (now (state .entry)) ⌝ }
+    ensures bytes { λ r. ⌜ now (state .exit) ≡ Definitions.freshLeaves role (now (state .entry)) ⌝ }
 {
     if !c_state::by_planner(role) {
         return 15;
@@ -34,7 +41,7 @@ pub fn fresh(role: u32, state: &mut [u8]) -> u32
 fn outcome(event: Event, x: State, settings: &[u32], desk: &[u8], node: u32) -> Outcome
     requires { ⌜ Settings (now settings) ⌝ }
     requires { ⌜ length (now desk) ≡ 65536 ⌝ }
-    ensures { λ r. ⌜ r ≡ Events.happened event (now (settings .entry)) x (wordsIn (now (desk .entry))) node ⌝ }
+    ensures { λ r. ⌜ r ≡ Definitions.happened event (now (settings .entry)) x (wordsIn (now (desk .entry))) node ⌝ }
 {
     match event {
         Event::Drop => x.drop_under(settings, desk, Node(node)),
@@ -52,8 +59,8 @@ pub fn take(
     desk: &[u8],
     node: u32,
 ) -> u32
-    ensures answer { λ r. ⌜ r ≡ Events.takeAnswer role event (now (settings .entry)) (now (state .entry)) (now (desk .entry)) node ⌝ }
-    ensures bytes { λ r. ⌜ now (state .exit) ≡ Events.takeLeaves role event (now (settings .entry)) (now (state .entry)) (now (desk .entry)) node ⌝ }
+    ensures answer { λ r. ⌜ r ≡ Definitions.takeAnswer role event (now (settings .entry)) (now (state .entry)) (now (desk .entry)) node ⌝ }
+    ensures bytes { λ r. ⌜ now (state .exit) ≡ Definitions.takeLeaves role event (now (settings .entry)) (now (state .entry)) (now (desk .entry)) node ⌝ }
 {
     let entry = c_state::enter_planner(role, desk.len() == 65536, settings, state);
     let refusal = entry.refusal;
@@ -68,7 +75,7 @@ pub fn take(
 
 // Whether the bytes are a state that is sound with this desk: rows 1, 2, 15 and 3.
 pub fn check_state(role: u32, settings: &[u8], state: &[u8], desk: &[u8]) -> u32
-    ensures { λ r. ⌜ r ≡ Events.checkStateAnswer role (now (settings .entry)) (now (state .entry)) (now (desk .entry)) ⌝ }
+    ensures { λ r. ⌜ r ≡ Definitions.checkStateAnswer role (now (settings .entry)) (now (state .entry)) (now (desk .entry)) ⌝ }
 {
     let lent = c_state::enter_planner(role, desk.len() == 65536, settings, state);
     let refusal = lent.refusal;

@@ -12,24 +12,24 @@ use borrow.Author.Tests.{lt-ltb, le-ltb}
 use Rattle.base_laws.specs.Bools.{lt-or-le}
 use Rattle.base_laws.specs.Tables.{tabulate-ext, filled, filled-more, filled-ext, length-filled, getD-filled, getD-filled-rest}
 use Rattle.message_format.specs.declared.Contents.{Contents}
-use Rattle.message_format.specs.Messages.{headWord}
-use Rattle.c_messages.specs.Answers.{contentsWord, contentsWords}
+use Rattle.message_format.specs.Definitions.{headWord}
+use Rattle.c_messages.specs.Definitions.{contentsWord, contentsWords}
 
 -- the head's words, then the body's
 unfoldable pub headThenBody : List ℕ → List ℕ → ℕ → ℕ
 headThenBody head body i = cond (ltb i 3) (getD head i 0) (getD body (i - 3) 0)
 
 -- head with the first k words of body after its first three
-unfoldable pub laid : List ℕ → List ℕ → ℕ → List ℕ
-laid head body k = filled (k + 3) (headThenBody head body) head
+unfoldable pub laidOut : List ℕ → List ℕ → ℕ → List ℕ
+laidOut head body k = filled (k + 3) (headThenBody head body) head
 
 module _ (head body : List ℕ) where
-  pub laid-start : 3 ≤ length head → head ≡ laid head body 0
-  unfolding laid headThenBody
+  pub laid-start : 3 ≤ length head → head ≡ laidOut head body 0
+  unfolding laidOut headThenBody
   laid-start h = filled-ext 0 3 (headThenBody head body) head head h refl (λ i l. rw (lt-ltb i 3 l)) (λ i l. refl)
 
-  pub laid-more : (k : ℕ) → k + 3 < length head → set (laid head body k) (k + 3) (getD body k 0) ≡ laid head body (k + 1)
-  unfolding laid headThenBody
+  pub laid-more : (k : ℕ) → k + 3 < length head → set (laidOut head body k) (k + 3) (getD body k 0) ≡ laidOut head body (k + 1)
+  unfolding laidOut headThenBody
   laid-more k h =
       let at : getD body k 0 ≡ headThenBody head body (k + 3) =
       rw (le-ltb (k + 3) 3 (omega arith)) (ap (λ (i : ℕ). getD body i 0) (omega arith)) in
@@ -37,8 +37,8 @@ module _ (head body : List ℕ) where
       ∙ filled-more (k + 3) (headThenBody head body) head h
       ∙ ap (λ (i : ℕ). filled i (headThenBody head body) head) (omega arith)
 
-  pub length-laid : (k : ℕ) → k + 3 ≤ length head → length (laid head body k) ≡ length head
-  unfolding laid
+  pub length-laid : (k : ℕ) → k + 3 ≤ length head → length (laidOut head body k) ≡ length head
+  unfolding laidOut
   length-laid k h = length-filled (k + 3) (headThenBody head body) head h
 
 -- the head of 512 words
@@ -63,23 +63,23 @@ headed-rest c k l h =
     ∙ getD-replicate 512 k 0 0 h
 
 -- all words of the body are laid
-pub laid-end : (c : Contents) → laid (headed c) (c .body) 381 ≡ contentsWords c
-unfolding laid contentsWords headThenBody contentsWord
+pub laid-end : (c : Contents) → laidOut (headed c) (c .body) 381 ≡ contentsWords c
+unfolding laidOut contentsWords headThenBody contentsWord
 laid-end c =
-    tabulate-ext 0 512 (contentsWord c) (laid (headed c) (c .body) 381)
+    tabulate-ext 0 512 (contentsWord c) (laidOut (headed c) (c .body) 381)
     (length-laid (headed c) (c .body) 381 (omega (arith, length-headed c)) ∙ length-headed c)
     (λ k h. ⊎-elim (front k) (λ l. ⊎-elim (middle k l) (rest k h) (lt-or-le k 384)) (lt-or-le k 3))
   where
-    laid-at : (k : ℕ) → k < 384 → getD (laid (headed c) (c .body) 381) k 0 ≡ headThenBody (headed c) (c .body) k
+    laid-at : (k : ℕ) → k < 384 → getD (laidOut (headed c) (c .body) 381) k 0 ≡ headThenBody (headed c) (c .body) k
     laid-at k l = getD-filled 384 (headThenBody (headed c) (c .body)) (headed c) k 0 l
 
-    front : (k : ℕ) → k < 3 → getD (laid (headed c) (c .body) 381) k 0 ≡ contentsWord c k
+    front : (k : ℕ) → k < 3 → getD (laidOut (headed c) (c .body) 381) k 0 ≡ contentsWord c k
     front k l = laid-at k (omega arith) ∙ rw (lt-ltb k 3 l) (headed-front c k l)
 
-    middle : (k : ℕ) → 3 ≤ k → k < 384 → getD (laid (headed c) (c .body) 381) k 0 ≡ contentsWord c k
+    middle : (k : ℕ) → 3 ≤ k → k < 384 → getD (laidOut (headed c) (c .body) 381) k 0 ≡ contentsWord c k
     middle k l m = laid-at k m ∙ rw (le-ltb k 3 l, lt-ltb k 384 m)
 
-    rest : (k : ℕ) → k < 512 → 384 ≤ k → getD (laid (headed c) (c .body) 381) k 0 ≡ contentsWord c k
+    rest : (k : ℕ) → k < 512 → 384 ≤ k → getD (laidOut (headed c) (c .body) 381) k 0 ≡ contentsWord c k
     rest k h m =
         getD-filled-rest 384 (headThenBody (headed c) (c .body)) (headed c) k 0 m
         ∙ headed-rest c k (omega arith) h

@@ -9,17 +9,18 @@ use lib.Dec.{eqb, leb}
 use lib.ListN.{length}
 use borrow.Author.Tests.{lt-leb}
 use Rattle.base_laws.specs.Bools.{either, no-true, and-fails-left, and-fails-right}
-use Rattle.base_lent.specs.Lent.{wordsIn, wordsWithin, within-cases}
+use Rattle.base_lent.specs.Definitions.{wordsIn, answerWord}
+use Rattle.base_lent.specs.Lent.{wordsWithin, within-cases}
 use Rattle.base_ids.specs.declared.Refusal.{Refusal}
-use Rattle.base_ids.specs.Refusals.{refused, accepted, unless, unless-true, unless-false}
-use Rattle.settings_values.specs.Settings.{settingsOk}
+use Rattle.base_ids.specs.Definitions.{refused, accepted, unless}
+use Rattle.base_ids.specs.Refusals.{unless-true, unless-false}
+use Rattle.settings_values.specs.Definitions.{settingsOk}
 use Rattle.settings_values.specs.Laws.{settings-give}
 use Rattle.message_format.specs.declared.Form.{Form}
 use Rattle.message_format.specs.declared.Contents.{Contents}
-use Rattle.message_format.specs.Chain.{row5}
-use Rattle.message_format.specs.Messages.{blank, messageRefusal, readRefusal, readingOf, writeRefusal, writingOf, bufferAfter}
-use Rattle.base_lent.specs.Answers.{answerWord}
-use Rattle.c_messages.specs.Answers.{checkAnswer}
+use Rattle.message_format.specs.Definitions.{row5, messageRefusal, readRefusal}
+use Rattle.message_format.specs.Messages.{blank, readingOf, writeRefusal, writingOf, bufferAfter}
+use Rattle.c_messages.specs.Definitions.{checkAnswer}
 
 -- right settings have 4 to 52 words
 settings-words : (σ : List ℕ) → settingsOk σ ≡ true → (4 ≤ length σ) × (length σ ≤ 52)

@@ -9,16 +9,17 @@ use lib.Dec.{eqb}
 use lib.ListN.{length}
 use borrow.Author.Tests.{eq-eqb, ne-eqb}
 use Rattle.base_laws.specs.Below.{lowest-le}
-use Rattle.base_bytes.specs.Words.{bytesOf}
-use Rattle.base_lent.specs.Lent.{wordsIn}
-use Rattle.base_lent.specs.Answers.{withLength, Told, told-refused, told-accepted}
-use Rattle.base_ids.specs.Refusals.{refused, accepted, unless-true, unless-false}
+use Rattle.base_bytes.specs.Definitions.{bytesOf}
+use Rattle.base_lent.specs.Definitions.{wordsIn, withLength}
+use Rattle.base_lent.specs.Answers.{Told, told-refused, told-accepted}
+use Rattle.base_ids.specs.Definitions.{refused, accepted}
+use Rattle.base_ids.specs.Refusals.{unless-true, unless-false}
 use Rattle.message_format.specs.declared.Form.{Form}
 use Rattle.message_format.specs.declared.Contents.{Contents}
 use Rattle.message_format.specs.declared.Reading.{Reading}
-use Rattle.message_format.specs.Chain.{following, place, ends}
-use Rattle.message_format.specs.Messages.{contentsOf, readRefusal, readingOf}
-use Rattle.c_messages.specs.Answers.{contentsWords, contentsLength, readRefused, readAnswer, readLeaves}
+use Rattle.message_format.specs.Definitions.{following, place, ends, contentsOf, readRefusal}
+use Rattle.message_format.specs.Messages.{readingOf}
+use Rattle.c_messages.specs.Definitions.{contentsWords, contentsLength, readRefused, readAnswer, readLeaves}
 
 module _ (form : Form) (s m b : List ℕ) where
   -- what a call that reads answers and leaves

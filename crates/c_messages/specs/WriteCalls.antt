@@ -10,18 +10,22 @@ use lib.Dec.{eqb, leb, lit<}
 use lib.ListN.{length, getD}
 use borrow.Author.Tests.{eq-eqb, ne-eqb, lt-leb, leb-true, eqb-true}
 use Rattle.base_laws.specs.Bools.{either, and-right}
-use Rattle.base_laws.specs.Tables.{tabulate, tabulate-cong, padded, getD-padded-all}
-use Rattle.base_bytes.specs.Words.{bytesOf}
-use Rattle.base_lent.specs.Lent.{wordsIn, wordsWithin, within-cases, HoldsWords}
-use Rattle.base_lent.specs.Answers.{withLength, Told, told-refused, told-accepted}
+use Rattle.base_laws.specs.Definitions.{tabulate, padded}
+use Rattle.base_laws.specs.Tables.{tabulate-cong, getD-padded-all}
+use Rattle.base_bytes.specs.Definitions.{bytesOf}
+use Rattle.base_lent.specs.Definitions.{wordsIn, withLength}
+use Rattle.base_lent.specs.Lent.{wordsWithin, within-cases, HoldsWords}
+use Rattle.base_lent.specs.Answers.{Told, told-refused, told-accepted}
 use Rattle.base_ids.specs.declared.Refusal.{Refusal}
-use Rattle.base_ids.specs.Refusals.{refused, none, unless, unless-ok, unless-rest, unless-true, unless-false}
-use Rattle.settings_values.specs.Settings.{settingsOk}
+use Rattle.base_ids.specs.Definitions.{refused, none, unless}
+use Rattle.base_ids.specs.Refusals.{unless-ok, unless-rest, unless-true, unless-false}
+use Rattle.settings_values.specs.Definitions.{settingsOk}
 use Rattle.message_format.specs.declared.Form.{Form}
 use Rattle.message_format.specs.declared.Contents.{Contents}
 use Rattle.message_format.specs.declared.Writing.{Writing}
-use Rattle.message_format.specs.Messages.{contentsRefusal, writeRefusal, writingOf, bufferAfter, messageLength, messageOf}
-use Rattle.c_messages.specs.Answers.{recordCount, contentsIn, contentsLent, writeRefused, writeAnswer, writeLeaves}
+use Rattle.message_format.specs.Definitions.{contentsRefusal, messageLength, messageOf}
+use Rattle.message_format.specs.Messages.{writeRefusal, writingOf, bufferAfter}
+use Rattle.c_messages.specs.Definitions.{recordCount, contentsIn, contentsLent, writeRefused, writeAnswer, writeLeaves}
 
 -- ---- contents
 

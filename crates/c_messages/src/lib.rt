@@ -1,4 +1,6 @@
 // The calls on lent bytes for settings and messages. Lent bytes are little-endian words.
+pub mod flat;
+
 use base_ids::Node;
 use base_ids::View;
 use message_format::Contents;
@@ -8,11 +10,10 @@ use message_format::Writing;
 ghost use mathlib.Core.Path.{_≡_};
 ghost use Prim.Native.Nat.{_+_, _*_, _≤_};
 ghost use lib.ListN.{length};
-ghost use Rattle.base_bytes.specs.Words.{bytesOf};
-ghost use Rattle.base_lent.specs.Lent.{wordsIn};
+ghost use Rattle.base_bytes.specs.Definitions.{bytesOf};
+ghost use Rattle.base_lent.specs.Definitions.{wordsIn, withLength};
 ghost use Rattle.message_format.specs.Messages.{readingOf, writingOf, bufferAfter};
-ghost use Rattle.base_lent.specs.Answers.{withLength};
-ghost use Rattle.c_messages.specs.Answers.{checkAnswer, contentsWords, contentsLength, readAnswer, readLeaves, recordCount, contentsIn, writeAnswer, writeLeaves};
+ghost use Rattle.c_messages.specs.Definitions.{checkAnswer, contentsWords, contentsLength, readAnswer, readLeaves, recordCount, contentsIn, writeAnswer, writeLeaves};
 ghost use Rattle.c_messages.specs.WriteCalls.{contentsWithin};
 
 // 0 where the settings are right, else 2.

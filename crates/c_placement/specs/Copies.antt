@@ -3,7 +3,8 @@ use mathlib.Core.Path.{_≡_, refl, sym, ap, _∙_}
 use mathlib.Core.List.{List}
 use Prim.Native.Nat.{ℕ, _+_, _≤_, _<_}
 use lib.ListN.{length, getD, set}
-use Rattle.base_laws.specs.Tables.{tabulate, filled, filled-none, filled-turn, filled-end, length-filled, tabulate-self}
+use Rattle.base_laws.specs.Definitions.{tabulate}
+use Rattle.base_laws.specs.Tables.{filled, filled-none, filled-turn, filled-end, length-filled, tabulate-self}
 
 unfoldable pub copied : ℕ → List ℕ → List ℕ → List ℕ
 copied i m l = filled i (λ k. getD m k 0) l

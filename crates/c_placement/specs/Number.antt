@@ -8,9 +8,9 @@ use lib.Dec.{eqb}
 use lib.ListN.{length}
 use borrow.Author.Tests.{eqb-true}
 use Rattle.base_laws.specs.Bools.{clash, and-left, and-right}
-use Rattle.search_theory.specs.Case.{Case}
-use Rattle.search_theory.specs.Tables.{caseOf}
-use Rattle.search_theory.specs.Least.{weight-most}
+use Rattle.search_laws.specs.Case.{Case}
+use Rattle.search_laws.specs.Tables.{caseOf}
+use Rattle.search_laws.specs.Least.{weight-most}
 use Rattle.search_total.specs.declared.Solution.{Solution}
 use Rattle.search_total.specs.Post.{WithinAnswer, LeastAnswer}
 
@@ -20,7 +20,7 @@ pub record Number (a : Solution) (r : ℕ) : Type 0 where
   pub none : a .exists ≡ false → r ≡ 10000
 
 -- the number and the owners of an answer that is the first of least weight
-pub record Answered (K : Case) (r : ℕ) (owners : List ℕ) : Type 0 where
+pub record FirstAnswer (K : Case) (r : ℕ) (owners : List ℕ) : Type 0 where
   pub answer : Solution
   pub least : LeastAnswer K answer
   pub number : Number answer r
@@ -34,18 +34,18 @@ pub record AnsweredWithin (K : Case) (k r : ℕ) (owners : List ℕ) : Type 0 wh
   pub whose : answer .owners ≡ owners
 
 -- the lengths of sets, needs, caps, costs and owners are right
-abbrev pub fitting : List ℕ → List ℕ → List ℕ → List ℕ → List ℕ → Bool
-fitting sets needs caps costs owners =
+abbrev pub lengthsFit : List ℕ → List ℕ → List ℕ → List ℕ → List ℕ → Bool
+lengthsFit sets needs caps costs owners =
     eqb (length sets) 32 && eqb (length needs) 16 && eqb (length caps) 16 && eqb (length costs) 512 && eqb (length owners) 32
 
 -- the answer where the lengths are right; else 10001, and the owners as they were
 pub record GivesLeast (sets needs caps costs : List ℕ) (idle : ℕ) (owners : List ℕ) (r : ℕ) (after : List ℕ) : Type 0 where
-  pub answered : fitting sets needs caps costs owners ≡ true → Answered (caseOf sets needs caps costs idle) r after
-  pub refused : fitting sets needs caps costs owners ≡ false → (r ≡ 10001) × (after ≡ owners)
+  pub answered : lengthsFit sets needs caps costs owners ≡ true → FirstAnswer (caseOf sets needs caps costs idle) r after
+  pub refused : lengthsFit sets needs caps costs owners ≡ false → (r ≡ 10001) × (after ≡ owners)
 
 pub record GivesWithin (sets needs caps costs : List ℕ) (idle k : ℕ) (owners : List ℕ) (r : ℕ) (after : List ℕ) : Type 0 where
-  pub answered : fitting sets needs caps costs owners ≡ true → AnsweredWithin (caseOf sets needs caps costs idle) k r after
-  pub refused : fitting sets needs caps costs owners ≡ false → (r ≡ 10001) × (after ≡ owners)
+  pub answered : lengthsFit sets needs caps costs owners ≡ true → AnsweredWithin (caseOf sets needs caps costs idle) k r after
+  pub refused : lengthsFit sets needs caps costs owners ≡ false → (r ≡ 10001) × (after ≡ owners)
 
 -- an answer's weight is small
 pub small : {K : Case} {a : Solution} → K .idle < 256 → LeastAnswer K a → a .exists ≡ true → a .weight ≤ 8192
@@ -62,7 +62,7 @@ pub record Lengths (sets needs caps costs owners : List ℕ) : Type 0 where
   pub costs-are : length costs ≡ 512
   pub owners-are : length owners ≡ 32
 
-pub lengths-of : (sets needs caps costs owners : List ℕ) → fitting sets needs caps costs owners ≡ true → Lengths sets needs caps costs owners
+pub lengths-of : (sets needs caps costs owners : List ℕ) → lengthsFit sets needs caps costs owners ≡ true → Lengths sets needs caps costs owners
 lengths-of sets needs caps costs owners h =
     let a = eqb (length sets) 32 in
     let b = eqb (length needs) 16 in
@@ -87,7 +87,7 @@ module _ {sets needs caps costs s m c p : List ℕ} (x : s ≡ sets) (y : m ≡ 
       subst (λ (t : List ℕ). P (caseOf t needs caps costs idle)) x
       (subst (λ (t : List ℕ). P (caseOf s t caps costs idle)) y (subst (λ (t : List ℕ). P (caseOf s m t costs idle)) u (subst (λ (t : List ℕ). P (caseOf s m c t idle)) z l)))
 
-  module _ {owners after : List ℕ} {idle r : ℕ} {a : Solution} (h : fitting sets needs caps costs owners ≡ true) (n : Number a r) (o : after ≡ a .owners) where
+  module _ {owners after : List ℕ} {idle r : ℕ} {a : Solution} (h : lengthsFit sets needs caps costs owners ≡ true) (n : Number a r) (o : after ≡ a .owners) where
     -- the answer on copies of the tables is the tables' own
     pub least-given : LeastAnswer (caseOf s m c p idle) a → GivesLeast sets needs caps costs idle owners r after
     least-given l =

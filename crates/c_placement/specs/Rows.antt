@@ -10,8 +10,8 @@ use lib.ListN.{length, getD, set, replicate, length-set, length-replicate, getD-
 use lib.Seq.{getD-set-same, getD-set-other}
 use borrow.Author.Tests.{lt-ltb, le-ltb}
 use Rattle.base_laws.specs.Bools.{lt-or-le, eq-or-ne}
-use Rattle.search_theory.specs.Tables.{caseOf}
-use Rattle.search_theory.specs.Floor.{SheetFor}
+use Rattle.search_laws.specs.Tables.{caseOf}
+use Rattle.search_laws.specs.Floor.{SheetFor}
 
 -- the entry of a node of that cost: 0 where it stays, 1 where it moves, 2 where it is not allowed
 unfoldable pub entryFor : ℕ → ℕ

@@ -4,17 +4,9 @@
 use c_events::Event;
 use message_format::Form;
 ghost use mathlib.Core.Path.{_≡_};
-ghost use Rattle.c_messages.specs.Answers.{checkAnswer, readAnswer, readLeaves, writeAnswer, writeLeaves};
-ghost use Rattle.c_flat.specs.FlatCalls.{fromFlatAnswer, fromFlatLeaves, toFlatAnswer, toFlatLeaves};
-ghost use Rattle.c_events.specs.Events.{freshAnswer, freshLeaves, checkStateAnswer, takeAnswer, takeLeaves};
-ghost use Rattle.c_report.specs.ReportCalls.{reportAnswer, reportLeaves, reportDesk};
-ghost use Rattle.c_decide.specs.Decisions.{DecideCall};
-ghost use Rattle.c_decide.specs.Withins.{WithinCall};
-ghost use Rattle.c_order.specs.OrderCalls.{orderAnswer, orderLeaves};
-ghost use Rattle.c_page.specs.PageCalls.{PageCall};
-ghost use Rattle.c_preview.specs.PreviewCalls.{PreviewCall, WarnCall};
-ghost use Rattle.c_game.specs.GameCalls.{GameCall};
-ghost use Rattle.c_views.specs.ViewAnswers.{openViewAnswer};
+ghost use Rattle.c_messages.specs.Definitions.{checkAnswer, readAnswer, readLeaves, writeAnswer, writeLeaves, fromFlatAnswer, fromFlatLeaves, toFlatAnswer, toFlatLeaves};
+ghost use Rattle.c_events.specs.Definitions.{freshAnswer, freshLeaves, checkStateAnswer, takeAnswer, takeLeaves, reportAnswer, reportLeaves, reportDesk, DecideCall, WithinCall, orderAnswer, orderLeaves, PageCall, PreviewCall, WarnCall, GameCall};
+ghost use Rattle.c_views.specs.Definitions.{openViewAnswer};
 
 // 0 where the settings are right, else 2.
 #[no_mangle]
@@ -66,7 +58,7 @@ pub extern "C" fn restart_from_flat(settings: &[u8], flat: &[u8], buffer: &mut [
     ensures answer { λ r. ⌜ r ≡ fromFlatAnswer (now (settings .entry)) (now (flat .entry)) (now (buffer .entry)) ⌝ }
     ensures bytes { λ r. ⌜ now (buffer .exit) ≡ fromFlatLeaves (now (settings .entry)) (now (flat .entry)) (now (buffer .entry)) ⌝ }
 {
-    c_flat::from_flat(settings, flat, buffer)
+    c_messages::flat::from_flat(settings, flat, buffer)
 }
 
 // Turns a report into a flat one: rows 1 (the buffer is not 2048 bytes), 2 and 5 to 11.
@@ -75,7 +67,7 @@ pub extern "C" fn restart_to_flat(settings: &[u8], message: &[u8], buffer: &mut 
     ensures answer { λ r. ⌜ r ≡ toFlatAnswer (now (settings .entry)) (now (message .entry)) (now (buffer .entry)) ⌝ }
     ensures bytes { λ r. ⌜ now (buffer .exit) ≡ toFlatLeaves (now (settings .entry)) (now (message .entry)) (now (buffer .entry)) ⌝ }
 {
-    c_flat::to_flat(settings, message, buffer)
+    c_messages::flat::to_flat(settings, message, buffer)
 }
 
 // Whether an open view counts, by the masks of those who sent something of it. It never refuses.
@@ -122,7 +114,7 @@ pub extern "C" fn restart_report(
     ensures state { λ r. ⌜ now (state .exit) ≡ reportLeaves role (now (settings .entry)) (now (state .entry)) (now (desk .entry)) (now (message .entry)) ⌝ }
     ensures desk { λ r. ⌜ now (desk .exit) ≡ reportDesk role (now (settings .entry)) (now (state .entry)) (now (desk .entry)) (now (message .entry)) ⌝ }
 {
-    c_report::report(role, settings, state, desk, message)
+    c_events::report::report(role, settings, state, desk, message)
 }
 
 // A node is no longer there: rows 1, 2, 15, 3, 4, 6 and 14.
@@ -145,7 +137,7 @@ pub extern "C" fn restart_drop(
 pub extern "C" fn restart_decide(role: u32, settings: &[u8], state: &mut [u8], desk: &[u8]) -> u32
     ensures { λ r. ⌜ DecideCall role (now (settings .entry)) (now (state .entry)) (now (desk .entry)) r (now (state .exit)) ⌝ }
 {
-    c_decide::decide(role, settings, state, desk)
+    c_events::decide::decide(role, settings, state, desk)
 }
 
 // Plans a restart by so many improving rounds, more than 128 counting as 128, or says why there is none: rows 1, 2, 15, 3 and 4. The answer of
@@ -160,7 +152,7 @@ pub extern "C" fn restart_decide_within(
 ) -> u32
     ensures { λ r. ⌜ WithinCall role (now (settings .entry)) (now (state .entry)) (now (desk .entry)) rounds r (now (state .exit)) ⌝ }
 {
-    c_decide::decide_within(role, settings, state, desk, rounds)
+    c_events::decide::decide_within(role, settings, state, desk, rounds)
 }
 
 // Writes a held node's order: rows 1 (desk or buffer), 2, 15, 3, 4, 6 and 14.
@@ -176,7 +168,7 @@ pub extern "C" fn restart_order(
     ensures answer { λ r. ⌜ r ≡ orderAnswer role (now (settings .entry)) (now (state .entry)) (now (desk .entry)) node (now (buffer .entry)) ⌝ }
     ensures bytes { λ r. ⌜ now (buffer .exit) ≡ orderLeaves role (now (settings .entry)) (now (state .entry)) (now (desk .entry)) node (now (buffer .entry)) ⌝ }
 {
-    c_order::order(role, settings, state, desk, node, buffer)
+    c_events::order::order(role, settings, state, desk, node, buffer)
 }
 
 // A node has fetched what it lacked: rows 1, 2, 15, 3, 4, 6 and 14.
@@ -221,7 +213,7 @@ pub extern "C" fn restart_page(
 ) -> u32
     ensures { λ r. ⌜ PageCall role (now (settings .entry)) (now (state .entry)) (now (desk .entry)) subgroup (now (buffer .entry)) r (now (buffer .exit)) ⌝ }
 {
-    c_page::page(role, settings, state, desk, subgroup, buffer)
+    c_events::page::page(role, settings, state, desk, subgroup, buffer)
 }
 
 // What decide would answer without a held node, while gathering: rows 1 (desk or buffer), 2, 15, 3, 4, 6 and 14.
@@ -236,7 +228,7 @@ pub extern "C" fn restart_preview(
 ) -> u32
     ensures { λ r. ⌜ PreviewCall role (now (settings .entry)) (now (state .entry)) (now (desk .entry)) node (now (buffer .entry)) r (now (buffer .exit)) ⌝ }
 {
-    c_preview::preview(role, settings, state, desk, node, buffer)
+    c_events::preview::preview(role, settings, state, desk, node, buffer)
 }
 
 // Writes the mask of the held nodes whose loss means waiting, while gathering: rows 1 (desk or buffer), 2, 15, 3 and 4.
@@ -250,7 +242,7 @@ pub extern "C" fn restart_preview_all(
 ) -> u32
     ensures { λ r. ⌜ WarnCall role (now (settings .entry)) (now (state .entry)) (now (desk .entry)) (now (buffer .entry)) r (now (buffer .exit)) ⌝ }
 {
-    c_preview::preview_all(role, settings, state, desk, buffer)
+    c_events::preview::preview_all(role, settings, state, desk, buffer)
 }
 
 // Who can force the win of outage and crew in so many rounds with these nodes held: rows 1, 2, 15, 3, 4, 22 and 23.
@@ -265,5 +257,5 @@ pub extern "C" fn restart_game(
 ) -> u32
     ensures { λ r. ⌜ GameCall role (now (settings .entry)) (now (state .entry)) (now (desk .entry)) held rounds r ⌝ }
 {
-    c_game::game(role, settings, state, desk, held, rounds)
+    c_events::game::game(role, settings, state, desk, held, rounds)
 }

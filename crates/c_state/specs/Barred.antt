@@ -4,15 +4,14 @@ use Prim.Native.Nat.{ℕ}
 use mathlib.Core.Bool.{Bool, true, false}
 use mathlib.Core.List.{List}
 use mathlib.Core.Path.{_≡_, refl, ap}
-use Rattle.base_lent.specs.Lent.{wordsIn}
-use Rattle.base_lent.specs.Answers.{answerWord, bytesLeft}
+use Rattle.base_lent.specs.Definitions.{wordsIn, answerWord, bytesLeft}
 use Rattle.base_ids.specs.declared.Refusal.{Refusal}
-use Rattle.base_ids.specs.Refusals.{none, refused, accepted, unless, firstOf}
-use Rattle.settings_values.specs.Settings.{settingsOk}
+use Rattle.base_ids.specs.Definitions.{none, refused, accepted, unless, firstOf}
+use Rattle.settings_values.specs.Definitions.{settingsOk}
 use Rattle.state_planner.specs.declared.Outcome.{Outcome}
-use Rattle.state_planner.specs.Refusing.{deskOk}
-use Rattle.c_state_words.specs.StateWords.{isState}
-use Rattle.c_state.specs.Calls.{byPlanner, entryRefused, called, eventRefused, eventAnswer, eventLeaves}
+use Rattle.state_planner.specs.Definitions.{deskOk}
+use Rattle.c_state_words.specs.Definitions.{isState}
+use Rattle.c_state.specs.Definitions.{byPlanner, entryRefused, called, eventRefused, eventAnswer, eventLeaves}
 
 -- rows 1, 2 and 15
 unfoldable pub barred : Bool → List ℕ → Refusal

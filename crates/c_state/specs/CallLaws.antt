@@ -19,22 +19,26 @@ use lib.ListN.{length, take, drop}
 use borrow.Author.Tests.{eqb-true, eq-eqb, ne-eqb}
 use Rattle.base_laws.specs.Bools.{either, no-true, and-left, and-right}
 use Rattle.base_laws.specs.Tables.{length-padded, front-padded}
-use Rattle.base_bytes.specs.Words.{bytesOf, length-words}
-use Rattle.base_lent.specs.Lent.{countWithin, wordsIn, wordsWithin, within-le, bytes-of-words, length-test, HoldsSettings}
+use Rattle.base_bytes.specs.Definitions.{bytesOf}
+use Rattle.base_bytes.specs.Words.{length-words}
+use Rattle.base_lent.specs.Definitions.{wordsIn}
+use Rattle.base_lent.specs.Lent.{countWithin, wordsWithin, within-le, bytes-of-words, length-test, HoldsSettings}
 use Rattle.base_lent.specs.Answers.{Told, told-refused}
 use Rattle.base_ids.specs.declared.Refusal.{Refusal}
-use Rattle.base_ids.specs.Refusals.{none, accepted, accepted-none, unless, unless-ok, unless-rest, first-none, first-refused}
-use Rattle.settings_values.specs.Settings.{settingsOk}
+use Rattle.base_ids.specs.Definitions.{none, accepted, unless}
+use Rattle.base_ids.specs.Refusals.{accepted-none, unless-ok, unless-rest, first-none, first-refused}
+use Rattle.settings_values.specs.Definitions.{settingsOk}
 use Rattle.c_messages.specs.Limits.{settings-within, settings-same}
 use Rattle.state_planner.specs.declared.State.{State}
 use Rattle.state_planner.specs.declared.Outcome.{Outcome}
-use Rattle.state_planner.specs.States.{fresh}
-use Rattle.state_planner.specs.Refusing.{deskOk}
-use Rattle.c_state_words.specs.StateWords.{stateWords, isState, decoded}
+use Rattle.state_planner.specs.Definitions.{fresh, deskOk}
+use Rattle.c_state_words.specs.Definitions.{stateWords, isState}
+use Rattle.c_state_words.specs.StateWords.{decoded}
 use Rattle.c_state_words.specs.Laws.{stated}
-use Rattle.c_state_words.specs.declared.Decoded.{Decoded}
-use Rattle.c_state.specs.declared.Entry.{Entry}
-use Rattle.c_state.specs.Calls.{lengthsOk, byPlanner, stateLent, entryRefused, called, entry, refusalOf, eventRefused, eventAnswer, eventLeaves}
+use Rattle.c_state_words.specs.declared.DecodedState.{DecodedState}
+use Rattle.c_state.specs.declared.CallFinds.{CallFinds}
+use Rattle.c_state.specs.Definitions.{lengthsOk, byPlanner, stateLent, entryRefused, called, refusalOf, eventRefused, eventAnswer, eventLeaves}
+use Rattle.c_state.specs.Calls.{entry}
 
 not-state : (w : List ℕ) → (length w ≡ 160 → ⊥) → isState w ≡ false
 not-state w h = no-true (isState w) (λ s. h (stated w s .long))
@@ -52,11 +56,11 @@ pub decoded-other : (b : List ℕ) → (length b ≡ 640 → ⊥) → decoded (w
 unfolding decoded
 decoded-other b h = rw (not-state (wordsIn b) (λ e. h (bytes-of-words b 159 e)))
 
-pub entry-of : (allowed lengths : Bool) (settings state : List ℕ) (d : Decoded) → d ≡ decoded (wordsIn state)
+pub entry-of : (allowed lengths : Bool) (settings state : List ℕ) (d : DecodedState) → d ≡ decoded (wordsIn state)
     → (table : List ℕ) (n : ℕ) → HoldsSettings table n settings
     → (right : Bool) → right ≡ settingsOk (take (n - 0) (drop 0 table))
     → (r : Refusal) → r ≡ unless lengths 1 (unless right 2 (unless allowed 15 (unless (d .ok) 3 none)))
-    → _≡_ {A = Entry} (record { refusal = r; state = d .state; settings = table; words = n }) (entry allowed lengths settings state)
+    → _≡_ {A = CallFinds} (record { refusal = r; state = d .state; settings = table; words = n }) (entry allowed lengths settings state)
 unfolding entry entryRefused
 entry-of allowed lengths settings state d e table n h right q r f =
     let checked : right ≡ settingsOk (wordsIn settings) = q ∙ ap settingsOk (h .front) ∙ settings-same settings in
@@ -75,26 +79,26 @@ module _ (allowed lengths : Bool) (settings state : List ℕ) where
     pub state-is : x ≡ stateLent state
     pub event : (r : Refusal) → called allowed lengths settings state r ≡ r
 
-  module _ (e : Entry) (given : e ≡ entry allowed lengths settings state) where
+  module _ (e : CallFinds) (given : e ≡ entry allowed lengths settings state) where
     refusal-is : e .refusal ≡ entryRefused allowed lengths settings (isState (wordsIn state))
     unfolding entry
-    refusal-is = ap (λ (x : Entry). x .refusal) given
+    refusal-is = ap (λ (x : CallFinds). x .refusal) given
 
     -- the settings' table: its first words are the settings', where the entry does not refuse
     pub settings-few : e .words ≤ 52
     unfolding entry wordsWithin
     settings-few =
-        omega (arith, ap (λ (x : Entry). x .words) given, length-words settings (countWithin 52 (length settings)), within-le 52 (length settings))
+        omega (arith, ap (λ (x : CallFinds). x .words) given, length-words settings (countWithin 52 (length settings)), within-le 52 (length settings))
 
     pub settings-long : length (e .settings) ≡ 52
     unfolding entry
-    settings-long = ap (λ (x : Entry). length (x .settings)) given ∙ length-padded 52 (wordsWithin 52 settings)
+    settings-long = ap (λ (x : CallFinds). length (x .settings)) given ∙ length-padded 52 (wordsWithin 52 settings)
 
     pub settings-front : settingsOk (wordsIn settings) ≡ true → take (e .words - 0) (drop 0 (e .settings)) ≡ wordsIn settings
     unfolding entry
     settings-front h =
-        let count : e .words ≡ length (wordsWithin 52 settings) = ap (λ (x : Entry). x .words) given in
-        ap (λ (x : Entry). take (e .words - 0) (x .settings)) given
+        let count : e .words ≡ length (wordsWithin 52 settings) = ap (λ (x : CallFinds). x .words) given in
+        ap (λ (x : CallFinds). take (e .words - 0) (x .settings)) given
         ∙ front-padded 52 (e .words - 0) (wordsWithin 52 settings) (omega (arith, count, settings-few)) (omega (arith, count))
         ∙ settings-whole settings h
 
@@ -123,11 +127,11 @@ module _ (allowed lengths : Bool) (settings state : List ℕ) where
           allowed-ok = unless-ok allowed 14 _ h2;
           state-ok = ok;
           long = bytes-of-words state 159 (stated (wordsIn state) ok .long);
-          state-is = ap (λ (x : Entry). x .state) given ∙ rw ok;
+          state-is = ap (λ (x : CallFinds). x .state) given ∙ rw ok;
           event = λ r. first-none (entryRefused allowed lengths settings (isState (wordsIn state))) r none-is;
         }
 
-module _ (allowed : Bool) (settings state desk : List ℕ) (e : Entry) (given : e ≡ entry allowed (eqb (length desk) 65536) settings state) where
+module _ (allowed : Bool) (settings state desk : List ℕ) (e : CallFinds) (given : e ≡ entry allowed (eqb (length desk) 65536) settings state) where
   pub desk-entry : e ≡ entry allowed (deskOk (wordsIn desk)) settings state
   desk-entry = given ∙ ap (λ (b : Bool). entry allowed b settings state) (length-test desk 16383)
 
@@ -139,7 +143,7 @@ module _ (allowed : Bool) (settings state desk : List ℕ) (e : Entry) (given : 
 
 -- the entry of a call that is lent a desk and a buffer
 module _ (allowed : Bool) (settings state desk buffer : List ℕ) (lengths : Bool)
-    (ok : lengths ≡ (eqb (length desk) 65536 && eqb (length buffer) 2048)) (e : Entry) (given : e ≡ entry allowed lengths settings state) where
+    (ok : lengths ≡ (eqb (length desk) 65536 && eqb (length buffer) 2048)) (e : CallFinds) (given : e ≡ entry allowed lengths settings state) where
   pub buffer-entry : e ≡ entry allowed (lengthsOk desk buffer) settings state
   buffer-entry =
       given ∙ ap (λ (b : Bool). entry allowed b settings state) (ok ∙ ap₂ _&&_ (length-test desk 16383) (length-test buffer 511))
@@ -170,7 +174,7 @@ module _ (role : ℕ) (settings state desk : List ℕ) (o : Outcome) where
   unfolding eventAnswer eventLeaves
   told-event t = (t .answers, t .leaves)
 
-  module _ (e : Entry) (given : e ≡ entry (byPlanner role) (eqb (length desk) 65536) settings state) where
+  module _ (e : CallFinds) (given : e ≡ entry (byPlanner role) (eqb (length desk) 65536) settings state) where
     pub event-refused : (e .refusal .code ≡ 0 → ⊥) → ToldEvent (e .refusal .code) state
     unfolding eventRefused
     event-refused h =

@@ -4,13 +4,16 @@ use mathlib.Core.Bool.{true}
 use mathlib.Core.List.{List}
 use Prim.Native.Nat.{ℕ, _^_, _<_}
 use lib.ListN.{length, getD}
-use Rattle.base_bytes.specs.Words.{bytesOf, length-bytes, words-bytes, bytes-words}
-use Rattle.base_lent.specs.Lent.{wordsIn, bytes-of-words, all-words}
+use Rattle.base_bytes.specs.Definitions.{bytesOf}
+use Rattle.base_bytes.specs.Words.{length-bytes, words-bytes, bytes-words}
+use Rattle.base_lent.specs.Definitions.{wordsIn}
+use Rattle.base_lent.specs.Lent.{bytes-of-words, all-words}
 use Rattle.state_planner.specs.declared.State.{State}
-use Rattle.c_state_words.specs.StateWords.{stateWords, isState, decoded}
+use Rattle.c_state_words.specs.Definitions.{stateWords, isState}
+use Rattle.c_state_words.specs.StateWords.{decoded}
 use Rattle.c_state_words.specs.Laws.{stated}
 use Rattle.c_state_words.specs.Inverse.{SizedState, decode-encode, encode-decode}
-use Rattle.c_state.specs.Calls.{stateLent}
+use Rattle.c_state.specs.Definitions.{stateLent}
 
 -- the bytes of a state say that state
 pub stored-read : (x : State) → SizedState x → ((k : ℕ) → getD (stateWords x) k 0 < 2 ^ 32)

@@ -1,6 +1,6 @@
 // The planner's state lent as bytes: what every C call over it does first and last.
 use base_ids::Refusal;
-use c_state_words::Decoded;
+use c_state_words::DecodedState;
 use state_planner::Answer;
 use state_planner::Outcome;
 use state_planner::State;
@@ -8,15 +8,17 @@ ghost use mathlib.Core.Bool.{_&&_};
 ghost use mathlib.Core.Path.{_≡_};
 ghost use lib.Dec.{eqb};
 ghost use lib.ListN.{length};
-ghost use Rattle.base_bytes.specs.Words.{bytesOf};
-ghost use Rattle.base_lent.specs.Lent.{wordsIn};
+ghost use Rattle.base_bytes.specs.Definitions.{bytesOf};
+ghost use Rattle.base_lent.specs.Definitions.{wordsIn};
 ghost use Rattle.base_lent.specs.Answers.{Told};
-ghost use Rattle.c_state_words.specs.StateWords.{stateWords, decoded};
-ghost use Rattle.base_ids.specs.Refusals.{none, unless};
-ghost use Rattle.c_state.specs.Calls.{byPlanner, entry, refusalOf};
+ghost use Rattle.c_state_words.specs.Definitions.{stateWords};
+ghost use Rattle.c_state_words.specs.StateWords.{decoded};
+ghost use Rattle.base_ids.specs.Definitions.{none, unless};
+ghost use Rattle.c_state.specs.Definitions.{byPlanner, refusalOf};
+ghost use Rattle.c_state.specs.Calls.{entry};
 
 // What a call finds before its event: a refusal, the state, and the settings' words, which are the first of the table.
-pub struct Entry {
+pub struct CallFinds {
     pub refusal: Refusal,
     pub state: State,
     pub settings: [u32; 52],
@@ -34,11 +36,11 @@ pub fn lengths_ok(desk: usize, buffer: usize) -> bool
 }
 
 // The state that lent bytes say.
-fn decode_state(bytes: &[u8]) -> Decoded
+fn decode_state(bytes: &[u8]) -> DecodedState
     ensures { λ r. ⌜ r ≡ decoded (wordsIn (now (bytes .entry))) ⌝ }
 {
     if bytes.len() != 640 {
-        return Decoded {
+        return DecodedState {
             ok: false,
             state: State::fresh(),
         };
@@ -68,7 +70,7 @@ fn entry_refusal(lengths: bool, right: bool, allowed: bool, ok: bool) -> Refusal
 }
 
 // What a call does first, given whether its role may ask it and whether desk and buffer have their lengths.
-pub fn enter(allowed: bool, lengths: bool, settings: &[u8], state: &[u8]) -> Entry
+pub fn enter(allowed: bool, lengths: bool, settings: &[u8], state: &[u8]) -> CallFinds
     ensures { λ r. ⌜ r ≡ entry allowed lengths (now (settings .entry)) (now (state .entry)) ⌝ }
 {
     let own = base_lent::settings_of(settings);
@@ -78,7 +80,7 @@ pub fn enter(allowed: bool, lengths: bool, settings: &[u8], state: &[u8]) -> Ent
     let lent = decode_state(state);
     let refusal = entry_refusal(lengths, right, allowed, lent.ok);
     let x = lent.state;
-    Entry {
+    CallFinds {
         refusal,
         state: x,
         settings: table,
@@ -94,7 +96,7 @@ pub fn by_planner(role: u32) -> bool
 }
 
 // The same for an operation: only the planner may ask it.
-pub fn enter_planner(role: u32, lengths: bool, settings: &[u8], state: &[u8]) -> Entry
+pub fn enter_planner(role: u32, lengths: bool, settings: &[u8], state: &[u8]) -> CallFinds
     ensures { λ r. ⌜ r ≡ entry (byPlanner role) lengths (now (settings .entry)) (now (state .entry)) ⌝ }
 {
     enter(by_planner(role), lengths, settings, state)

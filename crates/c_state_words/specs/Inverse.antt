@@ -10,18 +10,18 @@ use lib.ListN.{length, getD}
 use borrow.Author.Tests.{eq-eqb, ne-eqb, le-leb, lt-ltb, le-ltb}
 use Rattle.base_laws.specs.Bools.{lt-or-le, eq-or-ne, and-both}
 use Rattle.base_laws.specs.Below.{all-of}
-use Rattle.base_laws.specs.Tables.{tabulate, tabulate-ext, length-tabulate, getD-tabulate}
+use Rattle.base_laws.specs.Definitions.{tabulate}
+use Rattle.base_laws.specs.Tables.{tabulate-ext, length-tabulate, getD-tabulate}
 use Rattle.base_ids.specs.declared.Node.{Node}
 use Rattle.base_ids.specs.declared.Position.{Position}
 use Rattle.base_ids.specs.declared.View.{View}
 use Rattle.report_views.specs.declared.Phase.{Phase}
 use Rattle.report_views.specs.declared.Phase.the-variants.{Gathering, Ordered, Preparing, Committed}
-use Rattle.report_views.specs.Logs.{pos, start}
-use Rattle.report_views.specs.Reports.{nodeAt, positionAt, holderAt, targetAt}
-use Rattle.report_views.specs.PositionTables.{positionWord}
-use Rattle.report_latest.specs.Remembered.{latestAt}
+use Rattle.report_views.specs.Definitions.{pos, start, nodeAt, positionAt, holderAt, targetAt, positionWord}
+use Rattle.report_rows.specs.Definitions.{latestAt}
 use Rattle.state_planner.specs.declared.State.{State}
-use Rattle.c_state_words.specs.StateWords.{phaseNumber, flag, keptWord, planWord, latestWord, stateWord, stateWords, phaseOf, span, nodesAt, viewsAt, positionsAt, layoutAt, stateIn, restZero, isState, decoded}
+use Rattle.c_state_words.specs.Definitions.{phaseNumber, flag, keptWord, planWord, latestWord, stateWord, stateWords, phaseOf, span, nodesAt, viewsAt, positionsAt, layoutAt, stateIn, restZero, isState}
+use Rattle.c_state_words.specs.StateWords.{decoded}
 use Rattle.c_state_words.specs.Laws.{stated}
 
 -- one row of a table of words

@@ -9,7 +9,7 @@ use borrow.Author.Tests.{eqb-true, leb-true}
 use Rattle.base_laws.specs.Bools.{and-left, and-right}
 use Rattle.base_laws.specs.Below.{all-at}
 use Rattle.base_laws.specs.Tables.{filled, filled-all}
-use Rattle.c_state_words.specs.StateWords.{span, restZero, isState}
+use Rattle.c_state_words.specs.Definitions.{span, restZero, isState}
 
 pub span-filled : (w : List ℕ) (at : ℕ) (l : List ℕ) (k : ℕ) → k ≡ length l
     → filled k (λ i. getD w (at + i) 0) l ≡ span w at (length l)

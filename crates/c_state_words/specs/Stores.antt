@@ -14,10 +14,9 @@ use Rattle.base_ids.specs.declared.View.{View}
 use Rattle.report_views.specs.declared.Layout.{Layout}
 use Rattle.report_views.specs.declared.Plan.{Plan}
 use Rattle.report_views.specs.declared.Termination.{Termination}
-use Rattle.report_views.specs.Reports.{positionAt, holderAt, targetAt}
-use Rattle.report_views.specs.PositionTables.{positionWord}
+use Rattle.report_views.specs.Definitions.{positionAt, holderAt, targetAt, positionWord}
 use Rattle.state_planner.specs.declared.State.{State}
-use Rattle.c_state_words.specs.StateWords.{phaseNumber, flag, keptWord, planWord, stateWord, stateWords}
+use Rattle.c_state_words.specs.Definitions.{phaseNumber, flag, keptWord, planWord, stateWord, stateWords}
 use Rattle.c_state_words.specs.Inverse.{masks-at, positions-at, plan-masks-at, holders-at, targets-at, views-at, rest-at}
 
 -- the number of view n of a list
@@ -65,31 +64,31 @@ module _ (p : ℕ → Position) (s : ℕ) where
 
 module _ (x : State) where
   -- the first k words over zeros
-  abbrev soFar : ℕ → List ℕ
-  soFar k = filled k (stateWord x) (zeros 160)
+  abbrev firstWords : ℕ → List ℕ
+  firstWords k = filled k (stateWord x) (zeros 160)
 
-  one-more : (k v : ℕ) → k < 160 → v ≡ stateWord x k → set (soFar k) k v ≡ soFar (k + 1)
-  one-more k v l e = filled-turn k (stateWord x) (zeros 160) (soFar k) v (omega (arith, length-replicate {A = ℕ} 160 0)) refl e
+  one-more : (k v : ℕ) → k < 160 → v ≡ stateWord x k → set (firstWords k) k v ≡ firstWords (k + 1)
+  one-more k v l e = filled-turn k (stateWord x) (zeros 160) (firstWords k) v (omega (arith, length-replicate {A = ℕ} 160 0)) refl e
 
   words-more : (at n : ℕ) (f : ℕ → ℕ) → at + n ≤ 160 → ((k : ℕ) → at ≤ k → k < at + n → stateWord x k ≡ f (k - at))
-      → turns n (storeWord f at) (soFar at) ≡ soFar (at + n)
+      → turns n (storeWord f at) (firstWords at) ≡ firstWords (at + n)
   words-more at n f l h =
-      ap (λ (k : ℕ). turns n (storeWord f at) (soFar k)) (let e : at ≡ at + 0 = omega arith in e)
-      ∙ turns-hold (λ s. soFar (at + s)) (storeWord f at) n
+      ap (λ (k : ℕ). turns n (storeWord f at) (firstWords k)) (let e : at ≡ at + 0 = omega arith in e)
+      ∙ turns-hold (λ s. firstWords (at + s)) (storeWord f at) n
       (λ s m.
       one-more (at + s) (f s) (omega arith) (ap f (omega arith) ∙ sym (h (at + s) (omega arith) (omega arith)))
-      ∙ ap soFar (omega arith))
+      ∙ ap firstWords (omega arith))
 
   positions-more : (at n : ℕ) (p : ℕ → Position) → at + 2 * n ≤ 160
       → ((k : ℕ) → at ≤ k → k < at + 2 * n → stateWord x k ≡ positionWord p (k - at))
-      → turns n (storePosition p at) (soFar at) ≡ soFar (at + 2 * n)
+      → turns n (storePosition p at) (firstWords at) ≡ firstWords (at + 2 * n)
   positions-more at n p l h =
-      ap (λ (k : ℕ). turns n (storePosition p at) (soFar k)) (let e : at ≡ at + 2 * 0 = omega arith in e)
-      ∙ turns-hold (λ s. soFar (at + 2 * s)) (storePosition p at) n
+      ap (λ (k : ℕ). turns n (storePosition p at) (firstWords k)) (let e : at ≡ at + 2 * 0 = omega arith in e)
+      ∙ turns-hold (λ s. firstWords (at + 2 * s)) (storePosition p at) n
       (λ s m.
       ap (λ (r : List ℕ). set r (at + 2 * s + 1) (p s .k)) (one-more (at + 2 * s) (p s .view .0) (omega arith) (first s m))
       ∙ one-more (at + 2 * s + 1) (p s .k) (omega arith) (second s m)
-      ∙ ap soFar (omega arith))
+      ∙ ap firstWords (omega arith))
     where
       first : (s : ℕ) → s < n → p s .view .0 ≡ stateWord x (at + 2 * s)
       first s m =
@@ -99,10 +98,10 @@ module _ (x : State) where
       second s m =
           sym (h (at + 2 * s + 1) (omega arith) (omega arith) ∙ ap (positionWord p) (let e : at + 2 * s + 1 - at ≡ 2 * s + 1 = omega arith in e) ∙ odd-word p s)
 
-  kept-stored : storeKept (phaseNumber (x .phase)) (x .kept) (x .termination) (zeros 160) ≡ soFar 52
+  kept-stored : storeKept (phaseNumber (x .phase)) (x .kept) (x .termination) (zeros 160) ≡ firstWords 52
   unfolding storeKept stateWord keptWord
   kept-stored =
-      let start : zeros 160 ≡ soFar 0 = sym (filled-none (stateWord x) (zeros 160)) in
+      let start : zeros 160 ≡ firstWords 0 = sym (filled-none (stateWord x) (zeros 160)) in
       ap (λ (l : List ℕ). storeKept (phaseNumber (x .phase)) (x .kept) (x .termination) l) start
       ∙ rw (
         one-more 0 (phaseNumber (x .phase)) (lit< tt) refl,
@@ -113,12 +112,12 @@ module _ (x : State) where
         positions-more 20 16 (positionAt (x .termination)) (lit≤ tt) (positions-at x),
       )
 
-  marks-stored : set (set (set (soFar 52) 52 (x .held)) 53 (x .fetched)) 54 (x .prepared) ≡ soFar 55
+  marks-stored : set (set (set (firstWords 52) 52 (x .held)) 53 (x .fetched)) 54 (x .prepared) ≡ firstWords 55
   unfolding stateWord
   marks-stored =
       rw (one-more 52 (x .held) (lit< tt) refl, one-more 53 (x .fetched) (lit< tt) refl, one-more 54 (x .prepared) (lit< tt) refl)
 
-  plan-stored : storePlan (x .plan) (soFar 55) ≡ soFar 122
+  plan-stored : storePlan (x .plan) (firstWords 55) ≡ firstWords 122
   unfolding storePlan stateWord planWord
   plan-stored =
       rw (
@@ -130,11 +129,11 @@ module _ (x : State) where
         positions-more 90 16 (targetAt (x .plan)) (lit≤ tt) (targets-at x),
       )
 
-  views-stored : turns 32 (storeWord (viewNumberAt (x .latest .views)) 122) (soFar 122) ≡ stateWords x
+  views-stored : turns 32 (storeWord (viewNumberAt (x .latest .views)) 122) (firstWords 122) ≡ stateWords x
   unfolding stateWords
   views-stored =
       words-more 122 32 (viewNumberAt (x .latest .views)) (lit≤ tt) (views-at x)
-      ∙ tabulate-ext 0 160 (stateWord x) (soFar 154)
+      ∙ tabulate-ext 0 160 (stateWord x) (firstWords 154)
       (length-filled 154 (stateWord x) (zeros 160) (omega (arith, length-replicate {A = ℕ} 160 0)) ∙ length-replicate {A = ℕ} 160 0)
       (λ k l.
       ⊎-elim (λ m. getD-filled 154 (stateWord x) (zeros 160) k 0 m)

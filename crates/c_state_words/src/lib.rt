@@ -1,8 +1,10 @@
 // The planner's state as 160 words, and back.
+pub mod page;
+
 use base_ids::Node;
 use base_ids::Position;
 use base_ids::View;
-use report_latest::Latest;
+use report_rows::latest::Latest;
 use report_views::Layout;
 use report_views::Phase;
 use report_views::Plan;
@@ -12,20 +14,20 @@ ghost use mathlib.Core.Path.{_≡_};
 ghost use Prim.Native.Nat.{_+_, _≤_};
 ghost use lib.ListN.{length, getD, set};
 ghost use Rattle.base_laws.specs.Loops.{turns};
-ghost use Rattle.report_views.specs.Logs.{start};
-ghost use Rattle.report_views.specs.Reports.{nodeAt};
+ghost use Rattle.report_views.specs.Definitions.{start, nodeAt};
+ghost use Rattle.c_state_words.specs.Definitions as Definitions;
 ghost use Rattle.c_state_words.specs.StateWords as StateWords;
 ghost use Rattle.c_state_words.specs.Stores as Stores;
 
 // What words say: whether they are a state, and the state; the fresh state where they are none.
-pub struct Decoded {
+pub struct DecodedState {
     pub ok: bool,
     pub state: State,
 }
 
 // The number of a phase.
 pub fn phase_number(phase: Phase) -> u32
-    ensures { λ r. ⌜ r ≡ StateWords.phaseNumber phase ⌝ }
+    ensures { λ r. ⌜ r ≡ Definitions.phaseNumber phase ⌝ }
 {
     match phase {
         Phase::Gathering => 0,
@@ -37,7 +39,7 @@ pub fn phase_number(phase: Phase) -> u32
 
 // A yes or no as a word.
 pub fn flag(made: bool) -> u32
-    ensures { λ r. ⌜ r ≡ StateWords.flag made ⌝ }
+    ensures { λ r. ⌜ r ≡ Definitions.flag made ⌝ }
 {
     if made { 1 } else { 0 }
 }
@@ -130,7 +132,7 @@ fn put_plan(words: &mut [u32; 160], plan: Plan)
 
 // The words of a state.
 pub fn encode(x: State) -> [u32; 160]
-    ensures { λ r. ⌜ r ≡ StateWords.stateWords x ⌝ }
+    ensures { λ r. ⌜ r ≡ Definitions.stateWords x ⌝ }
 {
     let mut words = [0u32; 160];
     let phase = x.phase;
@@ -146,7 +148,7 @@ pub fn encode(x: State) -> [u32; 160]
 }
 
 fn phase_of(n: u32) -> Phase
-    ensures { λ r. ⌜ r ≡ StateWords.phaseOf n ⌝ }
+    ensures { λ r. ⌜ r ≡ Definitions.phaseOf n ⌝ }
 {
     if n == 0 {
         return Phase::Gathering;
@@ -163,7 +165,7 @@ fn phase_of(n: u32) -> Phase
 // Stores the words from a place on.
 fn copy_from(words: &[u32], at: usize, out: &mut [u32])
     requires { ⌜ at + length (now out) ≤ length (now words) ⌝ }
-    ensures { λ _. ⌜ now (out .exit) ≡ StateWords.span (now (words .entry)) at (length (now (out .entry))) ⌝ }
+    ensures { λ _. ⌜ now (out .exit) ≡ Definitions.span (now (words .entry)) at (length (now (out .entry))) ⌝ }
 {
     let mut k = 0;
     while k < out.len() {
@@ -175,7 +177,7 @@ fn copy_from(words: &[u32], at: usize, out: &mut [u32])
 // The 16 words from a place on.
 fn sixteen(words: &[u32], at: usize) -> [u32; 16]
     requires { ⌜ at + 16 ≤ length (now words) ⌝ }
-    ensures { λ r. ⌜ r ≡ StateWords.span (now (words .entry)) at 16 ⌝ }
+    ensures { λ r. ⌜ r ≡ Definitions.span (now (words .entry)) at 16 ⌝ }
 {
     let mut out = [0u32; 16];
     copy_from(words, at, &mut out);
@@ -185,7 +187,7 @@ fn sixteen(words: &[u32], at: usize) -> [u32; 16]
 // The 16 nodes from a place on.
 fn nodes_at(words: &[u32], at: usize) -> [Node; 16]
     requires { ⌜ at + 16 ≤ length (now words) ⌝ }
-    ensures { λ r. ⌜ r ≡ StateWords.nodesAt (now (words .entry)) at ⌝ }
+    ensures { λ r. ⌜ r ≡ Definitions.nodesAt (now (words .entry)) at ⌝ }
 {
     let mut nodes = [Node(0); 16];
     let mut s: usize = 0;
@@ -199,7 +201,7 @@ fn nodes_at(words: &[u32], at: usize) -> [Node; 16]
 // The 32 views from a place on.
 fn views_at(words: &[u32], at: usize) -> [View; 32]
     requires { ⌜ at + 32 ≤ length (now words) ⌝ }
-    ensures { λ r. ⌜ r ≡ StateWords.viewsAt (now (words .entry)) at ⌝ }
+    ensures { λ r. ⌜ r ≡ Definitions.viewsAt (now (words .entry)) at ⌝ }
 {
     let mut views = [View(0); 32];
     let mut n: usize = 0;
@@ -213,7 +215,7 @@ fn views_at(words: &[u32], at: usize) -> [View; 32]
 // The 16 positions from a place on, two words each.
 fn positions_at(words: &[u32], at: usize) -> [Position; 16]
     requires { ⌜ at + 32 ≤ length (now words) ⌝ }
-    ensures { λ r. ⌜ r ≡ StateWords.positionsAt (now (words .entry)) at ⌝ }
+    ensures { λ r. ⌜ r ≡ Definitions.positionsAt (now (words .entry)) at ⌝ }
 {
     let mut positions = [Position {
         view: View(0),
@@ -233,7 +235,7 @@ fn positions_at(words: &[u32], at: usize) -> [Position; 16]
 // The view whose number and members stand from a place on, and its masks after another word.
 fn layout_at(words: &[u32], at: usize) -> Layout
     requires { ⌜ at + 19 ≤ length (now words) ⌝ }
-    ensures { λ r. ⌜ r ≡ StateWords.layoutAt (now (words .entry)) at ⌝ }
+    ensures { λ r. ⌜ r ≡ Definitions.layoutAt (now (words .entry)) at ⌝ }
 {
     Layout {
         number: View(words[at]),
@@ -245,7 +247,7 @@ fn layout_at(words: &[u32], at: usize) -> Layout
 // The state that 160 words say.
 fn state_in(words: &[u32]) -> State
     requires { ⌜ length (now words) ≡ 160 ⌝ }
-    ensures { λ r. ⌜ r ≡ StateWords.stateIn (now (words .entry)) ⌝ }
+    ensures { λ r. ⌜ r ≡ Definitions.stateIn (now (words .entry)) ⌝ }
 {
     State {
         phase: phase_of(words[0]),
@@ -272,7 +274,7 @@ fn state_in(words: &[u32]) -> State
 // The words that carry nothing are zero.
 fn rest_is_zero(words: &[u32]) -> bool
     requires { ⌜ length (now words) ≡ 160 ⌝ }
-    ensures { λ r. ⌜ r ≡ StateWords.restZero (now (words .entry)) ⌝ }
+    ensures { λ r. ⌜ r ≡ Definitions.restZero (now (words .entry)) ⌝ }
 {
     let mut k: usize = 0;
     while k < 6 {
@@ -286,7 +288,7 @@ fn rest_is_zero(words: &[u32]) -> bool
 
 // Words that are a state: 160 of them, a phase, a flag, and zeros where they carry nothing.
 fn is_state(words: &[u32]) -> bool
-    ensures { λ r. ⌜ r ≡ StateWords.isState (now (words .entry)) ⌝ }
+    ensures { λ r. ⌜ r ≡ Definitions.isState (now (words .entry)) ⌝ }
 {
     if words.len() != 160 {
         return false;
@@ -301,16 +303,16 @@ fn is_state(words: &[u32]) -> bool
 }
 
 // The state that words say, where they are a state.
-pub fn decode(words: &[u32]) -> Decoded
+pub fn decode(words: &[u32]) -> DecodedState
     ensures { λ r. ⌜ r ≡ StateWords.decoded (now (words .entry)) ⌝ }
 {
     if !is_state(words) {
-        return Decoded {
+        return DecodedState {
             ok: false,
             state: State::fresh(),
         };
     }
-    Decoded {
+    DecodedState {
         ok: true,
         state: state_in(words),
     }

@@ -1,2 +1,2 @@
 -- What C is answered of an open view.
-pub mod ViewAnswers
+pub mod Definitions

@@ -1,7 +1,7 @@
 // What is known of an open view, as an answer for C.
 use history_open::Finding;
 ghost use mathlib.Core.Path.{_≡_};
-ghost use Rattle.c_views.specs.ViewAnswers.{findingWord, openViewAnswer};
+ghost use Rattle.c_views.specs.Definitions.{findingWord, openViewAnswer};
 
 // A finding as an answer.
 fn finding_word(finding: Finding) -> u32

@@ -8,9 +8,11 @@ use native.Mathlib.Omega.{arith}
 use lib.Dec.{eqb, ltb}
 use borrow.Author.Tests.{eqb-true, eq-eqb, ne-eqb, lt-ltb, le-ltb}
 use Rattle.base_laws.specs.Bools.{either, clash, and-both, and-left, and-right, and-fails, or-holds, or-fails-left, or-fails-right, not-of-false, of-not-true, of-not-false, no-true}
-use Rattle.base_laws.specs.Below.{allBelow, anyBelow, lowest, all-at, all-counter, any-at, any-fails, any-witness, lowest-holds, lowest-below, lowest-first}
-use Rattle.base_laws.specs.Masks.{has, with, without, has-zero, has-below, without-same, with-lt, without-lt}
-use Rattle.game_rules.specs.Game.{OutageMay, Absent, CrewMay, afterTurns, CrewRule, OutageRule, Holds, Beats, Starts, OutageWins, OutageAnswer, WonBy, rules-clash}
+use Rattle.base_laws.specs.Definitions.{allBelow, anyBelow, lowest, has, with, without}
+use Rattle.base_laws.specs.Below.{all-at, all-counter, any-at, any-fails, any-witness, lowest-holds, lowest-below, lowest-first}
+use Rattle.base_laws.specs.Masks.{has-zero, has-below, without-same, with-lt, without-lt}
+use Rattle.game_rules.specs.Definitions.{OutageMay, Returnable, CrewMay, afterTurns, CrewRule, OutageRule, CrewHolds, Beats, Starts, OutageWins, OutageAnswer, WonBy}
+use Rattle.game_rules.specs.Game.{rules-clash}
 use Rattle.game_rules.specs.Turns.{absent, outageTurn, crewTurn, saves, wins, firstMove, winnerOf}
 
 -- the half-rounds of so many rounds
@@ -24,7 +26,7 @@ halves-twice zero = refl
 halves-twice (suc r) = let e : halves r ≡ 2 * r = halves-twice r in omega (arith, e)
 
 -- absent, as a test and as a record
-absent-given : (n h taken b : ℕ) → b < n → absent h taken b ≡ true → Absent n h taken b
+absent-given : (n h taken b : ℕ) → b < n → absent h taken b ≡ true → Returnable n h taken b
 absent-given n h taken b l e =
     record {
       node = l;
@@ -32,18 +34,18 @@ absent-given n h taken b l e =
       other = λ q. clash (eq-eqb b taken q) (of-not-true (eqb b taken) (and-right (not (has h b)) (not (eqb b taken)) e));
     }
 
-absent-test : (n h taken b : ℕ) → Absent n h taken b → absent h taken b ≡ true
+absent-test : (n h taken b : ℕ) → Returnable n h taken b → absent h taken b ≡ true
 absent-test n h taken b a = and-both (not-of-false (a .down)) (not-of-false (ne-eqb b taken (a .other)))
 
 -- none is absent
-none-absent : (n h taken : ℕ) → anyBelow n (absent h taken) ≡ false → (m : ℕ) → Absent n h taken m → ⊥
+none-absent : (n h taken : ℕ) → anyBelow n (absent h taken) ≡ false → (m : ℕ) → Returnable n h taken m → ⊥
 none-absent n h taken e m a = clash (absent-test n h taken m a) (any-fails n (absent h taken) e m (a .node))
 
 module _ (n : ℕ) (few : n ≤ 32) (good : ℕ → Bool) (ok : ℕ → Type 0) (yes : (h : ℕ) → h < 2 ^ n → good h ≡ true → ok h)
     (no : (h : ℕ) → h < 2 ^ n → good h ≡ false → ok h → ⊥) where
   -- the crew's reply: the lowest node that saves it
-  unfoldable reply : ℕ → ℕ → ℕ → ℕ
-  reply k h taken = cond (anyBelow n (absent h taken)) (lowest n (saves n good k h taken)) 32
+  unfoldable savingReply : ℕ → ℕ → ℕ → ℕ
+  savingReply k h taken = cond (anyBelow n (absent h taken)) (lowest n (saves n good k h taken)) 32
 
   -- what a reply that the crew's turn allows for gives
   record Saved (k h taken b : ℕ) : Type 0 where
@@ -52,15 +54,15 @@ module _ (n : ℕ) (few : n ≤ 32) (good : ℕ → Bool) (ok : ℕ → Type 0) 
     goes : outageTurn n good k (cond (ltb b 32) (with h b) h) ≡ true
     small : cond (ltb b 32) (with h b) h < 2 ^ n
 
-  saved : (k h taken : ℕ) → h < 2 ^ n → crewTurn n good (suc k) h taken ≡ true → Saved k h taken (reply k h taken)
-  unfolding crewTurn reply
+  saved : (k h taken : ℕ) → h < 2 ^ n → crewTurn n good (suc k) h taken ≡ true → Saved k h taken (savingReply k h taken)
+  unfolding crewTurn savingReply
   saved k h taken l e = ⊎-elim some none (either (anyBelow n (absent h taken)))
     where
-      some : anyBelow n (absent h taken) ≡ true → Saved k h taken (reply k h taken)
+      some : anyBelow n (absent h taken) ≡ true → Saved k h taken (savingReply k h taken)
       some a =
           let w : anyBelow n (saves n good k h taken) ≡ true = rw a at e in
           let b = lowest n (saves n good k h taken) in
-          let is : reply k h taken ≡ b = rw a in
+          let is : savingReply k h taken ≡ b = rw a in
           let lb : b < n = lowest-below n (saves n good k h taken) w in
           let p : saves n good k h taken b ≡ true = lowest-holds n (saves n good k h taken) w in
           let q : (good (with h b) && outageTurn n good k (with h b)) ≡ true = and-right (absent h taken b) _ p in
@@ -74,10 +76,10 @@ module _ (n : ℕ) (few : n ≤ 32) (good : ℕ → Bool) (ok : ℕ → Type 0) 
             small = rw t s;
           })
 
-      none : anyBelow n (absent h taken) ≡ false → Saved k h taken (reply k h taken)
+      none : anyBelow n (absent h taken) ≡ false → Saved k h taken (savingReply k h taken)
       none a =
           let w : (good h && outageTurn n good k h) ≡ true = rw a at e in
-          let is : reply k h taken ≡ 32 = rw a in
+          let is : savingReply k h taken ≡ 32 = rw a in
           subst⁻¹ (Saved k h taken) is
           (record {
             allowed = inr (refl, none-absent n h taken a);
@@ -88,10 +90,10 @@ module _ (n : ℕ) (few : n ≤ 32) (good : ℕ → Bool) (ok : ℕ → Type 0) 
 
   -- ---- the crew
 
-  unfoldable crewRule : (r h : ℕ) → CrewRule r
+  unfoldable crewReplies : (r h : ℕ) → CrewRule r
   unfolding CrewRule
-  crewRule zero h = tt
-  crewRule (suc r) h = λ o. (reply (halves r) (without h o) o, crewRule r (afterTurns h o (reply (halves r) (without h o) o)))
+  crewReplies zero h = tt
+  crewReplies (suc r) h = λ o. (savingReply (halves r) (without h o) o, crewReplies r (afterTurns h o (savingReply (halves r) (without h o) o)))
 
   -- the crew is to move, whatever the outage did
   turn-follows : (k h o : ℕ) → h < 2 ^ n → outageTurn n good (suc k) h ≡ true → OutageMay h o → crewTurn n good k (without h o) o ≡ true
@@ -112,20 +114,20 @@ module _ (n : ℕ) (few : n ≤ 32) (good : ℕ → Bool) (ok : ℕ → Type 0) 
           let w : without 0 32 ≡ 0 = without-same 0 32 (has-zero 32) in
           rw (q .0, q .1, w) t
 
-  crew-holds : (r h : ℕ) → h < 2 ^ n → outageTurn n good (halves r) h ≡ true → Holds n ok r (crewRule r h) h
-  unfolding halves crewRule Holds CrewRule afterTurns
+  crew-holds : (r h : ℕ) → h < 2 ^ n → outageTurn n good (halves r) h ≡ true → CrewHolds n ok r (crewReplies r h) h
+  unfolding halves crewReplies CrewHolds CrewRule afterTurns
   crew-holds zero h l e = tt
   crew-holds (suc r) h l e =
       λ o may.
       let s = saved (halves r) (without h o) o (without-lt n h o l) (turn-follows (suc (halves r)) h o l e may) in
-      (s .allowed, s .plan, crew-holds r (afterTurns h o (reply (halves r) (without h o) o)) (s .small) (s .goes))
+      (s .allowed, s .plan, crew-holds r (afterTurns h o (savingReply (halves r) (without h o) o)) (s .small) (s .goes))
 
   -- ---- the outage
 
-  unfoldable outageRule : (r h : ℕ) → OutageRule r
+  unfoldable outageMoves : (r h : ℕ) → OutageRule r
   unfolding OutageRule
-  outageRule zero h = tt
-  outageRule (suc r) h = (firstMove n good (suc (halves r)) h, λ b. outageRule r (afterTurns h (firstMove n good (suc (halves r)) h) b))
+  outageMoves zero h = tt
+  outageMoves (suc r) h = (firstMove n good (suc (halves r)) h, λ b. outageMoves r (afterTurns h (firstMove n good (suc (halves r)) h) b))
 
   -- the first move is allowed, and the crew's turn after it fails
   record TakesNode (k h o : ℕ) : Type 0 where
@@ -165,7 +167,7 @@ module _ (n : ℕ) (few : n ≤ 32) (good : ℕ → Bool) (ok : ℕ → Type 0) 
   unfolding crewTurn
   fails-follows k h taken b l e = ⊎-elim back pass
     where
-      back : Absent n h taken b
+      back : Returnable n h taken b
           → (ok (cond (ltb b 32) (with h b) h) → ⊥) ⊎ ((outageTurn n good k (cond (ltb b 32) (with h b) h) ≡ false) × (cond (ltb b 32) (with h b) h < 2 ^ n))
       back a =
           let q = absent-test n h taken b a in
@@ -179,7 +181,7 @@ module _ (n : ℕ) (few : n ≤ 32) (good : ℕ → Bool) (ok : ℕ → Type 0) 
           (λ z. ⊎-elim (λ y. inl (no (with h b) s y)) (λ y. inr (y, s)) (and-fails (good (with h b)) (outageTurn n good k (with h b)) z))
           (and-fails (absent h taken b) _ g))
 
-      pass : (b ≡ 32) × ((m : ℕ) → Absent n h taken m → ⊥)
+      pass : (b ≡ 32) × ((m : ℕ) → Returnable n h taken m → ⊥)
           → (ok (cond (ltb b 32) (with h b) h) → ⊥) ⊎ ((outageTurn n good k (cond (ltb b 32) (with h b) h) ≡ false) × (cond (ltb b 32) (with h b) h < 2 ^ n))
       pass a =
           let none : anyBelow n (absent h taken) ≡ false = no-true _ (λ z. let w = any-witness n (absent h taken) z in a .1 (w .0) (absent-given n h taken (w .0) (w .1) (w .2))) in
@@ -187,8 +189,8 @@ module _ (n : ℕ) (few : n ≤ 32) (good : ℕ → Bool) (ok : ℕ → Type 0) 
           let t : ltb b 32 ≡ false = le-ltb b 32 (omega (arith, a .0)) in
           rw t (⊎-elim (λ y. inl (no h l y)) (λ y. inr (y, l)) (and-fails (good h) (outageTurn n good k h) g))
 
-  outage-beats : (r h : ℕ) → h < 2 ^ n → outageTurn n good (halves r) h ≡ false → Beats n ok r (outageRule r h) h
-  unfolding halves outageRule Beats OutageRule afterTurns outageTurn
+  outage-beats : (r h : ℕ) → h < 2 ^ n → outageTurn n good (halves r) h ≡ false → Beats n ok r (outageMoves r h) h
+  unfolding halves outageMoves Beats OutageRule afterTurns outageTurn
   outage-beats zero h l e = clash refl e
   outage-beats (suc r) h l e =
       let k = suc (halves r) in
@@ -216,11 +218,11 @@ module _ (n : ℕ) (few : n ≤ 32) (good : ℕ → Bool) (ok : ℕ → Type 0) 
           let t : crewTurn n good (suc (halves r)) (without h m) m ≡ true =
           ⊎-elim (λ z. clash q z) (λ z. of-not-false _ z) (and-fails (has h m) _ f) in
           let s = saved (halves r) (without h m) m (without-lt n h m l) t in
-          let b = reply (halves r) (without h m) m in
+          let b = savingReply (halves r) (without h m) m in
           let e : w .rule .0 ≡ m = w .starts in
           let reached = w .beats .1 b (subst⁻¹ (λ (o : ℕ). CrewMay n (without h o) o b) e (s .allowed)) in
           ⊎-elim (λ z. z (subst⁻¹ (λ (o : ℕ). ok (afterTurns h o b)) e (s .plan)))
-          (λ z. rules-clash n ok r (afterTurns h (w .rule .0) b) (crewRule r (afterTurns h (w .rule .0) b)) (w .rule .1 b)
+          (λ z. rules-clash n ok r (afterTurns h (w .rule .0) b) (crewReplies r (afterTurns h (w .rule .0) b)) (w .rule .1 b)
           (crew-holds r (afterTurns h (w .rule .0) b) (subst⁻¹ (λ (o : ℕ). afterTurns h o b < 2 ^ n) e (s .small))
           (subst⁻¹ (λ (o : ℕ). outageTurn n good (halves r) (afterTurns h o b) ≡ true) e (s .goes))) z)
           reached
@@ -232,13 +234,13 @@ module _ (n : ℕ) (few : n ≤ 32) (good : ℕ → Bool) (ok : ℕ → Type 0) 
 
   -- the outage's answer, by the half-rounds
   outage-answer : (r h : ℕ) → h < 2 ^ n → outageTurn n good (halves r) h ≡ false → OutageAnswer n ok r h (firstMove n good (halves r - 1) h)
-  unfolding halves outageTurn Starts OutageRule outageRule
+  unfolding halves outageTurn Starts OutageRule outageMoves
   outage-answer zero h l e = clash refl e
   outage-answer (suc r) h l e =
       let one : suc (suc (halves r)) - 1 ≡ suc (halves r) = omega arith in
       subst⁻¹ (λ (k : ℕ). OutageAnswer n ok (suc r) h (firstMove n good k h)) one
       (record {
-        forces = record { rule = outageRule (suc r) h; starts = refl; beats = outage-beats (suc r) h l e };
+        forces = record { rule = outageMoves (suc r) h; starts = refl; beats = outage-beats (suc r) h l e };
         lowest-one = λ m less. lower-fails r h m l less;
       })
 
@@ -251,7 +253,7 @@ module _ (n : ℕ) (few : n ≤ 32) (good : ℕ → Bool) (ok : ℕ → Type 0) 
       twice = halves-twice r
 
       crew : outageTurn n good (2 * r) h ≡ true → WonBy n ok r h (winnerOf n good r h)
-      crew e = rw e (record { rule = crewRule r h; holds = crew-holds r h l (rw twice e) })
+      crew e = rw e (record { rule = crewReplies r h; holds = crew-holds r h l (rw twice e) })
 
       outage : outageTurn n good (2 * r) h ≡ false → WonBy n ok r h (winnerOf n good r h)
       outage e =

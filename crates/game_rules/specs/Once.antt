@@ -7,7 +7,8 @@ use Rattle.base_laws.specs.Bools.{lt-or-le}
 use Rattle.game_rules.specs.declared.Lead.{Lead}
 use Rattle.game_rules.specs.declared.Winner.{Winner}
 use Rattle.game_rules.specs.declared.Winner.the-variants.{Crew, Outage}
-use Rattle.game_rules.specs.Game.{leadBy, CrewWins, OutageWins, OutageAnswer, WonBy, not-both}
+use Rattle.game_rules.specs.Definitions.{leadBy, CrewWins, OutageWins, OutageAnswer, WonBy}
+use Rattle.game_rules.specs.Game.{not-both}
 
 module _ (n : ℕ) (ok : ℕ → Type 0) (k h : ℕ) where
   first-unique : (o m : ℕ) → OutageAnswer n ok k h o → OutageAnswer n ok k h m → o ≡ m

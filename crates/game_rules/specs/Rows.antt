@@ -3,11 +3,11 @@ use Prim.Native.Nat.{ℕ}
 use mathlib.Core.Bool.{Bool, _||_}
 use mathlib.Core.Path.{_≡_, refl}
 use lib.Dec.{eqb}
-use Rattle.base_laws.specs.Below.{allBelow, anyBelow, lowest}
+use Rattle.base_laws.specs.Definitions.{allBelow, anyBelow, lowest}
 use Rattle.game_rules.specs.declared.Winner.{Winner}
 use Rattle.game_rules.specs.declared.Winner.the-variants.{Crew, Outage}
 use Rattle.game_rules.specs.declared.Lead.the-variants.{Taking, Passing}
-use Rattle.game_rules.specs.Game.{leadBy}
+use Rattle.game_rules.specs.Definitions.{leadBy}
 use Rattle.game_rules.specs.Turns.{outageTurn, crewTurn, wins, firstMove, winnerOf}
 
 -- the outage wins by taking node o first

@@ -3,11 +3,10 @@
 use Prim.Native.Nat.{ℕ, zero, suc, _-_, _*_}
 use mathlib.Core.Bool.{Bool, true, cond, not, _&&_, _||_}
 use lib.Dec.{eqb}
-use Rattle.base_laws.specs.Below.{allBelow, anyBelow, lowest}
-use Rattle.base_laws.specs.Masks.{has, with, without}
+use Rattle.base_laws.specs.Definitions.{allBelow, anyBelow, lowest, has, with, without}
 use Rattle.game_rules.specs.declared.Winner.{Winner}
 use Rattle.game_rules.specs.declared.Winner.the-variants.{Crew, Outage}
-use Rattle.game_rules.specs.Game.{leadBy}
+use Rattle.game_rules.specs.Definitions.{leadBy}
 
 -- node b is absent, and not the one just taken
 abbrev pub absent : ℕ → ℕ → ℕ → Bool

@@ -9,11 +9,11 @@ use native.Mathlib.Nat.{lt-of-lt-of-le}
 use lib.Pow.{pow-mono}
 use borrow.Author.Tests.{eq-eqb, ne-eqb, lt-ltb}
 use Rattle.base_laws.specs.Bools.{and-both, and-fails-left, and-fails-right, or-neither, or-holds, not-of-false, not-of-true, of-not-true}
-use Rattle.base_laws.specs.Below.{allBelow, anyBelow, lowest, all-at, all-fails, any-at, any-none-of, lowest-at}
-use Rattle.base_laws.specs.Masks.{has, without}
+use Rattle.base_laws.specs.Definitions.{allBelow, anyBelow, lowest, has, without}
+use Rattle.base_laws.specs.Below.{all-at, all-fails, any-at, any-none-of, lowest-at}
 use Rattle.game_rules.specs.declared.Lead.the-variants.{Taking, Passing}
 use Rattle.game_rules.specs.declared.Winner.the-variants.{Crew, Outage}
-use Rattle.game_rules.specs.Game.{leadBy}
+use Rattle.game_rules.specs.Definitions.{leadBy}
 use Rattle.game_rules.specs.Turns.{absent, outageTurn, crewTurn, saves, survives, wins, firstMove, winnerOf}
 use Rattle.game_turns.specs.Table.{planAt}
 

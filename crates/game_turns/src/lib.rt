@@ -5,7 +5,7 @@ use game_rules::Winner;
 ghost use mathlib.Core.Path.{_≡_};
 ghost use Prim.Native.Nat.{_≤_, _<_, _^_};
 ghost use Rattle.game_rules.specs.Turns.{absent as Absent·test, outageTurn, crewTurn, winnerOf};
-ghost use Rattle.base_laws.specs.Below.{anyBelow};
+ghost use Rattle.base_laws.specs.Definitions.{anyBelow};
 ghost use Rattle.game_turns.specs.Table as Table;
 
 // With these nodes held there is a plan.

@@ -36,28 +36,28 @@ fn room_weight(mem: &[u32; 1024], i: u32) -> u32
     if hint_memory::number(mem, hint_memory::ROOM, i) == 0 {
         return BEYOND;
     }
-    if 0 < hint_owners::free_room(mem, i) {
+    if 0 < hint_memory::owners::free_room(mem, i) {
         return 0;
     }
     let n = hint_memory::lowest(hint_memory::nodes(mem, hint_memory::SPARE, i));
-    hint_memory::less(zero(mem), hint_owners::level_with(mem, i, n))
+    hint_memory::less(zero(mem), hint_memory::owners::level_with(mem, i, n))
 }
 
 // The level of shard i's need.
 fn need_level(mem: &[u32; 1024], i: u32) -> u32
     ensures { λ r. ⌜ r ≤ 131072 ⌝ }
 {
-    if hint_owners::lack(mem, i) == 0 {
-        return hint_owners::highest(mem, i, hint_memory::nodes(mem, hint_memory::OWED, i));
+    if hint_memory::owners::lack(mem, i) == 0 {
+        return hint_memory::owners::highest(mem, i, hint_memory::nodes(mem, hint_memory::OWED, i));
     }
-    let nodes = hint_owners::unused(mem, i);
+    let nodes = hint_memory::owners::unused(mem, i);
     if nodes == 0 {
         return hint_memory::larger(
             zero(mem) + BEYOND,
-            hint_owners::highest(mem, i, hint_memory::nodes(mem, hint_memory::OWED, i)),
+            hint_memory::owners::highest(mem, i, hint_memory::nodes(mem, hint_memory::OWED, i)),
         );
     }
-    hint_owners::least_level(mem, i, nodes)
+    hint_memory::owners::least_level(mem, i, nodes)
 }
 
 // The weight of shard i's need.
@@ -74,7 +74,7 @@ fn need_weight(mem: &[u32; 1024], i: u32, room: u32) -> u32
 pub(crate) fn rooms(h: &mut [u16; 16], mem: &[u32; 1024])
     ensures { λ r. ⌜ length (now (h .exit)) ≡ length (now (h .entry)) ⌝ }
 {
-    let count = hint_owners::shards(mem);
+    let count = hint_memory::owners::shards(mem);
     let mut i: u32 = 0;
     while i < count {
         h[i as usize] = short(room_weight(mem, i));
@@ -86,7 +86,7 @@ pub(crate) fn rooms(h: &mut [u16; 16], mem: &[u32; 1024])
 pub(crate) fn wants(u: &mut [u16; 16], mem: &[u32; 1024], rooms: &[u16; 16])
     ensures { λ r. ⌜ length (now (u .exit)) ≡ length (now (u .entry)) ⌝ }
 {
-    let count = hint_owners::shards(mem);
+    let count = hint_memory::owners::shards(mem);
     let mut i: u32 = 0;
     while i < count {
         u[i as usize] = short(need_weight(mem, i, wide(rooms[i as usize])));
@@ -116,7 +116,7 @@ fn fixed_weight(mem: &[u32; 1024], rooms: &[u16; 16], n: u32) -> u32
     let i = hint_memory::number(mem, hint_memory::OWNER, n) % 16;
     hint_memory::less(
         BASE + hint_memory::number(mem, hint_memory::LEVEL, n),
-        wide(rooms[i as usize]) + hint_owners::level_with(mem, i, n),
+        wide(rooms[i as usize]) + hint_memory::owners::level_with(mem, i, n),
     )
 }
 
@@ -166,7 +166,10 @@ pub(crate) fn weigh_row(
     while m != 0 {
         let n = hint_memory::lowest(m);
         let at = i % 16 * 16 + set_of(sets, n);
-        w[at as usize] = short(hint_memory::less(level, hint_owners::level_with(mem, i, n)));
+        w[at as usize] = short(hint_memory::less(
+            level,
+            hint_memory::owners::level_with(mem, i, n),
+        ));
         m = hint_memory::without_lowest(m);
     }
 }

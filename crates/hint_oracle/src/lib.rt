@@ -1,6 +1,8 @@
 // The placement oracle: it keeps a placement of least weight among those that have all pairs taken for good, and levels
 // that say why it is the least, as a minimum cost flow by shortest ways. It is proved safe and ending, and its answers are claims: the
 // search that asks believes none of them, and proves each by the weights.
+mod claims;
+mod start;
 mod levels; // levels.rt: the levels as weights
 
 ghost use mathlib.Core.Path.{_≡_};
@@ -18,21 +20,21 @@ pub fn solve(
 ) -> u32
     ensures { λ r. ⌜ r ≤ 65535 ⌝ }
 {
-    hint_start::start(mem, sets, needs, caps, costs, idle)
+    crate::start::start(mem, sets, needs, caps, costs, idle)
 }
 
 // 0: the shard has the node for good. 1: claims that there is no room for it. 2: claims that the weights exclude it. 3: neither.
 pub fn take(mem: &mut [u32; 1024], shard: u32, node: u32, most: u32) -> u32
     ensures { λ r. ⌜ r ≤ 3 ⌝ }
 {
-    hint_claims::claim(mem, shard % 16, node % 32, most)
+    crate::claims::claim(mem, shard % 16, node % 32, most)
 }
 
 // 0: the shard's list is ended for good. 2: claims that the weights exclude that. 3: neither.
 pub fn close(mem: &mut [u32; 1024], shard: u32, most: u32) -> u32
     ensures { λ r. ⌜ r ≤ 3 ⌝ }
 {
-    hint_claims::close(mem, shard % 16, most)
+    crate::claims::close(mem, shard % 16, most)
 }
 
 // The present weights, or those of the list that could not be ended: of shards for their needs and rooms, up to the last that may have
@@ -53,7 +55,7 @@ pub fn weigh(
     levels::rooms(rooms, mem);
     levels::wants(wants, mem, rooms);
     levels::nodes(nodes, mem, rooms);
-    let count = hint_owners::shards(mem);
+    let count = hint_memory::owners::shards(mem);
     let mut i: u32 = 0;
     while i < count {
         levels::weigh_row(pairs, mem, sets, wants, rooms, i);

@@ -94,12 +94,12 @@ fn reach_place(mem: &mut [u32; 1024], v: u32, from: u32, further: u32) {
 // What nowhere reaches by the room of shard i: only nodes that stay cost it less there.
 fn room_reaches(mem: &mut [u32; 1024], i: u32, level: u32) {
     let m = fresh(mem) & hint_memory::nodes(mem, hint_memory::STAY, i);
-    if m != 0 && 0 < hint_owners::free_room(mem, i) {
+    if m != 0 && 0 < hint_memory::owners::free_room(mem, i) {
         reach_all(
             mem,
             m,
             hint_memory::NOWHERE,
-            hint_owners::room_of(i),
+            hint_memory::owners::room_of(i),
             0,
             level,
         );
@@ -108,7 +108,7 @@ fn room_reaches(mem: &mut [u32; 1024], i: u32, level: u32) {
 
 // By all rooms.
 fn rooms_reach(mem: &mut [u32; 1024], level: u32) {
-    let count = hint_owners::shards(mem);
+    let count = hint_memory::owners::shards(mem);
     let mut i: u32 = 0;
     while i < count {
         room_reaches(mem, i, level);
@@ -146,7 +146,7 @@ fn leave_nowhere(mem: &mut [u32; 1024]) {
 
 // What the loss of node x by shard i's need reaches.
 fn leave_need(mem: &mut [u32; 1024], x: u32, i: u32) {
-    let level = hint_owners::held_level(mem, x);
+    let level = hint_memory::owners::held_level(mem, x);
     let nodes = hint_memory::nodes(mem, hint_memory::PEERS, x)
         | !hint_memory::nodes(mem, hint_memory::USED, i);
     shard_reaches(mem, i, nodes, x, i, level);
@@ -154,10 +154,17 @@ fn leave_need(mem: &mut [u32; 1024], x: u32, i: u32) {
 
 // What the loss of node x by shard i's room reaches.
 fn leave_room(mem: &mut [u32; 1024], x: u32, i: u32) {
-    let level = hint_owners::held_level(mem, x);
+    let level = hint_memory::owners::held_level(mem, x);
     let up = hint_memory::number(mem, hint_memory::LEVEL, hint_memory::NOWHERE);
     reach_place(mem, hint_memory::NOWHERE, x, hint_memory::less(up, level));
-    shard_reaches(mem, i, 0xffffffff, x, hint_owners::room_of(i), level);
+    shard_reaches(
+        mem,
+        i,
+        0xffffffff,
+        x,
+        hint_memory::owners::room_of(i),
+        level,
+    );
     hint_memory::add_nodes(
         mem,
         hint_memory::DONE,
@@ -188,7 +195,7 @@ fn leave_node(mem: &mut [u32; 1024], x: u32) {
     if hint_memory::nodes(mem, hint_memory::GOAL, 0) & hint_memory::bit(x) != 0 {
         let further = hint_memory::less(
             hint_memory::number(mem, hint_memory::AIM, 0),
-            hint_owners::held_level(mem, x),
+            hint_memory::owners::held_level(mem, x),
         );
         reach_place(mem, hint_memory::END, x, further);
         if further == 0 {
@@ -337,7 +344,7 @@ fn release_way(mem: &mut [u32; 1024], v: u32) {
             return;
         }
         if y < hint_memory::NOWHERE {
-            hint_owners::release(mem, y);
+            hint_memory::owners::release(mem, y);
         }
         y = hint_memory::number(mem, hint_memory::FROM, y);
         round += 1;
@@ -355,7 +362,7 @@ fn give_way(mem: &mut [u32; 1024], v: u32) -> u32
             return round;
         }
         if y < hint_memory::NOWHERE {
-            hint_owners::give(mem, y, hint_memory::number(mem, hint_memory::TAKER, y));
+            hint_memory::owners::give(mem, y, hint_memory::number(mem, hint_memory::TAKER, y));
         }
         y = hint_memory::number(mem, hint_memory::FROM, y);
         round += 1;
@@ -421,7 +428,7 @@ fn place_idle(mem: &mut [u32; 1024], nodes: u32) {
     while m != 0 {
         let n = hint_memory::lowest(m);
         if hint_memory::number(mem, hint_memory::LEVEL, n) + c == up {
-            hint_owners::give(mem, n, hint_memory::NOWHERE);
+            hint_memory::owners::give(mem, n, hint_memory::NOWHERE);
         }
         m = hint_memory::without_lowest(m);
     }

@@ -11,14 +11,15 @@ use lib.Count.{ones, onesIn}
 use lib.Dec.{eqb, leb, ltb}
 use borrow.Author.Tests.{eqb-true, eq-eqb, le-leb, lt-ltb, ltb-true}
 use Rattle.base_laws.specs.Bools.{clash, and-both, and-left, and-right, or-holds, of-not-true}
-use Rattle.base_laws.specs.Below.{allBelow, anyBelow, countBelow, all-at}
-use Rattle.base_laws.specs.Masks.{count, minus, subset, subset-le, and-subset-right, count-subset}
-use Rattle.base_sums.specs.Sums.{sumBelow, sum-cong}
-use Rattle.base_sums.specs.Lists.{listFrom, listBefore}
-use Rattle.settings_values.specs.Settings.{shards, subgroup, need, cap}
-use Rattle.message_format.specs.Rows.{shardApart}
-use Rattle.place_groups.specs.Placements.{meetsSet, setsIn, shardValid, groupValidAt, groupValid, groupMovesAt, groupMoves, groupStaysAt, groupStays, LeastMoves}
-use Rattle.place_groups.specs.Chosen.{ofGroup, nodesIn, NotLater, Chosen, decided-at}
+use Rattle.base_laws.specs.Definitions.{allBelow, anyBelow, countBelow, count, minus, subset}
+use Rattle.base_laws.specs.Below.{all-at}
+use Rattle.base_laws.specs.Masks.{subset-le, and-subset-right, count-subset}
+use Rattle.base_sum_laws.specs.Definitions.{sumBelow, listFrom, listBefore}
+use Rattle.base_sum_laws.specs.Sums.{sum-cong}
+use Rattle.settings_values.specs.Definitions.{shards, subgroup, need, cap}
+use Rattle.message_format.specs.Definitions.{shardApart}
+use Rattle.place_groups.specs.Definitions.{meetsSet, setsIn, shardValid, groupValidAt, groupValid, groupMovesAt, groupMoves, groupStaysAt, groupStays, LeastMoves, ofGroup, nodesIn, NotLater, Chosen}
+use Rattle.place_groups.specs.Chosen.{decided-at}
 use Rattle.history_cases.specs.Placed.{three, everywhere, OneGroup, placed-at, one-group}
 
 -- ---- four nodes, two of each of two sets, all held; one shard that needs two sets and may have four nodes had them all

@@ -9,21 +9,14 @@ use lib.Count.{ones, onesIn}
 use lib.Dec.{eqb}
 use borrow.Author.Tests.{eq-eqb}
 use Rattle.base_laws.specs.Bools.{clash, or-holds, of-not-true}
-use Rattle.base_laws.specs.Below.{allBelow, anyBelow, lowest, all-at}
-use Rattle.base_laws.specs.Masks.{count}
-use Rattle.base_laws.specs.Tables.{tabulate}
-use Rattle.base_laws.specs.Positions.{pairNotAfter}
-use Rattle.message_format.specs.Chain.{place, following}
-use Rattle.message_format.specs.Messages.{bodyWord, bodyOf, contentsOf}
-use Rattle.place_groups.specs.Placements.{groupValid, groupMoves, Impossible, LeastMoves}
-use Rattle.place_groups.specs.Chosen.{Chosen}
+use Rattle.base_laws.specs.Definitions.{allBelow, anyBelow, lowest, count, tabulate, pairNotAfter}
+use Rattle.base_laws.specs.Below.{all-at}
+use Rattle.message_format.specs.Definitions.{place, following, bodyWord, bodyOf, contentsOf}
+use Rattle.place_groups.specs.Definitions.{groupValid, groupMoves, Impossible, LeastMoves, Chosen}
 use Rattle.report_views.specs.declared.Reason.the-variants.{NoView, NoMajority, TooFew, NoHolder}
 use Rattle.report_views.specs.declared.Quorum.the-variants.{Met, Short}
-use Rattle.report_views.specs.Logs.{pos, endOf, runsFrom, runsOf, reaches, holds, hasUpdate}
-use Rattle.report_views.specs.Reports.{slot, reportOf, maskAt}
-use Rattle.report_views.specs.Quorums.{candidate, greatest, best, target, able, holder, majority, firstUnheld, quorumOf}
-use Rattle.report_views.specs.Cuts.{runsTo, sharedAfter, cutFrom, cut}
-use Rattle.report_views.specs.Empty.{noView, noTermination}
+use Rattle.report_views.specs.Definitions.{pos, endOf, runsFrom, runsOf, reaches, holds, hasUpdate, slot, reportOf, maskAt, candidate, greatest, best, target, able, holder, majority, firstUnheld, quorumOf, runsTo, sharedAfter, cutFrom, noView, noTermination}
+use Rattle.report_views.specs.Cuts.{cut}
 use Rattle.history_cases.specs.Runs.{caseSettings, settingsWith, desk, view7, sixMembers, logOf}
 use Rattle.history_cases.specs.Placed.{three, planA, a-valid, a-moves, a-least, a-chosen, i-none}
 use Rattle.history_cases.specs.Caps.{capOfFour, four-chosen, four-move, four-kept, prefixSettings, prefix-chosen}

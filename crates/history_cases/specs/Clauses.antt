@@ -7,27 +7,19 @@ use mathlib.Core.List.{List, [], _∷_, _++_}
 use mathlib.Core.Path.{_≡_, refl}
 use lib.Count.{ones, onesIn}
 use lib.ListN.{replicate}
-use Rattle.base_laws.specs.Below.{allBelow, anyBelow, countBelow, lowest}
-use Rattle.base_laws.specs.Tables.{tabulate}
-use Rattle.base_laws.specs.Positions.{pairNotAfter}
-use Rattle.base_sums.specs.Sums.{sumBelow}
-use Rattle.settings_values.specs.Settings.{cap}
-use Rattle.message_format.specs.Chain.{place, following}
-use Rattle.message_format.specs.Messages.{bodyWord, bodyOf, contentsOf}
-use Rattle.message_format.specs.Rows.{shardApart}
-use Rattle.place_groups.specs.Placements.{meetsSet, setsIn, shardValid, groupValidAt, groupValid, groupMovesAt, groupMoves, groupStaysAt, groupStays}
+use Rattle.base_laws.specs.Definitions.{allBelow, anyBelow, countBelow, lowest, tabulate, pairNotAfter}
+use Rattle.base_sum_laws.specs.Definitions.{sumBelow}
+use Rattle.settings_values.specs.Definitions.{cap}
+use Rattle.message_format.specs.Definitions.{place, following, bodyWord, bodyOf, contentsOf, shardApart}
+use Rattle.place_groups.specs.Definitions.{meetsSet, setsIn, shardValid, groupValidAt, groupValid, groupMovesAt, groupMoves, groupStaysAt, groupStays}
 use Rattle.report_views.specs.declared.Layout.{Layout}
 use Rattle.report_views.specs.declared.Termination.{Termination}
 use Rattle.report_views.specs.declared.Reason.the-variants.{NoView, NoMajority, TooFew, NoHolder, NoPlacement}
 use Rattle.report_views.specs.declared.Quorum.the-variants.{Met, Short}
-use Rattle.report_views.specs.Empty.{noTermination}
-use Rattle.report_views.specs.Logs.{pos, start, endOf, runsFrom, runsOf, reaches, holds, hasUpdate}
-use Rattle.report_views.specs.Reports.{slot, reportOf}
-use Rattle.report_views.specs.Quorums.{candidate, greatest, best, target, able, holder, majority, firstUnheld, quorumOf, numberOf, valueOf}
-use Rattle.report_views.specs.Standings.{holdersOf, targetsOf, standingOf}
-use Rattle.report_views.specs.Soundness.{allMoves}
+use Rattle.report_views.specs.Definitions.{noTermination, pos, start, endOf, runsFrom, runsOf, reaches, holds, hasUpdate, slot, reportOf, candidate, greatest, best, target, able, holder, majority, firstUnheld, quorumOf, numberOf, valueOf, holdersOf, targetsOf, allMoves, runsTo, sharedAfter, cutFrom}
+use Rattle.report_views.specs.Standings.{standingOf}
 use Rattle.report_views.specs.Updates.{updatesAfter, updatesIn, updatesOf, thoseOf, upTo, keptUpdates, fetchedUpdates}
-use Rattle.report_views.specs.Cuts.{runsTo, sharedAfter, cutFrom, cut}
+use Rattle.report_views.specs.Cuts.{cut}
 use Rattle.history_cases.specs.Runs.{caseSettings, settingsWith, reportUnder, caseReport, noRuns, run1, twoRuns1, slotOf, deskWithReports, desk, view7, logOf}
 
 -- node 1 ends with (6, 8); node 4, of the same shard, reports view 6 and ends with (6, 9)
@@ -169,8 +161,8 @@ abbrev sharedSet : List ℕ
 sharedSet = 3 ∷ 2 ∷ 1 ∷ 1 ∷ 0 ∷ 0 ∷ 1 ∷ 2 ∷ []
 
 -- two shards of one subgroup, and of subgroups 0 and 3, each of which needs one node
-abbrev oneGroup : List ℕ
-oneGroup = 4 ∷ 2 ∷ 1 ∷ 2 ∷ 0 ∷ 0 ∷ 1 ∷ 1 ∷ 1 ∷ 1 ∷ []
+abbrev twoShards : List ℕ
+twoShards = 4 ∷ 2 ∷ 1 ∷ 2 ∷ 0 ∷ 0 ∷ 1 ∷ 1 ∷ 1 ∷ 1 ∷ []
 
 abbrev pub twoGroups : List ℕ
 twoGroups = 4 ∷ 2 ∷ 1 ∷ 2 ∷ 0 ∷ 0 ∷ 1 ∷ 1 ∷ 1 ∷ 769 ∷ []
@@ -204,13 +196,13 @@ pub record PlacementClauses : Type 0 where
   pub above-cap : groupValid capOfThree 15 (λ s. 15) 0 ≡ false
   pub sets-within-cap : groupValid capOfThree 15 (λ s. 3) 0 ≡ false
   -- no node in two shards of a subgroup, but in shards of two
-  pub shared-node : groupValid oneGroup 15 (pairOfMasks 1 1) 0 ≡ false
+  pub shared-node : groupValid twoShards 15 (pairOfMasks 1 1) 0 ≡ false
   pub shared-between : groupValid twoGroups 15 (pairOfMasks 1 1) 0 ≡ true
   -- the shards of another subgroup play no part
   pub other-group : groupValid twoGroups 15 (pairOfMasks 1 0) 0 ≡ true
   pub own-group : groupValid twoGroups 15 (pairOfMasks 1 0) 3 ≡ false
   -- the last shard counts too
-  pub last-shard : groupValid oneGroup 15 (pairOfMasks 1 0) 0 ≡ false
+  pub last-shard : groupValid twoShards 15 (pairOfMasks 1 0) 0 ≡ false
   -- an old shard of three, which needs two: what came counts, not what left
   pub left : groupMoves oneShard (λ s. 7) (λ s. 3) 0 ≡ 0
   pub came : groupMoves oneShard (λ s. 7) (λ s. 9) 0 ≡ 1
@@ -222,11 +214,11 @@ pub record PlacementClauses : Type 0 where
   pub group-moves-3 : groupMoves twoGroups (pairOfMasks 1 1) (pairOfMasks 2 6) 3 ≡ 2
   -- a stay is a placed node that was a member of that shard; the stays of a subgroup are those of its shards
   pub stays : groupStays capOfThree (λ s. 6) (λ s. 7) 0 ≡ 2
-  pub group-stays : groupStays oneGroup (pairOfMasks 5 10) (pairOfMasks 7 8) 0 ≡ 3
+  pub group-stays : groupStays twoShards (pairOfMasks 5 10) (pairOfMasks 7 8) 0 ≡ 3
   pub group-stays-0 : groupStays twoGroups (pairOfMasks 5 10) (pairOfMasks 7 8) 0 ≡ 2
   pub group-stays-3 : groupStays twoGroups (pairOfMasks 5 10) (pairOfMasks 7 8) 3 ≡ 1
   -- a node that went to another shard moved
-  pub changed-shard : groupStays oneGroup (pairOfMasks 1 2) (pairOfMasks 2 1) 0 ≡ 0
+  pub changed-shard : groupStays twoShards (pairOfMasks 1 2) (pairOfMasks 2 1) 0 ≡ 0
   -- the moves of all subgroups, up to subgroup 3, from the old view to the new
   pub all-moves : allMoves twoGroups (layoutWith 1 1) (layoutWith 2 6) ≡ 3
 

@@ -8,25 +8,14 @@ use native.Mathlib.Omega.{arith}
 use lib.Count.{ones, onesIn}
 use lib.ListN.{length, replicate}
 use Rattle.base_laws.specs.Bools.{clash}
-use Rattle.base_laws.specs.Below.{allBelow, anyBelow, lowest}
-use Rattle.base_laws.specs.Masks.{has}
-use Rattle.base_laws.specs.Positions.{pairNotAfter}
-use Rattle.base_laws.specs.Tables.{tabulate}
-use Rattle.base_ids.specs.Order.{notAfter}
-use Rattle.base_ids.specs.Refusals.{unless, unlessAt, firstOf}
-use Rattle.message_format.specs.Chain.{place, following, row5, row8}
-use Rattle.message_format.specs.Records.{precedes, shardsWhere}
-use Rattle.message_format.specs.Rows.{row6, viewOk, row7, kindOk, plain, kindAt, shardAt, surplus, sequenceAt, complete, shardApart, row10At, row10, position, viewFits, legal, row11At}
-use Rattle.message_format.specs.Messages.{bodyWord, bodyOf, contentsOf, recordsRefusal, headRefusal, messageRefusal}
+use Rattle.base_laws.specs.Definitions.{allBelow, anyBelow, lowest, has, pairNotAfter, tabulate}
+use Rattle.base_ids.specs.Definitions.{notAfter, unless, unlessAt, firstOf}
+use Rattle.message_format.specs.Definitions.{place, following, row5, row8, precedes, shardsWhere, row6, viewOk, row7, kindOk, plain, kindAt, shardAt, surplus, sequenceAt, complete, shardApart, row10At, row10, isPosition, viewFits, legal, row11At, bodyWord, bodyOf, contentsOf, recordsRefusal, headRefusal, messageRefusal}
 use Rattle.report_views.specs.declared.Layout.{Layout}
 use Rattle.report_views.specs.declared.Termination.{Termination}
 use Rattle.report_views.specs.declared.Quorum.the-variants.{Met}
-use Rattle.report_views.specs.Empty.{noView, noTermination}
-use Rattle.report_views.specs.Logs.{pos, start, endOf, reaches, holds, hasUpdate}
-use Rattle.report_views.specs.Reports.{slot, reportOf, maskAt}
-use Rattle.report_views.specs.Slots.{sameView, row12, sameTermination, row13, termKept, slotOk, slotsOk}
-use Rattle.report_views.specs.Quorums.{candidate, greatest, best, target, able, holder, majority, firstUnheld, quorumOf}
-use Rattle.history_claims.specs.History.{History, KeepsRule, Full, True, Listed, Supposed, numberAt}
+use Rattle.report_views.specs.Definitions.{noView, noTermination, pos, start, endOf, reaches, holds, hasUpdate, slot, reportOf, maskAt, sameView, row12, sameTermination, row13, termKept, slotOk, slotsOk, candidate, greatest, best, target, able, holder, majority, firstUnheld, quorumOf}
+use Rattle.history_laws.specs.Definitions.{History, KeepsRule, Full, True, Listed, Supposed, numberAt}
 use Rattle.history_cases.specs.Told.{toldBy, overlapsTest, risesTest, rule-of, full-of, trueTest, reportsTest, reports-of, true-somewhere, listed-at}
 use Rattle.history_cases.specs.Supposing.{oneShardSettings, viewOfAll, reportOfAll, deskOfThree, threeViews, historyOfThree, supposedThree, slots-three, met-three, all-logged}
 
@@ -117,7 +106,7 @@ older-supposed =
     }
 
 pub older-needed : OlderNeeded
-unfolding deskOfTwo ones onesIn allBelow anyBelow lowest tabulate pairNotAfter unless unlessAt firstOf place following row5 row8 precedes shardsWhere row6 viewOk row7 kindOk plain kindAt shardAt surplus sequenceAt complete shardApart row10At row10 position viewFits legal row11At bodyWord bodyOf contentsOf recordsRefusal headRefusal messageRefusal slot reportOf sameView row12 sameTermination row13 termKept slotOk slotsOk endOf reaches holds hasUpdate candidate greatest best target able holder majority firstUnheld quorumOf
+unfolding deskOfTwo ones onesIn allBelow anyBelow lowest tabulate pairNotAfter unless unlessAt firstOf place following row5 row8 precedes shardsWhere row6 viewOk row7 kindOk plain kindAt shardAt surplus sequenceAt complete shardApart row10At row10 isPosition viewFits legal row11At bodyWord bodyOf contentsOf recordsRefusal headRefusal messageRefusal slot reportOf sameView row12 sameTermination row13 termKept slotOk slotsOk endOf reaches holds hasUpdate candidate greatest best target able holder majority firstUnheld quorumOf
 older-needed =
     record {
       supposed = older-supposed;
@@ -141,7 +130,7 @@ pub record TerminationNeeded : Type 0 where
   pub past : notAfter (pos 6 3) (target (viewOfAll 6 14) endedEarly 6 deskOfThree 0) ≡ false
 
 pub termination-needed : TerminationNeeded
-unfolding deskOfThree ones onesIn allBelow anyBelow lowest tabulate pairNotAfter unless unlessAt firstOf place following row5 row8 precedes shardsWhere row6 viewOk row7 kindOk plain kindAt shardAt surplus sequenceAt complete shardApart row10At row10 position viewFits legal row11At bodyWord bodyOf contentsOf recordsRefusal headRefusal messageRefusal slot reportOf sameView row12 sameTermination row13 termKept slotOk slotsOk endOf reaches holds hasUpdate candidate greatest best target able holder majority firstUnheld quorumOf
+unfolding deskOfThree ones onesIn allBelow anyBelow lowest tabulate pairNotAfter unless unlessAt firstOf place following row5 row8 precedes shardsWhere row6 viewOk row7 kindOk plain kindAt shardAt surplus sequenceAt complete shardApart row10At row10 isPosition viewFits legal row11At bodyWord bodyOf contentsOf recordsRefusal headRefusal messageRefusal slot reportOf sameView row12 sameTermination row13 termKept slotOk slotsOk endOf reaches holds hasUpdate candidate greatest best target able holder majority firstUnheld quorumOf
 termination-needed =
     record {
       supposed = supposedThree;

@@ -10,14 +10,14 @@ use lib.Dec.{eqb, leb, ltb}
 use lib.Count.{ones, onesIn}
 use borrow.Author.Tests.{eqb-true, eq-eqb, le-leb, ltb-true}
 use Rattle.base_laws.specs.Bools.{clash, and-both, and-left, and-right, or-holds, of-not-true, lt-or-le}
-use Rattle.base_laws.specs.Below.{allBelow, anyBelow, countBelow, all-at}
-use Rattle.base_laws.specs.Masks.{count, subset, disjoint, subset-le}
-use Rattle.base_sums.specs.Sums.{sumBelow}
-use Rattle.settings_values.specs.Settings.{shards, subgroup, need, cap}
-use Rattle.message_format.specs.Rows.{shardApart}
-use Rattle.place_groups.specs.Placements.{meetsSet, setsIn, shardValid, groupValid, groupValidAt, groupMoves, groupMovesAt, groupStays, groupStaysAt, Impossible, LeastMoves}
-use Rattle.place_groups.specs.Chosen.{ofGroup, nodesIn, Chosen}
-use Rattle.report_views.specs.Reports.{maskAt}
+use Rattle.base_laws.specs.Definitions.{allBelow, anyBelow, countBelow, count, subset, disjoint}
+use Rattle.base_laws.specs.Below.{all-at}
+use Rattle.base_laws.specs.Masks.{subset-le}
+use Rattle.base_sum_laws.specs.Definitions.{sumBelow}
+use Rattle.settings_values.specs.Definitions.{shards, subgroup, need, cap}
+use Rattle.message_format.specs.Definitions.{shardApart}
+use Rattle.place_groups.specs.Definitions.{meetsSet, setsIn, shardValid, groupValid, groupValidAt, groupMoves, groupMovesAt, groupStays, groupStaysAt, Impossible, LeastMoves, ofGroup, nodesIn, Chosen}
+use Rattle.report_views.specs.Definitions.{maskAt}
 use Rattle.history_cases.specs.Runs.{caseSettings, settingsWith, view7}
 
 -- a mask for each of three shards

@@ -9,26 +9,15 @@ use native.Mathlib.Omega.{arith}
 use lib.Count.{ones, onesIn}
 use lib.ListN.{replicate}
 use Rattle.base_laws.specs.Bools.{lt-or-le}
-use Rattle.base_laws.specs.Below.{allBelow, anyBelow, lowest}
-use Rattle.base_laws.specs.Masks.{has}
-use Rattle.base_laws.specs.Positions.{pairNotAfter}
-use Rattle.base_laws.specs.Tables.{tabulate}
-use Rattle.base_ids.specs.Order.{notAfter}
-use Rattle.base_ids.specs.Refusals.{unless, unlessAt, firstOf}
-use Rattle.message_format.specs.Chain.{place, following, row5, row8}
-use Rattle.message_format.specs.Records.{precedes, shardsWhere}
-use Rattle.message_format.specs.Rows.{row6, viewOk, row7, kindOk, plain, kindAt, shardAt, surplus, sequenceAt, complete, shardApart, row10At, row10, position, viewFits, legal, row11At}
-use Rattle.message_format.specs.Messages.{bodyWord, bodyOf, contentsOf, recordsRefusal, headRefusal, messageRefusal}
+use Rattle.base_laws.specs.Definitions.{allBelow, anyBelow, lowest, has, pairNotAfter, tabulate}
+use Rattle.base_ids.specs.Definitions.{notAfter, unless, unlessAt, firstOf}
+use Rattle.message_format.specs.Definitions.{place, following, row5, row8, precedes, shardsWhere, row6, viewOk, row7, kindOk, plain, kindAt, shardAt, surplus, sequenceAt, complete, shardApart, row10At, row10, isPosition, viewFits, legal, row11At, bodyWord, bodyOf, contentsOf, recordsRefusal, headRefusal, messageRefusal}
 use Rattle.report_views.specs.declared.Layout.{Layout}
 use Rattle.report_views.specs.declared.Quorum.the-variants.{Met}
-use Rattle.report_views.specs.Empty.{noTermination}
-use Rattle.report_views.specs.Logs.{pos, endOf, reaches, holds, hasUpdate}
-use Rattle.report_views.specs.Reports.{slot, reportOf, holdsAt}
-use Rattle.report_views.specs.Slots.{sameView, row12, sameTermination, row13, termKept, slotOk, slotsOk}
-use Rattle.report_views.specs.Quorums.{candidate, greatest, best, target, able, holder, majority, firstUnheld, quorumOf}
+use Rattle.report_views.specs.Definitions.{noTermination, pos, endOf, reaches, holds, hasUpdate, slot, reportOf, holdsAt, sameView, row12, sameTermination, row13, termKept, slotOk, slotsOk, candidate, greatest, best, target, able, holder, majority, firstUnheld, quorumOf}
 use Rattle.report_views.specs.Meets.{quorum-given}
-use Rattle.history_claims.specs.History.{History, Full, Supposed}
-use Rattle.history_claims.specs.Claims.{Claims, claims}
+use Rattle.history_laws.specs.Definitions.{History, Full, Supposed, Claims}
+use Rattle.history_laws.specs.Claims.{claims}
 use Rattle.history_cases.specs.Runs.{caseSettings, slotOf, desk, view7}
 use Rattle.history_cases.specs.Told.{toldBy, implies, implies-at, risesTest, overlapsTest, rule-of, full-of, reportsTest, reports-of, listed-at}
 
@@ -107,7 +96,7 @@ supposedThree =
 
 -- their slots are sound and the quorum is met
 pub slots-three : slotsOk oneShardSettings (viewOfAll 6 14) noTermination 6 deskOfThree ≡ true
-unfolding deskOfThree allBelow anyBelow lowest tabulate unless unlessAt firstOf place following row5 row8 precedes shardsWhere row6 viewOk row7 kindOk plain kindAt shardAt surplus sequenceAt complete shardApart row10At row10 position viewFits legal row11At bodyWord bodyOf contentsOf recordsRefusal headRefusal messageRefusal slot reportOf sameView row12 sameTermination row13 termKept slotOk slotsOk
+unfolding deskOfThree allBelow anyBelow lowest tabulate unless unlessAt firstOf place following row5 row8 precedes shardsWhere row6 viewOk row7 kindOk plain kindAt shardAt surplus sequenceAt complete shardApart row10At row10 isPosition viewFits legal row11At bodyWord bodyOf contentsOf recordsRefusal headRefusal messageRefusal slot reportOf sameView row12 sameTermination row13 termKept slotOk slotsOk
 slots-three = refl
 
 pub met-three : quorumOf oneShardSettings (viewOfAll 6 14) noTermination 6 deskOfThree ≡ Met
@@ -133,7 +122,7 @@ full-first zero l = full-of historyOfThree 0 refl
 full-first (suc zero) l = full-of historyOfThree 1 refl
 full-first (suc (suc k)) l = absurd (omega arith)
 
-pub record ThreeViews : Type 0 where
+pub record ThreeViewsRise : Type 0 where
   -- the first claim: views 5 and 6 were logged by all their members, and the kept view is no older than view 6
   pub newest : 6 ≤ viewOfAll 6 14 .number .0
   -- and view 7 cannot have been, for with views 5 and 6 that would make it no newer than the kept view
@@ -142,7 +131,7 @@ pub record ThreeViews : Type 0 where
   pub within : notAfter (pos 6 3) (target (viewOfAll 6 14) noTermination 6 deskOfThree 0) ≡ true
   pub held : holdsAt deskOfThree 0 (pos 6 3) (holder (viewOfAll 6 14) noTermination 6 deskOfThree 0) ≡ true
 
-pub three-views : ThreeViews
+pub three-views : ThreeViewsRise
 three-views =
     record {
       newest = claims-three .newest historyOfThree supposedThree 1 (omega arith) full-first;

@@ -10,14 +10,15 @@ use lib.Bits.{bitAnd}
 use lib.Count.{ones, onesIn}
 use borrow.Author.Tests.{eqb-true, le-leb, leb-true, ltb-true}
 use Rattle.base_laws.specs.Bools.{clash, and-both, and-left, or-holds, of-not-true}
-use Rattle.base_laws.specs.Below.{allBelow, anyBelow, countBelow, all-at}
-use Rattle.base_laws.specs.Masks.{count, minus, subset, subset-le, and-subset-right, count-subset}
-use Rattle.base_sums.specs.Sums.{sumBelow}
-use Rattle.base_sums.specs.Lists.{listFrom, listBefore, before-self, before-both}
-use Rattle.settings_values.specs.Settings.{subgroup, need, cap}
-use Rattle.message_format.specs.Rows.{shardApart}
-use Rattle.place_groups.specs.Placements.{meetsSet, setsIn, shardValid, groupValidAt, groupValid, groupMovesAt, groupMoves, groupStaysAt, groupStays, LeastMoves}
-use Rattle.place_groups.specs.Chosen.{isShard, ofGroup, nodesIn, Sooner, Chosen, nodes-tell}
+use Rattle.base_laws.specs.Definitions.{allBelow, anyBelow, countBelow, count, minus, subset}
+use Rattle.base_laws.specs.Below.{all-at}
+use Rattle.base_laws.specs.Masks.{subset-le, and-subset-right, count-subset}
+use Rattle.base_sum_laws.specs.Definitions.{sumBelow, listFrom, listBefore}
+use Rattle.base_sum_laws.specs.Lists.{before-self, before-both}
+use Rattle.settings_values.specs.Definitions.{subgroup, need, cap}
+use Rattle.message_format.specs.Definitions.{shardApart}
+use Rattle.place_groups.specs.Definitions.{meetsSet, setsIn, shardValid, groupValidAt, groupValid, groupMovesAt, groupMoves, groupStaysAt, groupStays, LeastMoves, ofGroup, nodesIn, Sooner, Chosen}
+use Rattle.place_groups.specs.Chosen.{isShard, nodes-tell}
 use Rattle.history_cases.specs.Clauses.{oneShard, twoGroups, pairOfMasks}
 
 pub record ChoiceClauses : Type 0 where

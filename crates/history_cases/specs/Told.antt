@@ -11,15 +11,14 @@ use lib.Dec.{eqb, leb, ltb}
 use lib.ListN.{length, getD}
 use borrow.Author.Tests.{eqb-true, eq-eqb, leb-true, ltb-true, lt-ltb, le-leb}
 use Rattle.base_laws.specs.Bools.{clash, and-both, and-left, and-right, or-holds, or-left, or-right, of-not-true, not-of-false, lt-or-le}
-use Rattle.base_laws.specs.Below.{allBelow, anyBelow, all-at, all-of, any-at}
-use Rattle.base_laws.specs.Masks.{has, count}
-use Rattle.settings_values.specs.Settings.{shards}
-use Rattle.message_format.specs.Records.{membersOf}
+use Rattle.base_laws.specs.Definitions.{allBelow, anyBelow, has, count}
+use Rattle.base_laws.specs.Below.{all-at, all-of, any-at}
+use Rattle.settings_values.specs.Definitions.{shards}
+use Rattle.message_format.specs.Definitions.{membersOf}
 use Rattle.report_views.specs.declared.Layout.{Layout}
-use Rattle.report_views.specs.Empty.{noView}
-use Rattle.report_views.specs.Logs.{holds}
-use Rattle.report_views.specs.Reports.{reportOf, viewOf, maskAt}
-use Rattle.history_claims.specs.History.{History, KeepsRule, Full, SameView, True, Listed, viewAt, numberAt, membersAt}
+use Rattle.report_views.specs.Definitions.{noView, holds, reportOf, maskAt}
+use Rattle.report_views.specs.Shorthands.{viewOf}
+use Rattle.history_laws.specs.Definitions.{History, KeepsRule, Full, ReportsViewAt, True, Listed, viewAt, numberAt, membersAt}
 
 abbrev pub toldBy : List Layout → List ℕ → List ℕ → History
 toldBy views logs d =
@@ -87,7 +86,7 @@ module _ (σ : List ℕ) (views : List Layout) (logs d : List ℕ) where
   trueTest n i =
       eqb (reportOf d n .node .0) n && ltb i (length views) && has (getD logs i 0) n && latestTest n i && sameTest n i
 
-  same-of : (n i : ℕ) → sameTest n i ≡ true → SameView σ (toldBy views logs d) (reportOf d n) i
+  same-of : (n i : ℕ) → sameTest n i ≡ true → ReportsViewAt σ (toldBy views logs d) (reportOf d n) i
   same-of n i h =
       let number = eqb (viewOf d n) (numberAt (toldBy views logs d) i) in
       let members = eqb (reportOf d n .members) (membersAt (toldBy views logs d) i) in

@@ -9,18 +9,17 @@ use lib.Bits.{bitAnd, and-le-r}
 use lib.Count.{ones, onesIn}
 use lib.ListN.{getD, replicate}
 use Rattle.base_laws.specs.Bools.{clash, and-both, and-left}
-use Rattle.base_laws.specs.Below.{allBelow, anyBelow}
-use Rattle.base_laws.specs.Masks.{has, subset, has-and, has-zero, subset-of, count-subset}
-use Rattle.base_laws.specs.Positions.{pairNotAfter}
+use Rattle.base_laws.specs.Definitions.{allBelow, anyBelow, has, subset, pairNotAfter}
+use Rattle.base_laws.specs.Masks.{has-and, has-zero, subset-of, count-subset}
 use Rattle.base_ids.specs.declared.Position.{Position}
 use Rattle.report_views.specs.declared.Layout.{Layout}
 use Rattle.report_views.specs.declared.Termination.{Termination}
-use Rattle.report_views.specs.Logs.{pos, start}
-use Rattle.history_claims.specs.History.{History}
+use Rattle.report_views.specs.Definitions.{pos, start}
+use Rattle.history_laws.specs.Definitions.{History}
 use Rattle.history_cases.specs.Told.{full-of}
 use Rattle.history_cases.specs.Supposing.{viewOfAll}
-use Rattle.history_course.specs.Course.{Succeeded, Orderly, Settled, Serves, Next, Covers}
-use Rattle.history_course.specs.Counting.{Copies, now, got, went, forgot, OneLacks, allHave}
+use Rattle.history_course_laws.specs.Course.{Succeeded, Orderly, Settled, Serves, PlannedView, Covers}
+use Rattle.history_course_laws.specs.Counting.{Copies, now, got, went, forgot, OneLacks, allHave}
 use Rattle.history_course_cases.specs.Steps.{succeeded-of, not-succeeded, orderly-of, settled-of}
 use Rattle.history_course_cases.specs.Worked.{courseSettings}
 use Rattle.history_course_cases.specs.Duties.{viewWith}
@@ -81,9 +80,9 @@ pub record CourseClauses : Type 0 where
   pub changes : Serves 1 (twoViews 7 3) changedView
   pub drops : Serves 1 (twoViews 7 1) (twoViews 7 0)
   -- Next: the next number, the held nodes as members, and no other node placed
-  pub number : Next courseSettings (viewOfAll 1 7) 3 (viewOfAll 1 3) → ⊥
-  pub members : Next courseSettings (viewOfAll 1 7) 3 (viewOfAll 2 7) → ⊥
-  pub placed : Next courseSettings (viewOfAll 1 7) 3 (viewWith 2 3 6) → ⊥
+  pub number : PlannedView courseSettings (viewOfAll 1 7) 3 (viewOfAll 1 3) → ⊥
+  pub members : PlannedView courseSettings (viewOfAll 1 7) 3 (viewOfAll 2 7) → ⊥
+  pub placed : PlannedView courseSettings (viewOfAll 1 7) 3 (viewWith 2 3 6) → ⊥
   -- Covers: no settled update lies past a termination that is kept
   pub ended : Covers courseSettings endedAtStart (twoViews 7 3) → ⊥
   -- a view of nodes 0 to 2 counts if all have it, also where others do not; it does not count if a member has reported without it. Two of the

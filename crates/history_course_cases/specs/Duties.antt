@@ -10,32 +10,20 @@ use lib.Bits.{bitAnd}
 use lib.Count.{ones, onesIn}
 use lib.ListN.{length, getD, replicate}
 use Rattle.base_laws.specs.Bools.{clash}
-use Rattle.base_laws.specs.Below.{allBelow, anyBelow, lowest}
-use Rattle.base_laws.specs.Masks.{has, count}
-use Rattle.base_laws.specs.Positions.{pairNotAfter}
-use Rattle.base_laws.specs.Tables.{tabulate}
-use Rattle.base_ids.specs.Order.{notAfter}
-use Rattle.base_ids.specs.Refusals.{unless, unlessAt, firstOf}
+use Rattle.base_laws.specs.Definitions.{allBelow, anyBelow, lowest, has, count, pairNotAfter, tabulate}
+use Rattle.base_ids.specs.Definitions.{notAfter, unless, unlessAt, firstOf}
 use Rattle.base_ids.specs.declared.Position.{Position}
-use Rattle.message_format.specs.Chain.{place, following, row5, row8}
-use Rattle.message_format.specs.Records.{precedes, shardsWhere}
-use Rattle.message_format.specs.Rows.{row6, viewOk, row7, kindOk, plain, kindAt, shardAt, surplus, sequenceAt, complete, shardApart, row10At, row10, position, viewFits, legal, row11At}
-use Rattle.message_format.specs.Messages.{bodyWord, bodyOf, contentsOf, recordsRefusal, headRefusal, messageRefusal}
+use Rattle.message_format.specs.Definitions.{place, following, row5, row8, precedes, shardsWhere, row6, viewOk, row7, kindOk, plain, kindAt, shardAt, surplus, sequenceAt, complete, shardApart, row10At, row10, isPosition, viewFits, legal, row11At, bodyWord, bodyOf, contentsOf, recordsRefusal, headRefusal, messageRefusal}
 use Rattle.report_views.specs.declared.Layout.{Layout}
-use Rattle.report_views.specs.Empty.{noTermination}
-use Rattle.report_views.specs.Logs.{pos, start, endOf, reaches, holds, hasUpdate, runsFrom, runsOf}
-use Rattle.report_views.specs.Reports.{slot, reportOf, holdsAt, maskAt}
-use Rattle.report_views.specs.Slots.{sameView, row12, sameTermination, row13, termKept, slotOk, slotsOk}
-use Rattle.report_views.specs.Quorums.{candidate, greatest, best, target, able, holder}
+use Rattle.report_views.specs.Definitions.{noTermination, pos, start, endOf, reaches, holds, hasUpdate, runsFrom, runsOf, slot, reportOf, holdsAt, maskAt, sameView, row12, sameTermination, row13, termKept, slotOk, slotsOk, candidate, greatest, best, target, able, holder, runsTo, sharedAfter, cutFrom}
 use Rattle.report_views.specs.Meets.{QuorumMet}
-use Rattle.report_views.specs.Cuts.{runsTo, sharedAfter, cutFrom}
 use Rattle.report_views.specs.Updates.{updatesAfter, updatesIn, thoseOf}
-use Rattle.report_views.specs.Stretches.{among}
-use Rattle.history_claims.specs.History.{History, KeepsRule, Full, viewAt}
+use Rattle.report_log_laws.specs.Stretches.{among}
+use Rattle.history_laws.specs.Definitions.{History, KeepsRule, Full, viewAt}
 use Rattle.history_cases.specs.Told.{toldBy, implies, implies-at, rule-of, full-of, reportsTest}
-use Rattle.history_course.specs.Course.{lastOf, Succeeded, Orderly, Settled, Next, CarriedOut, GivenUp, cutFor, asOrdered}
-use Rattle.history_course.specs.Ever.{Restart}
-use Rattle.history_course.specs.Counting.{first-orderly}
+use Rattle.history_course_laws.specs.Course.{lastOf, Succeeded, Orderly, Settled, PlannedView, CarriedOut, GivenUp, cutFor, asOrdered}
+use Rattle.history_course_laws.specs.Ever.{Restart}
+use Rattle.history_course_laws.specs.Counting.{first-orderly}
 use Rattle.history_course_cases.specs.Steps.{ofEvery, sameLog, orderly-of, succeeded-of, not-succeeded, next-of, met-of, none-ended, planFrom, told-of, cut-of, plannedLog, planned-of, asked-of, ordered-of, remembered-of, others-alike, kept-alike, not-carried, keeps-of}
 use Rattle.history_course_cases.specs.Worked.{reportOfShard, runOf, runsUpTo}
 
@@ -75,7 +63,7 @@ abbrev pub stranded : History
 stranded = toldBy strandedViews (7 ∷ 56 ∷ 56 ∷ []) strandedDesk
 
 pub slots-stranded : slotsOk (settingsFor 2) (viewWith 1 7 5) noTermination 5 strandedDesk ≡ true
-unfolding strandedDesk allBelow anyBelow lowest tabulate unless unlessAt firstOf place following row5 row8 precedes shardsWhere row6 viewOk row7 kindOk plain kindAt shardAt surplus sequenceAt complete shardApart row10At row10 position viewFits legal row11At bodyWord bodyOf contentsOf recordsRefusal headRefusal messageRefusal slot reportOf sameView row12 sameTermination row13 termKept slotOk slotsOk
+unfolding strandedDesk allBelow anyBelow lowest tabulate unless unlessAt firstOf place following row5 row8 precedes shardsWhere row6 viewOk row7 kindOk plain kindAt shardAt surplus sequenceAt complete shardApart row10At row10 isPosition viewFits legal row11At bodyWord bodyOf contentsOf recordsRefusal headRefusal messageRefusal slot reportOf sameView row12 sameTermination row13 termKept slotOk slotsOk
 slots-stranded = refl
 
 pub target-stranded : target (viewWith 1 7 5) noTermination 5 strandedDesk 0 ≡ pos 1 1
@@ -96,7 +84,7 @@ pub reports-stranded : reportsTest (settingsFor 2) strandedViews (7 ∷ 56 ∷ 5
 unfolding strandedDesk allBelow slot reportOf contentsOf bodyOf bodyWord tabulate place following lowest anyBelow
 reports-stranded = refl
 
-pub next-stranded : Next (settingsFor 2) (viewWith 1 7 5) 5 (viewWith 2 5 5)
+pub next-stranded : PlannedView (settingsFor 2) (viewWith 1 7 5) 5 (viewWith 2 5 5)
 unfolding allBelow
 next-stranded = next-of (settingsFor 2) (viewWith 1 7 5) 5 (viewWith 2 5 5) refl refl refl
 
@@ -159,7 +147,7 @@ abbrev pub fourBefore : History
 fourBefore = toldBy fourViews (15 ∷ []) deskOfFour
 
 pub slots-four : slotsOk (settingsFor 131073) (viewWith 1 15 3) noTermination 13 deskOfFour ≡ true
-unfolding deskOfFour allBelow anyBelow lowest tabulate unless unlessAt firstOf place following row5 row8 precedes shardsWhere row6 viewOk row7 kindOk plain kindAt shardAt surplus sequenceAt complete shardApart row10At row10 position viewFits legal row11At bodyWord bodyOf contentsOf recordsRefusal headRefusal messageRefusal slot reportOf sameView row12 sameTermination row13 termKept slotOk slotsOk
+unfolding deskOfFour allBelow anyBelow lowest tabulate unless unlessAt firstOf place following row5 row8 precedes shardsWhere row6 viewOk row7 kindOk plain kindAt shardAt surplus sequenceAt complete shardApart row10At row10 isPosition viewFits legal row11At bodyWord bodyOf contentsOf recordsRefusal headRefusal messageRefusal slot reportOf sameView row12 sameTermination row13 termKept slotOk slotsOk
 slots-four = refl
 
 pub target-four : target (viewWith 1 15 3) noTermination 13 deskOfFour 0 ≡ pos 1 1
@@ -196,7 +184,7 @@ oneAfter = toldBy oneViews (15 ∷ 1 ∷ []) deskOfFour
 abbrev pub oneStored : History
 oneStored = toldBy oneViews (15 ∷ 1 ∷ []) deskOfOne
 
-pub next-one : Next (settingsFor 131073) (viewWith 1 15 3) 13 (viewWith 2 13 1)
+pub next-one : PlannedView (settingsFor 131073) (viewWith 1 15 3) 13 (viewWith 2 13 1)
 unfolding allBelow
 next-one = next-of (settingsFor 131073) (viewWith 1 15 3) 13 (viewWith 2 13 1) refl refl refl
 
@@ -207,7 +195,7 @@ onePlan =
     (none-ended (settingsFor 131073) noTermination fourBefore refl)
 
 pub slots-others : slotsOk (settingsFor 131073) (viewWith 1 15 3) noTermination 14 deskOfOne ≡ true
-unfolding deskOfOne allBelow anyBelow lowest tabulate unless unlessAt firstOf place following row5 row8 precedes shardsWhere row6 viewOk row7 kindOk plain kindAt shardAt surplus sequenceAt complete shardApart row10At row10 position viewFits legal row11At bodyWord bodyOf contentsOf recordsRefusal headRefusal messageRefusal slot reportOf sameView row12 sameTermination row13 termKept slotOk slotsOk
+unfolding deskOfOne allBelow anyBelow lowest tabulate unless unlessAt firstOf place following row5 row8 precedes shardsWhere row6 viewOk row7 kindOk plain kindAt shardAt surplus sequenceAt complete shardApart row10At row10 isPosition viewFits legal row11At bodyWord bodyOf contentsOf recordsRefusal headRefusal messageRefusal slot reportOf sameView row12 sameTermination row13 termKept slotOk slotsOk
 slots-others = refl
 
 pub target-others : target (viewWith 1 15 3) noTermination 14 deskOfOne 0 ≡ pos 1 1
@@ -228,7 +216,7 @@ pub reports-others : reportsTest (settingsFor 131073) oneViews (15 ∷ 1 ∷ [])
 unfolding deskOfOne allBelow slot reportOf contentsOf bodyOf bodyWord tabulate place following lowest anyBelow
 reports-others = refl
 
-pub next-others : Next (settingsFor 131073) (viewWith 1 15 3) 14 (viewWith 2 14 2)
+pub next-others : PlannedView (settingsFor 131073) (viewWith 1 15 3) 14 (viewWith 2 14 2)
 unfolding allBelow
 next-others = next-of (settingsFor 131073) (viewWith 1 15 3) 14 (viewWith 2 14 2) refl refl refl
 
@@ -307,7 +295,7 @@ unfetchedViews = viewWith 1 15 3 ∷ viewWith 2 13 5 ∷ []
 abbrev pub unfetched : History
 unfetched = toldBy unfetchedViews (15 ∷ 13 ∷ []) deskUnfetched
 
-pub next-four : Next (settingsFor 131073) (viewWith 1 15 3) 13 (viewWith 2 13 5)
+pub next-four : PlannedView (settingsFor 131073) (viewWith 1 15 3) 13 (viewWith 2 13 5)
 unfolding allBelow
 next-four = next-of (settingsFor 131073) (viewWith 1 15 3) 13 (viewWith 2 13 5) refl refl refl
 
@@ -318,7 +306,7 @@ fourPlan =
     (none-ended (settingsFor 131073) noTermination fourBefore refl)
 
 pub slots-unfetched : slotsOk (settingsFor 131073) (viewWith 2 13 5) noTermination 12 deskUnfetched ≡ true
-unfolding deskUnfetched allBelow anyBelow lowest tabulate unless unlessAt firstOf place following row5 row8 precedes shardsWhere row6 viewOk row7 kindOk plain kindAt shardAt surplus sequenceAt complete shardApart row10At row10 position viewFits legal row11At bodyWord bodyOf contentsOf recordsRefusal headRefusal messageRefusal slot reportOf sameView row12 sameTermination row13 termKept slotOk slotsOk
+unfolding deskUnfetched allBelow anyBelow lowest tabulate unless unlessAt firstOf place following row5 row8 precedes shardsWhere row6 viewOk row7 kindOk plain kindAt shardAt surplus sequenceAt complete shardApart row10At row10 isPosition viewFits legal row11At bodyWord bodyOf contentsOf recordsRefusal headRefusal messageRefusal slot reportOf sameView row12 sameTermination row13 termKept slotOk slotsOk
 slots-unfetched = refl
 
 pub target-unfetched : target (viewWith 2 13 5) noTermination 12 deskUnfetched 0 ≡ start
@@ -339,7 +327,7 @@ pub reports-unfetched : reportsTest (settingsFor 131073) unfetchedViews (15 ∷ 
 unfolding deskUnfetched allBelow slot reportOf contentsOf bodyOf bodyWord tabulate place following lowest anyBelow
 reports-unfetched = refl
 
-pub next-unfetched : Next (settingsFor 131073) (viewWith 2 13 5) 12 (viewWith 3 12 4)
+pub next-unfetched : PlannedView (settingsFor 131073) (viewWith 2 13 5) 12 (viewWith 3 12 4)
 unfolding allBelow
 next-unfetched = next-of (settingsFor 131073) (viewWith 2 13 5) 12 (viewWith 3 12 4) refl refl refl
 
@@ -426,7 +414,7 @@ abbrev pub halfDone : History
 halfDone = toldBy partedViews (7 ∷ []) deskCut
 
 pub slots-parted : slotsOk (settingsFor 131073) (viewWith 7 7 3) noTermination 3 deskParted ≡ true
-unfolding deskParted allBelow anyBelow lowest tabulate unless unlessAt firstOf place following row5 row8 precedes shardsWhere row6 viewOk row7 kindOk plain kindAt shardAt surplus sequenceAt complete shardApart row10At row10 position viewFits legal row11At bodyWord bodyOf contentsOf recordsRefusal headRefusal messageRefusal slot reportOf sameView row12 sameTermination row13 termKept slotOk slotsOk
+unfolding deskParted allBelow anyBelow lowest tabulate unless unlessAt firstOf place following row5 row8 precedes shardsWhere row6 viewOk row7 kindOk plain kindAt shardAt surplus sequenceAt complete shardApart row10At row10 isPosition viewFits legal row11At bodyWord bodyOf contentsOf recordsRefusal headRefusal messageRefusal slot reportOf sameView row12 sameTermination row13 termKept slotOk slotsOk
 slots-parted = refl
 
 pub target-parted : target (viewWith 7 7 3) noTermination 3 deskParted 0 ≡ pos 6 2
@@ -447,7 +435,7 @@ pub reports-parted : reportsTest (settingsFor 131073) partedViews (7 ∷ []) des
 unfolding deskParted allBelow slot reportOf contentsOf bodyOf bodyWord tabulate place following lowest anyBelow
 reports-parted = refl
 
-pub next-parted : Next (settingsFor 131073) (viewWith 7 7 3) 3 (viewWith 8 3 3)
+pub next-parted : PlannedView (settingsFor 131073) (viewWith 7 7 3) 3 (viewWith 8 3 3)
 unfolding allBelow
 next-parted = next-of (settingsFor 131073) (viewWith 7 7 3) 3 (viewWith 8 3 3) refl refl refl
 
@@ -458,7 +446,7 @@ partedPlan =
     (none-ended (settingsFor 131073) noTermination parted refl)
 
 pub slots-cut : slotsOk (settingsFor 131073) (viewWith 7 7 3) noTermination 6 deskCut ≡ true
-unfolding deskCut allBelow anyBelow lowest tabulate unless unlessAt firstOf place following row5 row8 precedes shardsWhere row6 viewOk row7 kindOk plain kindAt shardAt surplus sequenceAt complete shardApart row10At row10 position viewFits legal row11At bodyWord bodyOf contentsOf recordsRefusal headRefusal messageRefusal slot reportOf sameView row12 sameTermination row13 termKept slotOk slotsOk
+unfolding deskCut allBelow anyBelow lowest tabulate unless unlessAt firstOf place following row5 row8 precedes shardsWhere row6 viewOk row7 kindOk plain kindAt shardAt surplus sequenceAt complete shardApart row10At row10 isPosition viewFits legal row11At bodyWord bodyOf contentsOf recordsRefusal headRefusal messageRefusal slot reportOf sameView row12 sameTermination row13 termKept slotOk slotsOk
 slots-cut = refl
 
 pub target-cut : target (viewWith 7 7 3) noTermination 6 deskCut 0 ≡ pos 5 2
@@ -479,7 +467,7 @@ pub reports-cut : reportsTest (settingsFor 131073) partedViews (7 ∷ []) deskCu
 unfolding deskCut allBelow slot reportOf contentsOf bodyOf bodyWord tabulate place following lowest anyBelow
 reports-cut = refl
 
-pub next-cut : Next (settingsFor 131073) (viewWith 7 7 3) 6 (viewWith 8 6 2)
+pub next-cut : PlannedView (settingsFor 131073) (viewWith 7 7 3) 6 (viewWith 8 6 2)
 unfolding allBelow
 next-cut = next-of (settingsFor 131073) (viewWith 7 7 3) 6 (viewWith 8 6 2) refl refl refl
 

@@ -13,38 +13,28 @@ use lib.Dec.{eqb, leb, ltb}
 use lib.ListN.{getD, replicate}
 use borrow.Author.Tests.{eqb-true, eq-eqb, ne-eqb, leb-true, le-leb, ltb-true, lt-ltb}
 use Rattle.base_laws.specs.Bools.{clash, same, and-both, and-left, and-right, and-fails-left, cond-of, lt-or-le, eq-or-ne}
-use Rattle.base_laws.specs.Below.{allBelow, anyBelow, lowest}
-use Rattle.base_laws.specs.Masks.{has, count, has-past, subset-has}
-use Rattle.base_laws.specs.Positions.{pairNotAfter}
-use Rattle.base_laws.specs.Tables.{tabulate}
+use Rattle.base_laws.specs.Definitions.{allBelow, anyBelow, lowest, has, count, pairNotAfter, tabulate}
+use Rattle.base_laws.specs.Masks.{has-past, subset-has}
 use Rattle.base_ids.specs.declared.Position.{Position}
-use Rattle.base_ids.specs.Order.{notAfter, order-of}
-use Rattle.base_ids.specs.Refusals.{none, unless, unlessAt, firstOf}
+use Rattle.base_ids.specs.Definitions.{notAfter, none, unless, unlessAt, firstOf}
+use Rattle.base_ids.specs.Order.{order-of}
 use Rattle.message_format.specs.declared.Contents.{Contents}
 use Rattle.message_format.specs.declared.Form.the-variants.{Report}
-use Rattle.message_format.specs.Chain.{place, following, row5, row8}
-use Rattle.message_format.specs.Records.{word1, membersOf, precedes, shardsWhere}
-use Rattle.message_format.specs.Rows.{row6, viewOk, row7, kindOk, plain, kindAt, shardAt, surplus, sequenceAt, complete, shardApart, row10At, row10, position, viewFits, legal, row11At}
-use Rattle.message_format.specs.Messages.{bodyWord, bodyOf, contentsOf, recordsRefusal, headRefusal, messageRefusal, contentsRefusal}
+use Rattle.message_format.specs.Definitions.{place, following, row5, row8, word1, membersOf, precedes, shardsWhere, row6, viewOk, row7, kindOk, plain, kindAt, shardAt, surplus, sequenceAt, complete, shardApart, row10At, row10, isPosition, viewFits, legal, row11At, bodyWord, bodyOf, contentsOf, recordsRefusal, headRefusal, messageRefusal, contentsRefusal}
 use Rattle.message_format.specs.Passed.{contents-given, contents-few}
 use Rattle.report_views.specs.declared.Layout.{Layout}
 use Rattle.report_views.specs.declared.Quorum.the-variants.{Met}
-use Rattle.report_views.specs.Empty.{noTermination}
-use Rattle.report_views.specs.Logs.{pos, start, isStart, run, runsFrom, runsOf, endOf, reaches, holds, hasUpdate}
+use Rattle.report_views.specs.Definitions.{noTermination, pos, start, isStart, isRun, runsFrom, runsOf, endOf, reaches, holds, hasUpdate, slot, reportOf, holdsAt, maskAt, runsTo, sharedAfter, cutFrom, sameView, row12, sameTermination, row13, termKept, slotOk, slotsOk, candidate, greatest, best, target, able, holder, majority, firstUnheld, quorumOf}
 use Rattle.report_views.specs.LogLaws.{reaches-run, reaches-view, reaches-count}
 use Rattle.report_views.specs.RunLaws.{Runs, passed-runs, held-given, held-of}
-use Rattle.report_views.specs.Reports.{slot, reportOf, holdsAt, maskAt}
-use Rattle.report_views.specs.Cuts.{runsTo, sharedAfter, cutFrom}
-use Rattle.report_views.specs.Slots.{sameView, row12, sameTermination, row13, termKept, slotOk, slotsOk}
-use Rattle.report_views.specs.Quorums.{candidate, greatest, best, target, able, holder, majority, firstUnheld, quorumOf}
 use Rattle.report_views.specs.Meets.{quorum-given}
-use Rattle.history_claims.specs.History.{History, True, Supposed, viewAt, numberAt, membersAt}
-use Rattle.history_course.specs.Course.{Succeeded, Orderly, Settled, cutFor}
-use Rattle.history_course.specs.Ever.{Restart}
-use Rattle.history_short.specs.Based.{lastPlace, latestOf, latestNumber, carriesLatest, shortOf, Based, AddsOnly, keptBy, wantedOf, ByRecipe, ShortCourse, here, carrying}
-use Rattle.history_short.specs.Bases.{place-is, latest-listed, latest-up-to}
-use Rattle.history_short.specs.Recipe.{stale-cut, wanted-recipe}
-use Rattle.history_short.specs.ShortEver.{short-settles-on, short-logged-lasts}
+use Rattle.history_laws.specs.Definitions.{History, True, Supposed, viewAt, numberAt, membersAt}
+use Rattle.history_course_laws.specs.Course.{Succeeded, Orderly, Settled, cutFor}
+use Rattle.history_course_laws.specs.Ever.{Restart}
+use Rattle.history_short_laws.specs.Based.{lastPlace, latestOf, latestNumber, carriesLatest, shortOf, Based, AddsOnly, keptBy, wantedOf, ByRecipe, ShortCourse, here, carrying}
+use Rattle.history_short_laws.specs.Bases.{place-is, latest-listed, latest-up-to}
+use Rattle.history_short_laws.specs.Recipe.{stale-cut, wanted-recipe}
+use Rattle.history_short_laws.specs.ShortEver.{short-settles-on, short-logged-lasts}
 
 -- three nodes in three failure sets, and a shard of two
 abbrev pub longSettings : List ℕ
@@ -78,7 +68,7 @@ unfoldable pub longDesk : List ℕ
 longDesk = longReport 0 201 3 3 ++ longReport 1 201 3 2 ++ longReport 2 200 7 3 ++ replicate 14848 0
 
 slots-long : slotsOk longSettings (longView 201 3) noTermination 7 longDesk ≡ true
-unfolding longDesk allBelow anyBelow lowest tabulate unless unlessAt firstOf place following row5 row8 precedes shardsWhere row6 viewOk row7 kindOk plain kindAt shardAt surplus sequenceAt complete shardApart row10At row10 position viewFits legal row11At bodyWord bodyOf contentsOf recordsRefusal headRefusal messageRefusal slot reportOf sameView row12 sameTermination row13 termKept slotOk slotsOk
+unfolding longDesk allBelow anyBelow lowest tabulate unless unlessAt firstOf place following row5 row8 precedes shardsWhere row6 viewOk row7 kindOk plain kindAt shardAt surplus sequenceAt complete shardApart row10At row10 isPosition viewFits legal row11At bodyWord bodyOf contentsOf recordsRefusal headRefusal messageRefusal slot reportOf sameView row12 sameTermination row13 termKept slotOk slotsOk
 slots-long = refl
 
 met-long : quorumOf longSettings (longView 201 3) noTermination 7 longDesk ≡ Met
@@ -139,7 +129,7 @@ module _ (n number members count : ℕ) (said : SaidOf n number members count) w
   report-long : (at : ℕ) → at < 2 → longHistory .logged n at ≡ true → ((j : ℕ) → at < j → j < 2 → longHistory .logged n j ≡ false)
       → viewAt longHistory at ≡ longView number members → has members n ≡ true → longRun n number ≡ count
       → True longSettings (shortOf longHistory) (reportOf longDesk n)
-  report-long at l logged latest view member run =
+  report-long at l logged latest view member isRun =
       record {
         at = at;
         listed = l;
@@ -173,7 +163,7 @@ module _ (n number members count : ℕ) (said : SaidOf n number members count) w
           rw (carries, it)
           (⊎-elim
           (λ e. ap (λ (w : ℕ). eqb (p .view .0) number && (leb 1 (p .k) && leb (p .k) (longRun n w))) e
-          ∙ ap (λ (c : ℕ). eqb (p .view .0) number && (leb 1 (p .k) && leb (p .k) c)) run)
+          ∙ ap (λ (c : ℕ). eqb (p .view .0) number && (leb 1 (p .k) && leb (p .k) c)) isRun)
           (λ e. and-fails-left (leb 1 (p .k) && leb (p .k) (longRun n (p .view .0))) (ne-eqb (p .view .0) number e)
           ∙ sym (and-fails-left (leb 1 (p .k) && leb (p .k) count) (ne-eqb (p .view .0) number e)))
           (eq-or-ne (p .view .0) number)
@@ -408,7 +398,7 @@ long-settled =
 
 module _ (b : List ℕ) (len : ℕ) (runs : Runs b len 0) (all : (p : Position) → longHistory .updated 0 0 p ≡ holds b len 0 p) where
   -- there is a run of each view up to 200
-  run-of : (w : ℕ) → suc w ≤ 200 → (j : ℕ) × (j < len) × (run b 0 j ≡ true) × (word1 b j ≡ suc w)
+  run-of : (w : ℕ) → suc w ≤ 200 → (j : ℕ) × (j < len) × (isRun b 0 j ≡ true) × (word1 b j ≡ suc w)
   unfolding longRun
   run-of w l =
       let p : Position = pos (suc w) 1 in
@@ -419,7 +409,7 @@ module _ (b : List ℕ) (len : ℕ) (runs : Runs b len 0) (all : (p : Position) 
       (h .0, h .1, reaches-run b 0 p (h .0) (h .2), reaches-view b 0 p (h .0) (h .2))
 
   -- they rise, so that of view w + 1 has w before it
-  run-late : (w : ℕ) → suc w ≤ 200 → (j : ℕ) → j < len → run b 0 j ≡ true → word1 b j ≡ suc w → w ≤ j
+  run-late : (w : ℕ) → suc w ≤ 200 → (j : ℕ) → j < len → isRun b 0 j ≡ true → word1 b j ≡ suc w → w ≤ j
   run-late zero l j k r e = omega arith
   run-late (suc w) l j k r e =
       let (i, m, q, f) = run-of w (omega arith) in

@@ -6,21 +6,19 @@ use mathlib.Core.List.{List, [], _∷_}
 use mathlib.Core.Path.{_≡_, refl, sym, ap}
 use native.Mathlib.Omega.{arith}
 use lib.ListN.{take}
-use Rattle.base_ids.specs.Order.{notAfter}
+use Rattle.base_ids.specs.Definitions.{notAfter}
 use Rattle.report_views.specs.declared.Layout.{Layout}
-use Rattle.report_views.specs.Logs.{pos}
-use Rattle.report_views.specs.Reports.{holdsAt}
-use Rattle.report_views.specs.Quorums.{target, holder}
-use Rattle.history_claims.specs.History.{Listed}
+use Rattle.report_views.specs.Definitions.{pos, holdsAt, target, holder}
+use Rattle.history_laws.specs.Definitions.{Listed}
 use Rattle.history_cases.specs.Told.{listed-at}
 use Rattle.history_cases.specs.Supposing.{viewOfAll}
 use Rattle.history_open.specs.declared.Finding.the-variants.{Sure, Never, Undecided}
-use Rattle.history_open.specs.Judged.{saysSure, saysNever, judged}
-use Rattle.history_course.specs.Course.{Orderly, Settled}
-use Rattle.history_course.specs.Ever.{here, giving-up, settles-on}
-use Rattle.history_course.specs.Counting.{Copies, now, got, went, forgot, first-orderly}
-use Rattle.history_rule.specs.Disks.{Attempt, attempted, seenOn, counting, each-none, each-more, pass-none, pass-more, Counted, Idle, listing, Disks, first, plans, passes, counted, served}
-use Rattle.history_rule.specs.Stored.{stays-stored}
+use Rattle.history_open.specs.Definitions.{saysSure, saysNever, judged}
+use Rattle.history_course_laws.specs.Course.{Orderly, Settled}
+use Rattle.history_course_laws.specs.Ever.{here, giving-up, settles-on}
+use Rattle.history_course_laws.specs.Counting.{Copies, now, got, went, forgot, first-orderly}
+use Rattle.history_rule_laws.specs.Disks.{Attempt, attempted, seenOn, counting, each-none, each-more, pass-none, pass-more, Counted, Idle, listing, Disks, first, plans, passes, counted, served}
+use Rattle.history_rule_laws.specs.Stored.{stays-stored}
 use Rattle.history_course_cases.specs.Worked as worked
 
 -- the first attempt: node 1 gets the view, node 0 reports without it, node 1 forgets it
@@ -57,16 +55,16 @@ disks-failed =
 both-have : Copies 3 0 0 3 0
 both-have = got 1 0 1 refl refl (got 0 0 0 refl refl now)
 
-abbrev prepared : Attempt 1
-prepared = seenOn tried 3 0
+abbrev preparedAttempt : Attempt 1
+preparedAttempt = seenOn tried 3 0
 
-disks-prepared : Disks 1 worked.afterGivenUp worked.afterGivenUp listsFirst (prepared ∷ failed ∷ [])
+disks-prepared : Disks 1 worked.afterGivenUp worked.afterGivenUp listsFirst (preparedAttempt ∷ failed ∷ [])
 disks-prepared =
-    passes worked.afterGivenUp listsFirst (tried ∷ failed ∷ []) (prepared ∷ failed ∷ [])
+    passes worked.afterGivenUp listsFirst (tried ∷ failed ∷ []) (preparedAttempt ∷ failed ∷ [])
     (plans worked.afterGivenUp listsFirst (failed ∷ []) disks-failed worked.carriedPlan (each-more failed [] (record { asked = λ c n l h. h }) each-none) 0 at-first)
     (pass-more tried 3 0 (failed ∷ []) (failed ∷ []) both-have (pass-more failed 0 3 [] [] now pass-none))
 
-counts-second : Counted prepared worked.afterCarried
+counts-second : Counted preparedAttempt worked.afterCarried
 counts-second = record { views = refl; remembered = worked.remembered-second; logs = λ n l h. h; ordered = worked.ordered-second }
 
 abbrev listsSecond : ℕ → List Layout
@@ -76,13 +74,13 @@ abbrev countsFirst : List (Attempt 1) → Bool
 countsFirst [] = true
 countsFirst (a ∷ l) = a .counts
 
-idle-second : Idle (counting prepared ∷ failed ∷ [])
+idle-second : Idle (counting preparedAttempt ∷ failed ∷ [])
 idle-second = record { latest = λ a u e. sym (ap countsFirst e) }
 
-disks-served : Disks 1 worked.afterGivenUp worked.afterRun listsSecond (counting prepared ∷ failed ∷ [])
+disks-served : Disks 1 worked.afterGivenUp worked.afterRun listsSecond (counting preparedAttempt ∷ failed ∷ [])
 disks-served =
-    served worked.afterCarried worked.afterRun listsSecond (counting prepared ∷ failed ∷ [])
-    (counted worked.afterGivenUp worked.afterCarried listsFirst prepared (failed ∷ []) disks-prepared refl refl counts-second)
+    served worked.afterCarried worked.afterRun listsSecond (counting preparedAttempt ∷ failed ∷ [])
+    (counted worked.afterGivenUp worked.afterCarried listsFirst preparedAttempt (failed ∷ []) disks-prepared refl refl counts-second)
     idle-second worked.served refl
 
 -- update 1 of view 1 is settled also after the restart that was given up
@@ -96,7 +94,7 @@ orderly-again = first-orderly (viewOfAll 1 7) (worked.afterGivenUp .logged) (wor
 
 pub record DiskRows : Type 0 where
   -- the disks keep the rule
-  pub disks : Disks 1 worked.afterGivenUp worked.afterRun listsSecond (counting prepared ∷ failed ∷ [])
+  pub disks : Disks 1 worked.afterGivenUp worked.afterRun listsSecond (counting preparedAttempt ∷ failed ∷ [])
   -- what the leaders find meanwhile: of the first attempt's view with node 1 back alone, with both, and of the second's with both
   pub alone : judged 3 0 2 0 0 ≡ Undecided
   pub without-it : judged 3 0 2 1 0 ≡ Never

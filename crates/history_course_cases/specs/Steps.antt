@@ -12,29 +12,28 @@ use lib.ListN.{length, getD, take, drop}
 use lib.Seq.{drop-drop}
 use borrow.Author.Tests.{eqb-true, leb-true, ltb-true}
 use Rattle.base_laws.specs.Bools.{clash, and-both, and-left, and-right, or-holds, of-not-true, lt-or-le}
-use Rattle.base_laws.specs.Below.{allBelow, anyBelow, all-at, all-of, any-witness}
-use Rattle.base_laws.specs.Masks.{has, count, subset, subset-has, quorums-meet}
-use Rattle.settings_values.specs.Settings.{least, shards}
+use Rattle.base_laws.specs.Definitions.{allBelow, anyBelow, has, count, subset}
+use Rattle.base_laws.specs.Below.{all-at, all-of, any-witness}
+use Rattle.base_laws.specs.Masks.{subset-has, quorums-meet}
+use Rattle.settings_values.specs.Definitions.{least, shards}
 use Rattle.base_ids.specs.declared.Position.{Position}
-use Rattle.base_ids.specs.Order.{notAfter}
-use Rattle.message_format.specs.Messages.{contentsOf}
+use Rattle.base_ids.specs.Definitions.{notAfter}
+use Rattle.message_format.specs.Definitions.{contentsOf}
 use Rattle.report_views.specs.declared.Layout.{Layout}
 use Rattle.report_views.specs.declared.Termination.{Termination}
-use Rattle.report_views.specs.Logs.{holds}
-use Rattle.report_views.specs.Reports.{slot, reportOf, viewOf, holdsAt, maskAt, positionAt}
-use Rattle.report_views.specs.Slots.{samePosition, slotsOk}
-use Rattle.report_views.specs.Quorums.{target, holder}
+use Rattle.report_views.specs.Definitions.{holds, slot, reportOf, holdsAt, maskAt, positionAt, samePosition, slotsOk, target, holder}
+use Rattle.report_views.specs.Shorthands.{viewOf}
 use Rattle.report_views.specs.Meets.{QuorumMet, slot-given, report-records, candidate-given, holder-given, able-candidate}
 use Rattle.report_views.specs.Cuts.{cut}
 use Rattle.report_views.specs.Updates.{updatesAt, upTo}
-use Rattle.report_views.specs.Stretches.{among, among-those, one-same}
-use Rattle.report_views.specs.UpdateLaws.{holds-runs}
+use Rattle.report_log_laws.specs.Stretches.{among, among-those, one-same}
+use Rattle.report_log_laws.specs.UpdateLaws.{holds-runs}
 use Rattle.report_views.specs.RunLaws as runs
-use Rattle.report_views.specs.CutLaws.{kept-or-fetched}
-use Rattle.history_claims.specs.History.{History, viewAt, membersAt}
+use Rattle.report_log_laws.specs.CutLaws.{kept-or-fetched}
+use Rattle.history_laws.specs.Definitions.{History, viewAt, membersAt}
 use Rattle.history_cases.specs.Told.{toldBy, implies, implies-at, risesTest, overlapsTest, rule-of, reportsTest, reports-of}
-use Rattle.history_course.specs.Course.{lastOf, Succeeded, Orderly, Settled, Next, Covers, CarriedOut, GivenUp, cutFor, asOrdered}
-use Rattle.history_course.specs.Ever.{Restart}
+use Rattle.history_course_laws.specs.Course.{lastOf, Succeeded, Orderly, Settled, PlannedView, Covers, CarriedOut, GivenUp, cutFor, asOrdered}
+use Rattle.history_course_laws.specs.Ever.{Restart}
 
 -- ---- lists of updates
 
@@ -148,7 +147,7 @@ settled-among views logs d s n l h p settled =
 
 -- w is a plan's view
 pub next-of : (σ : List ℕ) (v : Layout) (held : ℕ) (w : Layout) → w .number .0 ≡ v .number .0 + 1 → w .members ≡ held
-    → allBelow (shards σ) (λ s. subset (maskAt w s) held) ≡ true → Next σ v held w
+    → allBelow (shards σ) (λ s. subset (maskAt w s) held) ≡ true → PlannedView σ v held w
 next-of σ v held w e m h =
     record { number = e; members = m; placed = λ s l n k. subset-has (maskAt w s) held (all-at (shards σ) (λ i. subset (maskAt w i) held) h s l) n }
 
@@ -186,7 +185,7 @@ covers-of σ t views logs d a l h =
 module _ (σ : List ℕ) (views : List Layout) (logs d : List ℕ) (v : Layout) (t : Termination) (held : ℕ) (w : Layout) where
   -- a plan from the reports of the nodes held, of those that the desk has
   abbrev pub planFrom : 0 < shards σ → shards σ ≤ 16 → v .members < 2 ^ 32 → slotsOk σ v t held d ≡ true → QuorumMet σ v t held d
-      → Next σ v held w → (places : List ℕ) → reportsTest σ views logs d held places ≡ true → Covers σ t (toldBy views logs d)
+      → PlannedView σ v held w → (places : List ℕ) → reportsTest σ views logs d held places ≡ true → Covers σ t (toldBy views logs d)
       → Restart (shards σ) (toldBy views logs d)
   planFrom some few wide slots met next places reports ended =
       record {

@@ -9,38 +9,28 @@ use native.Mathlib.Omega.{arith}
 use lib.Count.{ones, onesIn}
 use lib.ListN.{getD, replicate}
 use Rattle.base_laws.specs.Bools.{clash}
-use Rattle.base_laws.specs.Below.{allBelow, anyBelow, lowest}
-use Rattle.base_laws.specs.Masks.{has}
-use Rattle.base_laws.specs.Positions.{pairNotAfter}
-use Rattle.base_laws.specs.Tables.{tabulate}
-use Rattle.settings_values.specs.Settings.{nodes}
+use Rattle.base_laws.specs.Definitions.{allBelow, anyBelow, lowest, has, pairNotAfter, tabulate}
+use Rattle.settings_values.specs.Definitions.{nodes}
 use Rattle.base_ids.specs.Order.{order-views}
-use Rattle.base_ids.specs.Refusals.{none, refused, unless, unlessAt, firstOf}
+use Rattle.base_ids.specs.Definitions.{none, refused, unless, unlessAt, firstOf}
 use Rattle.base_ids.specs.declared.Position.{Position}
 use Rattle.message_format.specs.declared.Form.the-variants.{Report}
-use Rattle.message_format.specs.Chain.{place, following, row5, row8}
-use Rattle.message_format.specs.Records.{precedes, shardsWhere}
-use Rattle.message_format.specs.Rows.{row6, viewOk, row7, kindOk, plain, kindAt, shardAt, surplus, sequenceAt, complete, shardApart, row10At, row10, position, viewFits, legal, row11At}
-use Rattle.message_format.specs.Messages.{bodyWord, bodyOf, contentsOf, recordsRefusal, headRefusal, messageRefusal}
+use Rattle.message_format.specs.Definitions.{place, following, row5, row8, precedes, shardsWhere, row6, viewOk, row7, kindOk, plain, kindAt, shardAt, surplus, sequenceAt, complete, shardApart, row10At, row10, isPosition, viewFits, legal, row11At, bodyWord, bodyOf, contentsOf, recordsRefusal, headRefusal, messageRefusal}
 use Rattle.message_format.specs.Passed.{message-given}
 use Rattle.report_views.specs.declared.Layout.{Layout}
 use Rattle.report_views.specs.declared.Quorum.the-variants.{Met, Short}
 use Rattle.report_views.specs.declared.Reason.the-variants.{NoHolder}
-use Rattle.report_views.specs.Empty.{noTermination}
-use Rattle.report_views.specs.Logs.{pos, endOf, reaches, holds, hasUpdate, runsFrom, runsOf}
+use Rattle.report_views.specs.Definitions.{noTermination, pos, endOf, reaches, holds, hasUpdate, runsFrom, runsOf, slot, reportOf, holdsAt, maskAt, sameView, row12, sameTermination, row13, termKept, slotOk, slotsOk, candidate, greatest, best, target, able, holder, majority, firstUnheld, quorumOf, numberOf}
 use Rattle.report_views.specs.LogLaws.{holds-end}
-use Rattle.report_views.specs.Ends.{end-legal}
-use Rattle.report_views.specs.Reports.{slot, reportOf, holdsAt, maskAt}
-use Rattle.report_views.specs.Slots.{sameView, row12, sameTermination, row13, termKept, slotOk, slotsOk}
-use Rattle.report_views.specs.Quorums.{candidate, greatest, best, target, able, holder, majority, firstUnheld, quorumOf, numberOf}
+use Rattle.report_log_laws.specs.Ends.{end-legal}
 use Rattle.report_views.specs.Meets.{QuorumMet}
 use Rattle.report_views.specs.Updates.{updatesAfter, updatesIn, thoseOf}
-use Rattle.report_views.specs.Stretches.{among}
-use Rattle.history_claims.specs.History.{History, KeepsRule, True, numberAt}
+use Rattle.report_log_laws.specs.Stretches.{among}
+use Rattle.history_laws.specs.Definitions.{History, KeepsRule, True, numberAt}
 use Rattle.history_cases.specs.Told.{toldBy, implies, implies-at, rule-of, full-of, trueTest, true-somewhere, reportsTest, reports-of}
-use Rattle.history_course.specs.Course.{Succeeded, Orderly, Settled, Serves, Next, CarriedOut, GivenUp, asOrdered}
-use Rattle.history_course.specs.Ever.{Restart, Course, here, running, carrying}
-use Rattle.history_course.specs.Counting.{first-orderly}
+use Rattle.history_course_laws.specs.Course.{Succeeded, Orderly, Settled, Serves, PlannedView, CarriedOut, GivenUp, asOrdered}
+use Rattle.history_course_laws.specs.Ever.{Restart, Course, here, running, carrying}
+use Rattle.history_course_laws.specs.Counting.{first-orderly}
 use Rattle.history_course_cases.specs.Steps.{ofEvery, sameLog, orderly-of, not-succeeded, next-of, met-of, none-ended, planFrom, told-of, plannedLog, planned-of, ordered-of, remembered-of, given-up-of, keeps-of}
 use Rattle.history_course_cases.specs.Worked.{courseSettings, reportOfShard, runOf, runsUpTo}
 use Rattle.history_course_cases.specs.Duties.{settingsFor, viewWith, noRun, LoggedByAll}
@@ -90,12 +80,12 @@ otherStored = toldBy otherViews (31 ∷ 11 ∷ []) deskBothStored
 abbrev pub strayKnown : History
 strayKnown = toldBy strayViews (31 ∷ 4 ∷ []) deskBothStored
 
-pub next-stray : Next (settingsFor 2) (viewWith 2 31 6) 28 (viewWith 3 28 20)
+pub next-stray : PlannedView (settingsFor 2) (viewWith 2 31 6) 28 (viewWith 3 28 20)
 unfolding allBelow
 next-stray = next-of (settingsFor 2) (viewWith 2 31 6) 28 (viewWith 3 28 20) refl refl refl
 
 pub slots-other : slotsOk (settingsFor 2) (viewWith 2 31 6) noTermination 11 deskOfFive ≡ true
-unfolding deskOfFive allBelow anyBelow lowest tabulate unless unlessAt firstOf place following row5 row8 precedes shardsWhere row6 viewOk row7 kindOk plain kindAt shardAt surplus sequenceAt complete shardApart row10At row10 position viewFits legal row11At bodyWord bodyOf contentsOf recordsRefusal headRefusal messageRefusal slot reportOf sameView row12 sameTermination row13 termKept slotOk slotsOk
+unfolding deskOfFive allBelow anyBelow lowest tabulate unless unlessAt firstOf place following row5 row8 precedes shardsWhere row6 viewOk row7 kindOk plain kindAt shardAt surplus sequenceAt complete shardApart row10At row10 isPosition viewFits legal row11At bodyWord bodyOf contentsOf recordsRefusal headRefusal messageRefusal slot reportOf sameView row12 sameTermination row13 termKept slotOk slotsOk
 slots-other = refl
 
 pub target-other : target (viewWith 2 31 6) noTermination 11 deskOfFive 0 ≡ pos 2 1
@@ -116,7 +106,7 @@ pub reports-other : reportsTest (settingsFor 2) fiveViews (31 ∷ []) deskOfFive
 unfolding deskOfFive allBelow slot reportOf contentsOf bodyOf bodyWord tabulate place following lowest anyBelow
 reports-other = refl
 
-pub next-other : Next (settingsFor 2) (viewWith 2 31 6) 11 (viewWith 3 11 10)
+pub next-other : PlannedView (settingsFor 2) (viewWith 2 31 6) 11 (viewWith 3 11 10)
 unfolding allBelow
 next-other = next-of (settingsFor 2) (viewWith 2 31 6) 11 (viewWith 3 11 10) refl refl refl
 
@@ -160,7 +150,7 @@ unfolding deskBothStored allBelow anyBelow lowest tabulate place following bodyW
 logged-other = refl
 
 slots-back : slotsOk (settingsFor 2) (viewWith 3 28 20) noTermination 20 deskBothStored ≡ true
-unfolding deskBothStored allBelow anyBelow lowest tabulate unless unlessAt firstOf place following row5 row8 precedes shardsWhere row6 viewOk row7 kindOk plain kindAt shardAt surplus sequenceAt complete shardApart row10At row10 position viewFits legal row11At bodyWord bodyOf contentsOf recordsRefusal headRefusal messageRefusal slot reportOf sameView row12 sameTermination row13 termKept slotOk slotsOk
+unfolding deskBothStored allBelow anyBelow lowest tabulate unless unlessAt firstOf place following row5 row8 precedes shardsWhere row6 viewOk row7 kindOk plain kindAt shardAt surplus sequenceAt complete shardApart row10At row10 isPosition viewFits legal row11At bodyWord bodyOf contentsOf recordsRefusal headRefusal messageRefusal slot reportOf sameView row12 sameTermination row13 termKept slotOk slotsOk
 slots-back = refl
 
 target-back : target (viewWith 3 28 20) noTermination 20 deskBothStored 0 ≡ pos 2 1
@@ -193,7 +183,7 @@ none-of-list = refl
 pub record StrayKept : Type 0 where
   -- from the orderly history of view 2, of which both views 3 are the next, the other one is carried out and served as the duties say
   pub orderly : Orderly fiveBefore
-  pub stray : Next (settingsFor 2) (viewWith 2 31 6) 28 (viewWith 3 28 20)
+  pub stray : PlannedView (settingsFor 2) (viewWith 2 31 6) 28 (viewWith 3 28 20)
   pub course : Course 1 fiveBefore otherStored
   pub logged : LoggedByAll otherStored (pos 3 1)
   -- nodes 2 and 4 report truly what they know: the stray view 3 is kept, with 2 of its 3 members
@@ -237,20 +227,20 @@ abbrev pub preparedByOne : History
 preparedByOne = toldBy preparedViews (7 ∷ 4 ∷ []) deskPrepared
 
 slots-prepared : slotsOk courseSettings (viewWith 2 7 3) noTermination 7 deskPrepared ≡ true
-unfolding deskPrepared allBelow anyBelow lowest tabulate unless unlessAt firstOf place following row5 row8 precedes shardsWhere row6 viewOk row7 kindOk plain kindAt shardAt surplus sequenceAt complete shardApart row10At row10 position viewFits legal row11At bodyWord bodyOf contentsOf recordsRefusal headRefusal messageRefusal slot reportOf sameView row12 sameTermination row13 termKept slotOk slotsOk
+unfolding deskPrepared allBelow anyBelow lowest tabulate unless unlessAt firstOf place following row5 row8 precedes shardsWhere row6 viewOk row7 kindOk plain kindAt shardAt surplus sequenceAt complete shardApart row10At row10 isPosition viewFits legal row11At bodyWord bodyOf contentsOf recordsRefusal headRefusal messageRefusal slot reportOf sameView row12 sameTermination row13 termKept slotOk slotsOk
 slots-prepared = refl
 
 reports-prepared : reportsTest courseSettings preparedViews (7 ∷ 4 ∷ []) deskPrepared 7 (0 ∷ 0 ∷ 1 ∷ []) ≡ true
 unfolding deskPrepared allBelow slot reportOf contentsOf bodyOf bodyWord tabulate place following lowest anyBelow
 reports-prepared = refl
 
-next-prepared : Next courseSettings (viewWith 1 7 3) 7 (viewWith 2 7 3)
+next-prepared : PlannedView courseSettings (viewWith 1 7 3) 7 (viewWith 2 7 3)
 unfolding allBelow
 next-prepared = next-of courseSettings (viewWith 1 7 3) 7 (viewWith 2 7 3) refl refl refl
 
 pub record NoneReports : Type 0 where
   -- view 2 is that of a plan from view 1, and all nodes of the settings report truly
-  pub next : Next courseSettings (viewWith 1 7 3) 7 (viewWith 2 7 3)
+  pub next : PlannedView courseSettings (viewWith 1 7 3) 7 (viewWith 2 7 3)
   pub rule : KeepsRule preparedByOne
   pub every : 2 ^ nodes courseSettings - 1 ≡ 7
   pub reports : (n : ℕ) → n < 32 → has 7 n ≡ true → True courseSettings preparedByOne (reportOf deskPrepared n)
@@ -303,7 +293,7 @@ abbrev pub staleAhead : History
 staleAhead = toldBy staleViews (15 ∷ 14 ∷ []) deskAhead
 
 pub slots-stale : slotsOk (settingsFor 2) (viewWith 2 14 6) noTermination 13 deskOfStale ≡ true
-unfolding deskOfStale allBelow anyBelow lowest tabulate unless unlessAt firstOf place following row5 row8 precedes shardsWhere row6 viewOk row7 kindOk plain kindAt shardAt surplus sequenceAt complete shardApart row10At row10 position viewFits legal row11At bodyWord bodyOf contentsOf recordsRefusal headRefusal messageRefusal slot reportOf sameView row12 sameTermination row13 termKept slotOk slotsOk
+unfolding deskOfStale allBelow anyBelow lowest tabulate unless unlessAt firstOf place following row5 row8 precedes shardsWhere row6 viewOk row7 kindOk plain kindAt shardAt surplus sequenceAt complete shardApart row10At row10 isPosition viewFits legal row11At bodyWord bodyOf contentsOf recordsRefusal headRefusal messageRefusal slot reportOf sameView row12 sameTermination row13 termKept slotOk slotsOk
 slots-stale = refl
 
 pub target-stale : target (viewWith 2 14 6) noTermination 13 deskOfStale 0 ≡ pos 2 1
@@ -324,7 +314,7 @@ pub reports-stale : reportsTest (settingsFor 2) staleViews (15 ∷ 14 ∷ []) de
 unfolding deskOfStale allBelow slot reportOf contentsOf bodyOf bodyWord tabulate place following lowest anyBelow
 reports-stale = refl
 
-pub next-stale : Next (settingsFor 2) (viewWith 2 14 6) 13 (viewWith 3 13 5)
+pub next-stale : PlannedView (settingsFor 2) (viewWith 2 14 6) 13 (viewWith 3 13 5)
 unfolding allBelow
 next-stale = next-of (settingsFor 2) (viewWith 2 14 6) 13 (viewWith 3 13 5) refl refl refl
 
@@ -396,7 +386,7 @@ never-ahead x own r accepted =
     )
 
 pub stale-refused : StaleRefused
-unfolding deskAhead ones onesIn allBelow anyBelow lowest tabulate unless unlessAt firstOf place following row5 row8 precedes shardsWhere row6 viewOk row7 kindOk plain kindAt shardAt surplus sequenceAt complete shardApart row10At row10 position viewFits legal row11At bodyWord bodyOf contentsOf recordsRefusal headRefusal messageRefusal slot reportOf sameView row12 sameTermination row13 termKept slotOk slotsOk
+unfolding deskAhead ones onesIn allBelow anyBelow lowest tabulate unless unlessAt firstOf place following row5 row8 precedes shardsWhere row6 viewOk row7 kindOk plain kindAt shardAt surplus sequenceAt complete shardApart row10At row10 isPosition viewFits legal row11At bodyWord bodyOf contentsOf recordsRefusal headRefusal messageRefusal slot reportOf sameView row12 sameTermination row13 termKept slotOk slotsOk
 stale-refused =
     record {
       orderly = orderly-of staleBefore (14 ∷ []) refl refl refl;

@@ -9,38 +9,26 @@ use native.Mathlib.Omega.{arith}
 use lib.Count.{ones, onesIn}
 use lib.Dec.{eqb}
 use lib.ListN.{getD, replicate}
-use Rattle.base_laws.specs.Below.{allBelow, anyBelow, lowest, countBelow}
-use Rattle.base_laws.specs.Masks.{has}
-use Rattle.base_laws.specs.Positions.{pairNotAfter}
-use Rattle.base_laws.specs.Tables.{tabulate}
-use Rattle.base_sums.specs.Sums.{sumBelow}
-use Rattle.settings_values.specs.Settings.{sizesOk, nodesOk, cap, shardOk, shardsOk, settingsOk}
-use Rattle.base_ids.specs.Order.{notAfter}
-use Rattle.base_ids.specs.Refusals.{unless, unlessAt, firstOf}
+use Rattle.base_laws.specs.Definitions.{allBelow, anyBelow, lowest, countBelow, has, pairNotAfter, tabulate}
+use Rattle.base_sum_laws.specs.Definitions.{sumBelow}
+use Rattle.settings_values.specs.Definitions.{sizesOk, nodesOk, cap, shardOk, shardsOk, settingsOk}
+use Rattle.base_ids.specs.Definitions.{notAfter, unless, unlessAt, firstOf}
 use Rattle.base_ids.specs.declared.Position.{Position}
-use Rattle.message_format.specs.Chain.{place, following, row5, row8}
-use Rattle.message_format.specs.Records.{precedes, shardsWhere}
-use Rattle.message_format.specs.Rows.{row6, viewOk, row7, kindOk, plain, kindAt, shardAt, surplus, sequenceAt, complete, shardApart, row10At, row10, position, viewFits, legal, row11At}
-use Rattle.message_format.specs.Messages.{bodyWord, bodyOf, contentsOf, recordsRefusal, headRefusal, messageRefusal}
+use Rattle.message_format.specs.Definitions.{place, following, row5, row8, precedes, shardsWhere, row6, viewOk, row7, kindOk, plain, kindAt, shardAt, surplus, sequenceAt, complete, shardApart, row10At, row10, isPosition, viewFits, legal, row11At, bodyWord, bodyOf, contentsOf, recordsRefusal, headRefusal, messageRefusal}
 use Rattle.report_views.specs.declared.Layout.{Layout}
 use Rattle.report_views.specs.declared.Termination.{Termination}
-use Rattle.report_views.specs.Empty.{noTermination}
-use Rattle.report_views.specs.Logs.{pos, start, endOf, reaches, holds, hasUpdate, runsFrom, runsOf}
-use Rattle.report_views.specs.Reports.{slot, reportOf, holdsAt, maskAt}
-use Rattle.report_views.specs.Slots.{sameView, row12, sameTermination, row13, termKept, slotOk, slotsOk}
-use Rattle.report_views.specs.Quorums.{candidate, greatest, best, target, able, holder}
+use Rattle.report_views.specs.Definitions.{noTermination, pos, start, endOf, reaches, holds, hasUpdate, runsFrom, runsOf, slot, reportOf, holdsAt, maskAt, sameView, row12, sameTermination, row13, termKept, slotOk, slotsOk, candidate, greatest, best, target, able, holder, runsTo, sharedAfter, cutFrom}
 use Rattle.report_views.specs.Meets.{QuorumMet}
-use Rattle.report_views.specs.Cuts.{runsTo, sharedAfter, cutFrom}
 use Rattle.report_views.specs.Updates.{updatesAfter, updatesIn, thoseOf}
-use Rattle.report_views.specs.Stretches.{among}
-use Rattle.place_groups.specs.Placements.{meetsSet, setsIn, shardValid, groupValidAt, groupValid, groupMovesAt, groupMoves}
-use Rattle.history_claims.specs.History.{History, Full}
+use Rattle.report_log_laws.specs.Stretches.{among}
+use Rattle.place_groups.specs.Definitions.{meetsSet, setsIn, shardValid, groupValidAt, groupValid, groupMovesAt, groupMoves}
+use Rattle.history_laws.specs.Definitions.{History, Full}
 use Rattle.history_cases.specs.Runs.{slotOf}
 use Rattle.history_cases.specs.Told.{toldBy, reportsTest}
 use Rattle.history_cases.specs.Supposing.{viewOfAll, reportOfAll}
-use Rattle.history_course.specs.Course.{Orderly, Settled, Serves, Next, Covers, CarriedOut, GivenUp, cutFor, asOrdered}
-use Rattle.history_course.specs.Ever.{Restart, Course, here, running, carrying, giving-up, never-lost, logged-lasts}
-use Rattle.history_course.specs.Counting.{counted-carried, counted-full, first-orderly}
+use Rattle.history_course_laws.specs.Course.{Orderly, Settled, Serves, PlannedView, Covers, CarriedOut, GivenUp, cutFor, asOrdered}
+use Rattle.history_course_laws.specs.Ever.{Restart, Course, here, running, carrying, giving-up, never-lost, logged-lasts}
+use Rattle.history_course_laws.specs.Counting.{counted-carried, counted-full, first-orderly}
 use Rattle.history_course_cases.specs.Steps.{ofEvery, sameLog, orderly-of, settled-of, next-of, met-of, none-ended, covers-of, planFrom, cut-of, plannedLog, planned-of, ordered-of, remembered-of, given-up-of, keeps-of}
 
 -- three nodes of three failure sets; the shard needs two of them and may have all three
@@ -84,7 +72,7 @@ settled-first = settled-of atFirst 0 (pos 1 1) refl
 -- ---- nodes 0 and 2 are restarted: node 2 is the holder, and both are placed
 
 pub slots-first : slotsOk courseSettings (viewOfAll 1 7) noTermination 5 deskAtFirst ≡ true
-unfolding deskAtFirst allBelow anyBelow lowest tabulate unless unlessAt firstOf place following row5 row8 precedes shardsWhere row6 viewOk row7 kindOk plain kindAt shardAt surplus sequenceAt complete shardApart row10At row10 position viewFits legal row11At bodyWord bodyOf contentsOf recordsRefusal headRefusal messageRefusal slot reportOf sameView row12 sameTermination row13 termKept slotOk slotsOk
+unfolding deskAtFirst allBelow anyBelow lowest tabulate unless unlessAt firstOf place following row5 row8 precedes shardsWhere row6 viewOk row7 kindOk plain kindAt shardAt surplus sequenceAt complete shardApart row10At row10 isPosition viewFits legal row11At bodyWord bodyOf contentsOf recordsRefusal headRefusal messageRefusal slot reportOf sameView row12 sameTermination row13 termKept slotOk slotsOk
 slots-first = refl
 
 pub target-first : target (viewOfAll 1 7) noTermination 5 deskAtFirst 0 ≡ pos 1 2
@@ -105,7 +93,7 @@ pub reports-first : reportsTest courseSettings firstViews (7 ∷ []) deskAtFirst
 unfolding deskAtFirst allBelow slot reportOf contentsOf bodyOf bodyWord tabulate place following lowest anyBelow
 reports-first = refl
 
-pub next-first : Next courseSettings (viewOfAll 1 7) 5 (viewOfAll 2 5)
+pub next-first : PlannedView courseSettings (viewOfAll 1 7) 5 (viewOfAll 2 5)
 unfolding allBelow
 next-first = next-of courseSettings (viewOfAll 1 7) 5 (viewOfAll 2 5) refl refl refl
 
@@ -136,7 +124,7 @@ given-up = given-up-of firstViews (7 ∷ []) deskAtFirst givenUpPlan firstLog lo
 -- ---- nodes 0 and 1 are restarted: node 1 is the holder, node 0 keeps two updates and fetches the third
 
 pub slots-second : slotsOk courseSettings (viewOfAll 1 7) noTermination 3 deskGivenUp ≡ true
-unfolding deskGivenUp allBelow anyBelow lowest tabulate unless unlessAt firstOf place following row5 row8 precedes shardsWhere row6 viewOk row7 kindOk plain kindAt shardAt surplus sequenceAt complete shardApart row10At row10 position viewFits legal row11At bodyWord bodyOf contentsOf recordsRefusal headRefusal messageRefusal slot reportOf sameView row12 sameTermination row13 termKept slotOk slotsOk
+unfolding deskGivenUp allBelow anyBelow lowest tabulate unless unlessAt firstOf place following row5 row8 precedes shardsWhere row6 viewOk row7 kindOk plain kindAt shardAt surplus sequenceAt complete shardApart row10At row10 isPosition viewFits legal row11At bodyWord bodyOf contentsOf recordsRefusal headRefusal messageRefusal slot reportOf sameView row12 sameTermination row13 termKept slotOk slotsOk
 slots-second = refl
 
 pub target-second : target (viewOfAll 1 7) noTermination 3 deskGivenUp 0 ≡ pos 1 3
@@ -157,7 +145,7 @@ pub reports-second : reportsTest courseSettings firstViews (7 ∷ []) deskGivenU
 unfolding deskGivenUp allBelow slot reportOf contentsOf bodyOf bodyWord tabulate place following lowest anyBelow
 reports-second = refl
 
-pub next-second : Next courseSettings (viewOfAll 1 7) 3 (viewOfAll 2 3)
+pub next-second : PlannedView courseSettings (viewOfAll 1 7) 3 (viewOfAll 2 3)
 unfolding allBelow
 next-second = next-of courseSettings (viewOfAll 1 7) 3 (viewOfAll 2 3) refl refl refl
 
@@ -234,7 +222,7 @@ abbrev pub thirdView : Layout
 thirdView = record { number = record { 0 = 3 }; members = 7; masks = 3 ∷ replicate 15 0 }
 
 pub slots-last : slotsOk courseSettings (viewOfAll 2 3) endOfRun 7 deskServed ≡ true
-unfolding deskServed allBelow anyBelow lowest tabulate unless unlessAt firstOf place following row5 row8 precedes shardsWhere row6 viewOk row7 kindOk plain kindAt shardAt surplus sequenceAt complete shardApart row10At row10 position viewFits legal row11At bodyWord bodyOf contentsOf recordsRefusal headRefusal messageRefusal slot reportOf sameView row12 sameTermination row13 termKept slotOk slotsOk
+unfolding deskServed allBelow anyBelow lowest tabulate unless unlessAt firstOf place following row5 row8 precedes shardsWhere row6 viewOk row7 kindOk plain kindAt shardAt surplus sequenceAt complete shardApart row10At row10 isPosition viewFits legal row11At bodyWord bodyOf contentsOf recordsRefusal headRefusal messageRefusal slot reportOf sameView row12 sameTermination row13 termKept slotOk slotsOk
 slots-last = refl
 
 pub target-last : target (viewOfAll 2 3) endOfRun 7 deskServed 0 ≡ pos 2 1
@@ -253,7 +241,7 @@ pub reports-last : reportsTest courseSettings laterViews (7 ∷ 3 ∷ []) deskSe
 unfolding deskServed allBelow slot reportOf contentsOf bodyOf bodyWord tabulate place following lowest anyBelow
 reports-last = refl
 
-pub next-last : Next courseSettings (viewOfAll 2 3) 7 thirdView
+pub next-last : PlannedView courseSettings (viewOfAll 2 3) 7 thirdView
 unfolding allBelow
 next-last = next-of courseSettings (viewOfAll 2 3) 7 thirdView refl refl refl
 

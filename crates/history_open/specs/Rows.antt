@@ -1,7 +1,7 @@
 -- What is found of an open view of nodes 0, 1 and 2, row by row, computed. Node 3 is no member of it.
 use mathlib.Core.Path.{_≡_, refl}
 use Rattle.history_open.specs.declared.Finding.the-variants.{Sure, Never, Undecided, Contradicted}
-use Rattle.history_open.specs.Judged.{saysSure, saysNever, judged}
+use Rattle.history_open.specs.Definitions.{saysSure, saysNever, judged}
 
 pub record OpenViewRows : Type 0 where
   -- one machine knows it, and be it no member

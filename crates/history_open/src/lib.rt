@@ -1,6 +1,6 @@
 // Whether an open view counts: a view that machines have on disk and none of them knows to be committed.
 ghost use mathlib.Core.Path.{_≡_};
-ghost use Rattle.history_open.specs.Judged.{saysSure, saysNever, judged};
+ghost use Rattle.history_open.specs.Definitions.{saysSure, saysNever, judged};
 
 // What the machines' views say of it: that it counts, that it was never served, neither, or both, which no machines say that keep their
 // duties.

@@ -6,7 +6,8 @@ use mathlib.Core.Path.{_≡_}
 use borrow.Author.Tests.{lt-ltb}
 use lib.Dec.{ltb}
 use lib.ListN.{getD}
-use Rattle.message_format.specs.Chain.{records, next}
+use Rattle.message_format.specs.Definitions.{next}
+use Rattle.message_format.specs.Shorthands.{records}
 use Rattle.message_chain.specs.declared.Record.{Record}
 use Rattle.message_chain.specs.declared.Step.{Step}
 

@@ -1,6 +1,6 @@
 // The chain of a message's records: a reader that holds the words and the index reached gives the record there, and the reader after it.
 ghost use mathlib.Core.Path.{_≡_};
-ghost use Rattle.message_format.specs.Chain.{next};
+ghost use Rattle.message_format.specs.Definitions.{next};
 ghost use Rattle.message_chain.specs.Steps.{recordAt, stepFrom};
 
 // A reader of records: the message's words, and the index of the record reached.

@@ -6,14 +6,13 @@ use Prim.Native.Nat.{ℕ, suc, _+_, _*_, _<_, _≤_}
 use native.Mathlib.Numerals.{add-one}
 use native.Mathlib.Omega.{arith}
 use borrow.Author.Tests.{eq-eqb, ne-eqb}
-use Rattle.base_laws.specs.Below.{allBelow}
+use Rattle.base_laws.specs.Definitions.{allBelow}
 use Rattle.base_laws.specs.Loops.{firstBad, bad-fails, bad-holds}
-use Rattle.base_ids.specs.Refusals.{none, refused, refusedAt, unless, unlessAt, firstOf, accepted-none, unless-true, unless-false, unless-at-true, unless-at-false, first-none, first-refused, rows-refused}
+use Rattle.base_ids.specs.Definitions.{none, refused, refusedAt, unless, unlessAt, firstOf}
+use Rattle.base_ids.specs.Refusals.{accepted-none, unless-true, unless-false, unless-at-true, unless-at-false, first-none, first-refused, rows-refused}
 use Rattle.base_ids.specs.declared.Refusal.{Refusal}
 use Rattle.message_format.specs.declared.Form.{Form}
-use Rattle.message_format.specs.Records.{membersOf}
-use Rattle.message_format.specs.Rows.{kindAt, shardAt, sequenceAt, complete, row10, row11At}
-use Rattle.message_format.specs.Messages.{firstAt, inOrder, recordsRefusal}
+use Rattle.message_format.specs.Definitions.{membersOf, kindAt, shardAt, sequenceAt, complete, row10, row11At, firstAt, inOrder, recordsRefusal}
 
 unfoldable pub structureRefusal : Form → List ℕ → ℕ → List ℕ → ℕ → Refusal
 structureRefusal form σ node b len =

@@ -4,11 +4,12 @@ use mathlib.Core.List.{List}
 use Prim.Native.Nat.{ℕ, _<_, _≤_}
 use lib.Dec.{leb}
 use borrow.Author.Tests.{le-leb, lt-leb, eq-eqb, ne-eqb}
-use Rattle.base_ids.specs.Refusals.{refused, unless-true, unless-false, accepted-none, first-none, first-refused}
+use Rattle.base_ids.specs.Definitions.{refused}
+use Rattle.base_ids.specs.Refusals.{unless-true, unless-false, accepted-none, first-none, first-refused}
 use Rattle.base_ids.specs.declared.Refusal.{Refusal}
 use Rattle.message_format.specs.declared.Form.{Form}
 use Rattle.message_format.specs.declared.Contents.{Contents}
-use Rattle.message_format.specs.Messages.{inOrder, headRefusal, recordsRefusal, contentsRefusal}
+use Rattle.message_format.specs.Definitions.{inOrder, headRefusal, recordsRefusal, contentsRefusal}
 
 module _ (form : Form) (σ : List ℕ) (c : Contents) where
   abbrev pub headPart : Refusal

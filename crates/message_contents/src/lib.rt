@@ -1,5 +1,8 @@
 // Rows 6, 7, 9, 16, 17, 10 and 11 over the contents of a report or an order, for the reader, the writer and the slots of
 // the desk.
+mod passes;
+mod records;
+
 use base_ids::Node;
 use base_ids::Refusal;
 use base_ids::View;
@@ -7,9 +10,9 @@ use message_format::Contents;
 use message_format::Form;
 ghost use mathlib.Core.Path.{_≡_};
 ghost use Prim.Native.Nat.{_<_, _≤_};
-ghost use Rattle.base_ids.specs.Refusals.{refusedAt};
-ghost use Rattle.settings_values.specs.Settings.{Settings};
-ghost use Rattle.message_format.specs.Messages.{headRefusal, inOrder, recordsRefusal, contentsRefusal};
+ghost use Rattle.base_ids.specs.Definitions.{refusedAt};
+ghost use Rattle.settings_values.specs.Definitions.{Settings};
+ghost use Rattle.message_format.specs.Definitions.{headRefusal, inOrder, recordsRefusal, contentsRefusal};
 ghost use Rattle.message_contents.specs.Structure.{structureRefusal};
 
 // Rows 6 and 7 over the contents' head.
@@ -50,19 +53,19 @@ fn structure_refusal(
     requires { ⌜ len ≤ 127 ⌝ }
     ensures { λ r. ⌜ r ≡ structureRefusal form (now (settings .entry)) (node .0) (now (body .entry)) len ⌝ }
 {
-    let kind = message_passes::kinds(form, body, len);
+    let kind = crate::passes::kinds(form, body, len);
     if kind < len {
         return told_at(9, kind + 1);
     }
-    let shard = message_passes::shards(settings, body, len);
+    let shard = crate::passes::shards(settings, body, len);
     if shard < len {
         return told_at(16, shard + 1);
     }
-    let place = message_passes::sequence(node, body, len);
+    let place = crate::passes::sequence(node, body, len);
     if place < len {
         return told_at(17, place + 1);
     }
-    if !message_records::complete(form, settings, node, body, len) {
+    if !crate::records::complete(form, settings, node, body, len) {
         return told_at(17, len);
     }
     Refusal { code: 0 }
@@ -86,11 +89,11 @@ pub fn records_refusal(
     if structure.code != 0 {
         return structure;
     }
-    let masks = message_records::masks_of(settings, body);
-    if !message_shards::row10(settings, members, &masks) {
+    let masks = crate::records::masks_of(settings, body);
+    if !message_rows::shards::row10(settings, members, &masks) {
         return Refusal { code: 10 };
     }
-    if message_passes::positions(form, view, members, body, len) < len {
+    if crate::passes::positions(form, view, members, body, len) < len {
         return Refusal { code: 11 };
     }
     Refusal { code: 0 }

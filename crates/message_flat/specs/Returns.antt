@@ -11,16 +11,17 @@ use lib.Seq.{getD-take}
 use borrow.Author.Tests.{eq-eqb, ne-eqb, le-ltb, leb-true, le-leb}
 use Rattle.base_laws.specs.Bools.{either, and-both, and-left, and-right, not-of-false, lt-or-le, eq-or-ne}
 use Rattle.base_laws.specs.Below.{all-at, any-none-of}
-use Rattle.base_laws.specs.Tables.{tabulate, length-tabulate, getD-tabulate, tabulate-cong}
-use Rattle.base_ids.specs.Refusals.{none, unless-none}
-use Rattle.settings_values.specs.Settings.{shards}
+use Rattle.base_laws.specs.Definitions.{tabulate}
+use Rattle.base_laws.specs.Tables.{length-tabulate, getD-tabulate, tabulate-cong}
+use Rattle.base_ids.specs.Definitions.{none}
+use Rattle.base_ids.specs.Refusals.{unless-none}
+use Rattle.settings_values.specs.Definitions.{shards}
 use Rattle.message_format.specs.declared.Contents.{Contents}
 use Rattle.message_format.specs.declared.Form.the-variants.{Report}
-use Rattle.message_format.specs.Records.{tag, word1, word2, kind, shard}
-use Rattle.message_format.specs.Rows.{legal, viewFits, row11At}
-use Rattle.message_format.specs.Messages.{headWord, tidy}
+use Rattle.message_format.specs.Definitions.{tag, word1, word2, kind, recordShard, legal, viewFits, row11At, headWord}
+use Rattle.message_format.specs.Messages.{tidy}
 use Rattle.message_format.specs.Passed.{ContentsPass}
-use Rattle.message_flat.specs.Flat.{flatShards, flatFlag, flatPlaces, flatCountAt, flatRuns, explained, zeroCount, flatLen, flatRefusal, flatRecord, flatBody, flatContents, hasPlaces, placesIn, runsFirst, runsCount, countPlace, flatLength, tripleWord, flatWord, flatWords}
+use Rattle.message_flat.specs.Definitions.{flatShards, flatFlag, flatPlaces, flatCountAt, flatRuns, explained, zeroCount, flatLen, flatRefusal, flatRecord, flatBody, flatContents, hasPlaces, placesIn, runsFirst, runsCount, countPlace, flatLength, tripleWord, flatWord, flatWords}
 use Rattle.message_flat.specs.Records.{few, enough, mask-tag, mask-plain, shard-lt, place-tag, place-below, run-kind}
 use Rattle.message_flat.specs.Turns.{made-head, made-shards, made-mask, made-flag, made-place, made-count, made-triple, record-mask, record-place, record-run}
 
@@ -125,7 +126,7 @@ module _ (σ : List ℕ) (c : Contents) (one : 1 ≤ shards σ) (most : shards �
   unfolding placesIn
   no-places e = rw e
 
-  triple-shard : (i : ℕ) → i < runsCount σ c → getD madeFlat (flatCountAt madeFlat + 1 + 3 * i) 0 ≡ shard oldBody (runsFirst σ c + i)
+  triple-shard : (i : ℕ) → i < runsCount σ c → getD madeFlat (flatCountAt madeFlat + 1 + 3 * i) 0 ≡ recordShard oldBody (runsFirst σ c + i)
   unfolding tripleWord
   triple-shard i l =
       let e : 3 * i % 3 ≡ 0 = omega arith in
@@ -179,12 +180,12 @@ module _ (σ : List ℕ) (c : Contents) (one : 1 ≤ shards σ) (most : shards �
           (getD madeFlat (flatCountAt madeFlat + 1 + 3 * (j - (flatShards madeFlat + flatPlaces madeFlat)) + p) 0)
           ≡ getD oldBody (3 * j + p) 0
       run-word t (inl z) =
-          let w : getD madeFlat (flatCountAt madeFlat + 1 + 3 * (j - (flatShards madeFlat + flatPlaces madeFlat))) 0 ≡ shard oldBody j =
+          let w : getD madeFlat (flatCountAt madeFlat + 1 + 3 * (j - (flatShards madeFlat + flatPlaces madeFlat))) 0 ≡ recordShard oldBody j =
           ap (λ (x : ℕ). getD madeFlat (flatCountAt madeFlat + 1 + 3 * (j - x)) 0) its-first
           ∙ triple-shard (j - runsFirst σ c) (omega arith)
-          ∙ ap (λ (x : ℕ). shard oldBody x) (omega arith) in
+          ∙ ap (λ (x : ℕ). recordShard oldBody x) (omega arith) in
           let k : kind oldBody j ≡ 3 = run-kind σ c pass j t l in
-          let s : shard oldBody j < shards σ = shard-lt σ c pass j l in
+          let s : recordShard oldBody j < shards σ = shard-lt σ c pass j l in
           let a : 768 + min (getD madeFlat (flatCountAt madeFlat + 1 + 3 * (j - (flatShards madeFlat + flatPlaces madeFlat))) 0) 255 ≡ tag oldBody j =
           omega (arith, w, k, s) in
           let y : 3 * j ≡ 3 * j + p = omega arith in

@@ -12,14 +12,14 @@ use lib.Seq.{getD-take, ext-getD}
 use borrow.Author.Tests.{eqb-true, eq-eqb, ne-eqb, lt-ltb, le-ltb, leb-true}
 use Rattle.base_laws.specs.Bools.{either, clash, and-both, and-left, and-right, and-fails-left, and-fails-right, lt-or-le, eq-or-ne}
 use Rattle.base_laws.specs.Tables.{length-tabulate, getD-tabulate}
-use Rattle.base_ids.specs.Refusals.{none, unless-ok}
-use Rattle.settings_values.specs.Settings.{shards}
+use Rattle.base_ids.specs.Definitions.{none}
+use Rattle.base_ids.specs.Refusals.{unless-ok}
+use Rattle.settings_values.specs.Definitions.{shards}
 use Rattle.message_format.specs.declared.Contents.{Contents}
 use Rattle.message_format.specs.declared.Form.the-variants.{Report}
-use Rattle.message_format.specs.Records.{tag, word1, kind, shard}
-use Rattle.message_format.specs.Messages.{headWord, contentsRefusal}
+use Rattle.message_format.specs.Definitions.{tag, word1, kind, recordShard, headWord, contentsRefusal}
 use Rattle.message_format.specs.Passed.{ContentsPass, contents-given}
-use Rattle.message_flat.specs.Flat.{flatShards, flatFlag, flatPlaces, flatCountAt, flatRuns, explained, flatLen, flatRefusal, flatRecord, flatBody, flatContents, hasPlaces, placesIn, runsFirst, runsCount, countPlace, flatLength, tripleWord, flatWord, flatWords}
+use Rattle.message_flat.specs.Definitions.{flatShards, flatFlag, flatPlaces, flatCountAt, flatRuns, explained, flatLen, flatRefusal, flatRecord, flatBody, flatContents, hasPlaces, placesIn, runsFirst, runsCount, countPlace, flatLength, tripleWord, flatWord, flatWords}
 use Rattle.message_flat.specs.Records.{few, enough, mask-tag, shard-lt}
 
 -- ---- the words of a flat report that is made, by their place
@@ -257,17 +257,17 @@ module _ (σ f : List ℕ) (one : 1 ≤ shards σ) (most : shards σ ≤ 16) (sh
       inside = omega (arith, same-shards, same-places, same-count)
 
       first : i % 3 ≡ 0
-          → cond (eqb (i % 3) 0) (shard oursBody (runsFirst σ ours + i / 3)) (getD oursBody (3 * runsFirst σ ours + i) 0) ≡ getD f (countPlace σ ours + 1 + i) 0
+          → cond (eqb (i % 3) 0) (recordShard oursBody (runsFirst σ ours + i / 3)) (getD oursBody (3 * runsFirst σ ours + i) 0) ≡ getD f (countPlace σ ours + 1 + i) 0
       first e =
           let x : ℕ = getD f (flatCountAt f + 1 + 3 * (runsFirst σ ours + i / 3 - (flatShards f + flatPlaces f))) 0 in
           let t : tag oursBody (runsFirst σ ours + i / 3) ≡ 768 + min (getD f (flatCountAt f + 1 + 3 * (runsFirst σ ours + i / 3 - (flatShards f + flatPlaces f))) 0) 255 =
           tag-of (runsFirst σ ours + i / 3) inside ∙ record-run f (runsFirst σ ours + i / 3) 0 (omega (arith, same-shards, same-places)) in
-          let low : shard oursBody (runsFirst σ ours + i / 3) < shards σ = shard-lt σ ours pass (runsFirst σ ours + i / 3) inside in
-          let is : shard oursBody (runsFirst σ ours + i / 3) ≡ getD f (flatCountAt f + 1 + 3 * (runsFirst σ ours + i / 3 - (flatShards f + flatPlaces f))) 0 = omega (arith, t, low) in
+          let low : recordShard oursBody (runsFirst σ ours + i / 3) < shards σ = shard-lt σ ours pass (runsFirst σ ours + i / 3) inside in
+          let is : recordShard oursBody (runsFirst σ ours + i / 3) ≡ getD f (flatCountAt f + 1 + 3 * (runsFirst σ ours + i / 3 - (flatShards f + flatPlaces f))) 0 = omega (arith, t, low) in
           rw (eq-eqb (i % 3) 0 e) (is ∙ ap (λ (y : ℕ). getD f y 0) (omega (arith, same-shards, same-places)))
 
       other : (i % 3 ≡ 0 → ⊥)
-          → cond (eqb (i % 3) 0) (shard oursBody (runsFirst σ ours + i / 3)) (getD oursBody (3 * runsFirst σ ours + i) 0) ≡ getD f (countPlace σ ours + 1 + i) 0
+          → cond (eqb (i % 3) 0) (recordShard oursBody (runsFirst σ ours + i / 3)) (getD oursBody (3 * runsFirst σ ours + i) 0) ≡ getD f (countPlace σ ours + 1 + i) 0
       other e =
           rw (ne-eqb (i % 3) 0 e)
           (ap (λ (y : ℕ). getD oursBody y 0) (omega arith)

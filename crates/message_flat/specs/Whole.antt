@@ -5,16 +5,20 @@ use mathlib.Core.List.{List}
 use mathlib.Core.Path.{_≡_, refl, ap, _∙_}
 use lib.Dec.{eqb, ltb}
 use lib.ListN.{length, getD, take}
-use Rattle.base_laws.specs.Tables.{tabulate, getD-tabulate, tabulate-cong}
-use Rattle.base_ids.specs.Refusals.{none, unless, firstOf, unless-ok, unless-rest, unless-none, first-left, first-right, first-none}
-use Rattle.settings_values.specs.Settings.{settingsOk, Settings}
+use Rattle.base_laws.specs.Definitions.{tabulate}
+use Rattle.base_laws.specs.Tables.{getD-tabulate, tabulate-cong}
+use Rattle.base_ids.specs.Definitions.{none, unless, firstOf}
+use Rattle.base_ids.specs.Refusals.{unless-ok, unless-rest, unless-none, first-left, first-right, first-none}
+use Rattle.settings_values.specs.Definitions.{settingsOk, Settings}
 use Rattle.settings_values.specs.Laws.{settings-give}
 use Rattle.message_format.specs.declared.Contents.{Contents}
 use Rattle.message_format.specs.declared.Form.the-variants.{Report}
-use Rattle.message_format.specs.Messages.{contentsOf, messageRefusal, readRefusal, contentsRefusal, messageLength, messageOf, tidy}
+use Rattle.message_format.specs.Definitions.{contentsOf, messageRefusal, readRefusal, contentsRefusal, messageLength, messageOf}
+use Rattle.message_format.specs.Messages.{tidy}
 use Rattle.message_format.specs.Passed.{contents-given}
-use Rattle.message_inverse.specs.RoundTrip.{ReadsAs, message-reads, buffer-reads, read-writes, read-tidy}
-use Rattle.message_flat.specs.Flat.{flatLen, flatRefusal, flatRecord, flatBody, flatContents, fromFlatRefusal, flatLength, flatWords, flatOf, toFlatRefusal}
+use Rattle.message_inverse_laws.specs.RoundTrip.{ReadsAs, message-reads, buffer-reads, read-writes, read-tidy}
+use Rattle.message_flat.specs.Definitions.{flatLen, flatRefusal, flatRecord, flatBody, flatContents, flatLength, flatWords}
+use Rattle.message_flat.specs.Flat.{fromFlatRefusal, flatOf, toFlatRefusal}
 use Rattle.message_flat.specs.Turns.{flat-back, same-length}
 use Rattle.message_flat.specs.Returns.{made-taken, contents-back}
 

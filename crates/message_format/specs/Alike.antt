@@ -8,12 +8,11 @@ use mathlib.Core.Path.{_≡_, refl, ap}
 use lib.Dec.{eqb, leb}
 use lib.ListN.{getD}
 use Rattle.base_laws.specs.Below.{all-cong}
-use Rattle.base_laws.specs.Masks.{has, subset}
-use Rattle.settings_values.specs.Settings.{shards}
+use Rattle.base_laws.specs.Definitions.{has, subset}
+use Rattle.settings_values.specs.Definitions.{shards}
 use Rattle.message_format.specs.declared.Form.{Form}
 use Rattle.message_format.specs.declared.Form.the-variants.{Report, Order}
-use Rattle.message_format.specs.Records.{tag, word1, word2, kind, precedes, shardsWhere, shardsOf, carriedBy}
-use Rattle.message_format.specs.Rows.{kindAt, shardAt, surplus, sequenceAt, complete, shardApart, row10At, row10, row11At}
+use Rattle.message_format.specs.Definitions.{tag, word1, word2, kind, precedes, shardsWhere, shardsOf, carriedBy, kindAt, shardAt, surplus, sequenceAt, complete, shardApart, row10At, row10, row11At}
 
 -- b and c have the same words in their first n records
 abbrev pub SameRecords : List ℕ → List ℕ → ℕ → Type 0

@@ -11,54 +11,54 @@ use native.Mathlib.Omega.{arith}
 use lib.Dec.{eqb, leb}
 use borrow.Author.Tests.{ltb-true, leb-true, eqb-true, eq-eqb}
 use Rattle.base_laws.specs.Bools.{and-left, and-right, or-left, or-right, or-holds, clash, lt-or-le, eq-or-ne}
-use Rattle.base_laws.specs.Below.{allBelow, all-at}
-use Rattle.base_laws.specs.Masks.{has, with, subset, has-zero, has-with, has-full, subset-has}
-use Rattle.settings_values.specs.Settings.{shards, from-to}
+use Rattle.base_laws.specs.Definitions.{allBelow, has, with, subset}
+use Rattle.base_laws.specs.Below.{all-at}
+use Rattle.base_laws.specs.Masks.{has-zero, has-with, has-full, subset-has}
+use Rattle.settings_values.specs.Definitions.{shards, from-to}
 use Rattle.message_format.specs.declared.Form.{Form}
 use Rattle.message_format.specs.declared.Form.the-variants.{Report, Order}
-use Rattle.message_format.specs.Records.{tag, word2, kind, shard, shardsWhere, shardsOf, carriedBy}
-use Rattle.message_format.specs.Rows.{kindOk, plain, kindAt, shardAt, sequenceAt, everyShard, complete}
+use Rattle.message_format.specs.Definitions.{tag, word2, kind, recordShard, shardsWhere, shardsOf, carriedBy, kindOk, plain, kindAt, shardAt, sequenceAt, everyShard, complete}
 use Rattle.message_format.specs.Rising.{precedes-cases, rising}
 
 -- ---- the shards of the records that a test picks
 
 -- a shard of the mask has a record that is picked
 pub where-has : (f : ℕ → Bool) (b : List ℕ) (n s : ℕ) → has (shardsWhere f b n) s ≡ true
-    → (j : ℕ) × (j < n) × (f j ≡ true) × (shard b j ≡ s)
+    → (j : ℕ) × (j < n) × (f j ≡ true) × (recordShard b j ≡ s)
 unfolding shardsWhere
 where-has f b zero s h = clash h (has-zero s)
 where-has f b (suc n) s h = go (where-has f b n s) (f n) refl h
   where
-    before : (j : ℕ) × (j < n) × (f j ≡ true) × (shard b j ≡ s) → (j : ℕ) × (j < suc n) × (f j ≡ true) × (shard b j ≡ s)
+    before : (j : ℕ) × (j < n) × (f j ≡ true) × (recordShard b j ≡ s) → (j : ℕ) × (j < suc n) × (f j ≡ true) × (recordShard b j ≡ s)
     before w = (w .0, omega (arith, w .1), w .2, w .3)
 
-    go : (has (shardsWhere f b n) s ≡ true → (j : ℕ) × (j < n) × (f j ≡ true) × (shard b j ≡ s)) → (p : Bool) → f n ≡ p
-        → has (cond p (with (shardsWhere f b n) (shard b n)) (shardsWhere f b n)) s ≡ true
-        → (j : ℕ) × (j < suc n) × (f j ≡ true) × (shard b j ≡ s)
+    go : (has (shardsWhere f b n) s ≡ true → (j : ℕ) × (j < n) × (f j ≡ true) × (recordShard b j ≡ s)) → (p : Bool) → f n ≡ p
+        → has (cond p (with (shardsWhere f b n) (recordShard b n)) (shardsWhere f b n)) s ≡ true
+        → (j : ℕ) × (j < suc n) × (f j ≡ true) × (recordShard b j ≡ s)
     go rest true e k =
-        ⊎-elim (λ i. before (rest i)) (λ i. (n, omega arith, e, eqb-true (shard b n) s i))
-        (or-holds (has (shardsWhere f b n) s) (eqb (shard b n) s) (sym (has-with (shardsWhere f b n) (shard b n) s) ∙ k))
+        ⊎-elim (λ i. before (rest i)) (λ i. (n, omega arith, e, eqb-true (recordShard b n) s i))
+        (or-holds (has (shardsWhere f b n) s) (eqb (recordShard b n) s) (sym (has-with (shardsWhere f b n) (recordShard b n) s) ∙ k))
     go rest false e k = before (rest k)
 
 -- and the other way
-pub where-at : (f : ℕ → Bool) (b : List ℕ) (n j : ℕ) → j < n → f j ≡ true → has (shardsWhere f b n) (shard b j) ≡ true
+pub where-at : (f : ℕ → Bool) (b : List ℕ) (n j : ℕ) → j < n → f j ≡ true → has (shardsWhere f b n) (recordShard b j) ≡ true
 unfolding shardsWhere
 where-at f b zero j l p = absurd (not-suc-le-zero l)
 where-at f b (suc n) j l p = go (where-at f b n j) (eq-or-ne j n) (f n) refl
   where
-    go : (j < n → f j ≡ true → has (shardsWhere f b n) (shard b j) ≡ true) → (j ≡ n) ⊎ (j ≡ n → ⊥) → (q : Bool) → f n ≡ q
-        → has (cond q (with (shardsWhere f b n) (shard b n)) (shardsWhere f b n)) (shard b j) ≡ true
+    go : (j < n → f j ≡ true → has (shardsWhere f b n) (recordShard b j) ≡ true) → (j ≡ n) ⊎ (j ≡ n → ⊥) → (q : Bool) → f n ≡ q
+        → has (cond q (with (shardsWhere f b n) (recordShard b n)) (shardsWhere f b n)) (recordShard b j) ≡ true
     go rest (inl e) true h =
-        has-with (shardsWhere f b n) (shard b n) (shard b j)
-        ∙ or-right (has (shardsWhere f b n) (shard b j)) (eq-eqb (shard b n) (shard b j) (ap (λ (i : ℕ). shard b i) (sym e)))
+        has-with (shardsWhere f b n) (recordShard b n) (recordShard b j)
+        ∙ or-right (has (shardsWhere f b n) (recordShard b j)) (eq-eqb (recordShard b n) (recordShard b j) (ap (λ (i : ℕ). recordShard b i) (sym e)))
     go rest (inl e) false h = clash (subst (λ (i : ℕ). f i ≡ true) e p) h
     go rest (inr e) true h =
-        has-with (shardsWhere f b n) (shard b n) (shard b j) ∙ or-left (eqb (shard b n) (shard b j)) (rest (omega arith) p)
+        has-with (shardsWhere f b n) (recordShard b n) (recordShard b j) ∙ or-left (eqb (recordShard b n) (recordShard b j)) (rest (omega arith) p)
     go rest (inr e) false h = rest (omega arith) p
 
 -- every shard has a record of kind k
 pub every-has : (σ b : List ℕ) (k len : ℕ) → subset (everyShard σ) (shardsOf k b len) ≡ true → (s : ℕ) → s < shards σ
-    → (j : ℕ) × (j < len) × (kind b j ≡ k) × (shard b j ≡ s)
+    → (j : ℕ) × (j < len) × (kind b j ≡ k) × (recordShard b j ≡ s)
 every-has σ b k len h s l =
     let w = where-has (λ j. eqb (kind b j) k) b len s
     (subset-has (everyShard σ) (shardsOf k b len) h s (has-full (shards σ) s l)) in
@@ -183,16 +183,16 @@ module _ (form : Form) (σ : List ℕ) (node : ℕ) (b : List ℕ) (len : ℕ)
         enough (suc n) e = members-below n (omega arith)
 
     -- and no other is of kind 1
-    pub members-only : (j : ℕ) → j < len → kind b j ≡ 1 → shard b j ≡ j
+    pub members-only : (j : ℕ) → j < len → kind b j ≡ 1 → recordShard b j ≡ j
     unfolding shardAt
     members-only j l k =
-        let s : shard b j < shards σ = ltb-true (shard b j) (shards σ) (all-at len (shardAt σ b) within j l) in
-        let e : tag b (shard b j) ≡ tag b j = members-record (shard b j) s ∙ omega arith in
-        ⊎-elim (λ m. absurd (let r = tags-strict (shard b j) j m l (omega arith) in omega arith))
+        let s : recordShard b j < shards σ = ltb-true (recordShard b j) (shards σ) (all-at len (shardAt σ b) within j l) in
+        let e : tag b (recordShard b j) ≡ tag b j = members-record (recordShard b j) s ∙ omega arith in
+        ⊎-elim (λ m. absurd (let r = tags-strict (recordShard b j) j m l (omega arith) in omega arith))
         (λ m.
-        ⊎-elim (λ q. q) (λ q. absurd (let r = tags-strict j (shard b j) (omega arith) (members-below (shard b j) s) (omega arith) in omega arith))
-        (eq-or-ne (shard b j) j))
-        (lt-or-le (shard b j) j)
+        ⊎-elim (λ q. q) (λ q. absurd (let r = tags-strict j (recordShard b j) (omega arith) (members-below (recordShard b j) s) (omega arith) in omega arith))
+        (eq-or-ne (recordShard b j) j))
+        (lt-or-le (recordShard b j) j)
 
     positions-block : (shardsOf 2 b len ≡ 0 → ⊥) → (s : ℕ) → s < shards σ
         → (shards σ + s < len) × (tag b (shards σ + s) ≡ 512 + s)
@@ -206,7 +206,7 @@ module _ (form : Form) (σ : List ℕ) (node : ℕ) (b : List ℕ) (len : ℕ)
             ⊎-elim
             (λ q.
             let k : kind b i ≡ 1 = omega (arith, kind-one i m) in
-            let s = ltb-true (shard b i) (shards σ) (all-at len (shardAt σ b) within i m) in
+            let s = ltb-true (recordShard b i) (shards σ) (all-at len (shardAt σ b) within i m) in
             absurd (omega (arith, members-only i m k)))
             (λ q. q)
             (lt-or-le (tag b i) 512)
@@ -225,4 +225,4 @@ module _ (form : Form) (σ : List ℕ) (node : ℕ) (b : List ℕ) (len : ℕ)
     -- there is a termination where some record is of kind 2
     pub some-position : (j : ℕ) → j < len → kind b j ≡ 2 → shardsOf 2 b len ≡ 0 → ⊥
     some-position j l e z =
-        clash (where-at (λ i. eqb (kind b i) 2) b len j l (eq-eqb (kind b j) 2 e)) (ap (λ (x : ℕ). has x (shard b j)) z ∙ has-zero (shard b j))
+        clash (where-at (λ i. eqb (kind b i) 2) b len j l (eq-eqb (kind b j) 2 e)) (ap (λ (x : ℕ). has x (recordShard b j)) z ∙ has-zero (recordShard b j))

@@ -7,15 +7,14 @@ use mathlib.Core.Path.{_≡_, refl, _∙_}
 use lib.Dec.{eqb, leb}
 use lib.ListN.{length, getD}
 use borrow.Author.Tests.{leb-true}
-use Rattle.base_laws.specs.Below.{allBelow}
-use Rattle.settings_values.specs.Settings.{settingsOk}
-use Rattle.base_ids.specs.Refusals.{none, unless-ok, unless-rest, unless-none, unless-at-ok, unless-at-rest, unless-at-none, first-left, first-right, first-none}
+use Rattle.base_laws.specs.Definitions.{allBelow}
+use Rattle.settings_values.specs.Definitions.{settingsOk}
+use Rattle.base_ids.specs.Definitions.{none}
+use Rattle.base_ids.specs.Refusals.{unless-ok, unless-rest, unless-none, unless-at-ok, unless-at-rest, unless-at-none, first-left, first-right, first-none}
 use Rattle.message_format.specs.declared.Form.{Form}
 use Rattle.message_format.specs.declared.Contents.{Contents}
-use Rattle.message_format.specs.Chain.{place, following, row5, row8}
-use Rattle.message_format.specs.Records.{membersOf}
-use Rattle.message_format.specs.Rows.{row6, row7, kindAt, shardAt, sequenceAt, complete, row10, row11At}
-use Rattle.message_format.specs.Messages.{bodyOf, inOrder, headRefusal, recordsRefusal, messageRefusal, contentsRefusal, writeRefusal}
+use Rattle.message_format.specs.Definitions.{place, following, row5, row8, membersOf, row6, row7, kindAt, shardAt, sequenceAt, complete, row10, row11At, bodyOf, inOrder, headRefusal, recordsRefusal, messageRefusal, contentsRefusal}
+use Rattle.message_format.specs.Messages.{writeRefusal}
 
 -- rows 6 and 7
 pub record HeadPasses (form : Form) (σ : List ℕ) (node view members : ℕ) : Type 0 where

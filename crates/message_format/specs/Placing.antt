@@ -8,14 +8,13 @@ use mathlib.Core.Logic.{⊎-elim}
 use native.Mathlib.Omega.{arith}
 use borrow.Author.Tests.{ne-eqb}
 use Rattle.base_laws.specs.Bools.{clash, lt-or-le}
-use Rattle.base_laws.specs.Below.{allBelow}
+use Rattle.base_laws.specs.Definitions.{allBelow}
 use Rattle.base_laws.specs.Loops.{firstBad, bad-holds}
-use Rattle.base_ids.specs.Refusals.{none, refused, refusedAt, accepted, numberIn, indexIn, unless, unlessAt, number-at, index-at}
+use Rattle.base_ids.specs.Definitions.{none, refused, refusedAt, accepted, numberIn, indexIn, unless, unlessAt}
+use Rattle.base_ids.specs.Refusals.{number-at, index-at}
 use Rattle.base_ids.specs.declared.Refusal.{Refusal}
 use Rattle.message_format.specs.declared.Form.{Form}
-use Rattle.message_format.specs.Records.{membersOf}
-use Rattle.message_format.specs.Rows.{kindAt, shardAt, sequenceAt, complete, row10, row11At}
-use Rattle.message_format.specs.Messages.{inOrder, recordsRefusal}
+use Rattle.message_format.specs.Definitions.{membersOf, kindAt, shardAt, sequenceAt, complete, row10, row11At, inOrder, recordsRefusal}
 
 -- the refusal told at the index that `at` gives for its own
 unfoldable pub placedBy : (ℕ → ℕ) → Refusal → Refusal

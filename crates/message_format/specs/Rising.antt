@@ -9,9 +9,9 @@ use native.Mathlib.Omega.{arith}
 use lib.Dec.{eqb, ltb}
 use borrow.Author.Tests.{ltb-true, eqb-true, lt-ltb, eq-eqb}
 use Rattle.base_laws.specs.Bools.{and-both, and-left, and-right, or-left, or-right, or-holds, eq-or-ne}
-use Rattle.base_laws.specs.Below.{allBelow, all-at}
-use Rattle.message_format.specs.Records.{tag, word1, kind, precedes}
-use Rattle.message_format.specs.Rows.{surplus, sequenceAt}
+use Rattle.base_laws.specs.Definitions.{allBelow}
+use Rattle.base_laws.specs.Below.{all-at}
+use Rattle.message_format.specs.Definitions.{tag, word1, kind, precedes, surplus, sequenceAt}
 
 -- what it means that record i precedes record j
 pub precedes-cases : (b : List ℕ) (i j : ℕ) → precedes b i j ≡ true

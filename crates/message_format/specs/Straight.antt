@@ -12,9 +12,8 @@ use borrow.Author.Tests.{lt-ltb, eq-eqb, ne-eqb}
 use Rattle.base_laws.specs.Bools.{lt-or-le, and-both, or-left, or-right}
 use Rattle.base_laws.specs.Below.{all-of, any-none-of, lowest-none, lowest-unique}
 use Rattle.base_laws.specs.Tables.{getD-tabulate}
-use Rattle.message_format.specs.Chain.{records, next, place, ends, following, linked, row8}
-use Rattle.message_format.specs.Records.{tag, word1, word2}
-use Rattle.message_format.specs.Messages.{bodyWord, bodyOf}
+use Rattle.message_format.specs.Definitions.{next, place, ends, following, linked, row8, tag, word1, word2, bodyWord, bodyOf}
+use Rattle.message_format.specs.Shorthands.{records}
 
 -- a chain that goes record after record and ends with record n
 module _ (w : List ℕ) (n : ℕ) (on : (i : ℕ) → i < n → next w i ≡ i + 1) (end : next w n ≡ 0) where

@@ -11,8 +11,9 @@ use borrow.Author.Tests.{lt-ltb, le-ltb, eq-eqb, eqb-true}
 use Rattle.base_laws.specs.Bools.{lt-or-le}
 use Rattle.base_laws.specs.Below.{any-none-of}
 use Rattle.base_laws.specs.Tables.{filled, filled-none, filled-more, tabulate-ext, length-filled, getD-filled, getD-filled-rest}
-use Rattle.message_format.specs.Chain.{records, next, place, following, row8, following-le}
-use Rattle.message_format.specs.Messages.{bodyWord, bodyOf, contentsOf}
+use Rattle.message_format.specs.Definitions.{next, place, following, row8, bodyWord, bodyOf, contentsOf}
+use Rattle.message_format.specs.Shorthands.{records}
+use Rattle.message_format.specs.Chain.{following-le}
 use Rattle.message_format.specs.declared.Contents.{Contents}
 use Rattle.message_chain.specs.declared.Record.{Record}
 use Rattle.message_chain.specs.declared.Step.{Step}

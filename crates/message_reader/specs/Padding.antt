@@ -11,11 +11,12 @@ use lib.ListN.{length, getD}
 use borrow.Author.Tests.{lt-ltb}
 use Rattle.base_laws.specs.Bools.{either, and-both, or-left, or-right}
 use Rattle.base_laws.specs.Below.{all-at, all-of, lowest-cong}
-use Rattle.base_laws.specs.Tables.{tabulate-cong, padded, length-padded, getD-padded-all}
-use Rattle.base_ids.specs.Refusals.{none}
+use Rattle.base_laws.specs.Definitions.{padded}
+use Rattle.base_laws.specs.Tables.{tabulate-cong, length-padded, getD-padded-all}
+use Rattle.base_ids.specs.Definitions.{none}
 use Rattle.message_format.specs.declared.Form.{Form}
-use Rattle.message_format.specs.Chain.{records, next, place, following, row5, row8}
-use Rattle.message_format.specs.Messages.{bodyWord, bodyOf, contentsOf, messageRefusal}
+use Rattle.message_format.specs.Definitions.{next, place, following, row5, row8, bodyWord, bodyOf, contentsOf, messageRefusal}
+use Rattle.message_format.specs.Shorthands.{records}
 use Rattle.message_format.specs.Passed.{message-given, message-none}
 use Rattle.message_reader.specs.Walks.{row5-gives, endsAt, linkedAt, linked-on}
 

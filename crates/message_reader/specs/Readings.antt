@@ -7,27 +7,29 @@ use native.Mathlib.Omega.{arith}
 use lib.ListN.{getD}
 use borrow.Author.Tests.{eq-eqb, ne-eqb}
 use Rattle.base_ids.specs.declared.Refusal.{Refusal}
-use Rattle.base_ids.specs.Refusals.{refused, refusedAt, none, accepted, accepted-none, numberIn, indexIn, unlessAt, unless-true, unless-false, unless-at-ok, unless-at-true, first-none, first-refused}
-use Rattle.settings_values.specs.Settings.{settingsOk}
+use Rattle.base_ids.specs.Definitions.{refused, refusedAt, none, accepted, numberIn, indexIn, unlessAt}
+use Rattle.base_ids.specs.Refusals.{accepted-none, unless-true, unless-false, unless-at-ok, unless-at-true, first-none, first-refused}
+use Rattle.settings_values.specs.Definitions.{settingsOk}
 use Rattle.message_format.specs.declared.Form.{Form}
 use Rattle.message_format.specs.declared.Contents.{Contents}
 use Rattle.message_format.specs.declared.Reading.{Reading}
-use Rattle.message_format.specs.Chain.{place, following, row5, row8, following-le}
-use Rattle.message_format.specs.Messages.{bodyOf, contentsOf, blank, headRefusal, inOrder, brokenAt, recordsRefusal, messageRefusal, readRefusal, readingOf}
+use Rattle.message_format.specs.Definitions.{place, following, row5, row8, bodyOf, contentsOf, headRefusal, inOrder, brokenAt, recordsRefusal, messageRefusal, readRefusal}
+use Rattle.message_format.specs.Chain.{following-le}
+use Rattle.message_format.specs.Messages.{blank, readingOf}
 use Rattle.message_format.specs.Placing.{placedBy, records-placed, records-index}
 use Rattle.message_reader.specs.Walks.{chainRefusal}
 
 -- the contents, or blank ones beside a refusal
-abbrev pub answer : Refusal → Contents → Reading
-answer r c = record { refusal = r; contents = cond (accepted r) c blank }
+abbrev pub readOr : Refusal → Contents → Reading
+readOr r c = record { refusal = r; contents = cond (accepted r) c blank }
 
 -- a refusal, and nothing read
-abbrev pub nothing : Refusal → Reading
-nothing r = record { refusal = r; contents = blank }
+abbrev pub nothingRead : Refusal → Reading
+nothingRead r = record { refusal = r; contents = blank }
 
 -- what the reader gives under right settings: the rows of a message
 unfoldable pub readingUnder : Form → List ℕ → List ℕ → Reading
-readingUnder form σ w = answer (messageRefusal form σ w) (contentsOf w)
+readingUnder form σ w = readOr (messageRefusal form σ w) (contentsOf w)
 
 -- rows 6 and 7 of a message, and those of the records that it says, told at their steps along the chain
 abbrev pub headOf : Form → List ℕ → List ℕ → Refusal
@@ -37,7 +39,7 @@ abbrev pub recordsIn : Form → List ℕ → Contents → Refusal
 recordsIn form σ c = recordsRefusal inOrder form σ (c .node .0) (c .view .0) (c .members) (c .body) (c .len)
 
 -- an answer by the refusal that was found
-answer-refused : (r s : Refusal) (c : Contents) → s ≡ r → accepted r ≡ false → nothing r ≡ answer s c
+answer-refused : (r s : Refusal) (c : Contents) → s ≡ r → accepted r ≡ false → nothingRead r ≡ readOr s c
 answer-refused r s c e h = rw (e, h)
 
 -- a refusal with the number 0 is none
@@ -86,12 +88,12 @@ module _ (form : Form) (σ w : List ℕ) where
 
   -- ---- the rows of a message in their order
 
-  pub reading-length : row5 w ≡ false → nothing (refused 5) ≡ readingUnder form σ w
+  pub reading-length : row5 w ≡ false → nothingRead (refused 5) ≡ readingUnder form σ w
   unfolding readingUnder messageRefusal
   reading-length h = answer-refused (refused 5) _ _ (unless-false (row5 w) 5 _ h) refl
 
   module _ (sized : row5 w ≡ true) where
-    pub reading-head : (r : Refusal) → r ≡ headOf form σ w → (r .code ≡ 0 → ⊥) → nothing r ≡ readingUnder form σ w
+    pub reading-head : (r : Refusal) → r ≡ headOf form σ w → (r .code ≡ 0 → ⊥) → nothingRead r ≡ readingUnder form σ w
     unfolding readingUnder messageRefusal
     reading-head r e h =
         let bad : accepted r ≡ false = ne-eqb (r .code) 0 h in
@@ -103,26 +105,26 @@ module _ (form : Form) (σ w : List ℕ) where
       unfolding messageRefusal
       past-head = unless-true (row5 w) 5 _ sized ∙ first-none (headOf form σ w) _ head
 
-      pub reading-chain : (r : Refusal) → r ≡ chainRefusal w → (r .code ≡ 0 → ⊥) → nothing r ≡ readingUnder form σ w
+      pub reading-chain : (r : Refusal) → r ≡ chainRefusal w → (r .code ≡ 0 → ⊥) → nothingRead r ≡ readingUnder form σ w
       unfolding readingUnder chainRefusal
       reading-chain r e h =
           let bad : accepted r ≡ false = ne-eqb (r .code) 0 h in
           answer-refused r _ _ (past-head ∙ chain-only (row8 w) (brokenAt w) placedRecords (λ z. h (ap (λ (q : Refusal). q .code) (e ∙ z))) ∙ sym e) bad
 
       pub reading-records : row8 w ≡ true → (r : Refusal) (c : Contents) → c ≡ contentsOf w
-          → r ≡ placedBy (place w) (recordsIn form σ c) → answer r c ≡ readingUnder form σ w
+          → r ≡ placedBy (place w) (recordsIn form σ c) → readOr r c ≡ readingUnder form σ w
       unfolding readingUnder contentsOf place
       reading-records h r c e f =
-          ap₂ answer
+          ap₂ readOr
           (f ∙ ap (λ (x : Contents). placedBy (place w) (recordsIn form σ x)) e
           ∙ sym (past-head ∙ unless-at-true (row8 w) 8 (brokenAt w) _ h ∙ records-placed (place w) refl form σ _ _ _ _ _)) e
 
   -- ---- row 2 before them
 
-  pub reading-settings : settingsOk σ ≡ false → nothing (refused 2) ≡ readingOf form σ w
+  pub reading-settings : settingsOk σ ≡ false → nothingRead (refused 2) ≡ readingOf form σ w
   unfolding readingOf readRefusal
   reading-settings h = answer-refused (refused 2) _ _ (unless-false (settingsOk σ) 2 _ h) refl
 
   pub reading-message : settingsOk σ ≡ true → readingUnder form σ w ≡ readingOf form σ w
   unfolding readingOf readRefusal readingUnder
-  reading-message h = ap (λ (r : Refusal). answer r (contentsOf w)) (sym (unless-true (settingsOk σ) 2 _ h))
+  reading-message h = ap (λ (r : Refusal). readOr r (contentsOf w)) (sym (unless-true (settingsOk σ) 2 _ h))

@@ -8,13 +8,15 @@ use Prim.Native.Nat.{ℕ, zero, suc, _<_, _≤_}
 use native.Mathlib.Omega.{arith}
 use lib.ListN.{getD}
 use Rattle.base_laws.specs.Bools.{either, of-not-false}
-use Rattle.base_laws.specs.Below.{allBelow, all-at, all-of, lowest-first}
+use Rattle.base_laws.specs.Definitions.{allBelow}
+use Rattle.base_laws.specs.Below.{all-at, all-of, lowest-first}
 use Rattle.base_laws.specs.Loops.{firstBad}
 use Rattle.base_ids.specs.declared.Refusal.{Refusal}
-use Rattle.base_ids.specs.Refusals.{none, refusedAt, accepted, numberIn, indexIn, unless, unlessAt, firstOf, unless-true, unless-false, unless-at-true, unless-at-false, index-at, first-none, first-refused, accepted-none}
+use Rattle.base_ids.specs.Definitions.{none, refusedAt, accepted, numberIn, indexIn, unless, unlessAt, firstOf}
+use Rattle.base_ids.specs.Refusals.{unless-true, unless-false, unless-at-true, unless-at-false, index-at, first-none, first-refused, accepted-none}
 use Rattle.message_format.specs.declared.Form.{Form}
-use Rattle.message_format.specs.Chain.{records, place, following, row5, row8}
-use Rattle.message_format.specs.Messages.{bodyOf, brokenAt, headRefusal, messageRefusal}
+use Rattle.message_format.specs.Definitions.{place, following, row5, row8, bodyOf, brokenAt, headRefusal, messageRefusal}
+use Rattle.message_format.specs.Shorthands.{records}
 use Rattle.message_format.specs.Placing.{placedBy, records-placed, records-index, bad-below}
 use Rattle.message_reader.specs.Walks.{SizedMessage, linkedAt, row5-gives, linked-on, following-open, place-inside}
 

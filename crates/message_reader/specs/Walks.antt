@@ -10,12 +10,14 @@ use lib.Dec.{eqb, leb, ltb}
 use lib.ListN.{length}
 use borrow.Author.Tests.{eq-eqb, ne-eqb, eqb-true, lt-ltb, le-ltb, ltb-true, leb-true}
 use Rattle.base_laws.specs.Bools.{clash, no-false, and-both, and-left, and-right, and-fails-left, and-fails-right, or-left, or-right, or-neither, lt-or-le}
-use Rattle.base_laws.specs.Below.{allBelow, anyBelow, lowest, all-none, all-more, all-at, all-fails, any-none, any-more, any-fails, lowest-at, lowest-none, lowest-first, lowest-holds, lowest-some}
+use Rattle.base_laws.specs.Definitions.{allBelow, anyBelow, lowest}
+use Rattle.base_laws.specs.Below.{all-none, all-more, all-at, all-fails, any-none, any-more, any-fails, lowest-at, lowest-none, lowest-first, lowest-holds, lowest-some}
 use Rattle.base_laws.specs.Loops.{bad-at}
 use Rattle.base_ids.specs.declared.Refusal.{Refusal}
-use Rattle.base_ids.specs.Refusals.{none, refusedAt, unlessAt, unless-at-true, unless-at-false}
-use Rattle.message_format.specs.Chain.{records, next, place, ends, following, linked, row5, row8}
-use Rattle.message_format.specs.Messages.{brokenAt}
+use Rattle.base_ids.specs.Definitions.{none, refusedAt, unlessAt}
+use Rattle.base_ids.specs.Refusals.{unless-at-true, unless-at-false}
+use Rattle.message_format.specs.Definitions.{next, place, ends, following, linked, row5, row8, brokenAt}
+use Rattle.message_format.specs.Shorthands.{records}
 
 -- record j steps along the chain ends it
 abbrev pub endsAt : List ℕ → ℕ → Bool
@@ -95,7 +97,7 @@ linked-on w i e h =
 -- ---- the walk
 
 -- the walk has come to record at: the chain so far is linked and has not ended
-pub record Walk (w : List ℕ) (at : ℕ) : Type 0 where
+pub record CameTo (w : List ℕ) (at : ℕ) : Type 0 where
   pub steps : ℕ
   pub here : at ≡ place w steps
   pub inside : at < records w
@@ -103,13 +105,13 @@ pub record Walk (w : List ℕ) (at : ℕ) : Type 0 where
   pub unended : anyBelow steps (endsAt w) ≡ false
   pub sound : allBelow steps (linkedAt w) ≡ true
 
-pub walk-start : (w : List ℕ) → SizedMessage w → Walk w 0
+pub walk-start : (w : List ℕ) → SizedMessage w → CameTo w 0
 unfolding place
 walk-start w s =
     record { steps = 0; here = refl; inside = s .some; risen = zero-le; unended = any-none (endsAt w); sound = all-none (linkedAt w) }
 
 -- at record at, which names n as the next one
-module _ (w : List ℕ) (at n : ℕ) (s : SizedMessage w) (k : Walk w at) (e : n ≡ next w at) where
+module _ (w : List ℕ) (at n : ℕ) (s : SizedMessage w) (k : CameTo w at) (e : n ≡ next w at) where
   steps-le : k .steps ≤ 127
   steps-le = let a = k .inside in let b = k .risen in let c = s .few in omega arith
 
@@ -118,7 +120,7 @@ module _ (w : List ℕ) (at n : ℕ) (s : SizedMessage w) (k : Walk w at) (e : n
   at-step f b h = subst (λ (x : ℕ). f x ≡ b) (k .here) h
 
   -- on to the next record
-  pub walk-on : at < n → n < records w → Walk w n
+  pub walk-on : at < n → n < records w → CameTo w n
   walk-on up inside =
       let goes : ends w at ≡ false = ne-eqb (next w at) 0 (λ z. omega arith) in
       let link : linked w at ≡ true = or-right (ends w at) (and-both (lt-ltb at (next w at) (omega arith)) (lt-ltb (next w at) (records w) (omega arith))) in

@@ -9,14 +9,14 @@ use message_format::Reading;
 ghost use mathlib.Core.Bool.{true};
 ghost use mathlib.Core.Path.{_≡_};
 ghost use Prim.Native.Nat.{_<_, _≤_};
-ghost use Rattle.base_ids.specs.Refusals.{indexIn};
-ghost use Rattle.message_format.specs.Chain.{place, following, row5, row8};
-ghost use Rattle.message_format.specs.Messages.{contentsOf, inOrder, readingOf, recordsRefusal};
+ghost use Rattle.base_ids.specs.Definitions.{indexIn};
+ghost use Rattle.message_format.specs.Definitions.{place, following, row5, row8, contentsOf, inOrder, recordsRefusal};
+ghost use Rattle.message_format.specs.Messages.{readingOf};
 ghost use Rattle.message_format.specs.Placing.{placedBy};
 ghost use Rattle.message_reader.specs.Walks.{SizedMessage, chainRefusal};
 ghost use Rattle.message_reader.specs.Bodies.{recordPut};
-ghost use Rattle.message_reader.specs.Readings.{answer, nothing, headOf, readingUnder};
-ghost use Rattle.settings_values.specs.Settings.{Settings};
+ghost use Rattle.message_reader.specs.Readings.{readOr, nothingRead, headOf, readingUnder};
+ghost use Rattle.settings_values.specs.Definitions.{Settings};
 
 // Row 5: 1 to 128 records of four words.
 fn length_ok(words: &[u32]) -> bool
@@ -120,7 +120,7 @@ pub fn contents_of(words: &[u32]) -> Contents
 
 // A refusal, with blank contents beside it.
 fn refuse(refusal: Refusal) -> Reading
-    ensures { λ r. ⌜ r ≡ nothing refusal ⌝ }
+    ensures { λ r. ⌜ r ≡ nothingRead refusal ⌝ }
 {
     Reading {
         refusal,
@@ -136,7 +136,7 @@ fn refuse(refusal: Refusal) -> Reading
 
 // The contents, or blank ones beside a refusal.
 fn answer_with(refusal: Refusal, c: Contents) -> Reading
-    ensures { λ r. ⌜ r ≡ answer refusal c ⌝ }
+    ensures { λ r. ⌜ r ≡ readOr refusal c ⌝ }
 {
     if refusal.code != 0 {
         return refuse(refusal);

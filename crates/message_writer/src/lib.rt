@@ -8,7 +8,8 @@ use message_format::Writing;
 ghost use mathlib.Core.Path.{_≡_};
 ghost use Prim.Native.Nat.{_≤_, _<_};
 ghost use lib.ListN.{length};
-ghost use Rattle.message_format.specs.Messages.{recordWord, messageWord, messageLength, messageOf, writeRefusal, writingOf, bufferAfter};
+ghost use Rattle.message_format.specs.Definitions.{recordWord, messageWord, messageLength, messageOf};
+ghost use Rattle.message_format.specs.Messages.{writeRefusal, writingOf, bufferAfter};
 ghost use Rattle.message_writer.specs.Parts.{contentsWith};
 
 // Word p below 3 of record i: the head's, or one of the body's. The length plays no part.

@@ -7,55 +7,25 @@ use native.Mathlib.Omega.{arith}
 use lib.ListN.{length, take, length-take, length-append}
 use lib.Seq.{take-at}
 use borrow.Author.Tests.{eq-eqb}
-use Rattle.base_ids.specs.Refusals.{accepted}
+use Rattle.base_ids.specs.Definitions.{accepted}
 use Rattle.program_text.specs.Puts.{puts-first}
 use Rattle.program_input.specs.declared.Source.{Source}
 use Rattle.program_input.specs.declared.Source.the-variants.{Open, Over, Failed, Endless}
 use Rattle.program_input.specs.declared.Input.{Input}
-use Rattle.program_input.specs.Inputs.{unread, mayCome, isCut, MayFollow, Came, no-read, Fills, reads-then}
-use Rattle.program_moves.specs.declared.Tally.{Tally}
-use Rattle.program_moves.specs.declared.Taken.{Taken}
-use Rattle.program_moves.specs.MovesFile.{mondaysText}
-use Rattle.program_moves.specs.Tallies.{freshTally, blockText, tallyAfter, TakesBlock}
-use Rattle.program_pieces.specs.Pieces.{wholeLines, standing, standing-none, text-more, tally-more, text-length}
+use Rattle.program_input.specs.Definitions.{unread, mayCome, isCut, MayFollow, Came, no-read, Fills}
+use Rattle.program_input.specs.Inputs.{reads-then}
+use Rattle.mondays_moves.specs.declared.Tally.{Tally}
+use Rattle.mondays_moves.specs.declared.MovesTaken.{MovesTaken}
+use Rattle.mondays_moves.specs.Definitions.{mondaysText, blockText, tallyAfter}
+use Rattle.mondays_moves.specs.Tallies.{freshTally, TakesBlock}
+use Rattle.mondays_laws.specs.Definitions.{standingText}
+use Rattle.mondays_laws.specs.Pieces.{wholeLines, standing-none, text-more, tally-more, text-length}
 use Rattle.mondays.specs.declared.Tallied.{Tallied}
-
--- more may come, no line was bad and all was written
-abbrev pub takesMore : Tallied → Bool
-takesMore x = cond (x .written) (cond (accepted (x .tally .refusal)) (mayCome (x .input .source)) false) false
-
--- a block is taken: the tally after it, and what it prints is the first n bytes of `out`
-pub record PrintedBlock (t : Tally) (bytes : List ℕ) (after : Tally) (out : List ℕ) (n : ℕ) : Type 0 where
-  pub tally : after ≡ tallyAfter t bytes
-  pub text : take n out ≡ blockText t bytes
-  pub within : n ≤ length out
-
--- one block more: what reads left at the start of the block is taken and printed; nothing is where reading was cut
-pub record TakesTurn (x : Tallied) (block out : List ℕ) (r : Tallied) : Type 0 where
-  pub len : ℕ
-  pub put : ℕ
-  pub room : length block ≡ 32768
-  pub fills : Fills (x .input) block (r .input) len
-  pub taken : isCut (r .input .source) ≡ false → PrintedBlock (x .tally) (take len block) (r .tally) out put
-  pub kept : isCut (r .input .source) ≡ true → r .tally ≡ x .tally
-
--- the bytes without those after the last full block
-abbrev pub fullBlocks : List ℕ → List ℕ
-fullBlocks bytes = take (32768 * (length bytes / 32768)) bytes
-
--- every byte that came is taken, but for those of a block at which reading was cut. Unless that or a write failed, what is printed for the bytes
--- that came is what is printed for the file, whatever may follow them.
-pub record ShowsAll (r : Tallied) : Type 0 where
-  pub came : List ℕ
-  pub reads : Came came (r .input)
-  pub taken : isCut (r .input .source) ≡ false → r .tally ≡ standing came
-  pub cut : isCut (r .input .source) ≡ true → r .tally ≡ standing (fullBlocks came)
-  pub ended : r .written ≡ true → isCut (r .input .source) ≡ false → (rest : List ℕ) → MayFollow (r .input .source) rest
-      → mondaysText (came ++ rest) ≡ mondaysText came
+use Rattle.mondays.specs.Definitions.{takesMore, PrintedBlock, TakesTurn, fullBlocks, ShowsAll}
 
 -- ---- laws
 
-pub printed : (t : Tally) (bytes out : List ℕ) (r : Taken) (after : List ℕ) → length (t .kept) ≡ 63 → length bytes ≤ 32768 → length out ≡ 98304
+pub printed : (t : Tally) (bytes out : List ℕ) (r : MovesTaken) (after : List ℕ) → length (t .kept) ≡ 63 → length bytes ≤ 32768 → length out ≡ 98304
     → TakesBlock t bytes out r after → PrintedBlock t bytes (r .tally) after (r .len)
 printed t bytes out r after k h e p =
     let room : length (blockText t bytes) ≤ length out = omega (arith, text-length t bytes k h) in
@@ -101,16 +71,16 @@ open-whole Failed h = absurd (true≢false (sym h))
 open-whole Endless h = absurd (true≢false (sym h))
 
 -- what is known before a turn, and after the last: where more may come, what came is full blocks
-pub record Stands (x : Tallied) : Type 0 where
+pub record StandsBefore (x : Tallied) : Type 0 where
   pub came : List ℕ
   pub reads : Came came (x .input)
   pub full : mayCome (x .input .source) ≡ true → length came % 32768 ≡ 0
-  pub taken : isCut (x .input .source) ≡ false → x .tally ≡ standing came
-  pub cut : isCut (x .input .source) ≡ true → x .tally ≡ standing (fullBlocks came)
+  pub taken : isCut (x .input .source) ≡ false → x .tally ≡ standingText came
+  pub cut : isCut (x .input .source) ≡ true → x .tally ≡ standingText (fullBlocks came)
 
-pub stands-none : (t : Tally) (x : Input) → t ≡ freshTally → x ≡ unread → Stands (record { tally = t; input = x; written = true })
+pub stands-none : (t : Tally) (x : Input) → t ≡ freshTally → x ≡ unread → StandsBefore (record { tally = t; input = x; written = true })
 stands-none t x e d =
-    subst (λ (y : Input). Stands (record { tally = t; input = y; written = true })) (sym d)
+    subst (λ (y : Input). StandsBefore (record { tally = t; input = y; written = true })) (sym d)
     (record {
       came = [];
       reads = no-read;
@@ -138,14 +108,14 @@ going-open false a m h = absurd (true≢false (sym h))
 pub goes-open : (x : Tallied) → takesMore x ≡ true → mayCome (x .input .source) ≡ true
 goes-open x h = going-open (x .written) (accepted (x .tally .refusal)) (mayCome (x .input .source)) h
 
-module _ {x : Tallied} {block out : List ℕ} {r : Tallied} (s : Stands x) (g : takesMore x ≡ true) (t : TakesTurn x block out r) where
+module _ {x : Tallied} {block out : List ℕ} {r : Tallied} (s : StandsBefore x) (g : takesMore x ≡ true) (t : TakesTurn x block out r) where
   size : length (s .came) % 32768 ≡ 0
   size = s .full (goes-open x g)
 
-  before : x .tally ≡ standing (s .came)
+  before : x .tally ≡ standingText (s .came)
   before = s .taken (open-whole (x .input .source) (goes-open x g))
 
-  pub stands-turn : Stands r
+  pub stands-turn : StandsBefore r
   stands-turn =
       record {
         came = s .came ++ take (t .len) block;
@@ -158,7 +128,7 @@ module _ {x : Tallied} {block out : List ℕ} {r : Tallied} (s : Stands x) (g : 
         cut =
             λ c.
             t .kept c ∙ before
-            ∙ ap standing
+            ∙ ap standingText
             (sym (full-front (s .came) (take (t .len) block) size
             (omega (arith, length-take (t .len) block, t .room, t .fills .short (cut-shut (r .input .source) c)))));
       }
@@ -169,7 +139,7 @@ unfolding blockText
 text-none t bytes h = rw h
 
 -- it goes on no more
-module _ {x : Tallied} (s : Stands x) (g : takesMore x ≡ false) where
+module _ {x : Tallied} (s : StandsBefore x) (g : takesMore x ≡ false) where
   -- a bad line ended it
   was-bad : (w a : Bool) → cond {A = Bool} w (cond a true false) false ≡ false → w ≡ true → a ≡ false
   was-bad true true h e = absurd (true≢false h)
@@ -179,9 +149,9 @@ module _ {x : Tallied} (s : Stands x) (g : takesMore x ≡ false) where
   after-bad : accepted (x .tally .refusal) ≡ false → mayCome (x .input .source) ≡ true → (rest : List ℕ)
       → mondaysText (s .came ++ rest) ≡ mondaysText (s .came)
   after-bad b o rest =
-      let t : x .tally ≡ standing (s .came) = s .taken (open-whole (x .input .source) o) in
+      let t : x .tally ≡ standingText (s .came) = s .taken (open-whole (x .input .source) o) in
       text-more (s .came) rest (lines-whole (s .came) (s .full o))
-      ∙ ap (λ (l : List ℕ). mondaysText (s .came) ++ l) (text-none (standing (s .came)) rest (ap (λ (y : Tally). accepted (y .refusal)) (sym t) ∙ b))
+      ∙ ap (λ (l : List ℕ). mondaysText (s .came) ++ l) (text-none (standingText (s .came)) rest (ap (λ (y : Tally). accepted (y .refusal)) (sym t) ∙ b))
       ∙ append-nil (mondaysText (s .came))
 
   nothing-more : (k : Source) → x .input .source ≡ k → x .written ≡ true → isCut k ≡ false → (rest : List ℕ) → MayFollow k rest

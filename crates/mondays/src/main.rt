@@ -2,14 +2,14 @@
 // greatest of them. The number of the first bad line ends it. A read or a write that fails is told on standard error, and nothing more is
 // printed.
 use libc::STDOUT_FILENO;
+use mondays_moves::Tally;
 use program_input::Input;
-use program_moves::Tally;
 ghost use mathlib.Core.Path.{_≡_};
 ghost use lib.ListN.{length, take};
-ghost use Rattle.mondays.specs.Program.{takesMore, PrintedBlock, TakesTurn, ShowsAll};
+ghost use Rattle.mondays.specs.Definitions.{takesMore, PrintedBlock, TakesTurn, ShowsAll};
 
 // What came of printing a block: the tally after it, the length of its text, and whether all of it was written.
-struct Shown {
+struct ShownText {
     tally: Tally,
     len: usize,
     written: bool,
@@ -39,7 +39,7 @@ fn is_going_on(tallied: Tallied) -> bool
 }
 
 // Takes the first len bytes of a block and prints what they add.
-fn print_block(tally: Tally, block: &[u8; 32768], len: usize, out: &mut [u8; 98304]) -> Shown
+fn print_block(tally: Tally, block: &[u8; 32768], len: usize, out: &mut [u8; 98304]) -> ShownText
     requires { ⌜ length (now block) ≡ 32768 ⌝ }
     ensures { λ r. ⌜ PrintedBlock tally (take len (now (block .entry))) (r .tally) (now (out .exit)) (r .len) ⌝ }
 {
@@ -48,7 +48,7 @@ fn print_block(tally: Tally, block: &[u8; 32768], len: usize, out: &mut [u8; 983
     let whole = &out[..];
     let written = io::write_all(STDOUT_FILENO, &whole[0..n]);
     let after = taken.tally;
-    Shown {
+    ShownText {
         tally: after,
         len: n,
         written,

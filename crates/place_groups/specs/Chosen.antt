@@ -1,66 +1,28 @@
--- The choice among placements of least moves: those in which the most nodes stay, and of those the first, shards ascending, each
--- shard's nodes listed ascending, where at the first shard that differs the smaller list in dictionary order wins. The same choice
--- serves a subgroup and the plan as a whole.
+-- Laws of the choice among placements of least moves.
 use Prim.Native.Nat.{ℕ, _+_, _^_, _≤_, _<_}
 use native.Mathlib.Omega.{arith}
-use mathlib.Core.Bool.{Bool, true, false, cond, _&&_}
+use mathlib.Core.Bool.{Bool, true, false, cond}
 use mathlib.Core.List.{List}
-use mathlib.Core.Logic.{_⊎_, inl, inr, ⊎-elim}
+use mathlib.Core.Logic.{inl, inr, ⊎-elim}
 use mathlib.Core.Path.{_≡_, refl, sym, ap, _∙_, subst}
 use lib.Bits.{bitAnd}
 use lib.Dec.{eqb, ltb}
 use Rattle.base_laws.specs.Bools.{lt-or-le}
-use Rattle.base_laws.specs.Masks.{has, count, minus, ext, count-and-minus}
-use Rattle.base_sums.specs.Sums.{sumBelow, sum-add, sum-cong}
-use Rattle.base_sums.specs.Lists.{listFrom, listBefore, before-self, before-both, list-cong, list-tells}
-use Rattle.settings_values.specs.Settings.{shards, subgroup}
-use Rattle.place_groups.specs.Placements.{groupValid, groupMovesAt, groupMoves, groupStaysAt, groupStays, Lowest, LeastMoves}
+use Rattle.base_laws.specs.Definitions.{has, count, minus}
+use Rattle.base_laws.specs.Masks.{ext, count-and-minus}
+use Rattle.base_sum_laws.specs.Definitions.{sumBelow, listFrom, listBefore}
+use Rattle.base_sum_laws.specs.Sums.{sum-add, sum-cong}
+use Rattle.base_sum_laws.specs.Lists.{before-self, before-both, list-cong, list-tells}
+use Rattle.settings_values.specs.Definitions.{shards, subgroup}
+use Rattle.place_groups.specs.Definitions.{groupMovesAt, groupMoves, groupStaysAt, groupStays, LowestUnplaced, planMoves, nodesIn, SameNodes, Sooner, NotLater, AllValid}
 
 -- s is a shard
 unfoldable pub isShard : List ℕ → ℕ → Bool
 isShard σ s = ltb s (shards σ)
 
--- s is a shard, of subgroup g
-unfoldable pub ofGroup : List ℕ → ℕ → ℕ → Bool
-ofGroup σ g s = ltb s (shards σ) && eqb (subgroup σ s) g
-
--- the nodes of a mask, ascending
-unfoldable pub nodesIn : ℕ → List ℕ
-nodesIn mask = listFrom 0 32 (has mask)
-
--- a and b give each shard that `of` picks the same nodes
-pub record SameNodes (of : ℕ → Bool) (a b : ℕ → ℕ) : Type 0 where
-  pub alike : (s : ℕ) → of s ≡ true → nodesIn (a s) ≡ nodesIn (b s)
-
--- at the first of these shards that differs, a's list of nodes is the smaller
-pub record Sooner (of : ℕ → Bool) (a b : ℕ → ℕ) : Type 0 where
-  pub shard : ℕ
-  pub picked : of shard ≡ true
-  pub alike : (s : ℕ) → s < shard → of s ≡ true → nodesIn (a s) ≡ nodesIn (b s)
-  pub smaller : listBefore (nodesIn (a shard)) (nodesIn (b shard)) ≡ true
-
--- b does not come before a
-abbrev pub NotLater : (ℕ → Bool) → (ℕ → ℕ) → (ℕ → ℕ) → Type 0
-NotLater of a b = SameNodes of a b ⊎ Sooner of a b
-
--- the placement of subgroup g: of least moves, of those with the most stays, and of those the first
-pub record Chosen (σ : List ℕ) (held : ℕ) (old masks : ℕ → ℕ) (g : ℕ) : Type 0 where
-  pub least : LeastMoves σ held old masks g
-  pub most : (other : ℕ → ℕ) → LeastMoves σ held old other g → groupStays σ old other g ≤ groupStays σ old masks g
-  pub first : (other : ℕ → ℕ) → LeastMoves σ held old other g → groupStays σ old other g ≡ groupStays σ old masks g
-      → NotLater (ofGroup σ g) masks other
-
--- the moves of all four subgroups
-abbrev pub planMoves : List ℕ → (ℕ → ℕ) → (ℕ → ℕ) → ℕ
-planMoves σ old masks = sumBelow 4 (groupMoves σ old masks)
-
 -- the stays of all four subgroups
 abbrev pub planStays : List ℕ → (ℕ → ℕ) → (ℕ → ℕ) → ℕ
 planStays σ old masks = sumBelow 4 (groupStays σ old masks)
-
--- valid in every subgroup
-abbrev pub AllValid : List ℕ → ℕ → (ℕ → ℕ) → Type 0
-AllValid σ held masks = (g : ℕ) → g < 4 → groupValid σ held masks g ≡ true
 
 -- the plan as a whole: valid in every subgroup, and none that is has fewer moves in all
 pub record LeastPlan (σ : List ℕ) (held : ℕ) (old masks : ℕ → ℕ) : Type 0 where
@@ -76,7 +38,7 @@ pub record ChosenPlan (σ : List ℕ) (held : ℕ) (old masks : ℕ → ℕ) : T
 -- ---- laws
 
 -- there is one lowest subgroup without a valid placement
-pub lowest-one : (σ : List ℕ) (held g h : ℕ) → Lowest σ held g → Lowest σ held h → g ≡ h
+pub lowest-one : (σ : List ℕ) (held g h : ℕ) → LowestUnplaced σ held g → LowestUnplaced σ held h → g ≡ h
 lowest-one σ held g h a b =
     ⊎-elim (λ l. let v = b .lower g l in absurd (a .none .none (v .0) (v .1)))
     (λ l.

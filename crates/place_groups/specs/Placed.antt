@@ -8,11 +8,12 @@ use mathlib.Core.Path.{_≡_, refl, ap, _∙_}
 use lib.Dec.{leb}
 use borrow.Author.Tests.{eq-eqb, leb-true, le-leb}
 use Rattle.base_laws.specs.Bools.{and-both, and-left, and-right, clash, lt-or-le}
-use Rattle.base_laws.specs.Below.{allBelow, all-at, all-of}
-use Rattle.base_laws.specs.Masks.{has, count, subset, has-zero}
-use Rattle.settings_values.specs.Settings.{shards, subgroup, need, cap, Settings}
-use Rattle.message_format.specs.Rows.{row10At, row10, shardApart}
-use Rattle.place_groups.specs.Placements.{setsIn, shardValid, groupValidAt, groupValid}
+use Rattle.base_laws.specs.Definitions.{allBelow, has, count, subset}
+use Rattle.base_laws.specs.Below.{all-at, all-of}
+use Rattle.base_laws.specs.Masks.{has-zero}
+use Rattle.settings_values.specs.Definitions.{shards, subgroup, need, cap, Settings}
+use Rattle.message_format.specs.Definitions.{row10At, row10, shardApart}
+use Rattle.place_groups.specs.Definitions.{setsIn, shardValid, groupValidAt, groupValid}
 use Rattle.place_groups.specs.Sets.{sets-node}
 
 module _ (σ : List ℕ) (held : ℕ) (masks : ℕ → ℕ) (right : Settings σ) where

@@ -7,10 +7,11 @@ use mathlib.Core.List.{List}
 use mathlib.Core.Path.{_≡_, refl, sym, ap, _∙_}
 use lib.Dec.{eqb}
 use Rattle.base_laws.specs.Bools.{cond-of, and-left}
-use Rattle.base_laws.specs.Below.{anyBelow, count-cong, count-some, any-witness}
-use Rattle.base_laws.specs.Masks.{has, count, with, has-with, has-zero, with-lt, count-below}
-use Rattle.settings_values.specs.Settings.{nodes, setOf, Settings}
-use Rattle.place_groups.specs.Placements.{meetsSet, setsIn}
+use Rattle.base_laws.specs.Definitions.{anyBelow, has, count, with}
+use Rattle.base_laws.specs.Below.{count-cong, count-some, any-witness}
+use Rattle.base_laws.specs.Masks.{has-with, has-zero, with-lt, count-below}
+use Rattle.settings_values.specs.Definitions.{nodes, setOf, Settings}
+use Rattle.place_groups.specs.Definitions.{meetsSet, setsIn}
 
 -- the sets of those of the first n nodes that are in the mask
 unfoldable pub setsBelow : List ℕ → ℕ → ℕ → ℕ

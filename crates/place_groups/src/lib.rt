@@ -1,8 +1,11 @@
 // The failure sets of the nodes in a mask.
+pub mod check;
+pub mod sheet;
+
 use base_ids::Node;
 ghost use mathlib.Core.Path.{_≡_};
 ghost use Prim.Native.Nat.{_<_};
-ghost use Rattle.settings_values.specs.Settings.{Settings, nodes};
+ghost use Rattle.settings_values.specs.Definitions.{Settings, nodes};
 ghost use Rattle.place_groups.specs.Sets.{setsOf, seenWith};
 
 // The failure sets seen, with that of node n if it is in the mask.

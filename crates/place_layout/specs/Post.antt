@@ -5,13 +5,11 @@ use mathlib.Core.Bool.{true, false}
 use mathlib.Core.List.{List}
 use Prim.Native.Nat.{ℕ, _+_, _*_, _≤_, _<_}
 use lib.ListN.{length, replicate}
-use Rattle.base_sums.specs.Sums.{sumBelow}
-use Rattle.settings_values.specs.Settings.{shards}
-use Rattle.place_groups.specs.Placements.{groupMoves, Impossible, Lowest}
-use Rattle.place_groups.specs.Chosen.{ofGroup, Chosen}
-use Rattle.place_owners.specs.Adding.{masksOf}
+use Rattle.base_sum_laws.specs.Definitions.{sumBelow}
+use Rattle.settings_values.specs.Definitions.{shards}
+use Rattle.place_groups.specs.Definitions.{groupMoves, LowestUnplaced, Chosen}
+use Rattle.place_laws.specs.Definitions.{masksOf}
 use Rattle.place_layout.specs.declared.Placed.{Placed}
-use Rattle.place_layout.specs.declared.Offer.{Offer}
 
 -- the first k subgroups have their chosen placement each, with the sum of their moves; nothing stands from S up
 pub record Laid (σ : List ℕ) (held : ℕ) (old : ℕ → ℕ) (k : ℕ) (p : Placed) : Type 0 where
@@ -23,7 +21,7 @@ pub record Laid (σ : List ℕ) (held : ℕ) (old : ℕ → ℕ) (k : ℕ) (p : 
 
 -- the lowest subgroup without a valid placement, and nothing placed
 pub record Unplaced (σ : List ℕ) (held : ℕ) (p : Placed) : Type 0 where
-  pub lowest : Lowest σ held (p .group)
+  pub lowest : LowestUnplaced σ held (p .group)
   pub masks : p .masks ≡ replicate 16 0
   pub total : p .total ≡ 0
 
@@ -41,13 +39,3 @@ pub record LaidSoFar (σ : List ℕ) (held : ℕ) (old : ℕ → ℕ) (k : ℕ) 
 pub record OneMore (σ : List ℕ) (held : ℕ) (old : ℕ → ℕ) (g : ℕ) (p : Placed) : Type 0 where
   pub more : p .found ≡ true → LaidSoFar σ held old (g + 1) p
   pub unplaced : p .found ≡ false → Unplaced σ held p
-
--- subgroup g alone has its chosen placement, with its moves, or none exists; nothing stands at other shards
-pub record PlacedAlone (σ : List ℕ) (held : ℕ) (old : ℕ → ℕ) (g : ℕ) (p : Offer) : Type 0 where
-  pub chosen : p .found ≡ true → Chosen σ held old (masksOf (p .masks)) g
-  pub counted : p .found ≡ true → p .moves ≡ groupMoves σ old (masksOf (p .masks)) g
-  pub others : (s : ℕ) → ofGroup σ g s ≡ false → masksOf (p .masks) s ≡ 0
-  pub sized : length (p .masks) ≡ 16
-  pub none : p .found ≡ false → Impossible σ held g
-  pub blank : p .found ≡ false → p .masks ≡ replicate 16 0
-  pub still : p .found ≡ false → p .moves ≡ 0

@@ -8,26 +8,29 @@ use native.Mathlib.Omega.{arith}
 use lib.ListN.{length, getD, replicate, length-replicate, getD-replicate, List·getD-eq-default}
 use Rattle.base_laws.specs.Bools.{clash, lt-or-le, eq-or-ne}
 use Rattle.base_laws.specs.Tables.{getD-tabulate, getD-tabulate-past}
-use Rattle.base_laws.specs.Below.{anyBelow, any-fails}
-use Rattle.base_sums.specs.Sums.{sumBelow, sum-zero, sum-next}
-use Rattle.settings_values.specs.Settings.{nodes, Settings}
-use Rattle.place_groups.specs.Placements.{groupMoves, Impossible}
-use Rattle.place_groups.specs.Chosen.{Chosen}
-use Rattle.search_theory.specs.Case.{Case}
-use Rattle.search_theory.specs.Tables.{caseOf}
-use Rattle.search_theory.specs.Floor.{SheetFor}
+use Rattle.base_laws.specs.Definitions.{anyBelow}
+use Rattle.base_laws.specs.Below.{any-fails}
+use Rattle.base_sum_laws.specs.Definitions.{sumBelow}
+use Rattle.base_sum_laws.specs.Sums.{sum-zero, sum-next}
+use Rattle.settings_values.specs.Definitions.{nodes, Settings}
+use Rattle.place_groups.specs.Definitions.{groupMoves, Impossible, Chosen, ofGroup}
+use Rattle.search_laws.specs.Case.{Case}
+use Rattle.search_laws.specs.Tables.{caseOf}
+use Rattle.search_laws.specs.Floor.{SheetFor}
 use Rattle.search_total.specs.declared.Solution.{Solution}
 use Rattle.search_total.specs.Post.{LeastAnswer}
-use Rattle.place_sheet.specs.Sheet.{sheetOf}
-use Rattle.place_owners.specs.Cases.{ofGroup, group-past}
-use Rattle.place_owners.specs.Floor.{sheet-for}
-use Rattle.place_owners.specs.Tables.{setsTable, needsTable, capsTable, costsTable, groupCase, case-for, case-priced, case-spare}
-use Rattle.place_owners.specs.Owners.{moves-small, impossible}
-use Rattle.place_owners.specs.Choice.{chosen-local, none-moves, chosen-none, first-chosen}
-use Rattle.place_owners.specs.Adding.{ownedBy, maskWith, masksOf, masksWith, with-masked, with-alike, with-rest, with-total, with-length}
+use Rattle.place_groups.specs.Sheet.{sheetOf}
+use Rattle.place_laws.specs.Cases.{group-past}
+use Rattle.place_laws.specs.Floor.{sheet-for}
+use Rattle.place_laws.specs.Tables.{setsTable, needsTable, capsTable, costsTable, groupCase, case-for, case-priced, case-spare}
+use Rattle.place_laws.specs.Owners.{moves-small, impossible}
+use Rattle.place_laws.specs.Choice.{chosen-local, none-moves, chosen-none, first-chosen}
+use Rattle.place_laws.specs.Definitions.{masksOf}
+use Rattle.place_laws.specs.Adding.{ownedBy, maskWith, masksWith, with-masked, with-alike, with-rest, with-total, with-length}
 use Rattle.place_layout.specs.declared.Placed.{Placed}
 use Rattle.place_layout.specs.declared.Offer.{Offer}
-use Rattle.place_layout.specs.Post.{Unplaced, LaidSoFar, PlacedAlone}
+use Rattle.place_layout.specs.Definitions.{PlacedAlone}
+use Rattle.place_layout.specs.Post.{Unplaced, LaidSoFar}
 
 -- equal tables make one case
 case-is : (σ : List ℕ) (held : ℕ) (old : ℕ → ℕ) (g : ℕ) {sets needs caps costs : List ℕ} → sets ≡ setsTable σ → needs ≡ needsTable σ g → caps ≡ capsTable σ g

@@ -7,13 +7,13 @@ use mathlib.Core.Logic.{⊎-elim}
 use Prim.Native.Nat.{ℕ, _^_, _<_}
 use native.Mathlib.Omega.{arith}
 use Rattle.base_laws.specs.Bools.{either}
-use Rattle.base_sums.specs.Sums.{sum-cong}
-use Rattle.settings_values.specs.Settings.{nodes, Settings}
-use Rattle.place_groups.specs.Placements.{groupMoves}
+use Rattle.base_sum_laws.specs.Sums.{sum-cong}
+use Rattle.settings_values.specs.Definitions.{nodes, Settings}
+use Rattle.place_groups.specs.Definitions.{groupMoves}
 use Rattle.place_groups.specs.Chosen.{lowest-one}
-use Rattle.place_owners.specs.Adding.{masksOf}
-use Rattle.place_owners.specs.Exactly.{CapsAtNeeds}
-use Rattle.place_owners.specs.Uncapped.{uncapped, uncapped-shards, uncapped-moves, impossible-low, impossible-wide, lowest-low, lowest-wide, least-alike, chosen-wide}
+use Rattle.place_laws.specs.Definitions.{masksOf}
+use Rattle.place_laws.specs.Exactly.{CapsAtNeeds}
+use Rattle.place_laws.specs.Uncapped.{uncapped, uncapped-shards, uncapped-moves, impossible-low, impossible-wide, lowest-low, lowest-wide, least-alike, chosen-wide}
 use Rattle.place_layout.specs.declared.Placed.{Placed}
 use Rattle.place_layout.specs.Post.{Laid, Unplaced, Placement}
 use Rattle.place_layout.specs.Unique.{placement-unique}

@@ -8,13 +8,12 @@ use native.Mathlib.Omega.{arith}
 use lib.ListN.{length}
 use lib.Seq.{ext-getD}
 use Rattle.base_laws.specs.Bools.{either, lt-or-le}
-use Rattle.base_sums.specs.Sums.{sumBelow}
-use Rattle.settings_values.specs.Settings.{nodes, shards, subgroup, Settings}
-use Rattle.place_groups.specs.Placements.{groupMoves}
-use Rattle.place_groups.specs.Chosen.{Chosen, ChosenPlan, lowest-one}
-use Rattle.place_owners.specs.Choice.{chosen-unique}
-use Rattle.place_owners.specs.Whole.{chosen-whole}
-use Rattle.place_owners.specs.Adding.{masksOf}
+use Rattle.base_sum_laws.specs.Definitions.{sumBelow}
+use Rattle.settings_values.specs.Definitions.{nodes, shards, subgroup, Settings}
+use Rattle.place_groups.specs.Definitions.{groupMoves, Chosen}
+use Rattle.place_groups.specs.Chosen.{lowest-one}
+use Rattle.place_laws.specs.Choice.{chosen-unique}
+use Rattle.place_laws.specs.Definitions.{masksOf}
 use Rattle.place_layout.specs.declared.Placed.{Placed}
 use Rattle.place_layout.specs.Post.{Laid, Unplaced, Placement}
 
@@ -33,10 +32,6 @@ masks-one {σ} right inside a b m n p q h k =
 placed-as : {f f' : Bool} {g g' : ℕ} {m m' : List ℕ} {t t' : ℕ} → f ≡ f' → g ≡ g' → m ≡ m' → t ≡ t'
     → _≡_ {A = Placed} (record { found = f; group = g; masks = m; total = t }) (record { found = f'; group = g'; masks = m'; total = t' })
 placed-as a b c d = λ i. record { found = a i; group = b i; masks = c i; total = d i }
-
--- the placement as a whole is the first over all shards
-pub laid-whole : {σ : List ℕ} {held : ℕ} {old : ℕ → ℕ} {p : Placed} → Settings σ → Laid σ held old 4 p → ChosenPlan σ held old (masksOf (p .masks))
-laid-whole right w = chosen-whole right (w .chosen)
 
 module _ {σ : List ℕ} {held : ℕ} {old : ℕ → ℕ} (right : Settings σ) (inside : held < 2 ^ nodes σ) {p q : Placed} where
   -- two placements that meet the promise are equal

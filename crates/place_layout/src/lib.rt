@@ -8,17 +8,17 @@ ghost use mathlib.Core.Bool.{cond};
 ghost use Prim.Native.Nat.{_<_, _^_};
 ghost use lib.Dec.{eqb};
 ghost use lib.ListN.{getD};
-ghost use Rattle.base_laws.specs.Below.{anyBelow};
-ghost use Rattle.base_laws.specs.Masks.{with};
-ghost use Rattle.settings_values.specs.Settings.{Settings, nodes};
-ghost use Rattle.search_theory.specs.Tables.{caseOf};
-ghost use Rattle.search_theory.specs.Floor.{SheetFor};
-ghost use Rattle.place_sheet.specs.Sheet.{sheetOf};
-ghost use Rattle.place_owners.specs.Cases.{ofGroup};
-ghost use Rattle.place_owners.specs.Tables.{groupCase};
-ghost use Rattle.place_owners.specs.Adding.{ownedBy, maskWith, masksWith};
+ghost use Rattle.base_laws.specs.Definitions.{anyBelow, with};
+ghost use Rattle.settings_values.specs.Definitions.{Settings, nodes};
+ghost use Rattle.search_laws.specs.Tables.{caseOf};
+ghost use Rattle.search_laws.specs.Floor.{SheetFor};
+ghost use Rattle.place_groups.specs.Sheet.{sheetOf};
+ghost use Rattle.place_groups.specs.Definitions.{ofGroup};
+ghost use Rattle.place_laws.specs.Tables.{groupCase};
+ghost use Rattle.place_laws.specs.Adding.{ownedBy, maskWith, masksWith};
 ghost use Rattle.search_total.specs.Post.{LeastAnswer};
-ghost use Rattle.place_layout.specs.Post.{LaidSoFar, OneMore, Placement, PlacedAlone};
+ghost use Rattle.place_layout.specs.Definitions.{PlacedAlone};
+ghost use Rattle.place_layout.specs.Post.{LaidSoFar, OneMore, Placement};
 
 // Where every subgroup has a valid placement: a mask for each shard, 0 from S up, and the total of the moves. Else the lowest
 // subgroup without one, and nothing placed.
@@ -164,7 +164,7 @@ fn place_group(
     }
     let owners = answer.owners;
     let masks = masks_with(settings, g, &owners, &was);
-    let moved = place_check::group_moves(settings, old, &masks, g);
+    let moved = place_groups::check::group_moves(settings, old, &masks, g);
     Placed {
         found: true,
         group: 0,
@@ -179,7 +179,7 @@ pub fn place(settings: &[u32], held: u32, old: &[u32; 16]) -> Placed
     requires { ⌜ held < 2 ^ nodes (now settings) ⌝ }
     ensures { λ r. ⌜ Placement (now (settings .entry)) held (λ s. getD (now (old .entry)) s 0) r ⌝ }
 {
-    let sheet = place_sheet::sheet(settings, held, old);
+    let sheet = place_groups::sheet::sheet(settings, held, old);
     let mut placed = Placed {
         found: true,
         group: 0,
@@ -211,7 +211,7 @@ pub fn place_one(settings: &[u32], held: u32, old: &[u32; 16], g: u32) -> Offer
             moves: 0,
         };
     }
-    let sheet = place_sheet::sheet(settings, held, old);
+    let sheet = place_groups::sheet::sheet(settings, held, old);
     let answer = solve(settings, held, old, &sheet, g);
     if !answer.exists {
         return Offer {
@@ -222,7 +222,7 @@ pub fn place_one(settings: &[u32], held: u32, old: &[u32; 16], g: u32) -> Offer
     }
     let owners = answer.owners;
     let masks = masks_with(settings, g, &owners, &none);
-    let moves = place_check::group_moves(settings, old, &masks, g);
+    let moves = place_groups::check::group_moves(settings, old, &masks, g);
     Offer {
         found: true,
         masks,

@@ -6,28 +6,28 @@ use mathlib.Core.Logic.{inr, ⊎-elim}
 use Prim.Native.Nat.{ℕ, _+_, _^_, _≤_, _<_}
 use native.Mathlib.Omega.{arith}
 use Rattle.base_laws.specs.Bools.{lt-or-le}
-use Rattle.base_laws.specs.Below.{anyBelow}
-use Rattle.base_laws.specs.Masks.{has}
-use Rattle.settings_values.specs.Settings.{nodes, Settings}
-use Rattle.place_groups.specs.Placements.{groupValid, groupMoves, Impossible, Lowest}
-use Rattle.place_groups.specs.Chosen.{ofGroup, not-later-both}
-use Rattle.search_theory.specs.Case.{Case, Valid, Within, Least, weight}
-use Rattle.search_theory.specs.Tables.{ownersOf}
-use Rattle.search_theory.specs.Order.{First, None}
-use Rattle.search_theory.specs.Floor.{SheetFor}
+use Rattle.base_laws.specs.Definitions.{anyBelow, has}
+use Rattle.settings_values.specs.Definitions.{nodes, Settings}
+use Rattle.place_groups.specs.Definitions.{groupValid, groupMoves, Impossible, LowestUnplaced, ofGroup}
+use Rattle.place_groups.specs.Chosen.{not-later-both}
+use Rattle.search_laws.specs.Case.{Case, Valid, WeighsWithin, LeastWeight, weight}
+use Rattle.search_laws.specs.Tables.{ownersOf}
+use Rattle.search_laws.specs.Order.{First, HasNone}
+use Rattle.search_laws.specs.Floor.{SheetFor}
 use Rattle.search_total.specs.declared.Solution.{Solution}
 use Rattle.search_total.specs.Post.{LeastAnswer}
 use Rattle.search_rounds.specs.Post.{Fewer}
 use Rattle.search_rounds.specs.Exists.{AllRounds, first-or-none, first-own, rounds-to-the-end}
-use Rattle.place_sheet.specs.Sheet.{sheetOf}
-use Rattle.place_owners.specs.Cases.{moveCost, priceIn, costIn, CaseFor, move-most}
-use Rattle.place_owners.specs.Tables.{cost-at}
-use Rattle.place_owners.specs.Local.{AlikeInGroup}
-use Rattle.place_owners.specs.Owners.{owner, masks-valid, moves-small, from-masks, impossible}
-use Rattle.place_owners.specs.Choice.{same-masks, first-by-masks}
-use Rattle.place_owners.specs.Adding.{masksOf, masksWith}
-use Rattle.place_owners.specs.Floor.{groupFloor, sheet-for}
-use Rattle.place_rounds.specs.Rounds.{FirstValid}
+use Rattle.place_groups.specs.Sheet.{sheetOf}
+use Rattle.place_laws.specs.Cases.{moveCost, priceIn, costIn, CaseFor, move-most}
+use Rattle.place_laws.specs.Tables.{cost-at}
+use Rattle.place_laws.specs.Local.{AlikeInGroup}
+use Rattle.place_laws.specs.Owners.{owner, masks-valid, moves-small, from-masks, impossible}
+use Rattle.place_laws.specs.Choice.{same-masks, first-by-masks}
+use Rattle.place_laws.specs.Definitions.{masksOf}
+use Rattle.place_laws.specs.Adding.{masksWith}
+use Rattle.place_laws.specs.Floor.{groupFloor, sheet-for}
+use Rattle.place_rounds.specs.Definitions.{FirstValid}
 use Rattle.place_rounds.specs.Owners.{CountsMoves, ownedMasks, owned-masked, weight-moves, weight-from, none-lighter}
 use Rattle.place_rounds.specs.Tables.{roundCase, round-cost, round-case, counts-moves}
 use Rattle.place_rounds.specs.Parts.{none-local, rounds-to}
@@ -64,7 +64,7 @@ module _ {σ : List ℕ} {held g : ℕ} (old : ℕ → ℕ) {K : Case} (stands :
   light : (y : ℕ → ℕ) → Valid K y → weight K y ≤ 32
   light y v = omega (arith, weight-moves stands right inside old counted (owned-masked σ g y) v, moves-small right inside stands (owned-masked σ g y) v old)
 
-  first-of-all : {y : ℕ → ℕ} → First (Within K 32) y → FirstValid σ held (ownedMasks y) g
+  first-of-all : {y : ℕ → ℕ} → First (WeighsWithin K 32) y → FirstValid σ held (ownedMasks y) g
   first-of-all {y} f =
       record {
         valid = masks-valid right inside stands (owned-masked σ g y) (f .is .valid);
@@ -74,7 +74,7 @@ module _ {σ : List ℕ} {held g : ℕ} (old : ℕ → ℕ) {K : Case} (stands :
       }
 
   -- where none is lighter than e, and e is the first of its weight, it is the first of least weight
-  same-end : {e z : ℕ → ℕ} → First (Within K (weight K e)) e → None (Fewer K e) → First (Least K) z → AlikeInGroup σ g (ownedMasks e) (ownedMasks z)
+  same-end : {e z : ℕ → ℕ} → First (WeighsWithin K (weight K e)) e → HasNone (Fewer K e) → First (LeastWeight K) z → AlikeInGroup σ g (ownedMasks e) (ownedMasks z)
   same-end {e} {z} f none l =
       record {
         at = same-masks right inside g ours theirs
@@ -100,12 +100,12 @@ module _ {σ : List ℕ} {held g : ℕ} (old : ℕ → ℕ) {K : Case} (stands :
       lowest : (y : ℕ → ℕ) → Valid K y → weight K e ≤ weight K y
       lowest y v = ⊎-elim (λ q. absurd (none .none y (record { valid = v; less = q }))) (λ q. q) (lt-or-le (weight K y) (weight K e))
 
-  pub owners-ended : (o : List ℕ) (floor : ℕ) → First (Least K) (ownersOf o) → floor ≡ groupFloor σ held old g → OwnersEnded σ held old g o floor
+  pub owners-ended : (o : List ℕ) (floor : ℕ) → First (LeastWeight K) (ownersOf o) → floor ≡ groupFloor σ held old g → OwnersEnded σ held old g o floor
   owners-ended o floor f low n l =
       ⊎-elim (λ b. from (b .0) (b .1)) (λ b. absurd (b .none (ownersOf o) (record { valid = f .is .valid; cheap = light (ownersOf o) (f .is .valid) })))
       (first-or-none K 32)
     where
-      from : (y : ℕ → ℕ) → First (Within K 32) y → (m : ℕ) × (n ≤ m + 32) × OwnersReached σ held old g n o m floor
+      from : (y : ℕ → ℕ) → First (WeighsWithin K 32) y → (m : ℕ) × (n ≤ m + 32) × OwnersReached σ held old g n o m floor
       from y b =
           let r : AllRounds K n 32 y = rounds-to-the-end (light y (b .is .valid)) l (first-own b) in
           let k = same-end (r .first) (r .none) f in
@@ -141,7 +141,7 @@ ended-none σ held old g right e o n l = (n, omega arith, reached-none σ held o
 
 module _ {σ : List ℕ} {held : ℕ} {old : ℕ → ℕ} {g total floor : ℕ} {masks : List ℕ} (right : Settings σ) (inside : held < 2 ^ nodes σ)
     (st : EndedSoFar σ held old g masks total floor) where
-  pub ends-none : g < 4 → Impossible σ held g → Lowest σ held g
+  pub ends-none : g < 4 → Impossible σ held g → LowestUnplaced σ held g
   ends-none l i = turns-none right inside (st .2) l i
 
   module _ {o : List ℕ} {add : ℕ} (u : OwnersEnded σ held old g o add) (l : g < 4) where

@@ -8,17 +8,19 @@ use mathlib.Core.Path.{_≡_, refl, sym, ap, _∙_, subst}
 use lib.Dec.{eqb}
 use borrow.Author.Tests.{eq-eqb, ne-eqb, lt-ltb}
 use Rattle.base_laws.specs.Bools.{either, lt-or-le, eq-or-ne}
-use Rattle.base_sums.specs.Sums.{sumBelow, sum-cong, sum-mono, sum-add, sum-single, sum-swap, sum-bound}
-use Rattle.settings_values.specs.Settings.{nodes, shards, subgroup, Settings}
-use Rattle.place_groups.specs.Placements.{groupValid, groupMoves, LeastMoves}
-use Rattle.place_groups.specs.Chosen.{ofGroup, not-later-both, planMoves, AllValid}
-use Rattle.place_owners.specs.Cases.{of-group, group-shard, group-other}
-use Rattle.place_owners.specs.Local.{AlikeInGroup, valid-local, moves-local}
-use Rattle.place_owners.specs.Tables.{case-for}
-use Rattle.place_owners.specs.Owners.{owner-masked, from-masks, moves-small}
-use Rattle.place_owners.specs.Choice.{same-masks}
-use Rattle.place_owners.specs.Floor.{lacking, groupFloor, floor-least}
-use Rattle.place_rounds.specs.Rounds.{FirstValid, FirstFewer, NoneFewer, Round, SamePlan, Rounds, over, done, more, planFloor, gapOf, Bettered}
+use Rattle.base_sum_laws.specs.Definitions.{sumBelow}
+use Rattle.base_sum_laws.specs.Sums.{sum-cong, sum-mono, sum-add, sum-single, sum-swap, sum-bound}
+use Rattle.settings_values.specs.Definitions.{nodes, shards, subgroup, Settings}
+use Rattle.place_groups.specs.Definitions.{groupValid, groupMoves, LeastMoves, ofGroup, planMoves, AllValid}
+use Rattle.place_groups.specs.Chosen.{not-later-both}
+use Rattle.place_laws.specs.Cases.{of-group, group-shard, group-other}
+use Rattle.place_laws.specs.Local.{AlikeInGroup, valid-local, moves-local}
+use Rattle.place_laws.specs.Tables.{case-for}
+use Rattle.place_laws.specs.Owners.{owner-masked, from-masks, moves-small}
+use Rattle.place_laws.specs.Choice.{same-masks}
+use Rattle.place_laws.specs.Definitions.{lacking}
+use Rattle.place_laws.specs.Floor.{groupFloor, floor-least}
+use Rattle.place_rounds.specs.Definitions.{FirstValid, FirstFewer, NoneFewer, Round, SamePlan, Rounds, over, done, more, planFloor, gapOf, Bettered}
 
 -- the same nodes for every shard, within a subgroup
 alike-in : {σ : List ℕ} {a b : ℕ → ℕ} → SamePlan σ a b → (g : ℕ) → AlikeInGroup σ g a b

@@ -1,5 +1,5 @@
 -- Improving rounds over the four subgroups.
-pub mod Rounds
+pub mod Definitions
 pub mod Laws
 pub mod Owners
 pub mod Tables

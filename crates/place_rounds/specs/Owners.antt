@@ -9,18 +9,19 @@ use native.Mathlib.Omega.{arith}
 use lib.Dec.{eqb}
 use borrow.Author.Tests.{ltb-true}
 use Rattle.base_laws.specs.Bools.{lt-or-le}
-use Rattle.base_laws.specs.Picked.{maskBelow, mask-lt, mask-at}
-use Rattle.base_sums.specs.Sums.{sum-cong, sum-none}
-use Rattle.settings_values.specs.Settings.{nodes, Settings}
-use Rattle.place_groups.specs.Placements.{groupValid, groupMoves}
-use Rattle.search_theory.specs.Case.{Case, Valid, Within, hasOwner, moves, weight}
-use Rattle.search_theory.specs.Order.{First, None}
+use Rattle.base_sum_laws.specs.Definitions.{maskBelow}
+use Rattle.base_sum_laws.specs.Picked.{mask-lt, mask-at}
+use Rattle.base_sum_laws.specs.Sums.{sum-cong, sum-none}
+use Rattle.settings_values.specs.Definitions.{nodes, Settings}
+use Rattle.place_groups.specs.Definitions.{groupValid, groupMoves}
+use Rattle.search_laws.specs.Case.{Case, Valid, WeighsWithin, hasOwner, moves, weight}
+use Rattle.search_laws.specs.Order.{First, HasNone}
 use Rattle.search_rounds.specs.Post.{Fewer, Low}
-use Rattle.place_owners.specs.Cases.{priceIn, CaseFor}
-use Rattle.place_owners.specs.Owners.{Masked, owner, masks-valid, moves-same, from-masks, from-moves}
-use Rattle.place_owners.specs.Choice.{first-by-masks}
-use Rattle.place_owners.specs.Floor.{groupFloor, floor-least}
-use Rattle.place_rounds.specs.Rounds.{FirstValid, FirstFewer, NoneFewer}
+use Rattle.place_laws.specs.Cases.{priceIn, CaseFor}
+use Rattle.place_laws.specs.Owners.{Masked, owner, masks-valid, moves-same, from-masks, from-moves}
+use Rattle.place_laws.specs.Choice.{first-by-masks}
+use Rattle.place_laws.specs.Floor.{groupFloor, floor-least}
+use Rattle.place_rounds.specs.Definitions.{FirstValid, FirstFewer, NoneFewer}
 
 -- a move costs 1, a stay 0, and a node placed nowhere nothing
 pub record CountsMoves (K : Case) (price : ℕ → ℕ → ℕ) : Type 0 where
@@ -58,7 +59,7 @@ owned-masked σ g z =
 
 module _ {σ : List ℕ} {held g : ℕ} {K : Case} (stands : CaseFor σ held g K) (right : Settings σ) (inside : held < 2 ^ nodes σ) where
   -- where no pair costs anything: the first of all
-  pub first-free : CountsMoves K (λ i n. 0) → {k : ℕ} {z masks : ℕ → ℕ} → Masked σ g z masks → First (Within K k) z → FirstValid σ held masks g
+  pub first-free : CountsMoves K (λ i n. 0) → {k : ℕ} {z masks : ℕ → ℕ} → Masked σ g z masks → First (WeighsWithin K k) z → FirstValid σ held masks g
   first-free free {k} m f =
       record {
         valid = masks-valid right inside stands m (f .is .valid);
@@ -87,7 +88,7 @@ module _ {σ : List ℕ} {held g : ℕ} {K : Case} (stands : CaseFor σ held g K
         }
 
     -- where none weighs less
-    pub none-lighter : {z masks : ℕ → ℕ} → Masked σ g z masks → Valid K z → None (Fewer K z) → NoneFewer σ held old masks g
+    pub none-lighter : {z masks : ℕ → ℕ} → Masked σ g z masks → Valid K z → HasNone (Fewer K z) → NoneFewer σ held old masks g
     none-lighter {z} {masks} m v n =
         record {
           none = λ other w.

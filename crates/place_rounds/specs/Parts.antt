@@ -8,10 +8,11 @@ use mathlib.Core.List.{List}
 use mathlib.Core.Logic.{_⊎_, inl, inr, ⊎-elim}
 use mathlib.Core.Path.{_≡_, refl, sym, ap, _∙_, subst}
 use Rattle.base_laws.specs.Bools.{either}
-use Rattle.place_groups.specs.Chosen.{ofGroup, not-later-alike}
-use Rattle.place_owners.specs.Cases.{group-shard, group-other}
-use Rattle.place_owners.specs.Local.{AlikeInGroup, valid-local, moves-local}
-use Rattle.place_rounds.specs.Rounds.{FirstValid, FirstFewer, NoneFewer, Round, SamePlan, Rounds, over, done, more}
+use Rattle.place_groups.specs.Definitions.{ofGroup}
+use Rattle.place_groups.specs.Chosen.{not-later-alike}
+use Rattle.place_laws.specs.Cases.{group-shard, group-other}
+use Rattle.place_laws.specs.Local.{AlikeInGroup, valid-local, moves-local}
+use Rattle.place_rounds.specs.Definitions.{FirstValid, FirstFewer, NoneFewer, Round, SamePlan, Rounds, over, done, more}
 
 -- the masks with those of subgroup g replaced
 unfoldable pub mix : List ℕ → ℕ → (ℕ → ℕ) → (ℕ → ℕ) → ℕ → ℕ

@@ -5,17 +5,16 @@ use mathlib.Core.List.{List}
 use mathlib.Core.Logic.{_⊎_}
 use Prim.Native.Nat.{ℕ, _+_, _*_, _≤_, _<_}
 use lib.ListN.{length, replicate}
-use Rattle.base_sums.specs.Sums.{sumBelow}
-use Rattle.settings_values.specs.Settings.{shards}
-use Rattle.search_theory.specs.Tables.{ownersOf}
-use Rattle.place_groups.specs.Placements.{groupValid, groupMoves, Impossible}
-use Rattle.place_groups.specs.Chosen.{planMoves}
-use Rattle.place_owners.specs.Adding.{masksOf}
-use Rattle.place_owners.specs.Floor.{groupFloor}
+use Rattle.base_sum_laws.specs.Definitions.{sumBelow}
+use Rattle.settings_values.specs.Definitions.{shards}
+use Rattle.search_laws.specs.Tables.{ownersOf}
+use Rattle.place_groups.specs.Definitions.{groupValid, groupMoves, Impossible, planMoves}
+use Rattle.place_laws.specs.Definitions.{masksOf}
+use Rattle.place_laws.specs.Floor.{groupFloor}
 use Rattle.place_layout.specs.Post.{Unplaced}
 use Rattle.place_rounds.specs.declared.Grouped.{Grouped}
 use Rattle.place_rounds.specs.declared.PlacedWithin.{PlacedWithin}
-use Rattle.place_rounds.specs.Rounds.{FirstValid, NoneFewer, gapOf, Bettered}
+use Rattle.place_rounds.specs.Definitions.{FirstValid, NoneFewer, gapOf, Bettered}
 use Rattle.place_rounds.specs.Owners.{ownedMasks}
 use Rattle.place_rounds.specs.Parts.{RoundsSoFar, GroupRounds}
 

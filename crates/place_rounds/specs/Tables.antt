@@ -7,16 +7,17 @@ use native.Mathlib.Omega.{arith}
 use lib.Dec.{eqb}
 use lib.ListN.{getD}
 use borrow.Author.Tests.{eq-eqb, ne-eqb}
-use Rattle.base_laws.specs.Masks.{has}
-use Rattle.base_laws.specs.Tables.{tabulate, getD-tabulate}
-use Rattle.settings_values.specs.Settings.{nodes, Settings}
-use Rattle.search_theory.specs.Case.{Case}
-use Rattle.search_theory.specs.Tables.{caseOf}
-use Rattle.search_theory.specs.Floor.{floorOf, lackAt}
-use Rattle.place_sheet.specs.Sheet.{sheetOf}
-use Rattle.place_owners.specs.Cases.{ofGroup, moveCost, priceIn, costIn, CaseFor, move-most, move-least}
-use Rattle.place_owners.specs.Tables.{setsTable, needsTable, capsTable, costsTable, cost-at, case-for}
-use Rattle.place_owners.specs.Floor.{groupFloor, floor-is}
+use Rattle.base_laws.specs.Definitions.{has, tabulate}
+use Rattle.base_laws.specs.Tables.{getD-tabulate}
+use Rattle.settings_values.specs.Definitions.{nodes, Settings}
+use Rattle.search_laws.specs.Case.{Case}
+use Rattle.search_laws.specs.Tables.{caseOf}
+use Rattle.search_laws.specs.Floor.{floorOf, lackAt}
+use Rattle.place_groups.specs.Sheet.{sheetOf}
+use Rattle.place_groups.specs.Definitions.{ofGroup}
+use Rattle.place_laws.specs.Cases.{moveCost, priceIn, costIn, CaseFor, move-most, move-least}
+use Rattle.place_laws.specs.Tables.{setsTable, needsTable, capsTable, costsTable, cost-at, case-for}
+use Rattle.place_laws.specs.Floor.{groupFloor, floor-is}
 use Rattle.place_rounds.specs.Owners.{CountsMoves}
 
 -- a cost of decide's table where a move costs w: a stay remains 0, and what is not allowed 255

@@ -8,27 +8,28 @@ use native.Mathlib.Omega.{arith}
 use lib.Dec.{eqb}
 use lib.ListN.{getD, replicate, length-replicate, getD-replicate, List·getD-eq-default}
 use Rattle.base_laws.specs.Bools.{either, clash, lt-or-le, eq-or-ne}
-use Rattle.base_laws.specs.Below.{anyBelow, any-fails}
+use Rattle.base_laws.specs.Definitions.{anyBelow}
+use Rattle.base_laws.specs.Below.{any-fails}
 use Rattle.base_laws.specs.Tables.{getD-tabulate}
-use Rattle.base_sums.specs.Sums.{sum-zero, sum-next, sum-none}
-use Rattle.settings_values.specs.Settings.{nodes, shards, subgroup, Settings}
-use Rattle.place_groups.specs.Placements.{groupValid, groupMoves, Impossible, Lowest}
-use Rattle.place_groups.specs.Chosen.{ofGroup}
-use Rattle.search_theory.specs.Case.{Case, Valid, meets, spread}
-use Rattle.search_theory.specs.Tables.{caseOf, ownersOf}
+use Rattle.base_sum_laws.specs.Sums.{sum-zero, sum-next, sum-none}
+use Rattle.settings_values.specs.Definitions.{nodes, shards, subgroup, Settings}
+use Rattle.place_groups.specs.Definitions.{groupValid, groupMoves, Impossible, LowestUnplaced, ofGroup}
+use Rattle.search_laws.specs.Case.{Case, Valid, meets, spread}
+use Rattle.search_laws.specs.Tables.{caseOf, ownersOf}
 use Rattle.search_total.specs.declared.Solution.{Solution}
 use Rattle.search_total.specs.Post.{WithinAnswer}
 use Rattle.search_rounds.specs.declared.Improvement.{Improvement}
 use Rattle.search_rounds.specs.Post.{Steps, start, more, Low, Weighed, Improved}
-use Rattle.place_owners.specs.Cases.{priceIn, CaseFor, group-shard, group-past, group-is}
-use Rattle.place_owners.specs.Tables.{setsTable, needsTable, capsTable, costsTable}
-use Rattle.place_owners.specs.Local.{AlikeInGroup, valid-local, moves-local}
-use Rattle.place_owners.specs.Shards.{group-valid-of}
-use Rattle.place_owners.specs.Owners.{masks-valid, moves-small, impossible}
-use Rattle.place_owners.specs.Choice.{none-moves}
-use Rattle.place_owners.specs.Floor.{lacking, groupFloor, floor-least}
-use Rattle.place_owners.specs.Adding.{ownedBy, maskWith, masksOf, masksWith, with-masked, with-alike, with-rest, with-total, with-length}
-use Rattle.place_rounds.specs.Rounds.{FirstValid, NoneFewer, SamePlan, gapOf}
+use Rattle.place_laws.specs.Cases.{priceIn, CaseFor, group-shard, group-past, group-is}
+use Rattle.place_laws.specs.Tables.{setsTable, needsTable, capsTable, costsTable}
+use Rattle.place_laws.specs.Local.{AlikeInGroup, valid-local, moves-local}
+use Rattle.place_laws.specs.Shards.{group-valid-of}
+use Rattle.place_laws.specs.Owners.{masks-valid, moves-small, impossible}
+use Rattle.place_laws.specs.Choice.{none-moves}
+use Rattle.place_laws.specs.Definitions.{lacking, masksOf}
+use Rattle.place_laws.specs.Floor.{groupFloor, floor-least}
+use Rattle.place_laws.specs.Adding.{ownedBy, maskWith, masksWith, with-masked, with-alike, with-rest, with-total, with-length}
+use Rattle.place_rounds.specs.Definitions.{FirstValid, NoneFewer, SamePlan, gapOf}
 use Rattle.place_rounds.specs.Owners.{CountsMoves, ownedMasks, owned-masked, free-weight, first-free, weight-moves, first-lighter, none-lighter, floor-weight}
 use Rattle.place_rounds.specs.Tables.{repricedTable, roundCase, round-case, counts-moves, counts-nothing}
 use Rattle.place_rounds.specs.Parts.{mix, mix-here, mix-own, mix-other, none-local, first-local, none, part-same, part-mixed, part-rounds, part-group, GroupRounds, stays, betters, rounds-used}
@@ -192,7 +193,7 @@ turns-start σ held old n =
 module _ {σ : List ℕ} {held : ℕ} {old : ℕ → ℕ} {n g total floor left : ℕ} {masks : List ℕ} (right : Settings σ) (inside : held < 2 ^ nodes σ)
     (st : ReachedSoFar σ held old n g masks total floor left) where
   -- the lowest without a valid placement
-  pub turns-none : g < 4 → Impossible σ held g → Lowest σ held g
+  pub turns-none : g < 4 → Impossible σ held g → LowestUnplaced σ held g
   turns-none l i = record { below = l; none = i; lower = λ h k. (masksOf masks, st .valid h k) }
 
   module _ {o : List ℕ} {gone add : ℕ} (u : OwnersReached σ held old g left o gone add) where

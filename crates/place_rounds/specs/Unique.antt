@@ -8,11 +8,12 @@ use native.Mathlib.Omega.{arith}
 use lib.ListN.{length}
 use lib.Seq.{ext-getD}
 use Rattle.base_laws.specs.Bools.{either, lt-or-le}
-use Rattle.settings_values.specs.Settings.{nodes, shards, Settings}
-use Rattle.place_groups.specs.Chosen.{planMoves, lowest-one}
-use Rattle.place_owners.specs.Adding.{masksOf}
+use Rattle.settings_values.specs.Definitions.{nodes, shards, Settings}
+use Rattle.place_groups.specs.Definitions.{planMoves}
+use Rattle.place_groups.specs.Chosen.{lowest-one}
+use Rattle.place_laws.specs.Definitions.{masksOf}
 use Rattle.place_rounds.specs.declared.PlacedWithin.{PlacedWithin}
-use Rattle.place_rounds.specs.Rounds.{gapOf, Bettered}
+use Rattle.place_rounds.specs.Definitions.{gapOf, Bettered}
 use Rattle.place_rounds.specs.Laws.{bettered-valid, bettered-one}
 use Rattle.place_rounds.specs.Post.{LaidWithin, NoneWithin, PlacementWithin}
 

@@ -6,13 +6,14 @@ use search_total::Solution;
 ghost use mathlib.Core.Path.{_≡_};
 ghost use Prim.Native.Nat.{_<_, _^_, min};
 ghost use lib.ListN.{getD, replicate};
-ghost use Rattle.settings_values.specs.Settings.{Settings, nodes};
-ghost use Rattle.search_theory.specs.Tables.{caseOf};
+ghost use Rattle.settings_values.specs.Definitions.{Settings, nodes};
+ghost use Rattle.search_laws.specs.Tables.{caseOf};
 ghost use Rattle.search_total.specs.Post.{WithinAnswer};
 ghost use Rattle.search_rounds.specs.Post.{Low, Weighed, Improved};
-ghost use Rattle.place_groups.specs.Placements.{groupMoves};
-ghost use Rattle.place_sheet.specs.Sheet.{sheetOf};
-ghost use Rattle.place_owners.specs.Adding.{masksOf, masksWith};
+ghost use Rattle.place_groups.specs.Definitions.{groupMoves};
+ghost use Rattle.place_groups.specs.Sheet.{sheetOf};
+ghost use Rattle.place_laws.specs.Definitions.{masksOf};
+ghost use Rattle.place_laws.specs.Adding.{masksWith};
 ghost use Rattle.place_rounds.specs.Tables as Tables;
 ghost use Rattle.place_rounds.specs.Post as Post;
 
@@ -98,7 +99,7 @@ fn moves_of(settings: &[u32], old: &[u32; 16], g: u32, owners: &[u8; 32]) -> usi
 {
     let none = [0u32; 16];
     let masks = place_layout::masks_with(settings, g, owners, &none);
-    place_check::group_moves(settings, old, &masks, g) as usize
+    place_groups::check::group_moves(settings, old, &masks, g) as usize
 }
 
 // Start and rounds of subgroup g. Without shards there is nothing to place.
@@ -137,7 +138,7 @@ fn reach(
             floor: 0,
         };
     }
-    let floor = search_floor::floor(&needs, sheet);
+    let floor = search_judge::floor::floor(&needs, sheet);
     if rounds == 0 {
         return Grouped {
             found: true,
@@ -199,7 +200,7 @@ fn reach_end(
             floor: 0,
         };
     }
-    let floor = search_floor::floor(&needs, sheet);
+    let floor = search_judge::floor::floor(&needs, sheet);
     Grouped {
         found: true,
         owners,
@@ -241,7 +242,7 @@ fn finish(settings: &[u32], held: u32, old: &[u32; 16], sheet: &[[u8; 16]; 16]) 
         }
         let owners = end.owners;
         masks = place_layout::masks_with(settings, g, &owners, &masks);
-        total += place_check::group_moves(settings, old, &masks, g);
+        total += place_groups::check::group_moves(settings, old, &masks, g);
         floor += end.floor;
         g += 1;
     }
@@ -263,7 +264,7 @@ pub fn improve(settings: &[u32], held: u32, old: &[u32; 16], rounds: u32) -> Pla
     requires { ⌜ held < 2 ^ nodes (now settings) ⌝ }
     ensures { λ r. ⌜ Post.PlacementWithin (now (settings .entry)) held (λ s. getD (now (old .entry)) s 0) (min rounds 128) r ⌝ }
 {
-    let sheet = place_sheet::sheet(settings, held, old);
+    let sheet = place_groups::sheet::sheet(settings, held, old);
     if rounds >= 128 {
         return finish(settings, held, old, &sheet);
     }
@@ -279,7 +280,7 @@ pub fn improve(settings: &[u32], held: u32, old: &[u32; 16], rounds: u32) -> Pla
         }
         let owners = one.owners;
         masks = place_layout::masks_with(settings, g, &owners, &masks);
-        total += place_check::group_moves(settings, old, &masks, g);
+        total += place_groups::check::group_moves(settings, old, &masks, g);
         floor += one.floor;
         left = one.left;
         g += 1;

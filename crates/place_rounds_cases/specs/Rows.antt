@@ -10,19 +10,17 @@ use lib.Count.{ones, onesIn}
 use lib.Dec.{eqb}
 use borrow.Author.Tests.{eqb-true, ne-eqb}
 use Rattle.base_laws.specs.Bools.{clash}
-use Rattle.base_laws.specs.Below.{allBelow, anyBelow, countBelow}
-use Rattle.base_laws.specs.Masks.{count, subset-le}
-use Rattle.base_sums.specs.Sums.{sumBelow}
-use Rattle.base_sums.specs.Lists.{listFrom, listBefore}
-use Rattle.settings_values.specs.Settings.{cap}
-use Rattle.message_format.specs.Rows.{shardApart}
-use Rattle.place_groups.specs.Placements.{meetsSet, setsIn, shardValid, groupValid, groupValidAt, groupMoves, groupMovesAt}
-use Rattle.place_groups.specs.Chosen.{ofGroup, nodesIn, NotLater}
-use Rattle.place_owners.specs.Cases.{group-past}
-use Rattle.place_owners.specs.Local.{AlikeInGroup, moves-local}
-use Rattle.place_owners.specs.Shards.{shard-placed}
-use Rattle.place_owners.specs.Floor.{lacking}
-use Rattle.place_rounds.specs.Rounds.{FirstValid, NoneFewer, Round, over, done, more, planFloor, gapOf, Bettered}
+use Rattle.base_laws.specs.Definitions.{allBelow, anyBelow, countBelow, count}
+use Rattle.base_laws.specs.Masks.{subset-le}
+use Rattle.base_sum_laws.specs.Definitions.{sumBelow, listFrom, listBefore}
+use Rattle.settings_values.specs.Definitions.{cap}
+use Rattle.message_format.specs.Definitions.{shardApart}
+use Rattle.place_groups.specs.Definitions.{meetsSet, setsIn, shardValid, groupValid, groupValidAt, groupMoves, groupMovesAt, ofGroup, nodesIn, NotLater}
+use Rattle.place_laws.specs.Cases.{group-past}
+use Rattle.place_laws.specs.Local.{AlikeInGroup, moves-local}
+use Rattle.place_laws.specs.Shards.{shard-placed}
+use Rattle.place_laws.specs.Definitions.{lacking}
+use Rattle.place_rounds.specs.Definitions.{FirstValid, NoneFewer, Round, over, done, more, planFloor, gapOf, Bettered}
 
 abbrev pub pairSettings : List ℕ
 pairSettings = 2 ∷ 1 ∷ 1 ∷ 2 ∷ 0 ∷ 0 ∷ 257 ∷ 1 ∷ []

@@ -5,10 +5,11 @@ ghost use mathlib.Core.Path.{_≡_};
 ghost use mathlib.Core.Bool.{true};
 ghost use Prim.Native.Nat.{_+_, _*_, _-_, _≤_, _<_, _^_};
 ghost use lib.ListN.{getD};
-ghost use Rattle.settings_values.specs.Settings.{Settings, nodes, setOf};
-ghost use Rattle.place_sheet.specs.Sheet.{sheetOf, sheetAt};
-ghost use Rattle.place_owners.specs.Cases.{ofGroup, setIn, needIn, capIn, moveCost, costIn};
-ghost use Rattle.place_owners.specs.Tables.{setsTable, needsTable, capsTable, costsTable, costsBelow};
+ghost use Rattle.settings_values.specs.Definitions.{Settings, nodes, setOf};
+ghost use Rattle.place_groups.specs.Sheet.{sheetOf, sheetAt};
+ghost use Rattle.place_groups.specs.Definitions.{ofGroup};
+ghost use Rattle.place_laws.specs.Cases.{setIn, needIn, capIn, moveCost, costIn};
+ghost use Rattle.place_laws.specs.Tables.{setsTable, needsTable, capsTable, costsTable, costsBelow};
 
 // The shard is one, of subgroup g.
 pub fn in_group(settings: &[u32], g: u32, shard: Shard) -> bool

@@ -1,3 +1,4 @@
 -- The held nodes whose loss means waiting.
+pub mod Definitions
 pub mod Losses
 pub mod Needs

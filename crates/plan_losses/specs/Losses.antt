@@ -1,4 +1,4 @@
--- The held nodes whose loss means waiting, from the settings σ, the mask of held nodes and what waits 1 to 4 say of any nodes (Q).
+-- Laws of the held nodes whose loss means waiting.
 use Prim.Native.Nat.{ℕ, _+_, _^_, _<_, _≤_}
 use mathlib.Core.Bool.{Bool, true, false, not, _||_}
 use mathlib.Core.List.{List}
@@ -8,10 +8,10 @@ use native.Mathlib.Omega.{arith}
 use lib.Dec.{eqb}
 use borrow.Author.Tests.{eqb-true, eq-eqb}
 use Rattle.base_laws.specs.Bools.{either, clash, or-holds, or-fails-left, or-fails-right, lt-or-le, eq-or-ne}
-use Rattle.base_laws.specs.Masks.{has, with, without, has-with, has-zero, has-below, minus-subset, without-lt, ext-all}
-use Rattle.settings_values.specs.Settings.{nodes, Settings}
-use Rattle.place_groups.specs.Placements.{groupValid, Lowest}
-use Rattle.report_views.specs.Quorums.{quorumOf}
+use Rattle.base_laws.specs.Definitions.{has, with, without}
+use Rattle.base_laws.specs.Masks.{has-with, has-zero, has-below, minus-subset, without-lt, ext-all}
+use Rattle.settings_values.specs.Definitions.{nodes, Settings}
+use Rattle.place_groups.specs.Definitions.{groupValid, LowestUnplaced}
 use Rattle.report_views.specs.declared.Quorum.{Quorum}
 use Rattle.report_views.specs.declared.Quorum.the-variants.{Met, Short}
 use Rattle.report_views.specs.declared.Reason.{Reason}
@@ -19,19 +19,13 @@ use Rattle.report_views.specs.declared.Layout.{Layout}
 use Rattle.report_views.specs.declared.Termination.{Termination}
 use Rattle.plan_masks.specs.Masks.{quorumIn}
 use Rattle.plan_masks.specs.Counting.{Given, fewer-given, quorum-given}
-use Rattle.plan_masks.specs.Numbered.{Placeable, Allowed, short-met}
+use Rattle.plan_masks.specs.Definitions.{Placeable, Allowed}
+use Rattle.plan_masks.specs.Numbered.{short-met}
+use Rattle.plan_losses.specs.Definitions.{Lost, quorumsOf}
 
 -- waits 1 to 4 by the masks ms, and by the desk d
 abbrev pub quorumsIn : List ℕ → Layout → List ℕ → ℕ → Quorum
 quorumsIn σ v ms h = quorumIn σ v h ms
-
-abbrev pub quorumsOf : List ℕ → Layout → Termination → List ℕ → ℕ → Quorum
-quorumsOf σ v t d h = quorumOf σ v t h d
-
--- m has just those of the held nodes without which a wait applies
-pub record Lost (σ : List ℕ) (held : ℕ) (Q : ℕ → Quorum) (m : ℕ) : Type 0 where
-  pub waits : (n : ℕ) → has m n ≡ true → (has held n ≡ true) × (Allowed σ (without held n) (Q (without held n)) → ⊥)
-  pub plans : (n : ℕ) → has held n ≡ true → has m n ≡ false → Allowed σ (without held n) (Q (without held n))
 
 -- ---- what a caller takes from it
 
@@ -130,10 +124,10 @@ module _ (σ : List ℕ) (held : ℕ) (q : Quorum) where
   pub foretold-placed : q ≡ Met → Placeable σ held → Foretold σ held q false
   foretold-placed e p = record { none = λ h r. clash h refl; some = λ h. record { quorum = e; placements = p } }
 
-  foretold-lowest : (g : ℕ) → Lowest σ held g → Foretold σ held q true
+  foretold-lowest : (g : ℕ) → LowestUnplaced σ held g → Foretold σ held q true
   foretold-lowest g w = record { none = λ h r. let p = r .placements g (w .below) in w .none .none (p .0) (p .1); some = λ h. clash refl h }
 
-  pub foretold-search : (found : Bool) → q ≡ Met → (found ≡ true → Placeable σ held) → (found ≡ false → (g : ℕ) × Lowest σ held g) → Foretold σ held q (not found)
+  pub foretold-search : (found : Bool) → q ≡ Met → (found ≡ true → Placeable σ held) → (found ≡ false → (g : ℕ) × LowestUnplaced σ held g) → Foretold σ held q (not found)
   foretold-search found e placed missed = by found refl
     where
       by : (b : Bool) → found ≡ b → Foretold σ held q (not b)

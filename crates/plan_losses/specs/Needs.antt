@@ -11,15 +11,17 @@ use lib.Dec.{eqb, leb}
 use lib.ListN.{getD}
 use borrow.Author.Tests.{eqb-true, eq-eqb, ne-eqb}
 use Rattle.base_laws.specs.Bools.{either, clash, no-true, and-both, and-left, and-right, and-fails-left, or-holds, lt-or-le}
-use Rattle.base_laws.specs.Below.{countBelow, count-mono, count-none, count-pos, count-single, count-without, any-none-of, any-witness}
-use Rattle.base_laws.specs.Masks.{has, with, without, has-or, has-zero, has-with, has-without, has-below, subset-has, minus-subset, disjoint-has}
-use Rattle.base_laws.specs.Tables.{tabulate, getD-tabulate}
-use Rattle.base_sums.specs.Sums.{sumBelow, sum-add, sum-mono, sum-swap, sum-cong, count-sum, count-once}
-use Rattle.settings_values.specs.Settings.{nodes, shards, setOf, subgroup, need, Settings}
-use Rattle.place_groups.specs.Placements.{meetsSet, setsIn, groupValid}
-use Rattle.place_owners.specs.Cases.{of-group}
-use Rattle.place_owners.specs.Shards.{ShardPlaced, shard-placed}
-use Rattle.plan_masks.specs.Numbered.{Placeable}
+use Rattle.base_laws.specs.Definitions.{countBelow, has, with, without, tabulate}
+use Rattle.base_laws.specs.Below.{count-mono, count-none, count-pos, count-single, count-without, any-none-of, any-witness}
+use Rattle.base_laws.specs.Masks.{has-or, has-zero, has-with, has-without, has-below, subset-has, minus-subset, disjoint-has}
+use Rattle.base_laws.specs.Tables.{getD-tabulate}
+use Rattle.base_sum_laws.specs.Definitions.{sumBelow}
+use Rattle.base_sum_laws.specs.Sums.{sum-add, sum-mono, sum-swap, sum-cong, count-sum, count-once}
+use Rattle.settings_values.specs.Definitions.{nodes, shards, setOf, subgroup, need, Settings}
+use Rattle.place_groups.specs.Definitions.{meetsSet, setsIn, groupValid}
+use Rattle.place_laws.specs.Cases.{of-group}
+use Rattle.place_laws.specs.Shards.{ShardPlaced, shard-placed}
+use Rattle.plan_masks.specs.Definitions.{Placeable}
 
 -- shard s is of subgroup g and needs k or more
 unfoldable pub needsAt : List ℕ → ℕ → ℕ → ℕ → Bool

@@ -7,13 +7,14 @@ ghost use mathlib.Core.Bool.{true, cond};
 ghost use mathlib.Core.Path.{_≡_};
 ghost use Prim.Native.Nat.{ℕ, _^_, _+_, _≤_, _<_, min};
 ghost use lib.ListN.{getD};
-ghost use Rattle.base_laws.specs.Tables.{tabulate};
-ghost use Rattle.settings_values.specs.Settings.{nodes, shards, Settings};
-ghost use Rattle.place_groups.specs.Placements.{groupValid};
+ghost use Rattle.base_laws.specs.Definitions.{tabulate};
+ghost use Rattle.settings_values.specs.Definitions.{nodes, shards, Settings};
+ghost use Rattle.place_groups.specs.Definitions.{groupValid};
 ghost use Rattle.plan_masks.specs.Masks.{quorumIn};
-ghost use Rattle.plan_masks.specs.Numbered.{Placeable};
+ghost use Rattle.plan_masks.specs.Definitions.{Placeable};
 ghost use Rattle.plan_losses.specs.Needs.{heldOf, heldIn, needsAt, needyShards, needOf, groupNeeds, servedBy, LowBelow, Tight};
-ghost use Rattle.plan_losses.specs.Losses.{quorumsIn, Foretold, LostBelow, Lost};
+ghost use Rattle.plan_losses.specs.Definitions.{Lost};
+ghost use Rattle.plan_losses.specs.Losses.{quorumsIn, Foretold, LostBelow};
 
 // One where the test holds.
 fn counted(b: bool) -> u32
@@ -433,7 +434,7 @@ fn deals(settings: &[u32], held: u32, g: u32) -> bool
     ensures { λ r. ⌜ (r ≡ true → (P : ℕ → ℕ) × (groupValid (now (settings .entry)) held P g ≡ true)) ⌝ }
 {
     let masks = dealt(settings, held, g);
-    place_check::group_valid(settings, held, &masks, g)
+    place_groups::check::group_valid(settings, held, &masks, g)
 }
 
 // Subgroup g still has a valid placement of the held nodes, as far as an exchange in a given one or one that is dealt shows.
@@ -442,7 +443,7 @@ fn stays_in(settings: &[u32], held: u32, laid: &[u32; 16], node: usize, g: u32) 
     ensures { λ r. ⌜ (r ≡ true → (P : ℕ → ℕ) × (groupValid (now (settings .entry)) held P g ≡ true)) ⌝ }
 {
     let masks = instead(settings, held, laid, node, g);
-    if place_check::group_valid(settings, held, &masks, g) {
+    if place_groups::check::group_valid(settings, held, &masks, g) {
         return true;
     }
     deals(settings, held, g)

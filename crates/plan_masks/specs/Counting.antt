@@ -12,17 +12,18 @@ use lib.Pow.{pow-mono}
 use lib.ListN.{length, getD, replicate}
 use borrow.Author.Tests.{eq-eqb, ne-eqb, eqb-true, lt-ltb}
 use Rattle.base_laws.specs.Bools.{either, clash, same, no-true, and-both, and-left, and-right, and-fails-left, and-fails-right, or-holds, of-not-true}
-use Rattle.base_laws.specs.Below.{allBelow, anyBelow, lowest, lowest-cong, any-none-of, any-at, all-at, all-of}
-use Rattle.base_laws.specs.Masks.{has, with, subset, disjoint, has-single, has-with, has-zero, ext-all, subset-has, subset-of, width, disjoint-has, disjoint-of}
-use Rattle.base_laws.specs.Picked.{maskBelow, has-mask}
-use Rattle.base_laws.specs.Tables.{tabulate, getD-tabulate}
+use Rattle.base_laws.specs.Definitions.{allBelow, anyBelow, lowest, has, with, subset, disjoint, tabulate}
+use Rattle.base_laws.specs.Below.{lowest-cong, any-none-of, any-at, all-at, all-of}
+use Rattle.base_laws.specs.Masks.{has-single, has-with, has-zero, ext-all, subset-has, subset-of, width, disjoint-has, disjoint-of}
+use Rattle.base_sum_laws.specs.Definitions.{maskBelow}
+use Rattle.base_sum_laws.specs.Picked.{has-mask}
+use Rattle.base_laws.specs.Tables.{getD-tabulate}
 use Rattle.base_ids.specs.declared.Node.{Node}
-use Rattle.settings_values.specs.Settings.{nodes, shards, Settings}
+use Rattle.settings_values.specs.Definitions.{nodes, shards, Settings}
 use Rattle.report_views.specs.Best.{best-found, bestSoFar}
-use Rattle.report_views.specs.Quorums.{best, holder, unheld, firstUnheld, quorumOf}
+use Rattle.report_views.specs.Definitions.{best, holder, firstUnheld, quorumOf, endAt, nodeAt, slotOk, slotsOk}
+use Rattle.report_views.specs.Shorthands.{unheld}
 use Rattle.report_views.specs.Numbers.{asNumber}
-use Rattle.report_views.specs.Reports.{endAt, nodeAt}
-use Rattle.report_views.specs.Slots.{slotOk, slotsOk}
 use Rattle.report_views.specs.declared.Layout.{Layout}
 use Rattle.report_views.specs.declared.Termination.{Termination}
 use Rattle.plan_seen.specs.Nodes.{eligible}
@@ -56,7 +57,7 @@ countedAt holders n ms s = countedWith (getD ms s 0) (nodeAt holders s) n
 -- ---- what a caller takes from it
 
 -- the masks are those of the nodes of `all` that count
-pub record Counting (σ : List ℕ) (v : Layout) (t : Termination) (all : ℕ) (d : List ℕ) (ms : List ℕ) : Type 0 where
+pub record MasksCount (σ : List ℕ) (v : Layout) (t : Termination) (all : ℕ) (d : List ℕ) (ms : List ℕ) : Type 0 where
   pub each : (s : ℕ) → s < shards σ → (n : ℕ) → has (getD ms s 0) n ≡ (ltb n 32 && heldFor v t all d s n)
 
 -- what is asked of a desk of which something is said with `held` held: the slots of the held nodes are sound, and they are among those counted
@@ -64,7 +65,7 @@ pub record Given (σ : List ℕ) (v : Layout) (t : Termination) (all held : ℕ)
   pub whole : length d ≡ 16384
   pub sound : slotsOk σ v t held d ≡ true
   pub among : subset held all ≡ true
-  pub counting : Counting σ v t all d ms
+  pub counting : MasksCount σ v t all d ms
 
 module _ (σ : List ℕ) (v : Layout) (t : Termination) (all : ℕ) (d : List ℕ) (x : HolderMasks) (e : x ≡ countedOf σ v t all d) where
   pub counted-ok : x .ok ≡ slotsOk σ v t all d
@@ -75,7 +76,7 @@ module _ (σ : List ℕ) (v : Layout) (t : Termination) (all : ℕ) (d : List �
       go true = refl
       go false = refl
 
-  pub counted-masks : Settings σ → slotsOk σ v t all d ≡ true → Counting σ v t all d (x .masks)
+  pub counted-masks : Settings σ → slotsOk σ v t all d ≡ true → MasksCount σ v t all d (x .masks)
   unfolding countedOf countedMasks
   counted-masks right h =
       let same : x .masks ≡ tabulate 16 (λ s. maskBelow 32 (countsFor σ v t all d s)) = ap (λ (y : HolderMasks). y .masks) e ∙ rw h in
@@ -209,7 +210,7 @@ module _ (σ : List ℕ) (v : Layout) (t : Termination) (d : List ℕ) (n : ℕ)
 -- ---- any held nodes among them
 
 module _ (σ : List ℕ) (v : Layout) (t : Termination) (all : ℕ) (d ms : List ℕ) (right : Settings σ) (whole : length d ≡ 16384)
-    (counting : Counting σ v t all d ms) (held : ℕ) (small : held < 2 ^ 32) (among : subset held all ≡ true) (sound : slotsOk σ v t held d ≡ true) where
+    (counting : MasksCount σ v t all d ms) (held : ℕ) (small : held < 2 ^ 32) (among : subset held all ≡ true) (sound : slotsOk σ v t held d ≡ true) where
   -- a shard has no holder just where none of its nodes is held
   pub unheld-mask : (s : ℕ) → s < shards σ → disjoint held (getD ms s 0) ≡ unheld v t held d s
   unheld-mask s l = same (disjoint held (getD ms s 0)) (unheld v t held d s) to from

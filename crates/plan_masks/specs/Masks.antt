@@ -6,13 +6,12 @@ use mathlib.Core.Path.{_≡_, refl, ap, _∙_}
 use native.Mathlib.Omega.{arith}
 use lib.Dec.{eqb, ltb}
 use lib.ListN.{getD}
-use Rattle.base_laws.specs.Below.{lowest, lowest-cong}
-use Rattle.base_laws.specs.Masks.{count, disjoint}
-use Rattle.base_laws.specs.Tables.{tabulate, getD-tabulate}
+use Rattle.base_laws.specs.Definitions.{lowest, count, disjoint, tabulate}
+use Rattle.base_laws.specs.Below.{lowest-cong}
+use Rattle.base_laws.specs.Tables.{getD-tabulate}
 use Rattle.base_ids.specs.declared.Node.{Node}
-use Rattle.settings_values.specs.Settings.{least, shards, Settings}
-use Rattle.report_views.specs.Quorums.{majority}
-use Rattle.report_views.specs.Reports.{nodeAt}
+use Rattle.settings_values.specs.Definitions.{least, shards, Settings}
+use Rattle.report_views.specs.Definitions.{majority, nodeAt}
 use Rattle.report_views.specs.declared.Layout.{Layout}
 use Rattle.report_views.specs.declared.Quorum.{Quorum}
 use Rattle.report_views.specs.declared.Quorum.the-variants.{Met, Short}

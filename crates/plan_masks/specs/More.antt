@@ -11,18 +11,20 @@ use lib.Dec.{eqb, ltb}
 use lib.ListN.{getD}
 use borrow.Author.Tests.{ltb-true, ltb-false, lt-ltb, le-ltb}
 use Rattle.base_laws.specs.Bools.{either, clash, and-both, and-left, and-right}
-use Rattle.base_laws.specs.Below.{lowest, anyBelow, any-at, any-witness, lowest-below, lowest-none}
-use Rattle.base_laws.specs.Masks.{has, count, subset, width, has-and, subset-has, subset-of, subset-le, disjoint-has, disjoint-of, count-subset}
-use Rattle.settings_values.specs.Settings.{nodes, least, shards, Settings}
-use Rattle.place_owners.specs.Shards.{group-valid-of, shard-placed}
-use Rattle.report_views.specs.Quorums.{majority}
+use Rattle.base_laws.specs.Definitions.{lowest, anyBelow, has, count, subset}
+use Rattle.base_laws.specs.Below.{any-at, any-witness, lowest-below, lowest-none}
+use Rattle.base_laws.specs.Masks.{width, has-and, subset-has, subset-of, subset-le, disjoint-has, disjoint-of, count-subset}
+use Rattle.settings_values.specs.Definitions.{nodes, least, shards, Settings}
+use Rattle.place_laws.specs.Shards.{group-valid-of, shard-placed}
+use Rattle.report_views.specs.Definitions.{majority}
 use Rattle.report_views.specs.declared.Layout.{Layout}
 use Rattle.report_views.specs.declared.Termination.{Termination}
 use Rattle.report_views.specs.declared.Quorum.the-variants.{Met}
 use Rattle.report_views.specs.declared.Reason.the-variants.{NoView, NoMajority, TooFew, NoHolder}
 use Rattle.plan_masks.specs.Masks.{unheldIn, firstUnheldIn, quorumIn}
 use Rattle.plan_masks.specs.Counting.{Given, subset-through, fewer-given, quorum-given}
-use Rattle.plan_masks.specs.Numbered.{Placeable, Allowed, Restartable, short-met}
+use Rattle.plan_masks.specs.Definitions.{Placeable, Allowed, Restartable}
+use Rattle.plan_masks.specs.Numbered.{short-met}
 
 -- a placement of some held nodes is one of more
 pub placeable-more : (σ : List ℕ) (held more : ℕ) → subset held more ≡ true → Placeable σ held → Placeable σ more

@@ -1,5 +1,5 @@
--- The number that decide would give for a set of held nodes: 0 for a plan, else the wait's. q: what waits 1 to 4 say of these nodes.
-use Prim.Native.Nat.{ℕ, _<_, _≤_}
+-- Laws of the number that decide would give for a set of held nodes. q: what waits 1 to 4 say of these nodes.
+use Prim.Native.Nat.{ℕ, _≤_}
 use mathlib.Core.Bool.{Bool, true, false}
 use mathlib.Core.List.{List}
 use mathlib.Core.Logic.{_⊎_, inl, inr, ⊎-elim}
@@ -7,39 +7,17 @@ use mathlib.Core.Path.{_≡_, refl, sym, ap, _∙_}
 use native.Mathlib.Omega.{arith}
 use lib.Dec.{ltb}
 use borrow.Author.Tests.{ne-eqb}
-use Rattle.base_laws.specs.Masks.{count}
-use Rattle.settings_values.specs.Settings.{least, shards}
-use Rattle.place_groups.specs.Placements.{groupValid, Lowest}
-use Rattle.report_views.specs.Quorums.{majority, quorumOf, numberOf}
+use Rattle.base_laws.specs.Definitions.{count}
+use Rattle.settings_values.specs.Definitions.{least, shards}
+use Rattle.place_groups.specs.Definitions.{LowestUnplaced}
+use Rattle.report_views.specs.Definitions.{majority, numberOf}
 use Rattle.report_views.specs.declared.Layout.{Layout}
-use Rattle.report_views.specs.declared.Termination.{Termination}
 use Rattle.report_views.specs.declared.Reason.{Reason}
 use Rattle.report_views.specs.declared.Reason.the-variants.{NoView, NoMajority, TooFew, NoHolder, NoPlacement}
 use Rattle.report_views.specs.declared.Quorum.{Quorum}
 use Rattle.report_views.specs.declared.Quorum.the-variants.{Met, Short}
 use Rattle.plan_masks.specs.Masks.{firstUnheldIn, quorumIn}
-
--- every subgroup has a valid placement of held nodes
-abbrev pub Placeable : List ℕ → ℕ → Type 0
-Placeable σ held = (g : ℕ) → g < 4 → (P : ℕ → ℕ) × (groupValid σ held P g ≡ true)
-
--- no wait applies: no quorum condition fails, and every subgroup has a valid placement
-pub record Allowed (σ : List ℕ) (held : ℕ) (q : Quorum) : Type 0 where
-  pub quorum : q ≡ Met
-  pub placements : Placeable σ held
-
--- a restart exists with these nodes held
-abbrev pub Restartable : List ℕ → Layout → Termination → ℕ → List ℕ → Type 0
-Restartable σ v t held d = Allowed σ held (quorumOf σ v t held d)
-
--- 0 where every subgroup can be placed, or 5 beside the lowest that cannot
-abbrev pub PlacementNumber : List ℕ → ℕ → ℕ → Type 0
-PlacementNumber σ held k = ((k ≡ 0) × Placeable σ held) ⊎ ((k ≡ 5) × ((g : ℕ) × Lowest σ held g))
-
--- the number: of the first quorum condition that fails, and where none does by the placement
-pub record Numbered (σ : List ℕ) (held : ℕ) (q : Quorum) (k : ℕ) : Type 0 where
-  pub waits : (reason : Reason) → q ≡ Short reason → k ≡ numberOf reason
-  pub met : q ≡ Met → PlacementNumber σ held k
+use Rattle.plan_masks.specs.Definitions.{Placeable, Allowed, PlacementNumber, Numbered}
 
 pub short-met : (reason : Reason) → Short reason ≡ Met → ⊥
 short-met reason e = let z : _≡_ {A = ℕ} 0 1 = cc in omega arith
@@ -57,7 +35,7 @@ number-some (NoPlacement g) e = omega arith
 
 module _ (σ : List ℕ) (held : ℕ) where
   -- a subgroup that cannot be placed
-  pub refuted : Placeable σ held → (g : ℕ) × Lowest σ held g → ⊥
+  pub refuted : Placeable σ held → (g : ℕ) × LowestUnplaced σ held g → ⊥
   refuted p w = let q = p (w .0) (w .1 .below) in w .1 .none .none (q .0) (q .1)
 
   -- 0 says that no wait applies

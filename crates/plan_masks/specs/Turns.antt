@@ -9,16 +9,16 @@ use lib.Dec.{eqb, ltb}
 use lib.ListN.{length, getD, replicate, length-replicate}
 use borrow.Author.Tests.{lt-ltb, le-ltb}
 use Rattle.base_laws.specs.Bools.{lt-or-le, and-fails-left, and-fails-right}
-use Rattle.base_laws.specs.Below.{allBelow, all-none, all-more}
-use Rattle.base_laws.specs.Masks.{has, with}
-use Rattle.base_laws.specs.Picked.{maskBelow, mask-none, mask-turn}
+use Rattle.base_laws.specs.Definitions.{allBelow, has, with}
+use Rattle.base_laws.specs.Below.{all-none, all-more}
+use Rattle.base_sum_laws.specs.Definitions.{maskBelow}
+use Rattle.base_sum_laws.specs.Picked.{mask-none, mask-turn}
 use Rattle.base_laws.specs.Tables.{filled, getD-tabulate, tabulate-same, tabulate-cong, tabulate-ext, length-filled, getD-filled, getD-filled-rest}
 use Rattle.base_ids.specs.declared.Node.{Node}
-use Rattle.settings_values.specs.Settings.{shards, Settings}
-use Rattle.report_slots.specs.Desk.{nodeOk, unheld-ok, held-ok}
+use Rattle.settings_values.specs.Definitions.{shards, Settings}
+use Rattle.report_desk.specs.SlotsOf.{nodeOk, unheld-ok, held-ok}
 use Rattle.report_views.specs.PlanLaws.{holders-at}
-use Rattle.report_views.specs.Reports.{nodeAt}
-use Rattle.report_views.specs.Slots.{slotOk, slotsOk}
+use Rattle.report_views.specs.Definitions.{nodeAt, slotOk, slotsOk}
 use Rattle.report_views.specs.declared.Layout.{Layout}
 use Rattle.report_views.specs.declared.Termination.{Termination}
 use Rattle.plan_seen.specs.Nodes.{eligible}

@@ -1,5 +1,7 @@
 // What any set of held nodes would allow: the slots are read once, for each shard the nodes that count for it are noted, and from
 // these masks alone comes the number that decide would give.
+pub mod rows;
+
 use base_ids::Node;
 use plan_seen::Seen;
 use report_views::Layout;
@@ -10,12 +12,12 @@ ghost use mathlib.Core.Path.{_≡_};
 ghost use Prim.Native.Nat.{_^_, _<_, _≤_};
 ghost use lib.ListN.{length};
 ghost use Rattle.base_laws.specs.Tables.{filled};
-ghost use Rattle.base_lent.specs.Lent.{wordsIn};
-ghost use Rattle.settings_values.specs.Settings.{nodes, Settings};
-ghost use Rattle.report_views.specs.Quorums.{numberOf};
+ghost use Rattle.base_lent.specs.Definitions.{wordsIn};
+ghost use Rattle.settings_values.specs.Definitions.{nodes, Settings};
+ghost use Rattle.report_views.specs.Definitions.{numberOf};
 ghost use Rattle.plan_masks.specs.Masks as Masks;
 ghost use Rattle.plan_masks.specs.Counting as Counting;
-ghost use Rattle.plan_masks.specs.Numbered as Numbered;
+ghost use Rattle.plan_masks.specs.Definitions as Definitions;
 
 // ok: every slot that was asked for is sound. masks: for each shard the nodes that count for it, 0 from S up.
 pub struct HolderMasks {
@@ -122,7 +124,7 @@ fn reason_number(reason: Reason) -> u8
 fn placement_number(settings: &[u32], v: Layout, held: u32) -> u8
     requires { ⌜ Settings (now settings) ⌝ }
     requires { ⌜ held < 2 ^ nodes (now settings) ⌝ }
-    ensures { λ r. ⌜ Numbered.PlacementNumber (now (settings .entry)) held r ⌝ }
+    ensures { λ r. ⌜ Definitions.PlacementNumber (now (settings .entry)) held r ⌝ }
 {
     let old = v.masks;
     let placed = place_layout::place(settings, held, &old);
@@ -144,7 +146,7 @@ pub fn quorum(settings: &[u32], v: Layout, held: u32, masks: &[u32; 16]) -> Quor
 pub fn number(settings: &[u32], v: Layout, held: u32, masks: &[u32; 16]) -> u8
     requires { ⌜ Settings (now settings) ⌝ }
     requires { ⌜ held < 2 ^ nodes (now settings) ⌝ }
-    ensures { λ r. ⌜ Numbered.Numbered (now (settings .entry)) held (Masks.quorumIn (now (settings .entry)) v held (now (masks .entry))) r ⌝ }
+    ensures { λ r. ⌜ Definitions.Numbered (now (settings .entry)) held (Masks.quorumIn (now (settings .entry)) v held (now (masks .entry))) r ⌝ }
 {
     let found = quorum(settings, v, held, masks);
     match found {

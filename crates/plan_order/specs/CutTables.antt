@@ -8,15 +8,14 @@ use lib.Dec.{ltb}
 use lib.ListN.{getD, set, replicate, length-replicate}
 use borrow.Author.Tests.{lt-ltb}
 use Rattle.base_laws.specs.Tables.{filled, filled-none, filled-turn, filled-else, getD-tabulate}
-use Rattle.settings_values.specs.Settings.{shards}
+use Rattle.settings_values.specs.Definitions.{shards}
 use Rattle.base_ids.specs.declared.Position.{Position}
 use Rattle.message_format.specs.declared.Contents.{Contents}
 use Rattle.report_views.specs.declared.Plan.{Plan}
-use Rattle.report_views.specs.Logs.{start}
-use Rattle.report_views.specs.PositionTables.{positionWord}
-use Rattle.report_views.specs.Reports.{reportOf, maskAt, holderAt, targetAt}
-use Rattle.base_laws.specs.Masks.{has}
-use Rattle.plan_order.specs.Orders.{carries, cutBeside, cutOf, cutCarried, cutsOf}
+use Rattle.report_views.specs.Definitions.{start, positionWord, reportOf, maskAt, holderAt, targetAt}
+use Rattle.base_laws.specs.Definitions.{has}
+use Rattle.plan_order.specs.Definitions.{carries, cutBeside, cutOf}
+use Rattle.plan_order.specs.Orders.{cutCarried, cutsOf}
 
 -- the two words of position s
 pair-view : (f : ℕ → Position) (s : ℕ) → positionWord f (2 * s) ≡ f s .view .0

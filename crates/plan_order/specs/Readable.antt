@@ -5,15 +5,12 @@ use mathlib.Core.List.{List}
 use mathlib.Core.Path.{_≡_, ap, _∙_, subst⁻¹}
 use lib.ListN.{length}
 use Rattle.base_laws.specs.Below.{lowest-le}
-use Rattle.message_format.specs.Chain.{place, ends, following, row8}
-use Rattle.message_format.specs.Messages.{contentsOf}
+use Rattle.message_format.specs.Definitions.{place, ends, following, row8, contentsOf}
 use Rattle.base_ids.specs.declared.Position.{Position}
 use Rattle.message_format.specs.declared.Contents.{Contents}
 use Rattle.report_views.specs.declared.Plan.{Plan}
-use Rattle.report_views.specs.Cuts.{cutFrom}
-use Rattle.report_views.specs.Logs.{start}
-use Rattle.report_views.specs.Reports.{slot, reportOf, holderAt}
-use Rattle.plan_order.specs.Orders.{cutBeside}
+use Rattle.report_views.specs.Definitions.{cutFrom, start, slot, reportOf, holderAt}
+use Rattle.plan_order.specs.Definitions.{cutBeside}
 
 -- node n's slot can be read: its chain is that of a message
 pub record ReadableSlot (d : List ℕ) (n : ℕ) : Type 0 where

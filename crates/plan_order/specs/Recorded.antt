@@ -9,11 +9,11 @@ use lib.ListN.{getD}
 use borrow.Author.Tests.{lt-ltb, le-ltb}
 use Rattle.base_laws.specs.Below.{count-le}
 use Rattle.base_laws.specs.Tables.{getD-tabulate}
-use Rattle.settings_values.specs.Settings.{shards}
+use Rattle.settings_values.specs.Definitions.{shards}
 use Rattle.report_views.specs.declared.Plan.{Plan}
-use Rattle.report_views.specs.Reports.{maskAt, targetAt}
-use Rattle.base_laws.specs.Ranks.{nth-rank, rank-rises}
-use Rattle.plan_order.specs.Orders.{carries, carriedBelow, own, triple, positionRecord, holderRecord, cutRecord, orderRecord, orderLen, orderWord, orderBody}
+use Rattle.report_views.specs.Definitions.{maskAt, targetAt}
+use Rattle.base_sum_laws.specs.Ranks.{nth-rank, rank-rises}
+use Rattle.plan_order.specs.Definitions.{carries, carriedBelow, own, triple, positionRecord, holderRecord, cutRecord, orderRecord, orderLen, orderWord, orderBody}
 
 module _ (σ : List ℕ) (p : Plan) (d : List ℕ) (n : ℕ) where
   pub members-record : (s part : ℕ) → s < shards σ → orderRecord σ p d n s part ≡ triple (256 + s) (maskAt (p .layout) s) 0 part

@@ -11,15 +11,17 @@ use lib.Dec.{ltb}
 use lib.ListN.{length, getD, set, replicate, length-replicate, getD-replicate}
 use borrow.Author.Tests.{lt-ltb, le-ltb}
 use Rattle.base_laws.specs.Bools.{either, lt-or-le}
-use Rattle.base_laws.specs.Below.{countBelow, count-zero, count-suc, count-hit, count-miss, count-le}
+use Rattle.base_laws.specs.Definitions.{countBelow}
+use Rattle.base_laws.specs.Below.{count-zero, count-suc, count-hit, count-miss, count-le}
 use Rattle.base_laws.specs.Loops.{turns, turns-none, turned, turns-hold}
 use Rattle.base_laws.specs.Tables.{filled, filled-none, filled-more, tabulate-ext, length-filled, getD-filled, getD-filled-rest}
-use Rattle.settings_values.specs.Settings.{shards}
+use Rattle.settings_values.specs.Definitions.{shards}
 use Rattle.message_format.specs.declared.Contents.{Contents}
 use Rattle.report_views.specs.declared.Layout.{Layout}
 use Rattle.report_views.specs.declared.Plan.{Plan}
-use Rattle.report_views.specs.Reports.{maskAt, holderAt, targetAt}
-use Rattle.plan_order.specs.Orders.{carries, carriedBelow, own, cutOf, cutsOf, triple, orderRecord, orderLen, orderWord, orderBody, orderContents}
+use Rattle.report_views.specs.Definitions.{maskAt, holderAt, targetAt}
+use Rattle.plan_order.specs.Definitions.{carries, carriedBelow, own, cutOf, triple, orderRecord, orderLen, orderWord, orderBody, orderContents}
+use Rattle.plan_order.specs.Orders.{cutsOf}
 use Rattle.plan_order.specs.CutTables.{cut-view, cut-k}
 use Rattle.plan_order.specs.Recorded.{members-record, target-record, holder-record, cut-record, len-few}
 

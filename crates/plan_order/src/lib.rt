@@ -11,13 +11,13 @@ ghost use mathlib.Core.Bool.{cond};
 ghost use mathlib.Core.List.{List};
 ghost use mathlib.Core.Path.{_≡_};
 ghost use Prim.Native.Nat.{ℕ, _+_, _*_, _<_, _≤_};
-ghost use Rattle.base_laws.specs.Below.{countBelow};
+ghost use Rattle.base_laws.specs.Definitions.{countBelow, has};
 ghost use Rattle.base_laws.specs.Loops.{turns};
-ghost use Rattle.base_laws.specs.Masks.{has};
-ghost use Rattle.base_lent.specs.Lent.{wordsIn};
-ghost use Rattle.settings_values.specs.Settings.{Sizes, shards};
-ghost use Rattle.report_views.specs.Logs.{start};
-ghost use Rattle.plan_order.specs.Orders.{isMember, carriedBelow, cutBeside, cutsOf, orderContents};
+ghost use Rattle.base_lent.specs.Definitions.{wordsIn};
+ghost use Rattle.settings_values.specs.Definitions.{Sizes, shards};
+ghost use Rattle.report_views.specs.Definitions.{start};
+ghost use Rattle.plan_order.specs.Definitions.{isMember, carriedBelow, cutBeside, orderContents};
+ghost use Rattle.plan_order.specs.Orders.{cutsOf};
 ghost use Rattle.plan_order.specs.Stores.{wordsStored, storeMembers, storeTarget, storeHolder, storeTabled};
 ghost use Rattle.plan_order.specs.Readable.{ReadableSlot, Holders};
 
@@ -146,7 +146,7 @@ fn cut_for(
             k: 0,
         };
     }
-    let report = report_slots::report_at(desk, holder);
+    let report = report_desk::slots::report_at(desk, holder);
     let records = report.len;
     report_cuts::cut(body, len, &report.body, records, shard, target)
 }
@@ -160,7 +160,7 @@ fn cuts_of(settings: &[u32], plan: Plan, desk: &[u8], node: Node) -> [u32; 32]
 {
     let count = base_ids::wide(settings[3]);
     let layout = plan.layout;
-    let report = report_slots::report_at(desk, node);
+    let report = report_desk::slots::report_at(desk, node);
     let len = report.len;
     let mut cuts = [0u32; 32];
     let mut s: usize = 0;

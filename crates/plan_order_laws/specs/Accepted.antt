@@ -8,25 +8,22 @@ use mathlib.Core.List.{List, _++_}
 use mathlib.Core.Path.{_≡_}
 use borrow.Author.Tests.{le-leb, lt-ltb}
 use Rattle.base_laws.specs.Bools.{and-both}
-use Rattle.base_laws.specs.Masks.{has}
-use Rattle.settings_values.specs.Settings.{nodes, shards, Settings}
-use Rattle.base_ids.specs.Refusals.{none}
+use Rattle.base_laws.specs.Definitions.{has}
+use Rattle.settings_values.specs.Definitions.{nodes, shards, Settings}
+use Rattle.base_ids.specs.Definitions.{none}
 use Rattle.message_format.specs.declared.Form.the-variants.{Order}
-use Rattle.message_format.specs.Rows.{row6, viewOk, row7}
-use Rattle.message_format.specs.Messages.{contentsRefusal}
+use Rattle.message_format.specs.Definitions.{row6, viewOk, row7, contentsRefusal}
 use Rattle.message_format.specs.Passed.{HeadPasses, ContentsPass, contents-none}
 use Rattle.report_views.specs.declared.Layout.{Layout}
 use Rattle.report_views.specs.declared.Termination.{Termination}
 use Rattle.report_views.specs.declared.Plan.{Plan}
-use Rattle.report_views.specs.Reports.{holderAt, targetAt}
+use Rattle.report_views.specs.Definitions.{holderAt, targetAt, slotsOk, keptSound, planSound}
 use Rattle.report_views.specs.Updates.{updatesAt, upTo, keptUpdates, fetchedUpdates}
-use Rattle.report_views.specs.Slots.{slotsOk}
-use Rattle.report_views.specs.Soundness.{keptSound, planSound}
-use Rattle.plan_order.specs.Orders.{cutOf, orderContents}
+use Rattle.plan_order.specs.Definitions.{cutOf, orderContents}
 use Rattle.plan_order.specs.Recorded.{len-few}
 use Rattle.plan_order_laws.specs.Says.{saying, order-body}
 use Rattle.plan_order_laws.specs.Passing.{order-records-pass}
-use Rattle.plan_order_laws.specs.Sound.{KeptView, PlanSound, kept-given, plan-given}
+use Rattle.plan_order_laws.specs.Sound.{KeptView, SoundPlan, kept-given, plan-given}
 use lib.ListN.{length}
 use Rattle.plan_order.specs.Readable.{ReadableSlot, Holders}
 use Rattle.plan_order_laws.specs.Fits.{node-below, restored, fitting, readable, holders-readable}
@@ -34,7 +31,7 @@ use Rattle.plan_order_laws.specs.Fits.{node-below, restored, fitting, re
 module _ (σ : List ℕ) (v : Layout) (t : Termination) (held : ℕ) (d : List ℕ) (p : Plan) (w : Settings σ) (kept : keptSound σ v t held ≡ true)
     (slots : slotsOk σ v t held d ≡ true) (plan : planSound σ v t held d p ≡ true) where
   -- what the tests give
-  ps : PlanSound σ v t held d p
+  ps : SoundPlan σ v t held d p
   ps = plan-given σ v t held d p w plan
 
   k : KeptView σ v t held

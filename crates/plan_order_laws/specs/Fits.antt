@@ -5,25 +5,25 @@ use native.Mathlib.Omega.{arith}
 use mathlib.Core.Bool.{Bool, true, false, cond}
 use mathlib.Core.List.{List, _++_}
 use mathlib.Core.Path.{_≡_, refl, subst⁻¹}
-use Rattle.base_laws.specs.Masks.{has, within-has}
-use Rattle.settings_values.specs.Settings.{nodes, shards, Settings}
-use Rattle.message_format.specs.Rows.{row10}
+use Rattle.base_laws.specs.Definitions.{has}
+use Rattle.base_laws.specs.Masks.{within-has}
+use Rattle.settings_values.specs.Definitions.{nodes, shards, Settings}
+use Rattle.message_format.specs.Definitions.{row10}
 use Rattle.report_views.specs.declared.Layout.{Layout}
 use Rattle.report_views.specs.declared.Termination.{Termination}
 use Rattle.report_views.specs.declared.Plan.{Plan}
-use Rattle.report_views.specs.Reports.{reportOf, viewOf, endAt, maskAt, positionAt, slot, holderAt, targetAt}
-use Rattle.report_views.specs.Slots.{slotsOk}
-use Rattle.report_views.specs.Quorums.{candidate, best, target, holder}
+use Rattle.report_views.specs.Definitions.{reportOf, endAt, maskAt, positionAt, slot, holderAt, targetAt, slotsOk, candidate, best, target, holder}
+use Rattle.report_views.specs.Shorthands.{viewOf}
 use Rattle.report_views.specs.Best.{best-found}
 use Rattle.report_views.specs.RunLaws.{Runs, passed-runs}
 use Rattle.report_views.specs.Updates.{updatesAt, upTo, keptUpdates, fetchedUpdates}
-use Rattle.report_views.specs.CutLaws.{cut-position, cut-view, kept-fetched}
+use Rattle.report_log_laws.specs.CutLaws.{cut-position, cut-view, kept-fetched}
 use Rattle.report_views.specs.Meets.{slot-given, report-records, candidate-given, holder-given, able-candidate}
-use Rattle.plan_order.specs.Orders.{cutOf}
+use Rattle.plan_order.specs.Definitions.{cutOf}
 use Rattle.plan_order_laws.specs.Says.{saying}
 use Rattle.plan_order_laws.specs.Passing.{Fitting}
-use Rattle.plan_order_laws.specs.Sound.{KeptView, PlanSound}
-use Rattle.report_views.specs.Ends.{Legal, end-legal}
+use Rattle.plan_order_laws.specs.Sound.{KeptView, SoundPlan}
+use Rattle.report_log_laws.specs.Ends.{LegalEnd, end-legal}
 use lib.ListN.{length}
 use Rattle.message_format.specs.declared.Form.the-variants.{Report}
 use Rattle.message_format.specs.Passed.{message-given}
@@ -31,7 +31,7 @@ use Rattle.plan_order.specs.Readable.{ReadableSlot, Holders}
 use Rattle.place_groups.specs.Placed.{placed-passes}
 
 module _ (σ : List ℕ) (v : Layout) (t : Termination) (held : ℕ) (d : List ℕ) (p : Plan) (w : Settings σ) (k : KeptView σ v t held)
-    (slots : slotsOk σ v t held d ≡ true) (ps : PlanSound σ v t held d p) where
+    (slots : slotsOk σ v t held d ≡ true) (ps : SoundPlan σ v t held d p) where
   -- the holder of a shard is a candidate
   holder-candidate : (s : ℕ) → s < shards σ → candidate v held d s (holder v t held d s) ≡ true
   holder-candidate s l =
@@ -41,7 +41,7 @@ module _ (σ : List ℕ) (v : Layout) (t : Termination) (held : ℕ) (d : List �
   small s l = omega (arith, w .sizes .shards-to)
 
   -- a candidate's log ends at a position with a view not above the kept one
-  candidate-end : (s n : ℕ) → s < shards σ → n < 32 → candidate v held d s n ≡ true → Legal (v .number .0) (endAt d s n)
+  candidate-end : (s n : ℕ) → s < shards σ → n < 32 → candidate v held d s n ≡ true → LegalEnd (v .number .0) (endAt d s n)
   candidate-end s n l m c =
       let at = candidate-given v held d s n c in
       let sound = slot-given σ v t held d slots n m (at .is-held) in
@@ -49,18 +49,18 @@ module _ (σ : List ℕ) (v : Layout) (t : Termination) (held : ℕ) (d : List �
       let end = end-legal σ (reportOf d n .node .0) (viewOf d n) (reportOf d n .members) (reportOf d n .body) (reportOf d n .len) pass s (small s l) in
       record { is-position = end .is-position; no-later = omega (arith, end .no-later, sound .no-later) }
 
-  target-legal : (s : ℕ) → s < shards σ → Legal (v .number .0) (target v t held d s)
+  target-legal : (s : ℕ) → s < shards σ → LegalEnd (v .number .0) (target v t held d s)
   unfolding target
   target-legal s l = go (t .made) refl
     where
-      go : (m : Bool) → t .made ≡ m → Legal (v .number .0) (cond m (positionAt t s) (endAt d s (best (candidate v held d s) (endAt d s) 32)))
+      go : (m : Bool) → t .made ≡ m → LegalEnd (v .number .0) (cond m (positionAt t s) (endAt d s (best (candidate v held d s) (endAt d s) 32)))
       go true e = record { is-position = k .term-legal e s l; no-later = k .term-reaches e s l }
       go false e =
           let b = best-found (candidate v held d s) (endAt d s) 32 (holder v t held d s) (ps .met .holders s l) (holder-candidate s l) in
           candidate-end s (best (candidate v held d s) (endAt d s) 32) l (b .below) (b .picked)
 
-  planned-legal : (s : ℕ) → s < shards σ → Legal (v .number .0) (targetAt p s)
-  planned-legal s l = subst⁻¹ (Legal (v .number .0)) (ps .target-is s l) (target-legal s l)
+  planned-legal : (s : ℕ) → s < shards σ → LegalEnd (v .number .0) (targetAt p s)
+  planned-legal s l = subst⁻¹ (LegalEnd (v .number .0)) (ps .target-is s l) (target-legal s l)
 
   holder-node : (s : ℕ) → s < shards σ → holderAt p s < 32
   holder-node s l = subst⁻¹ (λ (x : ℕ). x < 32) (ps .holder-is s l) (ps .met .holders s l)
@@ -85,7 +85,7 @@ module _ (σ : List ℕ) (v : Layout) (t : Termination) (held : ℕ) (d : List �
     pub node-below : n < nodes σ
     node-below = within-has (nodes σ) held (k .held-within) n mine
 
-    cut-legal : (s : ℕ) → s < shards σ → Legal (targetAt p s .view .0) (cutOf p d n s)
+    cut-legal : (s : ℕ) → s < shards σ → LegalEnd (targetAt p s .view .0) (cutOf p d n s)
     cut-legal s l =
         let own = held-runs s n l (omega (arith, node-below, w .sizes .nodes-to)) mine in
         let other = held-runs s (holderAt p s) l (holder-node s l) (holder-held s l) in

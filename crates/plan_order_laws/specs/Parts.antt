@@ -7,11 +7,12 @@ use mathlib.Core.List.{List}
 use mathlib.Core.Logic.{_⊎_, inl, inr, ⊎-elim}
 use mathlib.Core.Path.{_≡_, refl, subst⁻¹}
 use Rattle.base_laws.specs.Bools.{lt-or-le}
-use Rattle.base_laws.specs.Below.{countBelow, count-longer}
-use Rattle.base_laws.specs.Masks.{has}
+use Rattle.base_laws.specs.Definitions.{countBelow, has}
+use Rattle.base_laws.specs.Below.{count-longer}
 use Rattle.base_ids.specs.declared.Position.{Position}
-use Rattle.message_format.specs.Records.{tag, word1, word2, kind, shard}
-use Rattle.base_laws.specs.Ranks.{nth, nth-below, nth-holds, rank-nth}
+use Rattle.message_format.specs.Definitions.{tag, word1, word2, kind, recordShard}
+use Rattle.base_sum_laws.specs.Definitions.{nth}
+use Rattle.base_sum_laws.specs.Ranks.{nth-below, nth-holds, rank-nth}
 
 -- record j of a body has kind k, shard s and words 1 and 2 x and y
 pub record RecordSays (b : List ℕ) (j k s x y : ℕ) : Type 0 where
@@ -22,25 +23,25 @@ pub record RecordSays (b : List ℕ) (j k s x y : ℕ) : Type 0 where
 pub says-kind : {b : List ℕ} {j k s x y : ℕ} → s < 256 → RecordSays b j k s x y → kind b j ≡ k
 says-kind l e = omega (arith, e .tagged)
 
-pub says-shard : {b : List ℕ} {j k s x y : ℕ} → s < 256 → RecordSays b j k s x y → shard b j ≡ s
+pub says-shard : {b : List ℕ} {j k s x y : ℕ} → s < 256 → RecordSays b j k s x y → recordShard b j ≡ s
 says-shard l e = omega (arith, e .tagged)
 
 -- what an order for S shards says: their members, targets, holders and cuts
-pub record Saying : Type 0 where
+pub record OrderSays : Type 0 where
   pub members : ℕ → ℕ
   pub target : ℕ → Position
   pub holder : ℕ → ℕ
   pub cut : ℕ → Position
 
 -- shard s gives the recipient its place among the holders and cuts
-abbrev pub carriesBy : Saying → ℕ → ℕ → Bool
+abbrev pub carriesBy : OrderSays → ℕ → ℕ → Bool
 carriesBy a node s = has (a .members s) node
 
-abbrev pub rank : Saying → ℕ → ℕ → ℕ
+abbrev pub rank : OrderSays → ℕ → ℕ → ℕ
 rank a node s = countBelow s (carriesBy a node)
 
 -- the body says so
-pub record OrderBody (S node : ℕ) (a : Saying) (b : List ℕ) (len : ℕ) : Type 0 where
+pub record BodySays (S node : ℕ) (a : OrderSays) (b : List ℕ) (len : ℕ) : Type 0 where
   pub few : S ≤ 16
   pub count : len ≡ 2 * S + 2 * rank a node S
   pub members-at : (s : ℕ) → s < S → RecordSays b s 1 s (a .members s) 0
@@ -50,43 +51,43 @@ pub record OrderBody (S node : ℕ) (a : Saying) (b : List ℕ) (len : ℕ) : Ty
       → RecordSays b (2 * S + rank a node S + rank a node s) 5 s (a .cut s .view .0) (a .cut s .k)
 
 -- where a record stands
-pub data Part (S node : ℕ) (a : Saying) (j : ℕ) : Type 0 where
-  a-members : (s : ℕ) → s < S → j ≡ s → Part S node a j
-  a-target : (s : ℕ) → s < S → j ≡ S + s → Part S node a j
-  a-holder : (s : ℕ) → s < S → carriesBy a node s ≡ true → j ≡ 2 * S + rank a node s → Part S node a j
-  a-cut : (s : ℕ) → s < S → carriesBy a node s ≡ true → j ≡ 2 * S + rank a node S + rank a node s → Part S node a j
+pub data RecordPlace (S node : ℕ) (a : OrderSays) (j : ℕ) : Type 0 where
+  a-members : (s : ℕ) → s < S → j ≡ s → RecordPlace S node a j
+  a-target : (s : ℕ) → s < S → j ≡ S + s → RecordPlace S node a j
+  a-holder : (s : ℕ) → s < S → carriesBy a node s ≡ true → j ≡ 2 * S + rank a node s → RecordPlace S node a j
+  a-cut : (s : ℕ) → s < S → carriesBy a node s ≡ true → j ≡ 2 * S + rank a node S + rank a node s → RecordPlace S node a j
 
-module _ {S node : ℕ} {a : Saying} where
-  unfoldable pub kindOf : {j : ℕ} → Part S node a j → ℕ
+module _ {S node : ℕ} {a : OrderSays} where
+  unfoldable pub kindOf : {j : ℕ} → RecordPlace S node a j → ℕ
   kindOf (a-members s l e) = 1
   kindOf (a-target s l e) = 2
   kindOf (a-holder s l p e) = 4
   kindOf (a-cut s l p e) = 5
 
-  unfoldable pub shardOf : {j : ℕ} → Part S node a j → ℕ
+  unfoldable pub shardOf : {j : ℕ} → RecordPlace S node a j → ℕ
   shardOf (a-members s l e) = s
   shardOf (a-target s l e) = s
   shardOf (a-holder s l p e) = s
   shardOf (a-cut s l p e) = s
 
-  unfoldable pub firstWord : {j : ℕ} → Part S node a j → ℕ
+  unfoldable pub firstWord : {j : ℕ} → RecordPlace S node a j → ℕ
   firstWord (a-members s l e) = a .members s
   firstWord (a-target s l e) = a .target s .view .0
   firstWord (a-holder s l p e) = a .holder s
   firstWord (a-cut s l p e) = a .cut s .view .0
 
-  unfoldable pub secondOf : {j : ℕ} → Part S node a j → ℕ
+  unfoldable pub secondOf : {j : ℕ} → RecordPlace S node a j → ℕ
   secondOf (a-members s l e) = 0
   secondOf (a-target s l e) = a .target s .k
   secondOf (a-holder s l p e) = 0
   secondOf (a-cut s l p e) = a .cut s .k
 
-module _ (S node : ℕ) (a : Saying) where
+module _ (S node : ℕ) (a : OrderSays) where
   -- every record is in one part
-  pub part-of : (j : ℕ) → j < 2 * S + 2 * rank a node S → Part S node a j
+  pub part-of : (j : ℕ) → j < 2 * S + 2 * rank a node S → RecordPlace S node a j
   part-of j l = go (lt-or-le j S) (lt-or-le j (2 * S)) (lt-or-le j (2 * S + rank a node S))
     where
-      go : (j < S) ⊎ (S ≤ j) → (j < 2 * S) ⊎ (2 * S ≤ j) → (j < 2 * S + rank a node S) ⊎ (2 * S + rank a node S ≤ j) → Part S node a j
+      go : (j < S) ⊎ (S ≤ j) → (j < 2 * S) ⊎ (2 * S ≤ j) → (j < 2 * S + rank a node S) ⊎ (2 * S + rank a node S ≤ j) → RecordPlace S node a j
       go (inl p) q r = a-members j p refl
       go (inr p) (inl q) r = a-target (j - S) (omega arith) (omega arith)
       go (inr p) (inr q) (inl r) =
@@ -108,10 +109,10 @@ module _ (S node : ℕ) (a : Saying) where
   rank-le s l = count-longer s S (carriesBy a node) (omega arith)
 
   -- kind × 256 + shard
-  unfoldable pub tagOf : {j : ℕ} → Part S node a j → ℕ
+  unfoldable pub tagOf : {j : ℕ} → RecordPlace S node a j → ℕ
   tagOf q = 256 * kindOf q + shardOf q
 
-  pub shard-below : {j : ℕ} (q : Part S node a j) → shardOf q < S
+  pub shard-below : {j : ℕ} (q : RecordPlace S node a j) → shardOf q < S
   unfolding shardOf
   shard-below (a-members s l e) = l
   shard-below (a-target s l e) = l
@@ -119,7 +120,7 @@ module _ (S node : ℕ) (a : Saying) where
   shard-below (a-cut s l p e) = l
 
   -- tags rise
-  pub tags-rise : S ≤ 16 → {i j : ℕ} (p : Part S node a i) (q : Part S node a j) → i < j → tagOf p < tagOf q
+  pub tags-rise : S ≤ 16 → {i j : ℕ} (p : RecordPlace S node a i) (q : RecordPlace S node a j) → i < j → tagOf p < tagOf q
   unfolding tagOf kindOf shardOf
   tags-rise few (a-members s l e) (a-members t m d) h = omega arith
   tags-rise few (a-members s l e) (a-target t m d) h = omega arith
@@ -138,9 +139,9 @@ module _ (S node : ℕ) (a : Saying) where
   tags-rise few (a-cut s l p e) (a-holder t m q d) h = omega (arith, rank-le t m)
   tags-rise few (a-cut s l p e) (a-cut t m q d) h = omega (arith, rank-order s t (omega arith))
 
-module _ (S node : ℕ) (a : Saying) (b : List ℕ) (len : ℕ) (o : OrderBody S node a b len) where
+module _ (S node : ℕ) (a : OrderSays) (b : List ℕ) (len : ℕ) (o : BodySays S node a b len) where
   -- what the record of a part says
-  pub said : {j : ℕ} (q : Part S node a j) → RecordSays b j (kindOf q) (shardOf q) (firstWord q) (secondOf q)
+  pub said : {j : ℕ} (q : RecordPlace S node a j) → RecordSays b j (kindOf q) (shardOf q) (firstWord q) (secondOf q)
   unfolding kindOf shardOf firstWord secondOf
   said (a-members s l e) = subst⁻¹ (λ (x : ℕ). RecordSays b x 1 s (a .members s) 0) e (o .members-at s l)
   said (a-target s l e) = subst⁻¹ (λ (x : ℕ). RecordSays b x 2 s (a .target s .view .0) (a .target s .k)) e (o .target-at s l)

@@ -9,47 +9,47 @@ use lib.Dec.{eqb, leb, ltb}
 use lib.Pow.{pow-pos}
 use borrow.Author.Tests.{eqb-true, eq-eqb, lt-ltb}
 use Rattle.base_laws.specs.Bools.{and-both, and-left, and-right, or-left, or-right, not-of-false, not-of-true}
-use Rattle.base_laws.specs.Below.{allBelow, all-of}
-use Rattle.base_laws.specs.Masks.{has, subset, subset-of, width}
-use Rattle.settings_values.specs.Settings.{shards}
+use Rattle.base_laws.specs.Definitions.{allBelow, has, subset}
+use Rattle.base_laws.specs.Below.{all-of}
+use Rattle.base_laws.specs.Masks.{subset-of, width}
+use Rattle.settings_values.specs.Definitions.{shards}
 use Rattle.message_format.specs.declared.Form.the-variants.{Order}
-use Rattle.message_format.specs.Records.{tag, word1, kind, shard, precedes, shardsOf, carriedBy, membersOf}
-use Rattle.message_format.specs.Rows.{kindOk, plain, kindAt, shardAt, surplus, sequenceAt, everyShard, complete, row10, position, viewFits, legal, row11At}
+use Rattle.message_format.specs.Definitions.{tag, word1, kind, recordShard, precedes, shardsOf, carriedBy, membersOf, kindOk, plain, kindAt, shardAt, surplus, sequenceAt, everyShard, complete, row10, isPosition, viewFits, legal, row11At}
 use Rattle.message_format.specs.Laws.{where-has, where-at}
 use Rattle.message_format.specs.Passed.{RecordsPass}
 use Rattle.message_format.specs.Alike.{row10-same}
-use Rattle.base_laws.specs.Ranks.{rank-rises}
-use Rattle.plan_order_laws.specs.Parts.{Saying, carriesBy, rank, OrderBody, RecordSays, Part, a-members, a-target, a-holder, a-cut, kindOf, shardOf, firstWord, secondOf, tagOf, says-kind, says-shard, part-of, shard-below, tags-rise, said}
+use Rattle.base_sum_laws.specs.Ranks.{rank-rises}
+use Rattle.plan_order_laws.specs.Parts.{OrderSays, carriesBy, rank, BodySays, RecordSays, RecordPlace, a-members, a-target, a-holder, a-cut, kindOf, shardOf, firstWord, secondOf, tagOf, says-kind, says-shard, part-of, shard-below, tags-rise, said}
 
 -- what the masks, targets, holders and cuts are to be for an order of a view to a node
-pub record Fitting (σ : List ℕ) (node view members : ℕ) (a : Saying) : Type 0 where
+pub record Fitting (σ : List ℕ) (node view members : ℕ) (a : OrderSays) : Type 0 where
   pub masks-fit : row10 σ members (a .members) ≡ true
-  pub target-legal : (s : ℕ) → s < shards σ → position (a .target s .view .0) (a .target s .k) ≡ true
+  pub target-legal : (s : ℕ) → s < shards σ → isPosition (a .target s .view .0) (a .target s .k) ≡ true
   pub target-earlier : (s : ℕ) → s < shards σ → a .target s .view .0 < view
   pub holder-node : (s : ℕ) → s < shards σ → a .holder s < 32
   pub holder-member : (s : ℕ) → s < shards σ → has members (a .holder s) ≡ true
-  pub cut-legal : (s : ℕ) → s < shards σ → carriesBy a node s ≡ true → position (a .cut s .view .0) (a .cut s .k) ≡ true
+  pub cut-legal : (s : ℕ) → s < shards σ → carriesBy a node s ≡ true → isPosition (a .cut s .view .0) (a .cut s .k) ≡ true
   pub cut-earlier : (s : ℕ) → s < shards σ → carriesBy a node s ≡ true → a .cut s .view .0 < view
 
-module _ (σ : List ℕ) (node : ℕ) (a : Saying) (b : List ℕ) (len : ℕ) (o : OrderBody (shards σ) node a b len) where
-  says : {j : ℕ} (q : Part (shards σ) node a j) → RecordSays b j (kindOf q) (shardOf q) (firstWord q) (secondOf q)
+module _ (σ : List ℕ) (node : ℕ) (a : OrderSays) (b : List ℕ) (len : ℕ) (o : BodySays (shards σ) node a b len) where
+  says : {j : ℕ} (q : RecordPlace (shards σ) node a j) → RecordSays b j (kindOf q) (shardOf q) (firstWord q) (secondOf q)
   says q = said (shards σ) node a b len o q
 
   -- the part of a record of the order
-  in-part : (j : ℕ) → j < len → Part (shards σ) node a j
+  in-part : (j : ℕ) → j < len → RecordPlace (shards σ) node a j
   in-part j l = part-of (shards σ) node a j (omega (arith, o .count))
 
-  small : {j : ℕ} (q : Part (shards σ) node a j) → shardOf q < 256
+  small : {j : ℕ} (q : RecordPlace (shards σ) node a j) → shardOf q < 256
   small q = omega (arith, shard-below (shards σ) node a q, o .few)
 
-  kind-is : {j : ℕ} (q : Part (shards σ) node a j) → kind b j ≡ kindOf q
+  kind-is : {j : ℕ} (q : RecordPlace (shards σ) node a j) → kind b j ≡ kindOf q
   kind-is q = says-kind (small q) (says q)
 
-  shard-is : {j : ℕ} (q : Part (shards σ) node a j) → shard b j ≡ shardOf q
+  shard-is : {j : ℕ} (q : RecordPlace (shards σ) node a j) → recordShard b j ≡ shardOf q
   shard-is q = says-shard (small q) (says q)
 
   -- row 9: kinds and word 2
-  kind-passes : {j : ℕ} (q : Part (shards σ) node a j) → (kindOk Order (kindOf q) && plain (kindOf q) (secondOf q)) ≡ true
+  kind-passes : {j : ℕ} (q : RecordPlace (shards σ) node a j) → (kindOk Order (kindOf q) && plain (kindOf q) (secondOf q)) ≡ true
   unfolding kindOk plain kindOf secondOf
   kind-passes (a-members s l e) = refl
   kind-passes (a-target s l e) = refl
@@ -88,13 +88,13 @@ module _ (σ : List ℕ) (node : ℕ) (a : Saying) (b : List ℕ) (len : ℕ) (o
   carried-named : (s n : ℕ) → s < shards σ → carriesBy a node s ≡ true → shards σ ≤ n → has (carriedBy node b n) s ≡ true
   unfolding kindOf shardOf
   carried-named s n l p m =
-      let q : Part (shards σ) node a s = a-members s l refl in
+      let q : RecordPlace (shards σ) node a s = a-members s l refl in
       subst (λ (x : ℕ). has (carriedBy node b n) x ≡ true) (shard-is q)
       (where-at (λ j. eqb (kind b j) 1 && has (word1 b j) node) b n s (omega arith)
       (and-both (eq-eqb (kind b s) 1 (kind-is q)) (ap (λ (x : ℕ). has x node) (o .members-at s l .first) ∙ p)))
 
   -- no record is surplus
-  not-surplus : {j : ℕ} (q : Part (shards σ) node a j) → (leb 4 (kindOf q) && not (has (carriedBy node b j) (shardOf q))) ≡ false
+  not-surplus : {j : ℕ} (q : RecordPlace (shards σ) node a j) → (leb 4 (kindOf q) && not (has (carriedBy node b j) (shardOf q))) ≡ false
   unfolding kindOf shardOf
   not-surplus (a-members s l e) = refl
   not-surplus (a-target s l e) = refl
@@ -110,7 +110,7 @@ module _ (σ : List ℕ) (node : ℕ) (a : Saying) (b : List ℕ) (len : ℕ) (o
       and-both (after-last j l) (not-of-false none))
 
   -- row 17: nothing is missing
-  named-of : (k j : ℕ) (q : Part (shards σ) node a j) → j < len → kindOf q ≡ k → has (shardsOf k b len) (shardOf q) ≡ true
+  named-of : (k j : ℕ) (q : RecordPlace (shards σ) node a j) → j < len → kindOf q ≡ k → has (shardsOf k b len) (shardOf q) ≡ true
   named-of k j q l e =
       subst (λ (x : ℕ). has (shardsOf k b len) x ≡ true) (shard-is q)
       (where-at (λ i. eqb (kind b i) k) b len j l (eq-eqb (kind b j) k (kind-is q ∙ e)))
@@ -123,7 +123,7 @@ module _ (σ : List ℕ) (node : ℕ) (a : Saying) (b : List ℕ) (len : ℕ) (o
       let p = and-left (eqb (kind b (w .0)) 1) (has (word1 b (w .0)) node) (w .2) in
       go (w .0) (in-part (w .0) (w .1)) (eqb-true (kind b (w .0)) 1 p) (and-right (eqb (kind b (w .0)) 1) (has (word1 b (w .0)) node) (w .2)) (w .3)
     where
-      go : (j : ℕ) (q : Part (shards σ) node a j) → kind b j ≡ 1 → has (word1 b j) node ≡ true → shard b j ≡ s → (s < shards σ) × (carriesBy a node s ≡ true)
+      go : (j : ℕ) (q : RecordPlace (shards σ) node a j) → kind b j ≡ 1 → has (word1 b j) node ≡ true → recordShard b j ≡ s → (s < shards σ) × (carriesBy a node s ≡ true)
       go j (a-members t l e) k h d =
           let same : t ≡ s = sym (shard-is (a-members t l e)) ∙ d in (
             omega arith,
@@ -174,11 +174,11 @@ module _ (σ : List ℕ) (node : ℕ) (a : Saying) (b : List ℕ) (len : ℕ) (o
     masks-pass = row10-same σ members (membersOf b) (a .members) (λ s l. o .members-at s l .first) ∙ g .masks-fit
 
     -- row 11
-    earlier : (x y : ℕ) → position x y ≡ true → x < view → (position x y && viewFits Order view x) ≡ true
+    earlier : (x y : ℕ) → isPosition x y ≡ true → x < view → (isPosition x y && viewFits Order view x) ≡ true
     unfolding viewFits
     earlier x y p l = and-both p (lt-ltb x view l)
 
-    legal-at : {j : ℕ} (q : Part (shards σ) node a j) → legal Order view members (kindOf q) (firstWord q) (secondOf q) ≡ true
+    legal-at : {j : ℕ} (q : RecordPlace (shards σ) node a j) → legal Order view members (kindOf q) (firstWord q) (secondOf q) ≡ true
     unfolding legal kindOf firstWord secondOf
     legal-at (a-members s l e) = refl
     legal-at (a-target s l e) = earlier _ _ (g .target-legal s l) (g .target-earlier s l)

@@ -4,16 +4,16 @@ use native.Mathlib.Omega.{arith}
 use mathlib.Core.List.{List}
 use mathlib.Core.Path.{_≡_, refl, ap, _∙_}
 use lib.ListN.{getD}
-use Rattle.settings_values.specs.Settings.{shards}
+use Rattle.settings_values.specs.Definitions.{shards}
 use Rattle.report_views.specs.declared.Plan.{Plan}
-use Rattle.report_views.specs.Reports.{maskAt, holderAt, targetAt}
-use Rattle.base_laws.specs.Ranks.{rank-rises}
-use Rattle.plan_order.specs.Orders.{carries, carriedBelow, own, cutOf, triple, orderRecord, orderLen, orderBody}
+use Rattle.report_views.specs.Definitions.{maskAt, holderAt, targetAt}
+use Rattle.base_sum_laws.specs.Ranks.{rank-rises}
+use Rattle.plan_order.specs.Definitions.{carries, carriedBelow, own, cutOf, triple, orderRecord, orderLen, orderBody}
 use Rattle.plan_order.specs.Recorded.{members-record, target-record, holder-record, cut-record, word-at}
-use Rattle.plan_order_laws.specs.Parts.{Saying, RecordSays, OrderBody}
+use Rattle.plan_order_laws.specs.Parts.{OrderSays, RecordSays, BodySays}
 
 -- what the order of node n says
-abbrev pub saying : Plan → List ℕ → ℕ → Saying
+abbrev pub saying : Plan → List ℕ → ℕ → OrderSays
 saying p d n =
     record {
       members = maskAt (p .layout);
@@ -34,7 +34,7 @@ module _ (σ : List ℕ) (p : Plan) (d : List ℕ) (n : ℕ) (few : shards σ �
         second = word-at σ p d n few j 2 l (omega arith) ∙ h 2;
       }
 
-  pub order-body : OrderBody (shards σ) n (saying p d n) (orderBody σ p d n) (orderLen σ p n)
+  pub order-body : BodySays (shards σ) n (saying p d n) (orderBody σ p d n) (orderLen σ p n)
   order-body =
       record {
         few = few;

@@ -8,33 +8,29 @@ use mathlib.Core.Path.{_≡_, refl, ap₂}
 use lib.Dec.{eqb, leb}
 use borrow.Author.Tests.{eqb-true, leb-true, lt-ltb}
 use Rattle.base_laws.specs.Bools.{clash, and-left, and-right, or-holds}
-use Rattle.base_laws.specs.Below.{allBelow, all-at}
-use Rattle.base_laws.specs.Masks.{within}
-use Rattle.settings_values.specs.Settings.{nodes, shards, Settings}
-use Rattle.message_format.specs.Rows.{viewOk, position}
-use Rattle.place_groups.specs.Placements.{groupValid}
+use Rattle.base_laws.specs.Definitions.{allBelow, within}
+use Rattle.base_laws.specs.Below.{all-at}
+use Rattle.settings_values.specs.Definitions.{nodes, shards, Settings}
+use Rattle.message_format.specs.Definitions.{viewOk, isPosition}
+use Rattle.place_groups.specs.Definitions.{groupValid}
 use Rattle.report_views.specs.declared.Layout.{Layout}
 use Rattle.report_views.specs.declared.Termination.{Termination}
 use Rattle.report_views.specs.declared.Plan.{Plan}
 use Rattle.report_views.specs.declared.Quorum.{Quorum}
 use Rattle.report_views.specs.declared.Quorum.the-variants.{Met, Short}
-use Rattle.report_views.specs.Logs.{pos}
-use Rattle.report_views.specs.Reports.{maskAt, positionAt, holderAt, targetAt}
-use Rattle.report_views.specs.Quorums.{target, holder, quorumOf}
+use Rattle.report_views.specs.Definitions.{pos, maskAt, positionAt, holderAt, targetAt, target, holder, quorumOf, samePosition, layoutBlank, nothingKept, positionSound, layoutTidy, viewSound, termSoundAt, termSound, keptSound, isMet, shardPlanned, allMoves, planSound}
 use Rattle.report_views.specs.Meets.{QuorumMet, quorum-given}
-use Rattle.report_views.specs.Slots.{samePosition}
-use Rattle.report_views.specs.Soundness.{layoutBlank, nothingKept, positionSound, layoutTidy, viewSound, termSoundAt, termSound, keptSound, isMet, shardPlanned, allMoves, planSound}
 
 -- what a view that is kept soundly gives
 pub record KeptView (σ : List ℕ) (v : Layout) (t : Termination) (held : ℕ) : Type 0 where
   pub number-from : 1 ≤ v .number .0
   pub number-to : v .number .0 ≤ 4294967294
   pub held-within : within (nodes σ) held ≡ true
-  pub term-legal : t .made ≡ true → (s : ℕ) → s < shards σ → position (positionAt t s .view .0) (positionAt t s .k) ≡ true
+  pub term-legal : t .made ≡ true → (s : ℕ) → s < shards σ → isPosition (positionAt t s .view .0) (positionAt t s .k) ≡ true
   pub term-reaches : t .made ≡ true → (s : ℕ) → s < shards σ → positionAt t s .view .0 ≤ v .number .0
 
 -- what a sound plan gives
-pub record PlanSound (σ : List ℕ) (v : Layout) (t : Termination) (held : ℕ) (d : List ℕ) (p : Plan) : Type 0 where
+pub record SoundPlan (σ : List ℕ) (v : Layout) (t : Termination) (held : ℕ) (d : List ℕ) (p : Plan) : Type 0 where
   pub met : QuorumMet σ v t held d
   pub number-next : p .layout .number .0 ≡ v .number .0 + 1
   pub members-held : p .layout .members ≡ held
@@ -79,10 +75,10 @@ module _ (σ : List ℕ) (v : Layout) (t : Termination) (held : ℕ) (w : Settin
       two (leb 1 (v .number .0)) (leb (v .number .0) 4294967294) (and-left _ _ (and-left _ _ (and-left _ _ (kept-view other))))
 
   term-at : t .made ≡ true → (s : ℕ) → s < shards σ
-      → (position (positionAt t s .view .0) (positionAt t s .k) ≡ true) × (leb (positionAt t s .view .0) (v .number .0) ≡ true)
+      → (isPosition (positionAt t s .view .0) (positionAt t s .k) ≡ true) × (leb (positionAt t s .view .0) (v .number .0) ≡ true)
   unfolding termSound termSoundAt positionSound
   term-at m s l =
-      two (position (positionAt t s .view .0) (positionAt t s .k)) (leb (positionAt t s .view .0) (v .number .0))
+      two (isPosition (positionAt t s .view .0) (positionAt t s .k)) (leb (positionAt t s .view .0) (v .number .0))
       (rw (m, lt-ltb s (shards σ) l) at (all-at 16 (termSoundAt σ v t) (kept-parts .1) s (omega (arith, w .sizes .shards-to))))
 
   pub kept-given : (v .number .0 ≡ 0 → ⊥) → KeptView σ v t held
@@ -114,7 +110,7 @@ module _ (σ : List ℕ) (v : Layout) (t : Termination) (held : ℕ) (d : List �
       two (eqb (holderAt p s) (holder v t held d s)) (samePosition (targetAt p s) (target v t held d s))
       (rw (lt-ltb s (shards σ) l) at (all-at 16 (shardPlanned σ v t held d p) (plan-tests .3) s (omega (arith, w .sizes .shards-to))))
 
-  pub plan-given : PlanSound σ v t held d p
+  pub plan-given : SoundPlan σ v t held d p
   plan-given =
       record {
         met = quorum-given σ v t held d (met-of (quorumOf σ v t held d) (plan-tests .0));

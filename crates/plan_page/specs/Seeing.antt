@@ -10,22 +10,20 @@ use Rattle.base_laws.specs.Bools.{either}
 use Rattle.base_laws.specs.Tables.{tabulate-cong}
 use Rattle.base_ids.specs.declared.Node.{Node}
 use Rattle.base_ids.specs.declared.Position.{Position}
-use Rattle.settings_values.specs.Settings.{shards}
-use Rattle.place_groups.specs.Chosen.{ofGroup}
-use Rattle.place_owners.specs.Cases.{group-shard}
+use Rattle.settings_values.specs.Definitions.{shards}
+use Rattle.place_groups.specs.Definitions.{ofGroup}
+use Rattle.place_laws.specs.Cases.{group-shard}
 use Rattle.report_views.specs.declared.Layout.{Layout}
 use Rattle.report_views.specs.declared.Termination.{Termination}
 use Rattle.report_views.specs.declared.Plan.{Plan}
 use Rattle.report_views.specs.declared.Phase.{Phase}
-use Rattle.report_views.specs.Logs.{start}
+use Rattle.report_views.specs.Definitions.{start, target, holder, nodeAt, slotsOk}
 use Rattle.report_views.specs.PlanLaws.{holders-at, targets-at}
-use Rattle.report_views.specs.Quorums.{target, holder}
-use Rattle.report_views.specs.Reports.{nodeAt}
-use Rattle.report_views.specs.Slots.{slotsOk}
 use Rattle.plan_seen.specs.declared.Seen.{Seen}
 use Rattle.plan_seen.specs.Sight.{seenOf, seen-holders, seen-targets}
 use Rattle.plan_page.specs.declared.Page.{Page}
-use Rattle.plan_page.specs.Pages.{shown, holderShown, targetShown, PageBy, PageOf, PageSeen}
+use Rattle.plan_page.specs.Definitions.{shown, holderShown, targetShown, PageBy, PageOf}
+use Rattle.plan_page.specs.Pages.{PageSeen}
 use Rattle.plan_page.specs.Turns.{mask-cong}
 
 -- the same holders and targets of the subgroup's shards give the same page

@@ -5,16 +5,17 @@ use mathlib.Core.List.{List}
 use mathlib.Core.Path.{_≡_, refl, sym, ap, _∙_, subst}
 use native.Mathlib.Omega.{arith}
 use lib.Dec.{eqb}
-use Rattle.base_laws.specs.Masks.{with}
-use Rattle.base_laws.specs.Picked.{maskBelow, mask-turn}
+use Rattle.base_laws.specs.Definitions.{with}
+use Rattle.base_sum_laws.specs.Definitions.{maskBelow}
+use Rattle.base_sum_laws.specs.Picked.{mask-turn}
 use Rattle.base_ids.specs.declared.Position.{Position}
-use Rattle.place_groups.specs.Chosen.{ofGroup}
+use Rattle.place_groups.specs.Definitions.{ofGroup}
 use Rattle.place_layout.specs.declared.Offer.{Offer}
 use Rattle.report_views.specs.declared.Layout.{Layout}
 use Rattle.report_views.specs.declared.Plan.{Plan}
 use Rattle.report_views.specs.declared.Phase.{Phase}
-use Rattle.report_views.specs.Logs.{start}
-use Rattle.plan_page.specs.Pages.{shown, holderShown, targetShown, maskShown, PlacedAs}
+use Rattle.report_views.specs.Definitions.{start}
+use Rattle.plan_page.specs.Definitions.{shown, holderShown, targetShown, maskShown, PlacedAs}
 
 -- masks of the same members
 pub mask-cong : (n : ℕ) (f g : ℕ → Bool) → ((k : ℕ) → k < n → f k ≡ g k) → maskBelow n f ≡ maskBelow n g

@@ -12,36 +12,29 @@ use lib.Dec.{eqb, leb}
 use lib.ListN.{length, replicate, length-replicate, getD-replicate, List·getD-eq-default}
 use borrow.Author.Tests.{eqb-true, ne-eqb, le-leb}
 use Rattle.base_laws.specs.Bools.{clash, and-both, or-holds, of-not-true, lt-or-le}
-use Rattle.base_laws.specs.Below.{allBelow, anyBelow, countBelow, lowest, all-at}
-use Rattle.base_laws.specs.Masks.{has, count, subset-le, and-subset-right, count-subset, within-has}
-use Rattle.base_laws.specs.Picked.{maskBelow}
-use Rattle.base_laws.specs.Positions.{pairNotAfter}
-use Rattle.base_laws.specs.Tables.{tabulate}
-use Rattle.base_sums.specs.Sums.{sumBelow}
-use Rattle.settings_values.specs.Settings.{setOf, need, cap, sizesOk, nodesOk, shardOk, shardsOk, settingsOk, Settings}
+use Rattle.base_laws.specs.Definitions.{allBelow, anyBelow, countBelow, lowest, has, count, pairNotAfter, tabulate}
+use Rattle.base_laws.specs.Below.{all-at}
+use Rattle.base_laws.specs.Masks.{subset-le, and-subset-right, count-subset, within-has}
+use Rattle.base_sum_laws.specs.Definitions.{maskBelow, sumBelow}
+use Rattle.settings_values.specs.Definitions.{setOf, need, cap, sizesOk, nodesOk, shardOk, shardsOk, settingsOk, Settings}
 use Rattle.settings_values.specs.Laws.{settings-give}
-use Rattle.message_format.specs.Chain.{place, following}
-use Rattle.message_format.specs.Rows.{shardApart}
-use Rattle.message_format.specs.Messages.{bodyWord, bodyOf, contentsOf}
-use Rattle.place_groups.specs.Placements.{meetsSet, setsIn, shardValid, groupValid, groupValidAt, groupMoves, groupMovesAt, groupStays, groupStaysAt}
-use Rattle.place_groups.specs.Chosen.{ofGroup, nodesIn, Chosen}
-use Rattle.place_owners.specs.Adding.{masksOf}
-use Rattle.place_owners.specs.Cases.{group-past}
-use Rattle.place_owners.specs.Shards.{shard-placed}
-use Rattle.place_layout.specs.Post.{PlacedAlone}
+use Rattle.message_format.specs.Definitions.{place, following, shardApart, bodyWord, bodyOf, contentsOf}
+use Rattle.place_groups.specs.Definitions.{meetsSet, setsIn, shardValid, groupValid, groupValidAt, groupMoves, groupMovesAt, groupStays, groupStaysAt, ofGroup, nodesIn, Chosen}
+use Rattle.place_laws.specs.Definitions.{masksOf}
+use Rattle.place_laws.specs.Cases.{group-past}
+use Rattle.place_laws.specs.Shards.{shard-placed}
+use Rattle.place_layout.specs.Definitions.{PlacedAlone}
 use Rattle.report_views.specs.declared.Layout.{Layout}
 use Rattle.report_views.specs.declared.Phase.the-variants.{Gathering}
 use Rattle.report_views.specs.declared.Reason.the-variants.{TooFew}
 use Rattle.report_views.specs.declared.Quorum.the-variants.{Met, Short}
-use Rattle.report_views.specs.Empty.{noTermination, noPlan}
-use Rattle.report_views.specs.Logs.{pos, start, endOf, runsFrom, runsOf, reaches, holds, hasUpdate}
-use Rattle.report_views.specs.Reports.{slot, reportOf, viewOf, maskAt}
-use Rattle.report_views.specs.Quorums.{candidate, greatest, best, target, able, holder, majority, firstUnheld, quorumOf}
+use Rattle.report_views.specs.Definitions.{noTermination, noPlan, pos, start, endOf, runsFrom, runsOf, reaches, holds, hasUpdate, slot, reportOf, maskAt, candidate, greatest, best, target, able, holder, majority, firstUnheld, quorumOf}
+use Rattle.report_views.specs.Shorthands.{viewOf}
 use Rattle.history_cases.specs.Runs.{slotOf}
-use Rattle.plan_alike.specs.Holders.{runsAt}
-use Rattle.plan_alike.specs.Choices.{AlikeGroup, chosen-alike}
+use Rattle.plan_page.specs.Holders.{runsAt}
+use Rattle.plan_page.specs.Choices.{AlikeGroup, chosen-alike}
 use Rattle.plan_page.specs.declared.Page.{Page}
-use Rattle.plan_page.specs.Pages.{shown, holderShown, targetShown, PageOf}
+use Rattle.plan_page.specs.Definitions.{shown, holderShown, targetShown, PageOf}
 use Rattle.plan_page.specs.Same.{AgreeOn}
 use Rattle.plan_page_cases.specs.Rows.{nodeNamed, page3, PageIs, page-is}
 

@@ -9,38 +9,30 @@ use lib.Count.{ones, onesIn}
 use lib.Dec.{eqb}
 use lib.ListN.{length, replicate, length-replicate, getD-replicate, List·getD-eq-default}
 use Rattle.base_laws.specs.Bools.{clash, lt-or-le}
-use Rattle.base_laws.specs.Below.{allBelow, anyBelow, countBelow, lowest}
-use Rattle.base_laws.specs.Picked.{maskBelow}
-use Rattle.base_laws.specs.Positions.{pairNotAfter}
-use Rattle.base_laws.specs.Tables.{tabulate}
-use Rattle.base_sums.specs.Sums.{sumBelow}
+use Rattle.base_laws.specs.Definitions.{allBelow, anyBelow, countBelow, lowest, pairNotAfter, tabulate}
+use Rattle.base_sum_laws.specs.Definitions.{maskBelow, sumBelow}
 use Rattle.base_ids.specs.declared.Node.{Node}
 use Rattle.base_ids.specs.declared.Position.{Position}
-use Rattle.settings_values.specs.Settings.{nodes, shards, subgroup, cap, sizesOk, nodesOk, shardOk, shardsOk, settingsOk, Settings}
+use Rattle.settings_values.specs.Definitions.{nodes, shards, subgroup, cap, sizesOk, nodesOk, shardOk, shardsOk, settingsOk, Settings}
 use Rattle.settings_values.specs.Laws.{settings-give}
-use Rattle.message_format.specs.Chain.{place, following}
-use Rattle.message_format.specs.Messages.{bodyWord, bodyOf, contentsOf}
-use Rattle.place_groups.specs.Placements.{meetsSet, setsIn, shardValid, groupMoves, groupMovesAt, Impossible}
-use Rattle.place_groups.specs.Chosen.{ofGroup}
-use Rattle.place_owners.specs.Adding.{masksOf}
-use Rattle.place_owners.specs.Cases.{group-shard, group-past}
-use Rattle.place_owners.specs.Choice.{chosen-local, chosen-none, none-moves}
-use Rattle.place_layout.specs.Post.{PlacedAlone}
+use Rattle.message_format.specs.Definitions.{place, following, bodyWord, bodyOf, contentsOf}
+use Rattle.place_groups.specs.Definitions.{meetsSet, setsIn, shardValid, groupMoves, groupMovesAt, Impossible, ofGroup}
+use Rattle.place_laws.specs.Definitions.{masksOf}
+use Rattle.place_laws.specs.Cases.{group-shard, group-past}
+use Rattle.place_laws.specs.Choice.{chosen-local, chosen-none, none-moves}
+use Rattle.place_layout.specs.Definitions.{PlacedAlone}
 use Rattle.report_views.specs.declared.Layout.{Layout}
 use Rattle.report_views.specs.declared.Termination.{Termination}
 use Rattle.report_views.specs.declared.Plan.{Plan}
 use Rattle.report_views.specs.declared.Phase.{Phase}
 use Rattle.report_views.specs.declared.Phase.the-variants.{Gathering, Ordered, Preparing, Committed}
-use Rattle.report_views.specs.Empty.{noView, noTermination, noPlan}
-use Rattle.report_views.specs.Logs.{pos, start, endOf, reaches, holds, hasUpdate}
-use Rattle.report_views.specs.Reports.{slot, reportOf, maskAt}
-use Rattle.report_views.specs.Quorums.{candidate, greatest, best, target, able, holder}
-use Rattle.report_examples.specs.Kept.{endedAt}
-use Rattle.report_examples.specs.Sound.{planOfCaseA}
+use Rattle.report_views.specs.Definitions.{noView, noTermination, noPlan, pos, start, endOf, reaches, holds, hasUpdate, slot, reportOf, maskAt, candidate, greatest, best, target, able, holder}
+use Rattle.report_cases.specs.Kept.{endedAt}
+use Rattle.report_cases.specs.Sound.{planOfCaseA}
 use Rattle.history_cases.specs.Runs.{caseSettings, settingsWith, desk, view7}
 use Rattle.history_cases.specs.Placed.{planA, everywhere, OneGroup, placed-at, one-group, a-chosen, i-none}
 use Rattle.plan_page.specs.declared.Page.{Page}
-use Rattle.plan_page.specs.Pages.{shown, holderShown, targetShown, maskShown, PageOf}
+use Rattle.plan_page.specs.Definitions.{shown, holderShown, targetShown, maskShown, PageOf}
 use Rattle.plan_page.specs.Same.{one-page}
 
 -- ---- pages of three shards

@@ -7,12 +7,11 @@ use native.Mathlib.Omega.{arith}
 use lib.Bits.{bitAnd}
 use lib.Dec.{eqb, leb, ltb}
 use borrow.Author.Tests.{lt-ltb, le-ltb, ne-eqb, eq-eqb}
-use Rattle.base_laws.specs.Below.{lowest}
-use Rattle.base_laws.specs.Masks.{count}
-use Rattle.base_majority.specs.Majority.{LeastMajority, enough-is-more}
-use Rattle.settings_values.specs.Settings.{least, shards}
+use Rattle.base_laws.specs.Definitions.{lowest, count}
+use Rattle.base_masks.specs.Majority.{LeastMajority, enough-is-more}
+use Rattle.settings_values.specs.Definitions.{least, shards}
 use Rattle.base_ids.specs.declared.Node.{Node}
-use Rattle.report_views.specs.Reports.{nodeAt}
+use Rattle.report_views.specs.Definitions.{nodeAt}
 use Rattle.report_views.specs.declared.Layout.{Layout}
 use Rattle.report_views.specs.declared.Quorum.{Quorum}
 use Rattle.report_views.specs.declared.Quorum.the-variants.{Met, Short}

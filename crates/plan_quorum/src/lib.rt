@@ -6,7 +6,7 @@ use report_views::Quorum;
 use report_views::Reason;
 ghost use mathlib.Core.Path.{_≡_};
 ghost use Prim.Native.Nat.{_≤_};
-ghost use Rattle.settings_values.specs.Settings.{Settings};
+ghost use Rattle.settings_values.specs.Definitions.{Settings};
 ghost use Rattle.plan_quorum.specs.Quorum.{mostHeld, firstWithout, quorumBy};
 
 // The lowest of the first count shards that has no holder, or count.
@@ -29,7 +29,8 @@ fn first_without(holders: [Node; 16], count: usize) -> usize
 fn most_held(members: u32, held: u32) -> bool
     ensures { λ r. ⌜ r ≡ mostHeld members held ⌝ }
 {
-    base_majority::least_majority(base_masks::count(members)) <= base_masks::count(held & members)
+    base_masks::majority::least_majority(base_masks::count(members))
+        <= base_masks::count(held & members)
 }
 
 // Waits 1 to 4: the first that applies.

@@ -10,23 +10,23 @@ use lib.Dec.{eqb}
 use lib.Pow.{pow-mono}
 use borrow.Author.Tests.{eqb-true}
 use Rattle.base_laws.specs.Bools.{and-left, and-right, or-holds}
-use Rattle.base_laws.specs.Masks.{within, within-lt}
-use Rattle.settings_values.specs.Settings.{nodes, Settings}
+use Rattle.base_laws.specs.Definitions.{within}
+use Rattle.base_laws.specs.Masks.{within-lt}
+use Rattle.settings_values.specs.Definitions.{nodes, Settings}
 use Rattle.settings_values.specs.Laws.{range-high}
 use Rattle.message_format.specs.declared.Form.the-variants.{Report}
-use Rattle.message_format.specs.Rows.{viewOk, row10}
+use Rattle.message_format.specs.Definitions.{viewOk, row10}
 use Rattle.report_views.specs.declared.Layout.{Layout}
 use Rattle.report_views.specs.declared.Termination.{Termination}
-use Rattle.report_views.specs.Reports.{maskAt}
-use Rattle.report_views.specs.Soundness.{layoutBlank, layoutTidy, viewSound, termSound, nothingKept, keptSound}
+use Rattle.report_views.specs.Definitions.{maskAt, layoutBlank, layoutTidy, viewSound, termSound, nothingKept, keptSound}
 
-pub record KeptSound (σ : List ℕ) (v : Layout) (t : Termination) (held : ℕ) : Type 0 where
+pub record SoundKept (σ : List ℕ) (v : Layout) (t : Termination) (held : ℕ) : Type 0 where
   pub view-kept : (nothingKept v t held ≡ true) ⊎ (viewSound σ v ≡ true)
   pub term-sound : termSound σ v t ≡ true
   pub held-within : within (nodes σ) held ≡ true
 
 module _ (σ : List ℕ) (v : Layout) (t : Termination) (held : ℕ) where
-  pub kept-given : keptSound σ v t held ≡ true → KeptSound σ v t held
+  pub kept-given : keptSound σ v t held ≡ true → SoundKept σ v t held
   unfolding keptSound
   kept-given h =
       let e = and-left ((nothingKept v t held || viewSound σ v) && termSound σ v t) (within (nodes σ) held) h in

@@ -9,7 +9,7 @@ use lib.Dec.{eqb, ltb}
 use borrow.Author.Tests.{eq-eqb, lt-ltb}
 use Rattle.base_laws.specs.Bools.{either, lt-or-le, or-left, or-right}
 use Rattle.base_laws.specs.Below.{all-of}
-use Rattle.settings_values.specs.Settings.{shards, Settings}
+use Rattle.settings_values.specs.Definitions.{shards, Settings}
 use Rattle.report_views.specs.declared.Layout.{Layout}
 use Rattle.report_views.specs.declared.Termination.{Termination}
 use Rattle.report_views.specs.declared.Plan.{Plan}
@@ -17,21 +17,18 @@ use Rattle.report_views.specs.declared.Reason.{Reason}
 use Rattle.report_views.specs.declared.Reason.the-variants.{NoPlacement}
 use Rattle.report_views.specs.declared.Quorum.{Quorum}
 use Rattle.report_views.specs.declared.Quorum.the-variants.{Met, Short}
-use Rattle.report_views.specs.Reports.{maskAt}
-use Rattle.report_views.specs.Slots.{slotsOk}
-use Rattle.report_views.specs.Quorums.{quorumOf}
-use Rattle.report_views.specs.Soundness.{layoutTidy, allMoves, keptSound}
+use Rattle.report_views.specs.Definitions.{maskAt, slotsOk, quorumOf, layoutTidy, allMoves, keptSound}
 use Rattle.report_views.specs.Meets.{quorum-given}
-use Rattle.history_claims.specs.Claims.{claims}
+use Rattle.history_laws.specs.Claims.{claims}
 use Rattle.place_layout.specs.declared.Placed.{Placed}
 use Rattle.place_layout.specs.Post.{Laid, Unplaced, Placement}
-use Rattle.place_layout.specs.Unique.{laid-whole}
 use Rattle.plan_quorum.specs.Quorum.{quorumBy}
 use Rattle.plan_seen.specs.declared.Seen.{Seen}
 use Rattle.plan_seen.specs.Sight.{seenOf, seen-holders, seen-targets, quorum-seen}
 use Rattle.plan_restart.specs.declared.Verdict.{Verdict}
 use Rattle.plan_restart.specs.Kept.{members-below}
-use Rattle.plan_restart.specs.Restarts.{waiting, Plans, FindsPlan, FindsNone, Restarts}
+use Rattle.plan_restart.specs.Definitions.{Plans}
+use Rattle.plan_restart.specs.Restarts.{waiting, FindsPlan, FindsNone, Restarts}
 
 -- the view after the kept one, with all held nodes and their placement
 abbrev pub viewBy : Layout → ℕ → Placed → Layout
@@ -57,7 +54,7 @@ module _ (v : Layout) (held : ℕ) (x : Seen) (p : Placed) where
   verdict-none e = ap (λ (b : Bool). cond b (record { quorum = Met; plan = planBy v held x p }) (waiting (NoPlacement (p .group)))) e
 
 -- the verdict of a placement of the held nodes
-pub record PlacedBy (σ : List ℕ) (v : Layout) (held : ℕ) (x : Seen) (r : Verdict) : Type 0 where
+pub record PlacedVerdict (σ : List ℕ) (v : Layout) (held : ℕ) (x : Seen) (r : Verdict) : Type 0 where
   pub placed : Placed
   pub places : Placement σ held (maskAt v) placed
   pub given : r ≡ verdictBy v held x placed
@@ -65,7 +62,7 @@ pub record PlacedBy (σ : List ℕ) (v : Layout) (held : ℕ) (x : Seen) (r : Ve
 -- what comes of what is seen: the first quorum condition that fails, and where none does the verdict of the placement
 pub record RestartsBy (σ : List ℕ) (v : Layout) (held : ℕ) (x : Seen) (r : Verdict) : Type 0 where
   pub waits : (reason : Reason) → quorumBy σ v held (x .holders) ≡ Short reason → r ≡ waiting reason
-  pub places : quorumBy σ v held (x .holders) ≡ Met → PlacedBy σ v held x r
+  pub places : quorumBy σ v held (x .holders) ≡ Met → PlacedVerdict σ v held x r
 
 -- q is the quorum of the holders
 module _ (σ : List ℕ) (v : Layout) (held : ℕ) (x : Seen) (q : Quorum) (given : q ≡ quorumBy σ v held (x .holders)) where
@@ -114,9 +111,7 @@ module _ (σ : List ℕ) (v : Layout) (t : Termination) (held : ℕ) (d : List �
           holders = seen-holders σ v t held d x e slots;
           targets = seen-targets σ v t held d x e slots;
           chosen = laid .chosen;
-          whole = laid-whole right laid;
           total = laid .total;
-          majority = q .most;
           claims = claims σ v t held d (members-below σ v t held right kept) slots q;
         }
 

@@ -8,11 +8,12 @@ use lib.Dec.{eqb, ltb}
 use borrow.Author.Tests.{eqb-true, le-ltb}
 use Rattle.base_laws.specs.Bools.{clash, or-holds}
 use Rattle.base_laws.specs.Below.{all-at}
-use Rattle.settings_values.specs.Settings.{nodes, shards, Settings}
+use Rattle.settings_values.specs.Definitions.{nodes, shards, Settings}
 use Rattle.base_ids.specs.declared.Node.{Node}
 use Rattle.base_ids.specs.declared.Position.{Position}
-use Rattle.place_groups.specs.Placements.{LeastMoves}
-use Rattle.place_groups.specs.Chosen.{lowest-one}
+use Rattle.place_groups.specs.Definitions.{LeastMoves}
+use Rattle.place_groups.specs.Chosen.{ChosenPlan, lowest-one}
+use Rattle.place_laws.specs.Whole.{chosen-whole}
 use Rattle.place_layout.specs.Unique.{masks-one}
 use Rattle.report_views.specs.declared.Layout.{Layout}
 use Rattle.report_views.specs.declared.Termination.{Termination}
@@ -20,12 +21,11 @@ use Rattle.report_views.specs.declared.Plan.{Plan}
 use Rattle.report_views.specs.declared.Quorum.{Quorum}
 use Rattle.report_views.specs.declared.Quorum.the-variants.{Met, Short}
 use Rattle.report_views.specs.declared.Reason.the-variants.{NoPlacement}
-use Rattle.report_views.specs.Reports.{maskAt}
-use Rattle.report_views.specs.Quorums.{quorumOf}
-use Rattle.report_views.specs.Standings.{holdersOf, targetsOf, Standing, standingOf}
-use Rattle.report_views.specs.Soundness.{layoutTidy, allMoves}
+use Rattle.report_views.specs.Definitions.{maskAt, quorumOf, holdersOf, targetsOf, layoutTidy, allMoves}
+use Rattle.report_views.specs.Standings.{Standing, standingOf}
 use Rattle.plan_restart.specs.declared.Verdict.{Verdict}
-use Rattle.plan_restart.specs.Restarts.{waiting, Plans, FindsPlan, FindsNone, Restarts}
+use Rattle.plan_restart.specs.Definitions.{Plans}
+use Rattle.plan_restart.specs.Restarts.{waiting, FindsPlan, FindsNone, Restarts}
 
 -- nothing stands from S up
 pub tidy-past : (σ : List ℕ) (w : Layout) → layoutTidy σ w ≡ true → (s : ℕ) → shards σ ≤ s → s < 16 → maskAt w s ≡ 0
@@ -100,3 +100,8 @@ module _ {σ : List ℕ} {v : Layout} {t : Termination} {held : ℕ} {d e : List
 pub plans-least : {σ : List ℕ} {v : Layout} {t : Termination} {held : ℕ} {d : List ℕ} {p : Plan} → Plans σ v t held d p
     → (g : ℕ) → g < 4 → LeastMoves σ held (maskAt v) (maskAt (p .layout)) g
 plans-least w g l = w .chosen g l .least
+
+-- over all subgroups too it is the first of those of least moves and most stays
+pub plans-whole : {σ : List ℕ} {v : Layout} {t : Termination} {held : ℕ} {d : List ℕ} {p : Plan} → Settings σ → Plans σ v t held d p
+    → ChosenPlan σ held (maskAt v) (maskAt (p .layout))
+plans-whole right w = chosen-whole right (w .chosen)

@@ -1,4 +1,6 @@
 // The core of decide: from the settings, what is kept and the held reports to a plan, or to the reason why there is none yet.
+pub mod rounds;
+
 use base_ids::Node;
 use base_ids::View;
 use place_layout::Placed;
@@ -9,8 +11,8 @@ use report_views::Quorum;
 use report_views::Reason;
 ghost use mathlib.Core.Path.{_≡_};
 ghost use Prim.Native.Nat.{_^_, _<_, _≤_};
-ghost use Rattle.settings_values.specs.Settings.{nodes, Settings};
-ghost use Rattle.report_views.specs.Empty.{noView, noPlan};
+ghost use Rattle.settings_values.specs.Definitions.{nodes, Settings};
+ghost use Rattle.report_views.specs.Definitions.{noView, noPlan};
 ghost use Rattle.plan_restart.specs.Restarts as Restarts;
 ghost use Rattle.plan_restart.specs.Planning as Planning;
 

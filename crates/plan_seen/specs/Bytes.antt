@@ -6,10 +6,12 @@ use Prim.Native.Nat.{ℕ, _+_, _*_, _<_}
 use native.Mathlib.Omega.{arith}
 use lib.ListN.{length, getD, List·getD-eq-default}
 use Rattle.base_laws.specs.Bools.{lt-or-le}
-use Rattle.base_laws.specs.Tables.{tabulate, tabulate-cong, part}
-use Rattle.base_bytes.specs.Words.{wordAt, pairAt, getD-words}
-use Rattle.base_lent.specs.Lent.{wordsIn}
-use Rattle.report_views.specs.Reports.{slot}
+use Rattle.base_laws.specs.Definitions.{tabulate, part}
+use Rattle.base_laws.specs.Tables.{tabulate-cong}
+use Rattle.base_bytes.specs.Definitions.{wordAt}
+use Rattle.base_bytes.specs.Words.{pairAt, getD-words}
+use Rattle.base_lent.specs.Definitions.{wordsIn}
+use Rattle.report_views.specs.Definitions.{slot}
 use Rattle.report_walk.specs.Pairs.{FitWords, pairOf, pairsOf}
 use Rattle.report_desk.specs.Bytes.{desk-length, desk-word-lt, slot-bytes}
 

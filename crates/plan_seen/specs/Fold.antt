@@ -11,22 +11,19 @@ use lib.Dec.{eqb, ltb}
 use lib.ListN.{length, getD, replicate, getD-replicate}
 use borrow.Author.Tests.{lt-ltb, le-ltb}
 use Rattle.base_laws.specs.Bools.{either, and-both, lt-or-le}
-use Rattle.base_laws.specs.Masks.{has}
-use Rattle.base_laws.specs.Tables.{tabulate, tabulate-cong}
+use Rattle.base_laws.specs.Definitions.{has, tabulate}
+use Rattle.base_laws.specs.Tables.{tabulate-cong}
 use Rattle.base_ids.specs.declared.Node.{Node}
 use Rattle.base_ids.specs.declared.Position.{Position}
-use Rattle.base_ids.specs.Order.{notAfter}
-use Rattle.settings_values.specs.Settings.{shards, Settings}
-use Rattle.report_ends.specs.Ends.{desk-past}
+use Rattle.base_ids.specs.Definitions.{notAfter}
+use Rattle.settings_values.specs.Definitions.{shards, Settings}
+use Rattle.report_desk.specs.Ends.{desk-past}
 use Rattle.report_views.specs.declared.Layout.{Layout}
 use Rattle.report_views.specs.declared.Termination.{Termination}
-use Rattle.report_views.specs.Best.{Greatest, bestSoFar, bestWith, with-miss, best-start, best-step, best-all, best-le, best-given, best-found, best-lowest, best-unique, best-cong, best-so-far-le}
-use Rattle.report_views.specs.Logs.{start}
+use Rattle.report_views.specs.Best.{GreatestEnd, bestSoFar, bestWith, with-miss, best-start, best-step, best-all, best-le, best-given, best-found, best-lowest, best-unique, best-cong, best-so-far-le}
+use Rattle.report_views.specs.Definitions.{start, candidate, best, target, able, holder, endAt, maskAt, positionAt, slotOk, slotsOk, holdersOf, targetsOf}
+use Rattle.report_views.specs.Shorthands.{hasAt, viewOf}
 use Rattle.report_views.specs.Meets.{slot-given, candidate-given, able-candidate}
-use Rattle.report_views.specs.Quorums.{candidate, best, target, able, holder}
-use Rattle.report_views.specs.Reports.{viewOf, endAt, hasAt, maskAt, positionAt}
-use Rattle.report_views.specs.Slots.{slotOk, slotsOk}
-use Rattle.report_views.specs.Standings.{holdersOf, targetsOf}
 use Rattle.report_views.specs.Numbers.{asNumber, fromNumber, number-start, number-back, number-before}
 use Rattle.report_walk.specs.Pairs.{FitWords}
 use Rattle.plan_seen.specs.Nodes.{eligible, takesOver, RenewedBelow, end-small, end-has}
@@ -174,7 +171,7 @@ module _ (σ : List ℕ) (v : Layout) (t : Termination) (held : ℕ) (d : List �
           let few : s < 256 = omega (arith, right .sizes .shards-to) in
           rw e (and-both c (end-has σ v t d b (slot-given σ v t held d sound b m held-b) s few))
 
-      top : b < 32 → Greatest (able v t held d s) (endAt d s) 32 b
+      top : b < 32 → GreatestEnd (able v t held d s) (endAt d s) 32 b
       top m =
           record {
             below = m;

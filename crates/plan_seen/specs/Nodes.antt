@@ -11,20 +11,17 @@ use lib.ListN.{length, getD, set, List·getD-eq-default}
 use lib.Seq.{getD-set-same, getD-set-other}
 use borrow.Author.Tests.{lt-ltb, ne-eqb, eqb-true, eqb-false}
 use Rattle.base_laws.specs.Bools.{either, clash, no-true, and-fails-left, and-fails-right, or-right, lt-or-le, eq-or-ne, not-of-true}
-use Rattle.base_laws.specs.Masks.{has}
-use Rattle.base_laws.specs.Tables.{tabulate, tabulate-ext, getD-tabulate, getD-tabulate-past, getD-part}
+use Rattle.base_laws.specs.Definitions.{has, tabulate}
+use Rattle.base_laws.specs.Tables.{tabulate-ext, getD-tabulate, getD-tabulate-past, getD-part}
 use Rattle.base_ids.specs.declared.Position.{Position}
-use Rattle.settings_values.specs.Settings.{shards}
-use Rattle.message_format.specs.Messages.{contentsOf, bodyOf, bodyWord}
-use Rattle.message_format.specs.Chain.{place, following}
-use Rattle.message_format.specs.Records.{word2}
+use Rattle.settings_values.specs.Definitions.{shards}
+use Rattle.message_format.specs.Definitions.{contentsOf, bodyOf, bodyWord, place, following, word2}
 use Rattle.report_views.specs.declared.Layout.{Layout}
 use Rattle.report_views.specs.declared.Termination.{Termination}
-use Rattle.report_views.specs.Logs.{endOf, isStart, hasUpdate}
+use Rattle.report_views.specs.Definitions.{endOf, isStart, hasUpdate, slot, reportOf, endAt, maskAt, positionAt, slotOk}
+use Rattle.report_views.specs.Shorthands.{hasAt, viewOf}
 use Rattle.report_views.specs.Meets.{SlotSound, slot-sound, report-records, log-end}
-use Rattle.report_views.specs.Reports.{slot, reportOf, viewOf, endAt, hasAt, maskAt, positionAt}
 use Rattle.report_views.specs.RunLaws.{Runs, passed-runs, end-cases, has-cases, held-of}
-use Rattle.report_views.specs.Slots.{slotOk}
 use Rattle.report_quick.specs.Accepts.{length-slot}
 use Rattle.report_views.specs.Numbers.{asNumber, fromNumber, number-start, number-back, number-before}
 use Rattle.report_walk.specs.Updates.{RecordsAre}

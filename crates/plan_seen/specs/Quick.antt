@@ -8,13 +8,12 @@ use native.Mathlib.Omega.{arith}
 use lib.ListN.{length, getD, set, replicate}
 use lib.Seq.{getD-set-same, getD-set-other}
 use Rattle.base_laws.specs.Bools.{eq-or-ne}
-use Rattle.base_laws.specs.Masks.{has}
+use Rattle.base_laws.specs.Definitions.{has}
 use Rattle.base_ids.specs.declared.View.{View}
-use Rattle.settings_values.specs.Settings.{Settings}
+use Rattle.settings_values.specs.Definitions.{Settings}
 use Rattle.report_views.specs.declared.Layout.{Layout}
 use Rattle.report_views.specs.declared.Termination.{Termination}
-use Rattle.report_views.specs.Reports.{slot, reportOf}
-use Rattle.report_views.specs.Slots.{slotOk}
+use Rattle.report_views.specs.Definitions.{slot, reportOf, slotOk}
 use Rattle.report_quick.specs.Accepts.{length-slot}
 use Rattle.report_walk.specs.Seen as Walk
 use Rattle.report_walk.specs.Sound.{Walked, told-sound, told-view}

@@ -8,16 +8,13 @@ use lib.Dec.{eqb}
 use lib.ListN.{getD, replicate}
 use borrow.Author.Tests.{lt-ltb}
 use Rattle.base_laws.specs.Below.{lowest-cong}
-use Rattle.base_laws.specs.Masks.{has}
-use Rattle.base_laws.specs.Tables.{tabulate, getD-tabulate}
+use Rattle.base_laws.specs.Definitions.{has, tabulate}
+use Rattle.base_laws.specs.Tables.{getD-tabulate}
 use Rattle.base_ids.specs.declared.View.{View}
-use Rattle.settings_values.specs.Settings.{shards, Settings}
-use Rattle.report_views.specs.Logs.{start}
+use Rattle.settings_values.specs.Definitions.{shards, Settings}
+use Rattle.report_views.specs.Definitions.{start, holder, majority, firstUnheld, quorumOf, nodeAt, slotsOk, holdersOf, targetsOf}
+use Rattle.report_views.specs.Shorthands.{unheld, viewOf}
 use Rattle.report_views.specs.PlanLaws.{holders-at}
-use Rattle.report_views.specs.Quorums.{holder, majority, unheld, firstUnheld, quorumOf}
-use Rattle.report_views.specs.Reports.{viewOf, nodeAt}
-use Rattle.report_views.specs.Slots.{slotsOk}
-use Rattle.report_views.specs.Standings.{holdersOf, targetsOf}
 use Rattle.report_views.specs.declared.Layout.{Layout}
 use Rattle.report_views.specs.declared.Termination.{Termination}
 use Rattle.plan_quorum.specs.Quorum.{firstWithout, quorumBy}

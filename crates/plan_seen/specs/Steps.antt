@@ -9,26 +9,24 @@ use lib.ListN.{length, getD, set, length-set}
 use lib.Seq.{getD-set-same, getD-set-other}
 use borrow.Author.Tests.{eq-eqb, ne-eqb}
 use Rattle.base_laws.specs.Bools.{clash, and-fails-left, eq-or-ne}
-use Rattle.base_laws.specs.Masks.{has}
+use Rattle.base_laws.specs.Definitions.{has}
 use Rattle.base_laws.specs.Tables.{getD-tabulate, length-tabulate}
 use Rattle.base_ids.specs.declared.Position.{Position}
-use Rattle.base_ids.specs.Refusals.{accepted}
-use Rattle.settings_values.specs.Settings.{shards, Settings}
+use Rattle.base_ids.specs.Definitions.{accepted}
+use Rattle.settings_values.specs.Definitions.{shards, Settings}
 use Rattle.message_format.specs.declared.Contents.{Contents}
 use Rattle.message_format.specs.declared.Reading.{Reading}
 use Rattle.message_format.specs.declared.Form.the-variants.{Report}
-use Rattle.message_format.specs.Messages.{contentsOf, messageRefusal}
-use Rattle.message_format.specs.Records.{tag, word1, word2}
+use Rattle.message_format.specs.Definitions.{contentsOf, messageRefusal, tag, word1, word2}
 use Rattle.message_reader.specs.Readings.{readingUnder, contents-few}
 use Rattle.report_views.specs.declared.Layout.{Layout}
 use Rattle.report_views.specs.declared.Termination.{Termination}
-use Rattle.report_views.specs.Logs.{endOf, hasUpdate}
-use Rattle.report_views.specs.Reports.{slot, reportOf, viewOf, maskAt, positionAt}
-use Rattle.report_views.specs.Slots.{slotOk}
+use Rattle.report_views.specs.Definitions.{endOf, hasUpdate, slot, reportOf, maskAt, positionAt, slotOk}
+use Rattle.report_views.specs.Shorthands.{viewOf}
 use Rattle.report_quick.specs.Accepts.{length-slot, WordsFit, accepts}
-use Rattle.report_slots.specs.Desk.{reportFits, slot-refused, slot-read}
+use Rattle.report_desk.specs.SlotsOf.{reportFits, slot-refused, slot-read}
 use Rattle.report_views.specs.Numbers.{asNumber}
-use Rattle.report_ends.specs.Ends.{endsOf}
+use Rattle.report_desk.specs.Ends.{endsOf}
 use Rattle.report_walk.specs.Seen.{PositionRecords}
 use Rattle.report_walk.specs.Updates.{RecordsAre, updateSeen, update-seen, goalAt, goal-is}
 use Rattle.plan_seen.specs.Nodes.{wordOfPairs, wordsOfPairs, words-back, slot-words, eligible, RenewedAt, renewed-not, renewed-other, SlotIs, EndsTold, EndTells, end-tells}

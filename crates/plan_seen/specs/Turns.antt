@@ -5,13 +5,13 @@ use mathlib.Core.List.{List}
 use mathlib.Core.Path.{_≡_, sym, ap, _∙_, subst⁻¹}
 use native.Mathlib.Omega.{arith}
 use lib.ListN.{length, replicate, length-replicate}
-use Rattle.base_laws.specs.Below.{allBelow, all-none, all-more}
-use Rattle.base_laws.specs.Masks.{has}
+use Rattle.base_laws.specs.Definitions.{allBelow, has}
+use Rattle.base_laws.specs.Below.{all-none, all-more}
 use Rattle.base_laws.specs.Tables.{length-tabulate}
-use Rattle.settings_values.specs.Settings.{shards, Settings}
+use Rattle.settings_values.specs.Definitions.{shards, Settings}
 use Rattle.report_views.specs.declared.Layout.{Layout}
 use Rattle.report_views.specs.declared.Termination.{Termination}
-use Rattle.report_slots.specs.Desk.{nodeOk, unheld-ok, held-ok}
+use Rattle.report_desk.specs.SlotsOf.{nodeOk, unheld-ok, held-ok}
 use Rattle.report_walk.specs.Pairs.{FitWords, pairOf, pairsOf}
 use Rattle.plan_seen.specs.Fold.{SoFar, Stepped, so-far-none, so-far-unheld, so-far-held}
 

@@ -14,13 +14,12 @@ ghost use mathlib.Core.Path.{_≡_};
 ghost use Prim.Native.Nat.{ℕ, _<_, _≤_, _+_, _*_, _/_, _%_};
 ghost use lib.Dec.{eqb, ltb};
 ghost use lib.ListN.{length, getD, replicate};
-ghost use Rattle.base_lent.specs.Lent.{wordsIn};
+ghost use Rattle.base_lent.specs.Definitions.{wordsIn};
 ghost use Rattle.base_ids.specs.declared.Position as Positions;
-ghost use Rattle.settings_values.specs.Settings.{Settings, shards};
-ghost use Rattle.report_views.specs.Logs.{hasUpdate};
+ghost use Rattle.settings_values.specs.Definitions.{Settings, shards};
+ghost use Rattle.report_views.specs.Definitions.{hasUpdate, slotOk, slotsOk};
 ghost use Rattle.report_views.specs.Numbers.{asNumber, fromNumber};
-ghost use Rattle.report_views.specs.Reports as Reports;
-ghost use Rattle.report_views.specs.Slots.{slotOk, slotsOk};
+ghost use Rattle.report_views.specs.Definitions as Definitions;
 ghost use Rattle.report_views.specs.declared.Layout as Layouts;
 ghost use Rattle.report_views.specs.declared.Termination as Terminations;
 ghost use Rattle.report_walk.specs.Seen.{PositionRecords};
@@ -47,7 +46,7 @@ struct Turn {
 }
 
 // A held node's slot: its node, and whether the walk has told it.
-struct Slot {
+struct SlotSeen {
     node: Node,
     told: bool,
 }
@@ -213,7 +212,7 @@ fn note_shard(
     ensures { λ r. ⌜ ((σ : List ℕ) (v : Layouts.Layout) (t : Terminations.Termination) (d : List ℕ)
         → EndsTold σ v t d (turn .node .0) (now (b .entry)) (turn .last) (now (ends .entry))
         → now (masks .entry) ≡ v .masks → turn .made ≡ t .made → PositionRecords (t .positions) (shards σ) (now (positions .entry)) → s < shards σ
-        → RenewedAt (eligible v t d s (turn .node .0)) (turn .node .0) (asNumber (Reports.endAt d s (turn .node .0))) s (now (holders .entry)) (now (tops .entry)) (now (holders .exit)) (now (tops .exit))) ⌝ }
+        → RenewedAt (eligible v t d s (turn .node .0)) (turn .node .0) (asNumber (Definitions.endAt d s (turn .node .0))) s (now (holders .entry)) (now (tops .entry)) (now (holders .exit)) (now (tops .exit))) ⌝ }
 {
     let node = turn.node;
     if !base_masks::has(masks[s], node.0 as usize) {
@@ -268,7 +267,7 @@ fn note_report(
     requires { ⌜ PositionRecords (t .positions) (shards (now settings)) (now positions) ⌝ }
     requires { ⌜ c .len ≤ 127 ⌝ }
     ensures { λ r. ⌜ (length (now (holders .exit)) ≡ 16) × (length (now (tops .exit)) ≡ 16) ⌝ }
-    ensures { λ r. ⌜ ((d b : List ℕ) → SlotIs d (node .0) b → node .0 < 32 → slotOk (now (settings .entry)) v t d (node .0) ≡ true → c ≡ Reports.reportOf d (node .0)
+    ensures { λ r. ⌜ ((d b : List ℕ) → SlotIs d (node .0) b → node .0 < 32 → slotOk (now (settings .entry)) v t d (node .0) ≡ true → c ≡ Definitions.reportOf d (node .0)
         → RenewedBelow v t d (node .0) (shards (now (settings .entry))) (now (holders .entry)) (now (tops .entry)) (now (holders .exit)) (now (tops .exit))) ⌝ }
 {
     let view = c.view;
@@ -277,7 +276,7 @@ fn note_report(
         return;
     }
     let len = c.len;
-    let ends = report_ends::ends_of(&c.body, len);
+    let ends = report_desk::ends::ends_of(&c.body, len);
     let b = record_pairs(&c.body, len);
     let turn = Turn {
         node,
@@ -295,7 +294,7 @@ fn read_step(
     t: Termination,
     positions: &[u64; 32],
     b: &[u64; 256],
-    slot: Slot,
+    slot: SlotSeen,
     holders: &mut [u32; 16],
     tops: &mut [u64; 16],
 ) -> bool
@@ -321,7 +320,7 @@ fn read_step(
         return false;
     }
     let c = r.contents;
-    if !report_slots::report_fits(settings, v, t, c, slot.node) {
+    if !report_desk::slots::report_fits(settings, v, t, c, slot.node) {
         return false;
     }
     note_report(settings, v, t, positions, c, slot.node, holders, tops);
@@ -463,7 +462,7 @@ fn walk_nodes(
             base_bytes::pairs(&desk[at..at + 2048], &mut b);
             let node = Node(n as u32);
             let told = quick_step(frame, &masks, &records, &positions, &b, node, holders, tops);
-            let slot = Slot { node, told };
+            let slot = SlotSeen { node, told };
             if !read_step(settings, v, t, &positions, &b, slot, holders, tops) {
                 return false;
             }

@@ -1,5 +1,4 @@
--- An input is blocks of words, each preceded by its word count. Definitions, then their laws: how many bytes of a block have to be
--- there before it is taken, and what the blocks are once they are.
+-- Laws of blocks: how many bytes of a block have to be there before it is taken, and what the blocks are once they are.
 use Prim.Native.Nat.{ℕ, zero, suc, _+_, _*_, _-_, _/_, _≤_, _<_, min}
 use mathlib.Core.Bool.{Bool, cond}
 use mathlib.Core.Logic.{⊎-elim}
@@ -11,36 +10,9 @@ use lib.ListN.{length, take, drop, length-append, length-take, length-drop, drop
 use lib.Seq.{take-all, take-at, drop-at, drop-append-le}
 use borrow.Author.Tests.{lt-ltb, le-ltb}
 use Rattle.base_laws.specs.Bools.{lt-or-le}
-use Rattle.base_bytes.specs.Words.{wordAt, wordsOf, length-words}
-
--- the word that an input starts with, the word count of its first block
-abbrev pub blockCount : List ℕ → ℕ
-blockCount b = wordAt b 0
-
--- the bytes of the first block: as many as its count says, or what is there
-unfoldable pub block : List ℕ → List ℕ
-block b = take (4 * blockCount b) (drop 4 b)
-
--- what follows the first block
-unfoldable pub others : List ℕ → List ℕ
-others b = drop (4 * blockCount b) (drop 4 b)
-
--- the whole words of some bytes; up to three bytes after them carry nothing
-unfoldable pub wholeWords : List ℕ → List ℕ
-wholeWords b = wordsOf b (length b / 4)
-
--- the first k blocks. A cut count ends the input.
-unfoldable pub blocksBy : ℕ → List ℕ → List (List ℕ)
-blocksBy zero b = []
-blocksBy (suc k) b = cond (ltb (length b) 4) [] (wholeWords (block b) ∷ blocksBy k (others b))
-
--- all blocks of an input: no more than it has bytes
-unfoldable pub blocks : List ℕ → List (List ℕ)
-blocks b = blocksBy (length b) b
-
--- the bytes that the first block takes with its count, as far as they are looked at: 513 words are more than any right block has
-unfoldable pub needed : List ℕ → ℕ
-needed b = cond (ltb (length b) 4) 4 (cond (ltb (blockCount b) 513) (4 + 4 * blockCount b) 2056)
+use Rattle.base_bytes.specs.Definitions.{wordAt}
+use Rattle.base_bytes.specs.Words.{length-words}
+use Rattle.program_blocks.specs.Definitions.{blockCount, needed, blockBytes, others, wholeWords, blocksBy, blocks}
 
 -- ---- laws
 
@@ -52,24 +24,24 @@ others-length b = omega (arith, length-drop (4 * blockCount b) (drop 4 b), lengt
 by-more : (j k : ℕ) (b : List ℕ) → length b ≤ j → length b ≤ k → blocksBy j b ≡ blocksBy k b
 unfolding blocksBy
 by-more zero zero b h m = refl
-by-more zero (suc k) b h m = sym (ap (λ (t : Bool). cond t [] (wholeWords (block b) ∷ blocksBy k (others b))) (lt-ltb (length b) 4 (omega arith)))
-by-more (suc j) zero b h m = ap (λ (t : Bool). cond t [] (wholeWords (block b) ∷ blocksBy j (others b))) (lt-ltb (length b) 4 (omega arith))
+by-more zero (suc k) b h m = sym (ap (λ (t : Bool). cond t [] (wholeWords (blockBytes b) ∷ blocksBy k (others b))) (lt-ltb (length b) 4 (omega arith)))
+by-more (suc j) zero b h m = ap (λ (t : Bool). cond t [] (wholeWords (blockBytes b) ∷ blocksBy j (others b))) (lt-ltb (length b) 4 (omega arith))
 by-more (suc j) (suc k) b h m =
-    ap (λ (l : List (List ℕ)). cond (ltb (length b) 4) [] (wholeWords (block b) ∷ l))
+    ap (λ (l : List (List ℕ)). cond (ltb (length b) 4) [] (wholeWords (blockBytes b) ∷ l))
     (by-more j k (others b) (omega (arith, others-length b)) (omega (arith, others-length b)))
 
 pub blocks-none : (b : List ℕ) → length b < 4 → blocks b ≡ []
 unfolding blocks blocksBy
 blocks-none b h =
     by-more (length b) (suc (length b)) b (omega arith) (omega arith)
-    ∙ ap (λ (t : Bool). cond t [] (wholeWords (block b) ∷ blocksBy (length b) (others b))) (lt-ltb (length b) 4 h)
+    ∙ ap (λ (t : Bool). cond t [] (wholeWords (blockBytes b) ∷ blocksBy (length b) (others b))) (lt-ltb (length b) 4 h)
 
-blocks-some : (b : List ℕ) → 4 ≤ length b → blocks b ≡ wholeWords (block b) ∷ blocks (others b)
+blocks-some : (b : List ℕ) → 4 ≤ length b → blocks b ≡ wholeWords (blockBytes b) ∷ blocks (others b)
 unfolding blocks blocksBy
 blocks-some b h =
     by-more (length b) (suc (length b)) b (omega arith) (omega arith)
-    ∙ ap (λ (t : Bool). cond t [] (wholeWords (block b) ∷ blocksBy (length b) (others b))) (le-ltb (length b) 4 h)
-    ∙ ap (λ (l : List (List ℕ)). wholeWords (block b) ∷ l)
+    ∙ ap (λ (t : Bool). cond t [] (wholeWords (blockBytes b) ∷ blocksBy (length b) (others b))) (le-ltb (length b) 4 h)
+    ∙ ap (λ (l : List (List ℕ)). wholeWords (blockBytes b) ∷ l)
     (by-more (length b) (length (others b)) (others b) (omega (arith, others-length b)) (omega arith))
 
 -- a word of the first bytes
@@ -131,7 +103,7 @@ needed-more b c h l = ⊎-elim few many (lt-or-le (length b) 4)
 
 -- a block that is cut short: what is there
 pub blocks-cut : (b : List ℕ) → 4 ≤ length b → length b < needed b → blocks b ≡ wholeWords (drop 4 b) ∷ []
-unfolding block others
+unfolding blockBytes others
 blocks-cut b h m =
     let n : length (drop 4 b) ≤ 4 * blockCount b = omega (arith, length-drop 4 b, needed-le b h) in
     blocks-some b h
@@ -140,7 +112,7 @@ blocks-cut b h m =
 
 -- a whole block, and the others
 pub blocks-whole : (b c : List ℕ) → length b ≡ 4 + 4 * blockCount b → blocks (b ++ c) ≡ wholeWords (drop 4 b) ∷ blocks c
-unfolding block others
+unfolding blockBytes others
 blocks-whole b c h =
     let e : blockCount (b ++ c) ≡ blockCount b = count-append b c (omega arith) in
     let d : drop 4 (b ++ c) ≡ drop 4 b ++ c = drop-append-le 4 b c (omega arith) in
@@ -158,13 +130,13 @@ pub record Long (l : List (List ℕ)) : Type 0 where
   pub long : 512 < length first
 
 pub blocks-long : (b c : List ℕ) → length b ≡ 2056 → 513 ≤ blockCount b → Long (blocks (b ++ c))
-unfolding block others
+unfolding blockBytes others
 blocks-long b c h m =
     let e : blockCount (b ++ c) ≡ blockCount b = count-append b c (omega arith) in
-    let n : length (block (b ++ c)) ≡ min (4 * blockCount (b ++ c)) (length (drop 4 (b ++ c))) = length-take (4 * blockCount (b ++ c)) (drop 4 (b ++ c)) in
+    let n : length (blockBytes (b ++ c)) ≡ min (4 * blockCount (b ++ c)) (length (drop 4 (b ++ c))) = length-take (4 * blockCount (b ++ c)) (drop 4 (b ++ c)) in
     record {
-      first = wholeWords (block (b ++ c));
+      first = wholeWords (blockBytes (b ++ c));
       rest = blocks (others (b ++ c));
       is = blocks-some (b ++ c) (omega (arith, length-append b c));
-      long = omega (arith, length-whole (block (b ++ c)), length-drop 4 (b ++ c), length-append b c);
+      long = omega (arith, length-whole (blockBytes (b ++ c)), length-drop 4 (b ++ c), length-append b c);
     }

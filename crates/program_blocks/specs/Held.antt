@@ -4,10 +4,12 @@ use mathlib.Core.List.{List, _++_}
 use mathlib.Core.Path.{_≡_, sym, ap, ap₂, _∙_}
 use native.Mathlib.Omega.{arith}
 use lib.ListN.{length, take, drop, length-take, length-replicate}
-use Rattle.base_laws.specs.Tables.{padded, padded-append, zeros, zeros-left}
-use Rattle.base_bytes.specs.Words.{wordsOf}
+use Rattle.base_laws.specs.Definitions.{padded}
+use Rattle.base_laws.specs.Tables.{padded-append, zeros, zeros-left}
+use Rattle.base_bytes.specs.Definitions.{wordsOf}
 use Rattle.program_blocks.specs.declared.Block.{Block}
-use Rattle.program_blocks.specs.Blocks.{wholeWords, length-whole}
+use Rattle.program_blocks.specs.Definitions.{wholeWords}
+use Rattle.program_blocks.specs.Blocks.{length-whole}
 
 -- the words of a block's bytes
 abbrev pub held : List ℕ → Block

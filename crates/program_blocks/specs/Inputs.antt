@@ -11,10 +11,13 @@ use lib.ListN.{length, drop, getD, List·getD-eq-default}
 use lib.Seq.{drop-at}
 use borrow.Author.Tests.{ltb-true}
 use Rattle.base_laws.specs.Bools.{lt-or-le, and-left, and-right}
-use Rattle.base_laws.specs.Below.{allBelow, all-at}
-use Rattle.base_laws.specs.Tables.{tabulate, tabulate-add, tabulate-cong, length-tabulate}
-use Rattle.base_bytes.specs.Words.{wordsOf, byteAt, bytesOf, length-bytes, getD-words, words-bytes}
-use Rattle.program_blocks.specs.Blocks.{blockCount, blocks, wholeWords, blocks-none, blocks-whole}
+use Rattle.base_laws.specs.Definitions.{allBelow, tabulate}
+use Rattle.base_laws.specs.Below.{all-at}
+use Rattle.base_laws.specs.Tables.{tabulate-add, tabulate-cong, length-tabulate}
+use Rattle.base_bytes.specs.Definitions.{wordsOf, byteAt, bytesOf}
+use Rattle.base_bytes.specs.Words.{length-bytes, getD-words, words-bytes}
+use Rattle.program_blocks.specs.Definitions.{blockCount, blocks, wholeWords}
+use Rattle.program_blocks.specs.Blocks.{blocks-none, blocks-whole}
 
 -- the blocks, each preceded by its word count, as bytes
 unfoldable pub inputOf : List (List ℕ) → List ℕ
@@ -22,25 +25,25 @@ inputOf [] = []
 inputOf (w ∷ ws) = bytesOf (length w ∷ w) ++ inputOf ws
 
 -- words of 32 bits, no more than a count can say
-unfoldable pub fits : List ℕ → Bool
-fits w = ltb (length w) (2 ^ 32) && allBelow (length w) (λ k. ltb (getD w k 0) (2 ^ 32))
+unfoldable pub fitsCount : List ℕ → Bool
+fitsCount w = ltb (length w) (2 ^ 32) && allBelow (length w) (λ k. ltb (getD w k 0) (2 ^ 32))
 
 unfoldable pub allFit : List (List ℕ) → Bool
 allFit [] = true
-allFit (w ∷ ws) = fits w && allFit ws
+allFit (w ∷ ws) = fitsCount w && allFit ws
 
 -- ---- laws
 
-word-fits : (w : List ℕ) → fits w ≡ true → (k : ℕ) → getD w k 0 < 2 ^ 32
-unfolding fits
+word-fits : (w : List ℕ) → fitsCount w ≡ true → (k : ℕ) → getD w k 0 < 2 ^ 32
+unfolding fitsCount
 word-fits w h k =
     ⊎-elim
     (λ l. ltb-true (getD w k 0) (2 ^ 32) (all-at (length w) (λ j. ltb (getD w j 0) (2 ^ 32)) (and-right (ltb (length w) (2 ^ 32)) _ h) k l))
     (λ l. let e : getD w k 0 ≡ 0 = List·getD-eq-default w 0 l in omega arith)
     (lt-or-le k (length w))
 
-count-fits : (w : List ℕ) → fits w ≡ true → (k : ℕ) → getD (length w ∷ w) k 0 < 2 ^ 32
-unfolding fits
+count-fits : (w : List ℕ) → fitsCount w ≡ true → (k : ℕ) → getD (length w ∷ w) k 0 < 2 ^ 32
+unfolding fitsCount
 count-fits w h zero = ltb-true (length w) (2 ^ 32) (and-left (ltb (length w) (2 ^ 32)) _ h)
 count-fits w h (suc k) = word-fits w h k
 
@@ -60,7 +63,7 @@ bytes-after n w =
         let r : (4 + k) % 4 ≡ k % 4 = omega arith in
         rw (q, r)
 
-module _ (w : List ℕ) (h : fits w ≡ true) where
+module _ (w : List ℕ) (h : fitsCount w ≡ true) where
   count-is : blockCount (bytesOf (length w ∷ w)) ≡ length w
   count-is =
       sym (getD-words (bytesOf (length w ∷ w)) (length (length w ∷ w)) 0 (zero-lt-suc (length w)))
@@ -77,9 +80,9 @@ pub blocks-input : (ws : List (List ℕ)) → allFit ws ≡ true → blocks (inp
 unfolding inputOf allFit
 blocks-input [] h = blocks-none [] (omega arith)
 blocks-input (w ∷ ws) h =
-    let f = and-left (fits w) (allFit ws) h in
+    let f = and-left (fitsCount w) (allFit ws) h in
     let size : length (bytesOf (length w ∷ w)) ≡ 4 + 4 * blockCount (bytesOf (length w ∷ w)) =
     omega (arith, length-bytes (length w ∷ w), count-is w f) in
     blocks-whole (bytesOf (length w ∷ w)) (inputOf ws) size
     ∙ ap₂ (λ (a : List ℕ) (b : List (List ℕ)). a ∷ b) (ap wholeWords (bytes-after (length w) w) ∙ words-are w f)
-    (blocks-input ws (and-right (fits w) (allFit ws) h))
+    (blocks-input ws (and-right (fitsCount w) (allFit ws) h))

@@ -1,8 +1,10 @@
 // Blocks of words in a stream of bytes, each preceded by its word count.
+pub mod intake;
+
 ghost use mathlib.Core.Path.{_≡_};
 ghost use Prim.Native.Nat.{_≤_};
 ghost use lib.ListN.{length};
-ghost use Rattle.program_blocks.specs.Blocks as Blocks;
+ghost use Rattle.program_blocks.specs.Definitions as Definitions;
 ghost use Rattle.program_blocks.specs.Held.{held};
 
 // The words of a block: the first len of the table.
@@ -13,7 +15,7 @@ pub struct Block {
 
 // How many bytes the first block takes with its count, as far as they are looked at.
 pub fn needed(bytes: &[u8]) -> usize
-    ensures { λ r. ⌜ r ≡ Blocks.needed (now (bytes .entry)) ⌝ }
+    ensures { λ r. ⌜ r ≡ Definitions.needed (now (bytes .entry)) ⌝ }
 {
     if bytes.len() < 4 {
         return 4;

@@ -4,25 +4,19 @@ use mathlib.Core.Bool.{true}
 use mathlib.Core.List.{List, [], _∷_}
 use mathlib.Core.Path.{_≡_, refl, ap, _∙_}
 use lib.ListN.{replicate}
-use Rattle.base_laws.specs.Below.{allBelow, anyBelow, lowest}
-use Rattle.base_laws.specs.Tables.{tabulate, padded}
-use Rattle.settings_values.specs.Settings.{cap, sizesOk, nodesOk, shardOk, shardsOk, settingsOk}
-use Rattle.base_ids.specs.Refusals.{accepted, unless, unlessAt, firstOf}
-use Rattle.message_format.specs.Chain.{place, following, row5, row8}
-use Rattle.message_format.specs.Records.{precedes, shardsWhere}
-use Rattle.message_format.specs.Rows.{row6, viewOk, row7, kindOk, plain, kindAt, shardAt, surplus, sequenceAt, complete, shardApart, row10At, row10, position, viewFits, legal, row11At}
-use Rattle.message_format.specs.Messages.{bodyWord, bodyOf, contentsOf, recordsRefusal, headRefusal, messageRefusal}
-use Rattle.report_views.specs.Slots.{sameView, row12, sameTermination, row13}
-use Rattle.report_latest.specs.Remembered.{noLatest, row18, noted}
-use Rattle.report_kept.specs.Reports.{keptRefusal, refusalBeside, layoutOf, terminationOf, renewed}
-use Rattle.report_desk.specs.Desk.{deskWith}
+use Rattle.base_laws.specs.Definitions.{allBelow, anyBelow, lowest, tabulate, padded}
+use Rattle.settings_values.specs.Definitions.{cap, sizesOk, nodesOk, shardOk, shardsOk, settingsOk}
+use Rattle.base_ids.specs.Definitions.{accepted, unless, unlessAt, firstOf}
+use Rattle.message_format.specs.Definitions.{place, following, row5, row8, precedes, shardsWhere, row6, viewOk, row7, kindOk, plain, kindAt, shardAt, surplus, sequenceAt, complete, shardApart, row10At, row10, isPosition, viewFits, legal, row11At, bodyWord, bodyOf, contentsOf, recordsRefusal, headRefusal, messageRefusal}
+use Rattle.report_views.specs.Definitions.{sameView, row12, sameTermination, row13}
+use Rattle.report_rows.specs.Definitions.{noLatest, row18, noted}
+use Rattle.report_kept.specs.Definitions.{keptRefusal, refusalBeside, layoutOf, terminationOf, renewed}
+use Rattle.report_desk.specs.Definitions.{deskWith}
 use Rattle.history_cases.specs.Runs.{caseSettings, settingsWith, caseReport, noRuns, run1, desk, view7, sixMembers}
 use Rattle.state_planner.specs.declared.State.{State}
-use Rattle.state_planner.specs.States.{fresh, keeping}
-use Rattle.state_planner.specs.Refusing.{decideRefusal}
-use Rattle.state_planner.specs.Events.{afterReport}
+use Rattle.state_planner.specs.Definitions.{fresh, keeping, decideRefusal, afterReport}
 use Rattle.state_cases.specs.Start.{gathered, reportOfSix}
-use Rattle.program_run.specs.Runs.{Underway, atStart, after}
+use Rattle.program_run.specs.Definitions.{Underway, atStart, after}
 use Rattle.program_run_laws.specs.Reaches.{decide-none}
 use Rattle.program_run_laws.specs.Accepted.{stateAfter, deskOf, allAccepted, run-leads}
 
@@ -60,7 +54,7 @@ record CasesCome : Type 0 where
   i : Come (settingsWith 4 3) all-six (gathered view7 63)
 
 comes : CasesCome
-unfolding sizesOk nodesOk cap shardOk shardsOk settingsOk stateAfter allAccepted fresh keeping allBelow anyBelow lowest tabulate padded unless unlessAt firstOf place following row5 row8 precedes shardsWhere row6 viewOk row7 kindOk plain kindAt shardAt surplus sequenceAt complete shardApart row10At row10 position viewFits legal row11At bodyWord bodyOf contentsOf recordsRefusal headRefusal messageRefusal sameView row12 sameTermination row13 row18 keptRefusal refusalBeside layoutOf terminationOf renewed noLatest noted afterReport
+unfolding sizesOk nodesOk cap shardOk shardsOk settingsOk stateAfter allAccepted fresh keeping allBelow anyBelow lowest tabulate padded unless unlessAt firstOf place following row5 row8 precedes shardsWhere row6 viewOk row7 kindOk plain kindAt shardAt surplus sequenceAt complete shardApart row10At row10 isPosition viewFits legal row11At bodyWord bodyOf contentsOf recordsRefusal headRefusal messageRefusal sameView row12 sameTermination row13 row18 keptRefusal refusalBeside layoutOf terminationOf renewed noLatest noted afterReport
 comes =
     record {
       a = record { right = refl; taken = refl; state = refl };

@@ -8,38 +8,30 @@ use mathlib.Core.Path.{_≡_, refl, ap, ap₂, _∙_, subst}
 use native.Mathlib.Omega.{arith}
 use lib.Count.{ones, onesIn}
 use lib.ListN.{getD}
-use Rattle.base_laws.specs.Below.{allBelow, anyBelow, lowest}
-use Rattle.base_laws.specs.Positions.{pairNotAfter}
-use Rattle.base_laws.specs.Tables.{tabulate, padded}
+use Rattle.base_laws.specs.Definitions.{allBelow, anyBelow, lowest, pairNotAfter, tabulate, padded}
 use Rattle.base_ids.specs.declared.Node.{Node}
 use Rattle.base_ids.specs.declared.Position.{Position}
-use Rattle.message_format.specs.Chain.{place, following}
-use Rattle.message_format.specs.Messages.{bodyWord, bodyOf, contentsOf}
+use Rattle.message_format.specs.Definitions.{place, following, bodyWord, bodyOf, contentsOf}
 use Rattle.report_views.specs.declared.Plan.{Plan}
 use Rattle.report_views.specs.declared.Reason.{Reason}
 use Rattle.report_views.specs.declared.Reason.the-variants.{NoView, NoMajority, TooFew, NoHolder, NoPlacement}
 use Rattle.report_views.specs.declared.Quorum.the-variants.{Short}
-use Rattle.report_views.specs.Logs.{pos, start, endOf, reaches, holds, hasUpdate}
-use Rattle.report_views.specs.Reports.{slot, reportOf, maskAt, nodeAt, holderAt, targetAt}
-use Rattle.report_views.specs.Quorums.{candidate, greatest, best, target, able, holder, majority, firstUnheld, quorumOf, numberOf, valueOf}
-use Rattle.report_desk.specs.Desk.{deskWith}
+use Rattle.report_views.specs.Definitions.{pos, start, endOf, reaches, holds, hasUpdate, slot, reportOf, maskAt, nodeAt, holderAt, targetAt, candidate, greatest, best, target, able, holder, majority, firstUnheld, quorumOf, numberOf, valueOf, noTermination}
+use Rattle.report_desk.specs.Definitions.{deskWith}
 use Rattle.history_cases.specs.Runs.{caseSettings, settingsWith, desk, view7, sixMembers}
-use Rattle.report_views.specs.Empty.{noTermination}
 use Rattle.history_cases.specs.Cases.{cases}
 use Rattle.state_planner.specs.declared.State.{State}
 use Rattle.state_planner.specs.declared.Decision.{Decision}
 use Rattle.state_planner.specs.declared.Decided.{Decided}
-use Rattle.state_planner.specs.States.{fresh, planned}
-use Rattle.state_planner.specs.Decide.{still, Decides}
+use Rattle.state_planner.specs.Definitions.{fresh, planned, still, Decides}
 use Rattle.state_cases.specs.Start.{gathered}
 use Rattle.state_cases.specs.PlanA.{PlanOfA as PlanA}
 use Rattle.state_cases.specs.Table.{table as decided}
-use Rattle.program_blocks.specs.Inputs.{inputOf, fits, allFit, blocks-input}
-use Rattle.program_text.specs.Text.{digitsBy, decimal, field, line}
-use Rattle.program_lines.specs.Members.{member, membersBelow}
-use Rattle.program_lines.specs.Lines.{viewLabel, movesLabel, waitFor, waitLine, shardLine, carriers, shardText, shard-text, shardLines, planLines}
-use Rattle.program_decision.specs.Decisions.{decisionText}
-use Rattle.program_run.specs.Runs.{Progress, Underway, atStart, after, Prints, Printed}
+use Rattle.program_blocks.specs.Inputs.{inputOf, fitsCount, allFit, blocks-input}
+use Rattle.program_text.specs.Definitions.{digitsBy, decimal, field, line}
+use Rattle.program_lines.specs.Definitions.{member, membersBelow, viewLabel, movesLabel, waitFor, waitLine, shardLine, shardLines, planLines, decisionText}
+use Rattle.program_lines.specs.Lines.{carriers, shardText, shard-text}
+use Rattle.program_run.specs.Definitions.{Progress, Underway, atStart, after, Prints, Printed}
 use Rattle.program_run_laws.specs.Accepted.{deskOf}
 use Rattle.program_cases.specs.Reports.{first-three, first-five, all-six, three-of-six, emptyDesk, leads-a, leads-b, leads-c, leads-d, leads-e, leads-f, leads-i, taken}
 
@@ -207,7 +199,7 @@ unfolding deskOf deskWith padded ones onesIn allBelow anyBelow lowest tabulate p
 f-short = refl
 
 pub table : PrintedTable
-unfolding inputOf fits allFit allBelow waitLine waitFor numberOf valueOf line field decimal digitsBy
+unfolding inputOf fitsCount allFit allBelow waitLine waitFor numberOf valueOf line field decimal digitsBy
 table =
     record {
       a = from (caseSettings ∷ all-six) _ plan-text refl leads-a a-text;

@@ -8,9 +8,11 @@ use native.Mathlib.Omega.{arith}
 use lib.ListN.{length, take, drop, length-take, length-drop}
 use lib.Seq.{length-take-le, take-append-le, take-append-add}
 use borrow.Rule.Slice.PartMut.{putMid}
-use Rattle.base_laws.specs.Tables.{replaced, put-replaced, length-replaced}
+use Rattle.base_laws.specs.Definitions.{replaced}
+use Rattle.base_laws.specs.Tables.{put-replaced, length-replaced}
 use Rattle.program_input.specs.declared.Input.{Input}
-use Rattle.program_input.specs.Inputs.{mayCome, ReadsOn, Reads, no-read, one-more, Fills, readsLeft, reads-count, reads-fewer, read-opens}
+use Rattle.program_input.specs.Definitions.{mayCome, ReadsOn, Reads, no-read, one-more, Fills}
+use Rattle.program_input.specs.Inputs.{readsLeft, reads-count, reads-fewer, read-opens}
 
 -- what is known before a read: reads have led from x to y, what they gave is the first `len` bytes of the block, and there is room where no more comes
 pub record Filling (x : Input) (block : List ℕ) (y : Input) (len : ℕ) : Type 0 where

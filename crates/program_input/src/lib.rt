@@ -5,7 +5,7 @@ use libc::STDIN_FILENO;
 ghost use mathlib.Core.Path.{_≡_};
 ghost use Prim.Native.Nat.{_≤_, _<_, max};
 ghost use lib.ListN.{length, take};
-ghost use Rattle.program_input.specs.Inputs.{unread, afterBytes, afterFailure, mayCome, isCut, readTo, most, counted, ReadsOn, Fills};
+ghost use Rattle.program_input.specs.Definitions.{unread, afterBytes, afterFailure, mayCome, isCut, readTo, most, mostCounted, ReadsOn, Fills};
 
 // What may still come.
 pub enum Source {
@@ -29,7 +29,7 @@ pub struct Input {
 }
 
 // What came of filling a block: the input after it, and how many bytes of the block are filled.
-pub struct Filled {
+pub struct FilledInput {
     pub input: Input,
     pub len: usize,
 }
@@ -71,7 +71,7 @@ fn greater(a: u64, b: u64) -> u64
 
 // The input after one read more, which gave these bytes.
 fn read_to(x: Input, bytes: &[u8], source: Source) -> Input
-    requires { ⌜ (counted x ≤ most) × (length (now bytes) ≤ 32768) ⌝ }
+    requires { ⌜ (mostCounted x ≤ most) × (length (now bytes) ≤ 32768) ⌝ }
     ensures { λ r. ⌜ r ≡ readTo x (now (bytes .entry)) source ⌝ }
 {
     let sum = long(program_sums::sum_of(bytes));
@@ -153,7 +153,7 @@ impl Input {
     }
 
     // Reads until the block is full, the input is at its end or reading was cut.
-    pub fn fill(self, block: &mut [u8]) -> Filled
+    pub fn fill(self, block: &mut [u8]) -> FilledInput
         requires { ⌜ (0 < length (now block)) × (length (now block) ≤ 32768) ⌝ }
         ensures { λ r. ⌜ Fills self (now (block .exit)) (r .input) (r .len) ⌝ }
     {
@@ -163,6 +163,6 @@ impl Input {
             input = input.read(&mut block[len..]);
             len += input.got();
         }
-        Filled { input, len }
+        FilledInput { input, len }
     }
 }

@@ -1,7 +1,6 @@
--- What a run prints: a plan, a wait, or a refusal's number, each line ended by a newline (byte 10). Laws: one shard more, and that
--- 8,192 bytes are enough.
+-- Laws of what a run prints: one shard more, and that 8,192 bytes are enough.
 use Prim.Native.Nat.{ℕ, zero, suc, _+_, _*_, _≤_}
-use mathlib.Core.List.{List, [], _∷_, _++_, append-assoc}
+use mathlib.Core.List.{List, _++_, append-assoc}
 use mathlib.Core.Path.{_≡_, sym, ap}
 use native.Mathlib.Numerals.{add-one}
 use native.Mathlib.Omega.{arith}
@@ -11,73 +10,11 @@ use Rattle.base_ids.specs.declared.Refusal.{Refusal}
 use Rattle.report_views.specs.declared.Plan.{Plan}
 use Rattle.report_views.specs.declared.Reason.{Reason}
 use Rattle.report_views.specs.declared.Reason.the-variants.{NoView, NoMajority, TooFew, NoHolder, NoPlacement}
-use Rattle.report_views.specs.Reports.{holderAt, targetAt}
-use Rattle.report_views.specs.Quorums.{numberOf, valueOf}
-use Rattle.program_text.specs.Text.{field, line, space, numberLine, field-length, line-length, number-line-length}
-use Rattle.program_lines.specs.Members.{membersBelow, members-length}
-
-abbrev pub newline : List ℕ
-newline = 10 ∷ []
-
--- "wait "
-abbrev pub waitLabel : List ℕ
-waitLabel = 119 ∷ 97 ∷ 105 ∷ 116 ∷ 32 ∷ []
-
--- "view "
-abbrev pub viewLabel : List ℕ
-viewLabel = 118 ∷ 105 ∷ 101 ∷ 119 ∷ 32 ∷ []
-
--- "moves "
-abbrev pub movesLabel : List ℕ
-movesLabel = 109 ∷ 111 ∷ 118 ∷ 101 ∷ 115 ∷ 32 ∷ []
-
--- "shard "
-abbrev pub shardLabel : List ℕ
-shardLabel = 115 ∷ 104 ∷ 97 ∷ 114 ∷ 100 ∷ 32 ∷ []
-
--- " holder "
-abbrev pub holderLabel : List ℕ
-holderLabel = 32 ∷ 104 ∷ 111 ∷ 108 ∷ 100 ∷ 101 ∷ 114 ∷ 32 ∷ []
-
--- " target "
-abbrev pub targetLabel : List ℕ
-targetLabel = 32 ∷ 116 ∷ 97 ∷ 114 ∷ 103 ∷ 101 ∷ 116 ∷ 32 ∷ []
-
--- " members"
-abbrev pub membersLabel : List ℕ
-membersLabel = 32 ∷ 109 ∷ 101 ∷ 109 ∷ 98 ∷ 101 ∷ 114 ∷ 115 ∷ []
-
--- wait r v
-unfoldable pub waitFor : ℕ → ℕ → List ℕ
-waitFor reason value = field waitLabel reason ++ line space value
-
--- the reason's number, then its shard or subgroup if there is one
-unfoldable pub waitLine : Reason → List ℕ
-waitLine NoView = line waitLabel (numberOf NoView)
-waitLine NoMajority = line waitLabel (numberOf NoMajority)
-waitLine TooFew = line waitLabel (numberOf TooFew)
-waitLine (NoHolder s) = waitFor (numberOf (NoHolder s)) (valueOf (NoHolder s))
-waitLine (NoPlacement g) = waitFor (numberOf (NoPlacement g)) (valueOf (NoPlacement g))
-
--- shard s holder h target v k members n ..
-unfoldable pub shardLine : Plan → ℕ → List ℕ
-shardLine p s =
-    field shardLabel s
-    ++ (field holderLabel (holderAt p s)
-    ++ (field targetLabel (targetAt p s .view .0)
-    ++ (field space (targetAt p s .k)
-    ++ (membersLabel
-    ++ (membersBelow 32 (getD (p .layout .masks) s 0)
-    ++ newline)))))
-
--- the lines of the shards below n
-unfoldable pub shardLines : Plan → ℕ → List ℕ
-shardLines p zero = []
-shardLines p (suc n) = shardLines p n ++ shardLine p n
-
--- the plan of n shards: the new view, the moves, and a line for each shard
-unfoldable pub planLines : Plan → ℕ → List ℕ
-planLines p n = line viewLabel (p .layout .number .0) ++ (line movesLabel (p .total) ++ shardLines p n)
+use Rattle.report_views.specs.Definitions.{holderAt, targetAt}
+use Rattle.program_text.specs.Definitions.{field, line, space, numberLine}
+use Rattle.program_text.specs.Text.{field-length, line-length, number-line-length}
+use Rattle.program_lines.specs.Definitions.{membersBelow, movesLabel, holderLabel, membersLabel, newline, shardLabel, targetLabel, shardLine, shardLines, viewLabel, planLines, waitLabel, waitFor, waitLine}
+use Rattle.program_lines.specs.Members.{members-length}
 
 -- its end, by the mask of the members
 unfoldable pub carriers : ℕ → List ℕ

@@ -1,4 +1,4 @@
--- The members of a mask as text. Laws: one more node, and how long the text can be.
+-- Laws of the members of a mask as text: one more node, and how long the text can be.
 use Prim.Native.Nat.{ℕ, zero, suc, _+_, _*_, _≤_}
 use mathlib.Core.Bool.{true, false, cond}
 use mathlib.Core.List.{List, [], _∷_, _++_}
@@ -7,17 +7,10 @@ use native.Mathlib.Numerals.{add-one}
 use native.Mathlib.Omega.{arith}
 use lib.ListN.{length, length-append}
 use Rattle.base_laws.specs.Bools.{cond-of}
-use Rattle.base_laws.specs.Masks.{has}
-use Rattle.program_text.specs.Text.{field, field-length}
-
--- node n after a space, if it is in the mask m
-unfoldable pub member : ℕ → ℕ → List ℕ
-member m n = cond (has m n) (field (32 ∷ []) n) []
-
--- the nodes below n that are in the mask m, ascending
-unfoldable pub membersBelow : ℕ → ℕ → List ℕ
-membersBelow zero m = []
-membersBelow (suc n) m = membersBelow n m ++ member m n
+use Rattle.base_laws.specs.Definitions.{has}
+use Rattle.program_text.specs.Definitions.{field}
+use Rattle.program_text.specs.Text.{field-length}
+use Rattle.program_lines.specs.Definitions.{member, membersBelow}
 
 -- ---- laws
 

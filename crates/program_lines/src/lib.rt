@@ -1,5 +1,7 @@
 // What a run prints, as text in lent bytes. Each function puts its text from a place on and answers the place after it; what
 // would lie past the end of the bytes is left out.
+pub mod decision;
+
 use base_ids::Node;
 use base_ids::Position;
 use base_ids::Refusal;
@@ -9,10 +11,9 @@ use report_views::Reason;
 ghost use mathlib.Core.List.{_++_};
 ghost use Prim.Native.Nat.{_≤_, _<_};
 ghost use lib.ListN.{length};
-ghost use Rattle.program_text.specs.Text.{numberLine};
-ghost use Rattle.program_text.specs.Text.{field as Text·field, line as Text·line};
-ghost use Rattle.program_text.specs.Puts.{Puts};
-ghost use Rattle.program_lines.specs.Members.{member, membersBelow};
+ghost use Rattle.program_text.specs.Definitions.{numberLine, field as Text·field, line as Text·line, Puts};
+ghost use Rattle.program_lines.specs.Definitions.{member, membersBelow};
+ghost use Rattle.program_lines.specs.Definitions as Definitions;
 ghost use Rattle.program_lines.specs.Lines as Lines;
 
 // Two labels, each with its number.
@@ -82,7 +83,7 @@ fn put_entry(
 fn put_shard(out: &mut [u8], at: usize, plan: Plan, s: usize) -> usize
     requires { ⌜ at ≤ length (now out) ⌝ }
     requires { ⌜ s < 16 ⌝ }
-    ensures { λ r. ⌜ Puts (now (out .entry)) at (Lines.shardLine plan s) (now (out .exit)) r ⌝ }
+    ensures { λ r. ⌜ Puts (now (out .entry)) at (Definitions.shardLine plan s) (now (out .exit)) r ⌝ }
 {
     let layout = plan.layout;
     put_entry(
@@ -99,7 +100,7 @@ fn put_shard(out: &mut [u8], at: usize, plan: Plan, s: usize) -> usize
 fn put_shards(out: &mut [u8], at: usize, plan: Plan, n: usize) -> usize
     requires { ⌜ at ≤ length (now out) ⌝ }
     requires { ⌜ n ≤ 16 ⌝ }
-    ensures { λ r. ⌜ Puts (now (out .entry)) at (Lines.shardLines plan n) (now (out .exit)) r ⌝ }
+    ensures { λ r. ⌜ Puts (now (out .entry)) at (Definitions.shardLines plan n) (now (out .exit)) r ⌝ }
 {
     let mut next = at;
     let mut s = 0;
@@ -113,7 +114,7 @@ fn put_shards(out: &mut [u8], at: usize, plan: Plan, n: usize) -> usize
 // The lines of a plan of n shards.
 pub fn plan_lines(out: &mut [u8], plan: Plan, n: usize) -> usize
     requires { ⌜ n ≤ 16 ⌝ }
-    ensures { λ r. ⌜ Puts (now (out .entry)) 0 (Lines.planLines plan n) (now (out .exit)) r ⌝ }
+    ensures { λ r. ⌜ Puts (now (out .entry)) 0 (Definitions.planLines plan n) (now (out .exit)) r ⌝ }
 {
     let layout = plan.layout;
     let number = layout.number;
@@ -131,13 +132,13 @@ pub fn number_line(out: &mut [u8], refusal: Refusal) -> usize
 
 // The line of a wait that names nothing, and of one that names a shard or a subgroup.
 fn wait_of(out: &mut [u8], reason: u32) -> usize
-    ensures { λ r. ⌜ Puts (now (out .entry)) 0 (Text·line Lines.waitLabel reason) (now (out .exit)) r ⌝ }
+    ensures { λ r. ⌜ Puts (now (out .entry)) 0 (Text·line Definitions.waitLabel reason) (now (out .exit)) r ⌝ }
 {
     program_text::put_line(out, 0, b"wait ", reason)
 }
 
 fn wait_for(out: &mut [u8], reason: u32, value: u32) -> usize
-    ensures { λ r. ⌜ Puts (now (out .entry)) 0 (Lines.waitFor reason value) (now (out .exit)) r ⌝ }
+    ensures { λ r. ⌜ Puts (now (out .entry)) 0 (Definitions.waitFor reason value) (now (out .exit)) r ⌝ }
 {
     let next = program_text::put_field(out, 0, b"wait ", reason);
     program_text::put_line(out, next, b" ", value)
@@ -145,7 +146,7 @@ fn wait_for(out: &mut [u8], reason: u32, value: u32) -> usize
 
 // The line of a wait: its reason, then its shard or subgroup if there is one.
 pub fn wait_line(out: &mut [u8], reason: Reason) -> usize
-    ensures { λ r. ⌜ Puts (now (out .entry)) 0 (Lines.waitLine reason) (now (out .exit)) r ⌝ }
+    ensures { λ r. ⌜ Puts (now (out .entry)) 0 (Definitions.waitLine reason) (now (out .exit)) r ⌝ }
 {
     match reason {
         Reason::NoView => wait_of(out, 1),

@@ -6,29 +6,30 @@ use mathlib.Core.Path.{_≡_, refl, sym, ap, ap₂, _∙_, subst}
 use native.Mathlib.Omega.{arith}
 use lib.ListN.{length, getD, take, replicate, length-replicate, getD-replicate}
 use Rattle.base_laws.specs.Tables.{tabulate-same, zeros}
-use Rattle.base_bytes.specs.Words.{wordAt, wordsOf}
-use Rattle.base_lent.specs.Lent.{wordsIn, all-words}
-use Rattle.program_blocks.specs.Blocks.{blocks}
+use Rattle.base_bytes.specs.Definitions.{wordAt, wordsOf}
+use Rattle.base_lent.specs.Definitions.{wordsIn}
+use Rattle.base_lent.specs.Lent.{all-words}
+use Rattle.program_blocks.specs.Definitions.{blocks}
 use Rattle.program_input.specs.declared.Source.{Source}
 use Rattle.program_input.specs.declared.Source.the-variants.{Open, Over, Failed, Endless}
 use Rattle.program_input.specs.declared.Input.{Input}
-use Rattle.program_input.specs.Inputs.{unread, isCut, MayFollow, ReadsOn, no-read, one-more}
+use Rattle.program_input.specs.Definitions.{unread, isCut, MayFollow, ReadsOn, no-read, one-more}
 use Rattle.program_run.specs.declared.Run.{Run}
-use Rattle.program_run.specs.Runs.{Started, after, atStart}
-use Rattle.program_run.specs.Machine.{started, progress, closedAt, ahead, ReadyRun, Feeds, Closes}
+use Rattle.program_run.specs.Definitions.{Started, after, atStart, startedRun, progressOf, closedAt, ahead, ReadyRun, Feeds, Closes}
 use Rattle.program_run.specs.Steps.{feeds-none, feeds-then}
 use Rattle.program_run.specs.Whole.{started-ready, closed-same, run-comes}
 use Rattle.program_reading.specs.declared.Intake.{Intake}
-use Rattle.program_reading.specs.Reading.{goesOn, Turns, FedSoFar, ReadsAll, ReadsRun, Answers}
+use Rattle.program_reading.specs.Definitions.{goesOn, ReadsMore, FedSoFar, ReadsAll, Answers}
+use Rattle.program_reading.specs.Reading.{ReadsRun}
 
 -- before the first read, and after one more
-pub fed-first : {d bytes : List ℕ} {r : Run} {x : Input} → length bytes ≡ 2056 → r ≡ started → x ≡ unread
+pub fed-first : {d bytes : List ℕ} {r : Run} {x : Input} → length bytes ≡ 2056 → r ≡ startedRun → x ≡ unread
     → FedSoFar d bytes (record { run = r; input = x }) d bytes
 fed-first {d} {bytes} h e u =
     subst (λ (i : Intake). FedSoFar d bytes i d bytes) (sym (ap₂ (λ (a : Run) (y : Input). record { run = a; input = y }) e u))
     (record { came = []; reads = no-read; feeds = feeds-none (started-ready bytes h) })
 
-pub fed-then : {d bytes gave : List ℕ} {x r : Intake} {e b f c : List ℕ} → FedSoFar d bytes x e b → Turns x e b gave r f c → FedSoFar d bytes r f c
+pub fed-then : {d bytes gave : List ℕ} {x r : Intake} {e b f c : List ℕ} → FedSoFar d bytes x e b → ReadsMore x e b gave r f c → FedSoFar d bytes r f c
 fed-then {gave = gave} {x} {r} p t =
     record { came = p .came ++ gave; reads = one-more (p .came) gave (x .input) (r .input) (p .reads) (t .reads); feeds = feeds-then (p .feeds) (t .feeds) }
 
@@ -40,7 +41,7 @@ feeds-front {run} {d} {bytes} {r} {e} {b} n xs p =
     subst (λ (k : ℕ). Feeds run d bytes (take k xs) r e b) same p
 
 pub turns-by : {d bytes : List ℕ} {s : Run} {e b : List ℕ} (x : Intake) (y : Input) (buffer : List ℕ) (n : ℕ) → ReadsOn (x .input) (take (y .got) buffer) y
-    → n ≡ y .got → Feeds (x .run) d bytes (take n buffer) s e b → Turns x d bytes (take (y .got) buffer) (record { run = s; input = y }) e b
+    → n ≡ y .got → Feeds (x .run) d bytes (take n buffer) s e b → ReadsMore x d bytes (take (y .got) buffer) (record { run = s; input = y }) e b
 turns-by {d} {bytes} {s} {e} {b} x y buffer n reads h feeds =
     record { reads = reads; feeds = subst (λ (k : ℕ). Feeds (x .run) d bytes (take k buffer) s e b) h feeds }
 
@@ -104,7 +105,7 @@ module _ (Says : List ℕ → List ℕ → Type 0) {d : List ℕ} {r : Intake} {
 
   -- n bytes say what is to be said of every input that leads where the run has come
   pub answers-by : (out : List ℕ) (n : ℕ) → d ≡ replicate 16384 0 → isCut (r .input .source) ≡ false → n ≤ length out
-      → ((input : List ℕ) → progress (r .run) e ≡ after atStart (blocks input) → Says input (take n out))
+      → ((input : List ℕ) → progressOf (r .run) e ≡ after atStart (blocks input) → Says input (take n out))
       → Answers Says out (record { len = n; input = r .input })
   answers-by out n empty c fits says =
       record {

@@ -1,37 +1,12 @@
--- What reading promises. No contract can say which bytes a read gives: the promise is of the bytes that came, whatever they are.
-use Prim.Native.Nat.{ℕ, _≤_}
-use mathlib.Core.Bool.{Bool, true, false, cond}
+-- A run that was read to its end.
+use Prim.Native.Nat.{ℕ}
+use mathlib.Core.Bool.{false}
 use mathlib.Core.List.{List, _++_}
 use mathlib.Core.Path.{_≡_}
-use lib.ListN.{length, take}
-use Rattle.program_blocks.specs.Blocks.{blocks}
-use Rattle.program_input.specs.declared.Source.{Source}
-use Rattle.program_input.specs.Inputs.{mayCome, isCut, MayFollow, ReadsOn, Came}
-use Rattle.program_run.specs.declared.Stage.{Stage}
-use Rattle.program_run.specs.Runs.{Started, after}
-use Rattle.program_run.specs.Machine.{started, progress, closedAt, RightSettings, Feeds}
+use Rattle.program_blocks.specs.Definitions.{blocks}
+use Rattle.program_input.specs.Definitions.{isCut, MayFollow, Came}
+use Rattle.program_run.specs.Definitions.{Started, after, progressOf, RightSettings}
 use Rattle.program_reading.specs.declared.Intake.{Intake}
-use Rattle.program_reading.specs.declared.Reply.{Reply}
-
--- more may come, and the run still takes it
-abbrev pub goesOn : Source → Stage → Bool
-goesOn s k = cond (closedAt k) false (mayCome s)
-
--- one read more: the bytes that it gave are fed
-pub record Turns (x : Intake) (d bytes gave : List ℕ) (r : Intake) (e b : List ℕ) : Type 0 where
-  pub reads : ReadsOn (x .input) gave (r .input)
-  pub feeds : Feeds (x .run) d bytes gave (r .run) e b
-
--- reads, one after another, lead from the start, and what they gave is fed
-pub record FedSoFar (d bytes : List ℕ) (r : Intake) (e b : List ℕ) : Type 0 where
-  pub came : List ℕ
-  pub reads : Came came (r .input)
-  pub feeds : Feeds started d bytes came (r .run) e b
-
--- .. until the last of them gave nothing or failed, or the run is closed
-pub record ReadsAll (d bytes : List ℕ) (r : Intake) (e b : List ℕ) : Type 0 where
-  pub fed : FedSoFar d bytes r e b
-  pub ended : goesOn (r .input .source) (r .run .stage) ≡ false
 
 -- the run, closed, is what the bytes that came lead to, and whatever may follow them, unless the input was cut
 pub record ReadsRun (d : List ℕ) (r : Intake) (e : List ℕ) : Type 0 where
@@ -39,13 +14,4 @@ pub record ReadsRun (d : List ℕ) (r : Intake) (e : List ℕ) : Type 0 where
   pub reads : Came came (r .input)
   pub settled : RightSettings (r .run)
   pub leads : isCut (r .input .source) ≡ false → (rest : List ℕ) → MayFollow (r .input .source) rest
-      → progress (r .run) e ≡ after (Started d) (blocks (came ++ rest))
-
--- the first bytes of `out` are what is said for the bytes that came and whatever may follow them; nothing where the input was cut.
--- Says input text: the text is what the program prints for the input.
-pub record Answers (Says : List ℕ → List ℕ → Type 0) (out : List ℕ) (r : Reply) : Type 0 where
-  pub came : List ℕ
-  pub reads : Came came (r .input)
-  pub printed : isCut (r .input .source) ≡ false → (rest : List ℕ) → MayFollow (r .input .source) rest → Says (came ++ rest) (take (r .len) out)
-  pub silent : isCut (r .input .source) ≡ true → r .len ≡ 0
-  pub within : r .len ≤ length out
+      → progressOf (r .run) e ≡ after (Started d) (blocks (came ++ rest))

@@ -4,9 +4,10 @@ use program_run::Run;
 ghost use mathlib.Core.Path.{_≡_};
 ghost use Prim.Native.Nat.{_≤_};
 ghost use lib.ListN.{length, take};
-ghost use Rattle.base_lent.specs.Lent.{wordsIn};
-ghost use Rattle.program_run.specs.Machine.{ReadyRun, Feeds};
-ghost use Rattle.program_reading.specs.Reading.{goesOn, Turns, ReadsAll, ReadsRun};
+ghost use Rattle.base_lent.specs.Definitions.{wordsIn};
+ghost use Rattle.program_run.specs.Definitions.{ReadyRun, Feeds};
+ghost use Rattle.program_reading.specs.Definitions.{goesOn, ReadsMore, ReadsAll};
+ghost use Rattle.program_reading.specs.Reading.{ReadsRun};
 
 // The run to which the input has led, and the input as far as it was read.
 pub struct Intake {
@@ -45,7 +46,7 @@ fn fed(run: Run, desk: &mut [u8], bytes: &mut [u8], buffer: &[u8], n: usize) -> 
 fn turn(intake: Intake, desk: &mut [u8], bytes: &mut [u8], buffer: &mut [u8; 4096]) -> Intake
     requires { ⌜ ReadyRun (intake .run) (now bytes) ⌝ }
     requires { ⌜ length (now desk) ≡ 65536 ⌝ }
-    ensures { λ r. ⌜ Turns intake (wordsIn (now (desk .entry))) (now (bytes .entry)) (take (r .input .got) (now (buffer .exit))) r (wordsIn (now (desk .exit))) (now (bytes .exit)) ⌝ }
+    ensures { λ r. ⌜ ReadsMore intake (wordsIn (now (desk .entry))) (now (bytes .entry)) (take (r .input .got) (now (buffer .exit))) r (wordsIn (now (desk .exit))) (now (bytes .exit)) ⌝ }
 {
     let input = intake.input;
     let next = input.read(buffer);

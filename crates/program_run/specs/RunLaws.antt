@@ -9,19 +9,21 @@ use lib.Dec.{eqb, leb}
 use lib.ListN.{length, drop, length-drop}
 use borrow.Author.Tests.{lt-leb}
 use Rattle.base_laws.specs.Bools.{either, no-true, and-fails-left, and-fails-right, lt-or-le}
-use Rattle.settings_values.specs.Settings.{settingsOk}
+use Rattle.settings_values.specs.Definitions.{settingsOk}
 use Rattle.settings_values.specs.Laws.{settings-give}
 use Rattle.base_ids.specs.declared.Refusal.{Refusal}
-use Rattle.base_ids.specs.Refusals.{refused, accepted, firstOf, first-refused, unless-false}
+use Rattle.base_ids.specs.Definitions.{refused, accepted, firstOf}
+use Rattle.base_ids.specs.Refusals.{first-refused, unless-false}
 use Rattle.message_format.specs.declared.Form.the-variants.{Report}
-use Rattle.message_format.specs.Chain.{row5}
-use Rattle.message_format.specs.Messages.{messageRefusal, contentsOf}
-use Rattle.report_kept.specs.Reports.{keptRefusal, refusalBeside}
+use Rattle.message_format.specs.Definitions.{row5, messageRefusal, contentsOf}
+use Rattle.report_kept.specs.Definitions.{keptRefusal, refusalBeside}
 use Rattle.state_planner.specs.declared.State.{State}
-use Rattle.state_planner.specs.Refusing.{reportRefusal, entryRefusal, deskOk, isGathering}
-use Rattle.state_planner.specs.Events.{reported, deskAfter}
-use Rattle.program_blocks.specs.Blocks.{blockCount, blocks, needed, wholeWords, Long, length-whole, needed-ends, needed-short, needed-long, blocks-none, blocks-cut, blocks-whole, blocks-long}
-use Rattle.program_run.specs.Runs.{Progress, Started, Underway, Ended, opened, told, taking, deskIn, after}
+use Rattle.state_planner.specs.Definitions.{reportRefusal, entryRefusal, deskOk, reported, deskAfter}
+use Rattle.report_views.specs.Definitions.{isGathering}
+use Rattle.program_blocks.specs.Definitions.{blockCount, blocks, needed, wholeWords}
+use Rattle.program_blocks.specs.Blocks.{Long, length-whole, needed-ends, needed-short, needed-long, blocks-none, blocks-cut, blocks-whole, blocks-long}
+use Rattle.program_run.specs.Definitions.{Progress, Started, Underway, Ended, opened, toldReports, taking, after}
+use Rattle.program_run.specs.Runs.{deskIn}
 
 -- nothing follows a refusal
 pub after-ended : (r : Refusal) (d : List ℕ) (ws : List (List ℕ)) → after (Ended r d) ws ≡ Ended r d
@@ -58,7 +60,7 @@ unfolding firstOf
 refuses r = ⊎-elim (λ e. rw e) (λ e. rw e e) (either (accepted r))
 
 next-long : (p : Progress) (w : List ℕ) → 512 < length w → taking p w ≡ Ended (longRefusal p) (deskIn p)
-unfolding longRefusal deskIn taking opened told
+unfolding longRefusal deskIn taking opened toldReports
 next-long (Started d) w h = rw (long-settings w h)
 next-long (Underway σ x d) w h =
     let e : reportRefusal σ x d w ≡ longRefusal (Underway σ x d) = long-report σ x d w h in

@@ -8,36 +8,36 @@ use native.Mathlib.Omega.{arith}
 use lib.ListN.{length, take, drop, length-take, drop-of-length-le}
 use lib.Seq.{take-all, take-add, length-take-le}
 use Rattle.base_laws.specs.Bools.{either}
-use Rattle.base_laws.specs.Tables.{part-front, part-end, padded, length-padded, front-padded}
-use Rattle.settings_values.specs.Settings.{settingsOk, Settings}
+use Rattle.base_laws.specs.Definitions.{padded}
+use Rattle.base_laws.specs.Tables.{part-front, part-end, length-padded, front-padded}
+use Rattle.settings_values.specs.Definitions.{settingsOk, Settings}
 use Rattle.settings_values.specs.Laws.{settings-give}
 use Rattle.base_ids.specs.declared.Refusal.{Refusal}
-use Rattle.base_ids.specs.Refusals.{refused, accepted}
+use Rattle.base_ids.specs.Definitions.{refused, accepted}
 use Rattle.state_planner.specs.declared.State.{State}
 use Rattle.state_planner.specs.declared.Answer.{Answer}
 use Rattle.state_planner.specs.declared.Outcome.{Outcome}
 use Rattle.state_planner.specs.declared.Decision.{Decision}
 use Rattle.state_planner.specs.declared.Decided.{Decided}
-use Rattle.state_planner.specs.Refusing.{reportRefusal, decideRefusal, deskOk, isGathering}
-use Rattle.state_planner.specs.Events.{reported, deskAfter, afterReport}
+use Rattle.state_planner.specs.Definitions.{reportRefusal, decideRefusal, deskOk, reported, deskAfter, afterReport, Decides, fresh}
+use Rattle.report_views.specs.Definitions.{isGathering}
 use Rattle.state_planner.specs.EventLaws.{outcome-accepted, outcome-refused, entry-settings}
-use Rattle.state_planner.specs.Decide.{Decides}
-use Rattle.state_planner.specs.States.{fresh}
-use Rattle.message_format.specs.Messages.{contentsOf}
+use Rattle.message_format.specs.Definitions.{contentsOf}
 use Rattle.program_blocks.specs.declared.Block.{Block}
-use Rattle.program_blocks.specs.Blocks.{blocks, needed, wholeWords, length-whole, needed-ends}
+use Rattle.program_blocks.specs.Definitions.{blocks, needed, wholeWords, nextPlace, bytesLaid}
+use Rattle.program_blocks.specs.Blocks.{length-whole, needed-ends}
 use Rattle.program_blocks.specs.Held.{held}
-use Rattle.program_intake.specs.Intake.{Lacks, BytesCome, nextPlace, bytesLaid, placed-waits, placed-whole, laid-none, gathered-laid, gathered-size, gathered-come, gathered-within, gathered-some, gathered-fed}
-use Rattle.program_text.specs.Text.{numberLine}
+use Rattle.program_blocks.specs.Intake.{Lacks, BytesCome, placed-waits, placed-whole, laid-none, gathered-laid, gathered-size, gathered-come, gathered-within, gathered-some, gathered-fed}
+use Rattle.program_text.specs.Definitions.{numberLine, Puts}
 use Rattle.program_lines.specs.Lines.{number-length}
-use Rattle.program_text.specs.Puts.{Puts}
-use Rattle.program_decision.specs.Decisions.{decisionText, PutsDecision}
+use Rattle.program_lines.specs.Definitions.{decisionText}
+use Rattle.program_lines.specs.Decisions.{PutsDecision}
 use Rattle.program_run.specs.declared.Stage.{Stage}
 use Rattle.program_run.specs.declared.Stage.the-variants.{Opening, Open, Closed}
 use Rattle.program_run.specs.declared.Run.{Run}
-use Rattle.program_run.specs.Runs.{Progress, Underway, Ended, opened, told, taking, after, Prints}
+use Rattle.program_run.specs.Definitions.{Progress, Underway, Ended, opened, toldReports, taking, after, Prints, RightSettings, progressOf, progressAt, ahead, ReadyRun, Feeds, Closes, Writes}
 use Rattle.program_run.specs.RunLaws.{after-block, after-cut, after-none}
-use Rattle.program_run.specs.Machine.{RightSettings, progress, progressAt, closedBy, pendingBytes, ahead, ReadyRun, BytesGathered, Comes, Takes, Opens, Feeds, Closes, Writes}
+use Rattle.program_run.specs.Machine.{closedBy, pendingBytes, BytesGathered, Comes, TakesInBlock, Opens}
 
 -- ---- the settings of a run
 
@@ -53,8 +53,8 @@ settled-right run s h = subst Settings (sym (part-front (run .words) (run .setti
 
 -- accepted and refused, by the answer
 told-accepted : (σ : List ℕ) (x : State) (d w : List ℕ) → reported σ x d w .answer ≡ Answer.Accepted
-    → told σ x d w ≡ Underway σ (reported σ x d w .state) (deskAfter σ x d w)
-unfolding told reported
+    → toldReports σ x d w ≡ Underway σ (reported σ x d w .state) (deskAfter σ x d w)
+unfolding toldReports reported
 told-accepted σ x d w h =
     ⊎-elim (λ e. rw e)
     (λ e.
@@ -64,8 +64,8 @@ told-accepted σ x d w h =
     (either (accepted (reportRefusal σ x d w)))
 
 told-refused : (σ : List ℕ) (x : State) (d w : List ℕ) (r : Refusal) → reported σ x d w .answer ≡ Answer.Refused r
-    → told σ x d w ≡ Ended r d
-unfolding told reported
+    → toldReports σ x d w ≡ Ended r d
+unfolding toldReports reported
 told-refused σ x d w r h =
     ⊎-elim
     (λ e.
@@ -92,7 +92,7 @@ desk-refused σ x d w r h =
 
 module _ (run : Run) (d : List ℕ) where
   -- the stage of a run tells what it has come to
-  progress-is : (s : Stage) → run .stage ≡ s → progress run d ≡ progressAt s (take (run .words) (run .settings)) (run .state) d
+  progress-is : (s : Stage) → run .stage ≡ s → progressOf run d ≡ progressAt s (take (run .words) (run .settings)) (run .state) d
   progress-is s h = ap (λ (k : Stage). progressAt k (take (run .words) (run .settings)) (run .state) d) h
 
   -- a report that is accepted, and one that is refused
@@ -102,12 +102,12 @@ module _ (run : Run) (d : List ℕ) where
     own : o ≡ reported (take (run .words) (run .settings)) (run .state) d w
     own = given ∙ ap (λ (σ : List ℕ). reported σ (run .state) d w) (part-front (run .words) (run .settings))
 
-    told-next : taking (progress run d) w ≡ told (take (run .words) (run .settings)) (run .state) d w
+    told-next : taking (progressOf run d) w ≡ toldReports (take (run .words) (run .settings)) (run .state) d w
     unfolding progressAt taking
     told-next = ap (λ (p : Progress). taking p w) (progress-is Open h)
 
     pub report-accepted : o .answer ≡ Answer.Accepted
-        → Takes run d w (record { stage = run .stage; state = o .state; settings = run .settings; words = run .words; pending = run .pending }) e
+        → TakesInBlock run d w (record { stage = run .stage; state = o .state; settings = run .settings; words = run .words; pending = run .pending }) e
     unfolding progressAt
     report-accepted a =
         record {
@@ -120,10 +120,10 @@ module _ (run : Run) (d : List ℕ) where
           settled = settled;
         }
 
-    pub report-refused : (x : Refusal) (r : Run) → o .answer ≡ Answer.Refused x → r ≡ closedBy run x → Takes run d w r e
+    pub report-refused : (x : Refusal) (r : Run) → o .answer ≡ Answer.Refused x → r ≡ closedBy run x → TakesInBlock run d w r e
     unfolding progressAt
     report-refused x r a c =
-        subst (λ (s : Run). Takes run d w s e) (sym c)
+        subst (λ (s : Run). TakesInBlock run d w s e) (sym c)
         (record {
           leads =
               ap (Ended x)
@@ -159,20 +159,20 @@ module _ (run : Run) (w : List ℕ) where
 -- ---- a block
 
 module _ (run : Run) (d w : List ℕ) where
-  pub takes-first : (r : Run) → run .stage ≡ Opening → Opens run w r → Takes run d w r d
+  pub takes-first : (r : Run) → run .stage ≡ Opening → Opens run w r → TakesInBlock run d w r d
   unfolding progressAt taking
   takes-first r h o =
       record { leads = o .leads d ∙ sym (ap (λ (p : Progress). taking p w) (progress-is run d Opening h)); pending = o .pending; settled = o .settled }
 
-  pub takes-none : (x : Refusal) → run .stage ≡ Closed x → RightSettings run → Takes run d w run d
+  pub takes-none : (x : Refusal) → run .stage ≡ Closed x → RightSettings run → TakesInBlock run d w run d
   unfolding progressAt taking
   takes-none x h settled =
-      let e : progress run d ≡ Ended x d = progress-is run d (Closed x) h in
+      let e : progressOf run d ≡ Ended x d = progress-is run d (Closed x) h in
       record { leads = e ∙ sym (ap (λ (p : Progress). taking p w) e); pending = refl; settled = settled }
 
 -- the words of the block, as they are lent
-pub takes-as : (run : Run) (d v w : List ℕ) (r : Run) (e : List ℕ) → v ≡ w → Takes run d v r e → Takes run d w r e
-takes-as run d v w r e h t = subst (λ (x : List ℕ). Takes run d x r e) h t
+pub takes-as : (run : Run) (d v w : List ℕ) (r : Run) (e : List ℕ) → v ≡ w → TakesInBlock run d v r e → TakesInBlock run d w r e
+takes-as run d v w r e h t = subst (λ (x : List ℕ). TakesInBlock run d x r e) h t
 
 pub block-front : (b : Block) (bytes : List ℕ) → length bytes ≤ 2052 → b ≡ held bytes → take (b .len - 0) (b .table) ≡ wholeWords bytes
 block-front b bytes h e =
@@ -241,7 +241,7 @@ module _ (run : Run) (bytes : List ℕ) (end : ℕ) (gathered : BytesGathered ru
           settled = gathered .settled;
         }
 
-    pub settle-takes : (d : List ℕ) (r : Run) (e : List ℕ) → Takes (pendingBytes run 0) d (wholeWords (take (end - 4) (drop 4 bytes))) r e
+    pub settle-takes : (d : List ℕ) (r : Run) (e : List ℕ) → TakesInBlock (pendingBytes run 0) d (wholeWords (take (end - 4) (drop 4 bytes))) r e
         → Feeds (pendingBytes run end) d bytes [] r e bytes
     unfolding ahead
     settle-takes d r e t =
@@ -256,8 +256,8 @@ module _ (run : Run) (bytes : List ℕ) (end : ℕ) (gathered : BytesGathered ru
           same =
               λ rest.
               ap₂ (λ (p : Progress) (k : ℕ). after p (blocks (take k bytes ++ rest)))
-              (t .leads ∙ ap (λ (l : List ℕ). taking (progress run d) (wholeWords l)) (part-end 4 end bytes)) none
-              ∙ sym (after-block (progress run d) (take end bytes) rest whole);
+              (t .leads ∙ ap (λ (l : List ℕ). taking (progressOf run d) (wholeWords l)) (part-end 4 end bytes)) none
+              ∙ sym (after-block (progressOf run d) (take end bytes) rest whole);
         }
 
 -- ---- bytes that are gathered
@@ -292,7 +292,7 @@ module _ (run : Run) (bytes fed : List ℕ) (i : ℕ) (now : List ℕ) (end : �
         same =
             λ rest.
             f .same rest
-            ∙ ap (λ (l : List ℕ). after (progress run d) (blocks l))
+            ∙ ap (λ (l : List ℕ). after (progressOf run d) (blocks l))
             (ap (λ (l : List ℕ). l ++ rest) (gathered-come bytes (run .pending) fed i now end (ready-lacks run bytes ready) g)
             ∙ append-assoc (take (run .pending) bytes) (take (end - run .pending) (drop i fed)) rest);
       }
@@ -330,12 +330,12 @@ module _ (run : Run) (d bytes : List ℕ) (ready : ReadyRun run bytes) where
   pub close-none : run .pending < 4 → Closes run d bytes run d
   unfolding ahead
   close-none h =
-      record { leads = sym (after-none (progress run d) (take (run .pending) bytes) (omega (arith, come-size run bytes ready))); settled = ready .settled }
+      record { leads = sym (after-none (progressOf run d) (take (run .pending) bytes) (omega (arith, come-size run bytes ready))); settled = ready .settled }
 
   pub cut-comes : 4 ≤ run .pending → Comes run bytes (run .pending)
   cut-comes h = record { room = ready .room; count = h; within = omega (arith, pending-room run bytes ready); settled = ready .settled }
 
-  pub close-cut : 4 ≤ run .pending → (r : Run) (e : List ℕ) → Takes (pendingBytes run 0) d (wholeWords (take (run .pending - 4) (drop 4 bytes))) r e
+  pub close-cut : 4 ≤ run .pending → (r : Run) (e : List ℕ) → TakesInBlock (pendingBytes run 0) d (wholeWords (take (run .pending - 4) (drop 4 bytes))) r e
       → Closes run d bytes r e
   unfolding ahead
   close-cut h r e t =
@@ -343,15 +343,15 @@ module _ (run : Run) (d bytes : List ℕ) (ready : ReadyRun run bytes) where
       let c = ready .coming in
       record {
         leads =
-            t .leads ∙ ap (λ (l : List ℕ). taking (progress run d) (wholeWords l)) (part-end 4 (run .pending) bytes)
-            ∙ sym (after-cut (progress run d) (take (run .pending) bytes) (omega arith) (omega arith));
+            t .leads ∙ ap (λ (l : List ℕ). taking (progressOf run d) (wholeWords l)) (part-end 4 (run .pending) bytes)
+            ∙ sym (after-cut (progressOf run d) (take (run .pending) bytes) (omega arith) (omega arith));
         settled = t .settled;
       }
 
 -- ---- what is printed
 
 module _ (run : Run) (d out after : List ℕ) (n : ℕ) where
-  pub writes-opening : run .stage ≡ Opening → Puts out 0 (numberLine (refused 2)) after n → Writes (progress run d) out after n
+  pub writes-opening : run .stage ≡ Opening → Puts out 0 (numberLine (refused 2)) after n → Writes (progressOf run d) out after n
   unfolding progressAt Prints
   writes-opening h p =
       record {
@@ -361,7 +361,7 @@ module _ (run : Run) (d out after : List ℕ) (n : ℕ) where
         puts = p;
       }
 
-  pub writes-closed : (r : Refusal) → run .stage ≡ Closed r → Puts out 0 (numberLine r) after n → Writes (progress run d) out after n
+  pub writes-closed : (r : Refusal) → run .stage ≡ Closed r → Puts out 0 (numberLine r) after n → Writes (progressOf run d) out after n
   unfolding progressAt Prints
   writes-closed r h p =
       record {
@@ -373,7 +373,7 @@ module _ (run : Run) (d out after : List ℕ) (n : ℕ) where
 
   -- the text of a decision
   pub writes-decision : (r : Decided) → run .stage ≡ Open → Decides (take (run .words - 0) (run .settings)) (run .state) d r
-      → PutsDecision (take (run .words - 0) (run .settings)) (r .decision) (r .state .plan) out after n → Writes (progress run d) out after n
+      → PutsDecision (take (run .words - 0) (run .settings)) (r .decision) (r .state .plan) out after n → Writes (progressOf run d) out after n
   unfolding progressAt Prints
   writes-decision r h decides says =
       record {

@@ -5,22 +5,23 @@ use mathlib.Core.List.{List, [], _++_, append-nil}
 use mathlib.Core.Path.{_≡_, refl, sym, ap, _∙_, subst, subst⁻¹}
 use native.Mathlib.Omega.{arith}
 use lib.ListN.{length, take, replicate}
-use Rattle.program_blocks.specs.Blocks.{blocks, needed-ends}
+use Rattle.program_blocks.specs.Definitions.{blocks}
+use Rattle.program_blocks.specs.Blocks.{needed-ends}
 use Rattle.program_text.specs.Puts.{puts-first}
 use Rattle.program_run.specs.declared.Stage.{Stage}
 use Rattle.program_run.specs.declared.Stage.the-variants.{Opening, Open, Closed}
 use Rattle.program_run.specs.declared.Run.{Run}
-use Rattle.program_run.specs.Runs.{Progress, Started, atStart, deskIn, after, Prints, Printed}
+use Rattle.program_run.specs.Definitions.{Progress, Started, atStart, after, Prints, Printed, startedRun, progressAt, progressOf, closedAt, ahead, ReadyRun, Feeds, Closes, Writes}
+use Rattle.program_run.specs.Runs.{deskIn}
 use Rattle.program_run.specs.RunLaws.{after-ended}
-use Rattle.program_run.specs.Machine.{started, progressAt, progress, closedAt, ahead, ReadyRun, Feeds, Closes, Writes}
 
 -- a run that has just started is ready
-pub started-ready : (bytes : List ℕ) → length bytes ≡ 2056 → ReadyRun started bytes
+pub started-ready : (bytes : List ℕ) → length bytes ≡ 2056 → ReadyRun startedRun bytes
 started-ready bytes h =
     record { room = h; coming = omega (arith, needed-ends (take 0 bytes) .0); settled = (omega arith, λ h. absurd (let z : _≡_ {A = ℕ} 0 1 = cc in omega arith)) }
 
 -- a run that is closed has come to its end, whatever follows
-pub closed-now : (r : Run) (e b : List ℕ) → closedAt (r .stage) ≡ true → (rest : List ℕ) → ahead r e b rest ≡ progress r e
+pub closed-now : (r : Run) (e b : List ℕ) → closedAt (r .stage) ≡ true → (rest : List ℕ) → ahead r e b rest ≡ progressOf r e
 unfolding ahead progressAt
 closed-now r e b h rest = at (r .stage) h
   where
@@ -36,7 +37,7 @@ closed-same r e b rest h = closed-now r e b h rest ∙ sym (closed-now r e b h [
 
 -- ---- the desk
 
-desk-at : (r : Run) (e : List ℕ) → deskIn (progress r e) ≡ e
+desk-at : (r : Run) (e : List ℕ) → deskIn (progressOf r e) ≡ e
 unfolding deskIn progressAt
 desk-at r e = at (r .stage)
   where
@@ -58,9 +59,9 @@ closed-desk run d bytes r e closes = sym (desk-at r e) ∙ ap deskIn (closes .le
 
 -- ---- the whole run
 
-module _ (d input bytes : List ℕ) (r : Run) (e b : List ℕ) (last : Run) (f : List ℕ) (fed : Feeds started d bytes input r e b) (closes : Closes r e b last f) where
+module _ (d input bytes : List ℕ) (r : Run) (e b : List ℕ) (last : Run) (f : List ℕ) (fed : Feeds startedRun d bytes input r e b) (closes : Closes r e b last f) where
   -- what the bytes that were fed lead to, and those that follow, if they change nothing
-  pub run-comes : (rest : List ℕ) → ahead r e b rest ≡ ahead r e b [] → progress last f ≡ after (Started d) (blocks (input ++ rest))
+  pub run-comes : (rest : List ℕ) → ahead r e b rest ≡ ahead r e b [] → progressOf last f ≡ after (Started d) (blocks (input ++ rest))
   unfolding ahead progressAt
   run-comes rest same = closes .leads ∙ sym same ∙ fed .same rest
 
@@ -74,8 +75,8 @@ writes-printed p out text n writes room input whole =
     (subst (λ (q : Progress). Prints q (writes .text)) whole (writes .prints))
 
 -- the bytes fed, the close and the print give what is printed for those bytes
-pub run-prints : (input bytes : List ℕ) (r : Run) (e b : List ℕ) (last : Run) (f out text : List ℕ) (n : ℕ) → Feeds started (replicate 16384 0) bytes input r e b
-    → Closes r e b last f → Writes (progress last f) out text n → 8192 ≤ length out → Printed input (take n text)
+pub run-prints : (input bytes : List ℕ) (r : Run) (e b : List ℕ) (last : Run) (f out text : List ℕ) (n : ℕ) → Feeds startedRun (replicate 16384 0) bytes input r e b
+    → Closes r e b last f → Writes (progressOf last f) out text n → 8192 ≤ length out → Printed input (take n text)
 run-prints input bytes r e b last f out text n fed closes writes room =
-    writes-printed (progress last f) out text n writes room input
+    writes-printed (progressOf last f) out text n writes room input
     (run-comes (replicate 16384 0) input bytes r e b last f fed closes [] refl ∙ ap (λ (l : List ℕ). after atStart (blocks l)) (append-nil input))

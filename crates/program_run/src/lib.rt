@@ -7,9 +7,9 @@ ghost use mathlib.Core.List.{[]};
 ghost use mathlib.Core.Path.{_≡_};
 ghost use Prim.Native.Nat.{_-_};
 ghost use lib.ListN.{length, take, drop};
-ghost use Rattle.base_lent.specs.Lent.{wordsIn};
-ghost use Rattle.program_blocks.specs.Blocks.{wholeWords};
-ghost use Rattle.program_intake.specs.Intake.{nextPlace, bytesLaid};
+ghost use Rattle.base_lent.specs.Definitions.{wordsIn};
+ghost use Rattle.program_blocks.specs.Definitions.{wholeWords, nextPlace, bytesLaid};
+ghost use Rattle.program_run.specs.Definitions as Definitions;
 ghost use Rattle.program_run.specs.Machine as Machine;
 
 // How far a run has come.
@@ -44,7 +44,7 @@ fn closed(run: Run, refusal: Refusal) -> Run
 
 // The first block: the settings.
 fn begin(run: Run, block: &[u32]) -> Run
-    requires { ⌜ Machine.RightSettings run ⌝ }
+    requires { ⌜ Definitions.RightSettings run ⌝ }
     ensures { λ r. ⌜ Machine.Opens run (now (block .entry)) r ⌝ }
 {
     if !settings_check::check(block) {
@@ -53,7 +53,7 @@ fn begin(run: Run, block: &[u32]) -> Run
     Run {
         stage: Stage::Open,
         state: State::fresh(),
-        settings: program_intake::padded(block),
+        settings: program_blocks::intake::padded(block),
         words: block.len(),
         ..run
     }
@@ -61,9 +61,9 @@ fn begin(run: Run, block: &[u32]) -> Run
 
 // A later block: a report.
 fn report(run: Run, desk: &mut [u8], block: &[u32]) -> Run
-    requires { ⌜ (run .stage ≡ Stage.Open) × Machine.RightSettings run ⌝ }
+    requires { ⌜ (run .stage ≡ Stage.Open) × Definitions.RightSettings run ⌝ }
     requires { ⌜ length (now desk) ≡ 65536 ⌝ }
-    ensures { λ r. ⌜ Machine.Takes run (wordsIn (now (desk .entry))) (now (block .entry)) r (wordsIn (now (desk .exit))) ⌝ }
+    ensures { λ r. ⌜ Machine.TakesInBlock run (wordsIn (now (desk .entry))) (now (block .entry)) r (wordsIn (now (desk .exit))) ⌝ }
 {
     let n = run.words;
     let settings = run.settings;
@@ -79,9 +79,9 @@ fn report(run: Run, desk: &mut [u8], block: &[u32]) -> Run
 
 // A block of words.
 fn take_block(run: Run, desk: &mut [u8], block: &[u32]) -> Run
-    requires { ⌜ Machine.RightSettings run ⌝ }
+    requires { ⌜ Definitions.RightSettings run ⌝ }
     requires { ⌜ length (now desk) ≡ 65536 ⌝ }
-    ensures { λ r. ⌜ Machine.Takes run (wordsIn (now (desk .entry))) (now (block .entry)) r (wordsIn (now (desk .exit))) ⌝ }
+    ensures { λ r. ⌜ Machine.TakesInBlock run (wordsIn (now (desk .entry))) (now (block .entry)) r (wordsIn (now (desk .exit))) ⌝ }
 {
     let stage = run.stage;
     match stage {
@@ -95,9 +95,9 @@ fn take_block(run: Run, desk: &mut [u8], block: &[u32]) -> Run
 fn take_bytes(run: Run, desk: &mut [u8], bytes: &[u8], end: usize) -> Run
     requires { ⌜ Machine.Comes run (now bytes) end ⌝ }
     requires { ⌜ length (now desk) ≡ 65536 ⌝ }
-    ensures { λ r. ⌜ Machine.Takes (Machine.pendingBytes run 0) (wordsIn (now (desk .entry))) (wholeWords (take (end - 4) (drop 4 (now (bytes .entry))))) r (wordsIn (now (desk .exit))) ⌝ }
+    ensures { λ r. ⌜ Machine.TakesInBlock (Machine.pendingBytes run 0) (wordsIn (now (desk .entry))) (wholeWords (take (end - 4) (drop 4 (now (bytes .entry))))) r (wordsIn (now (desk .exit))) ⌝ }
 {
-    let block = program_intake::block_of(bytes, end);
+    let block = program_blocks::intake::block_of(bytes, end);
     let len = block.len;
     let table = block.table;
     let mut next = run;
@@ -109,7 +109,7 @@ fn take_bytes(run: Run, desk: &mut [u8], bytes: &[u8], end: usize) -> Run
 fn settle(run: Run, desk: &mut [u8], bytes: &[u8], end: usize) -> Run
     requires { ⌜ Machine.BytesGathered run (now bytes) end ⌝ }
     requires { ⌜ length (now desk) ≡ 65536 ⌝ }
-    ensures { λ r. ⌜ Machine.Feeds (Machine.pendingBytes run end) (wordsIn (now (desk .entry))) (now (bytes .entry)) [] r (wordsIn (now (desk .exit))) (now (bytes .entry)) ⌝ }
+    ensures { λ r. ⌜ Definitions.Feeds (Machine.pendingBytes run end) (wordsIn (now (desk .entry))) (now (bytes .entry)) [] r (wordsIn (now (desk .exit))) (now (bytes .entry)) ⌝ }
     ensures { λ r. ⌜ r .pending ≡ nextPlace (now (bytes .entry)) end ⌝ }
 {
     if end < program_blocks::needed(&bytes[0..end]) {
@@ -122,8 +122,8 @@ fn settle(run: Run, desk: &mut [u8], bytes: &[u8], end: usize) -> Run
 
 // What the decision prints.
 fn print_decision(run: Run, desk: &[u8], out: &mut [u8]) -> usize
-    requires { ⌜ (run .stage ≡ Stage.Open) × Machine.RightSettings run ⌝ }
-    ensures { λ r. ⌜ Machine.Writes (Machine.progress run (wordsIn (now (desk .entry)))) (now (out .entry)) (now (out .exit)) r ⌝ }
+    requires { ⌜ (run .stage ≡ Stage.Open) × Definitions.RightSettings run ⌝ }
+    ensures { λ r. ⌜ Definitions.Writes (Definitions.progressOf run (wordsIn (now (desk .entry)))) (now (out .entry)) (now (out .exit)) r ⌝ }
 {
     let n = run.words;
     let settings = run.settings;
@@ -131,13 +131,13 @@ fn print_decision(run: Run, desk: &[u8], out: &mut [u8]) -> usize
     let decided = state.decide(&settings[0..n], desk);
     let decision = decided.decision;
     let next = decided.state;
-    program_decision::decision_lines(out, &settings[0..n], decision, next.plan)
+    program_lines::decision::decision_lines(out, &settings[0..n], decision, next.plan)
 }
 
 impl Run {
     // The run before any byte.
     pub fn start() -> Run
-        ensures { λ r. ⌜ r ≡ Machine.started ⌝ }
+        ensures { λ r. ⌜ r ≡ Definitions.startedRun ⌝ }
     {
         Run {
             stage: Stage::Opening,
@@ -150,7 +150,7 @@ impl Run {
 
     // Whether nothing that follows matters any more.
     pub fn is_closed(self) -> bool
-        ensures { λ r. ⌜ r ≡ Machine.closedAt (self .stage) ⌝ }
+        ensures { λ r. ⌜ r ≡ Definitions.closedAt (self .stage) ⌝ }
     {
         let stage = self.stage;
         match stage {
@@ -162,16 +162,16 @@ impl Run {
 
     // Bytes of the input.
     pub fn feed(self, desk: &mut [u8], bytes: &mut [u8], fed: &[u8]) -> Run
-        requires { ⌜ Machine.ReadyRun self (now bytes) ⌝ }
+        requires { ⌜ Definitions.ReadyRun self (now bytes) ⌝ }
         requires { ⌜ length (now desk) ≡ 65536 ⌝ }
-        ensures { λ r. ⌜ Machine.Feeds self (wordsIn (now (desk .entry))) (now (bytes .entry)) (now (fed .entry)) r (wordsIn (now (desk .exit))) (now (bytes .exit)) ⌝ }
+        ensures { λ r. ⌜ Definitions.Feeds self (wordsIn (now (desk .entry))) (now (bytes .entry)) (now (fed .entry)) r (wordsIn (now (desk .exit))) (now (bytes .exit)) ⌝ }
         ensures { λ _. ⌜ now (bytes .exit) ≡ bytesLaid (self .pending) (now (bytes .entry)) (now (fed .entry)) ⌝ }
     {
         let mut run = self;
         let mut i = 0;
         while i < fed.len() {
             let at = run.pending;
-            let end = program_intake::gather(bytes, at, fed, i);
+            let end = program_blocks::intake::gather(bytes, at, fed, i);
             run = settle(run, desk, bytes, end);
             i += end - at;
         }
@@ -180,9 +180,9 @@ impl Run {
 
     // The end of the input: a block cut short is its whole words.
     pub fn close(self, desk: &mut [u8], bytes: &[u8]) -> Run
-        requires { ⌜ Machine.ReadyRun self (now bytes) ⌝ }
+        requires { ⌜ Definitions.ReadyRun self (now bytes) ⌝ }
         requires { ⌜ length (now desk) ≡ 65536 ⌝ }
-        ensures { λ r. ⌜ Machine.Closes self (wordsIn (now (desk .entry))) (now (bytes .entry)) r (wordsIn (now (desk .exit))) ⌝ }
+        ensures { λ r. ⌜ Definitions.Closes self (wordsIn (now (desk .entry))) (now (bytes .entry)) r (wordsIn (now (desk .exit))) ⌝ }
     {
         let end = self.pending;
         if end < 4 {
@@ -193,8 +193,8 @@ impl Run {
 
     // What the run prints after the last block.
     pub fn print(self, desk: &[u8], out: &mut [u8]) -> usize
-        requires { ⌜ Machine.RightSettings self ⌝ }
-        ensures { λ r. ⌜ Machine.Writes (Machine.progress self (wordsIn (now (desk .entry)))) (now (out .entry)) (now (out .exit)) r ⌝ }
+        requires { ⌜ Definitions.RightSettings self ⌝ }
+        ensures { λ r. ⌜ Definitions.Writes (Definitions.progressOf self (wordsIn (now (desk .entry)))) (now (out .entry)) (now (out .exit)) r ⌝ }
     {
         let stage = self.stage;
         match stage {

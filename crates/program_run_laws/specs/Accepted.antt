@@ -6,17 +6,15 @@ use mathlib.Core.List.{List, [], _∷_}
 use mathlib.Core.Path.{_≡_, refl, ap, _∙_, subst}
 use lib.ListN.{getD, replicate}
 use Rattle.base_laws.specs.Bools.{and-left, and-right}
-use Rattle.settings_values.specs.Settings.{settingsOk}
-use Rattle.base_ids.specs.Refusals.{refused, accepted}
-use Rattle.message_format.specs.Messages.{contentsOf}
-use Rattle.report_kept.specs.Reports.{refusalBeside}
-use Rattle.report_desk.specs.Desk.{deskWith}
+use Rattle.settings_values.specs.Definitions.{settingsOk}
+use Rattle.base_ids.specs.Definitions.{refused, accepted}
+use Rattle.message_format.specs.Definitions.{contentsOf}
+use Rattle.report_kept.specs.Definitions.{refusalBeside}
+use Rattle.report_desk.specs.Definitions.{deskWith}
 use Rattle.state_planner.specs.declared.State.{State}
-use Rattle.state_planner.specs.States.{fresh}
-use Rattle.state_planner.specs.Refusing.{reportRefusal}
-use Rattle.state_planner.specs.Events.{afterReport}
-use Rattle.program_run.specs.Runs.{Progress, Underway, Ended, opened, taking, after, atStart}
-use Rattle.program_run_laws.specs.Reaches.{Gathers, Reaches, report-none, told-taken, taken-gathers, blocks-reach}
+use Rattle.state_planner.specs.Definitions.{fresh, reportRefusal, afterReport}
+use Rattle.program_run.specs.Definitions.{Progress, Underway, Ended, opened, taking, after, atStart}
+use Rattle.program_run_laws.specs.Reaches.{Gathers, CanReach, report-none, told-taken, taken-gathers, blocks-reach}
 
 -- the state after the reports ws
 unfoldable pub stateAfter : List ℕ → State → List (List ℕ) → State
@@ -51,11 +49,11 @@ reports-lead σ x d (w ∷ ws) g h =
 -- from the start
 pub run-leads : (σ : List ℕ) (ws : List (List ℕ)) → settingsOk σ ≡ true → allAccepted σ fresh ws ≡ true
     → after atStart (σ ∷ ws) ≡ Underway σ (stateAfter σ fresh ws) (deskOf (replicate 16384 0) ws)
-unfolding after taking opened Reaches
+unfolding after taking opened CanReach
 run-leads σ ws s h =
     let zeros : List ℕ = replicate 16384 0 in
     let e : opened zeros σ ≡ Underway σ fresh zeros = ap (λ (b : Bool). cond b (Underway σ fresh zeros) (Ended (refused 2) zeros)) s in
     ap (λ (p : Progress). after p ws) e ∙ reports-lead σ fresh zeros ws (settled e) h
   where
     settled : opened (replicate 16384 0) σ ≡ Underway σ fresh (replicate 16384 0) → Gathers σ fresh (replicate 16384 0)
-    settled e = subst (λ (p : Progress). Reaches p) e (blocks-reach (σ ∷ []))
+    settled e = subst (λ (p : Progress). CanReach p) e (blocks-reach (σ ∷ []))

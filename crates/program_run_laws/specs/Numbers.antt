@@ -8,13 +8,14 @@ use mathlib.Core.Path.{_≡_, refl, ap, _∙_, subst⁻¹}
 use native.Mathlib.Omega.{arith}
 use Rattle.base_laws.specs.Bools.{either}
 use Rattle.base_ids.specs.declared.Refusal.{Refusal}
-use Rattle.base_ids.specs.Refusals.{none, refused, accepted, numberIn, located, unless, unlessAt, firstOf, unless-true, unless-false, unless-at-true, unless-at-false, number-at, first-none, first-refused, accepted-none}
+use Rattle.base_ids.specs.Definitions.{none, refused, accepted, numberIn, located, unless, unlessAt, firstOf}
+use Rattle.base_ids.specs.Refusals.{unless-true, unless-false, unless-at-true, unless-at-false, number-at, first-none, first-refused, accepted-none}
 use Rattle.message_format.specs.declared.Form.the-variants.{Report}
-use Rattle.message_format.specs.Messages.{recordsRefusal, headRefusal, messageRefusal}
+use Rattle.message_format.specs.Definitions.{recordsRefusal, headRefusal, messageRefusal}
 use Rattle.report_views.specs.declared.Layout.{Layout}
 use Rattle.report_views.specs.declared.Termination.{Termination}
-use Rattle.report_latest.specs.declared.Latest.{Latest}
-use Rattle.report_kept.specs.Reports.{keptRefusal, refusalBeside}
+use Rattle.report_rows.specs.declared.latest.Latest.{Latest}
+use Rattle.report_kept.specs.Definitions.{keptRefusal, refusalBeside}
 
 -- a number that tells a record, with its index, or one from 5 to 13 or 18 alone
 abbrev pub OfReport : Refusal → Type 0

@@ -6,16 +6,16 @@ use mathlib.Core.List.{List}
 use mathlib.Core.Path.{_≡_, refl, sym, ap, _∙_, subst}
 use borrow.Author.Tests.{eq-eqb}
 use Rattle.base_ids.specs.declared.Refusal.{Refusal}
-use Rattle.base_ids.specs.Refusals.{accepted}
+use Rattle.base_ids.specs.Definitions.{accepted}
 use Rattle.report_views.specs.declared.Plan.{Plan}
 use Rattle.state_planner.specs.declared.State.{State}
 use Rattle.state_planner.specs.declared.Decision.{Decision}
 use Rattle.state_planner.specs.declared.Decided.{Decided}
-use Rattle.state_planner.specs.Refusing.{decideRefusal}
-use Rattle.state_exact.specs.Once.{SameAsked, SameSaid, same-said, decides-unique}
-use Rattle.program_blocks.specs.Blocks.{blocks}
-use Rattle.program_decision.specs.Decisions.{decisionText}
-use Rattle.program_run.specs.Runs.{Progress, Started, Underway, Ended, after, atStart, DecisionPrinted, Prints, Printed}
+use Rattle.state_planner.specs.Definitions.{decideRefusal}
+use Rattle.state_laws.specs.Once.{SameAsked, SameSaid, same-said, decides-unique}
+use Rattle.program_blocks.specs.Definitions.{blocks}
+use Rattle.program_lines.specs.Definitions.{decisionText}
+use Rattle.program_run.specs.Definitions.{Progress, Started, Underway, Ended, after, atStart, DecisionPrinted, Prints, Printed}
 use Rattle.program_run_laws.specs.Reaches.{decide-taken}
 
 prints-unique : (p : Progress) (a b : List ℕ) → Prints p a → Prints p b → a ≡ b

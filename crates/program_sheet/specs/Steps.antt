@@ -8,23 +8,22 @@ use lib.ListN.{length, take}
 use borrow.Author.Tests.{eq-eqb, ne-eqb}
 use Rattle.base_laws.specs.Tables.{part-front}
 use Rattle.base_ids.specs.declared.Refusal.{Refusal}
-use Rattle.base_ids.specs.Refusals.{refused, accepted}
-use Rattle.settings_values.specs.Settings.{nodes, Settings}
+use Rattle.base_ids.specs.Definitions.{refused, accepted}
+use Rattle.settings_values.specs.Definitions.{nodes, Settings}
 use Rattle.settings_values.specs.Laws.{settings-give}
 use Rattle.state_planner.specs.declared.State.{State}
 use Rattle.state_readiness.specs.declared.ReadyRows.{ReadyRows}
-use Rattle.state_readiness.specs.Readying.{Readies}
+use Rattle.state_readiness.specs.Definitions.{Readies}
 use Rattle.state_readiness.specs.Answers.{ReadyGiven, ready-given}
-use Rattle.program_text.specs.Text.{numberLine, number-line-length}
-use Rattle.program_text.specs.Puts.{Puts}
+use Rattle.program_text.specs.Definitions.{numberLine, Puts}
+use Rattle.program_text.specs.Text.{number-line-length}
 use Rattle.program_run.specs.declared.Stage.{Stage}
 use Rattle.program_run.specs.declared.Stage.the-variants.{Opening, Open, Closed}
 use Rattle.program_run.specs.declared.Run.{Run}
-use Rattle.program_run.specs.Runs.{Progress}
-use Rattle.program_run.specs.Machine.{progressAt, progress}
-use Rattle.program_sheet_text.specs.Sheets.{sheetText}
+use Rattle.program_run.specs.Definitions.{Progress, progressAt, progressOf}
+use Rattle.program_sheet_text.specs.Definitions.{sheetText}
 use Rattle.program_sheet_text.specs.Laws.{sheet-length}
-use Rattle.program_sheet.specs.Printing.{readinessText, SheetPrints, SheetWrites}
+use Rattle.program_sheet.specs.Definitions.{readinessText, SheetPrints, SheetWrites}
 
 -- what it means that readiness refuses nothing
 pub ready-passed : (σ : List ℕ) (x : State) (d : List ℕ) (r : ReadyRows) → Readies true σ x d r → r .refusal .code ≡ 0 → ReadyGiven true σ x d
@@ -39,11 +38,11 @@ own-settings : (run : Run) → take (run .words - 0) (run .settings) ≡ take (r
 own-settings run = part-front (run .words) (run .settings)
 
 -- what a run has come to, by its stage
-progress-by : (run : Run) (d : List ℕ) (s : Stage) → run .stage ≡ s → progress run d ≡ progressAt s (take (run .words) (run .settings)) (run .state) d
+progress-by : (run : Run) (d : List ℕ) (s : Stage) → run .stage ≡ s → progressOf run d ≡ progressAt s (take (run .words) (run .settings)) (run .state) d
 progress-by run d s h = ap (λ (k : Stage). progressAt k (take (run .words) (run .settings)) (run .state) d) h
 
 module _ (run : Run) (d out after : List ℕ) (n : ℕ) where
-  pub sheet-opening : run .stage ≡ Opening → Puts out 0 (numberLine (refused 2)) after n → SheetWrites (progress run d) out after n
+  pub sheet-opening : run .stage ≡ Opening → Puts out 0 (numberLine (refused 2)) after n → SheetWrites (progressOf run d) out after n
   unfolding progressAt SheetPrints
   sheet-opening h p =
       record {
@@ -53,7 +52,7 @@ module _ (run : Run) (d out after : List ℕ) (n : ℕ) where
         puts = p;
       }
 
-  pub sheet-closed : (r : Refusal) → run .stage ≡ Closed r → Puts out 0 (numberLine r) after n → SheetWrites (progress run d) out after n
+  pub sheet-closed : (r : Refusal) → run .stage ≡ Closed r → Puts out 0 (numberLine r) after n → SheetWrites (progressOf run d) out after n
   unfolding progressAt SheetPrints
   sheet-closed r h p =
       record {
@@ -66,7 +65,7 @@ module _ (run : Run) (d out after : List ℕ) (n : ℕ) where
   module _ (r : ReadyRows) (h : run .stage ≡ Open) (readies : Readies true (take (run .words - 0) (run .settings)) (run .state) d r) where
     -- the text of the state's readiness
     sheet-by : (text : List ℕ) → text ≡ readinessText (take (run .words - 0) (run .settings)) r → length text ≤ 32768 → Puts out 0 text after n
-        → SheetWrites (progress run d) out after n
+        → SheetWrites (progressOf run d) out after n
     unfolding progressAt SheetPrints
     sheet-by text says few p =
         record {
@@ -82,7 +81,7 @@ module _ (run : Run) (d out after : List ℕ) (n : ℕ) where
           puts = p;
         }
 
-    pub sheet-refused : (r .refusal .code ≡ 0 → ⊥) → Puts out 0 (numberLine (r .refusal)) after n → SheetWrites (progress run d) out after n
+    pub sheet-refused : (r .refusal .code ≡ 0 → ⊥) → Puts out 0 (numberLine (r .refusal)) after n → SheetWrites (progressOf run d) out after n
     unfolding readinessText
     sheet-refused k p =
         sheet-by (numberLine (r .refusal))
@@ -90,7 +89,7 @@ module _ (run : Run) (d out after : List ℕ) (n : ℕ) where
         (omega (arith, number-line-length (r .refusal))) p
 
     pub sheet-shown : (m : ℕ) → r .refusal .code ≡ 0 → m ≡ nodes (take (run .words - 0) (run .settings)) → Puts out 0 (sheetText (r .rows) m) after n
-        → SheetWrites (progress run d) out after n
+        → SheetWrites (progressOf run d) out after n
     unfolding readinessText
     sheet-shown m k e p =
         let σ = take (run .words - 0) (run .settings) in

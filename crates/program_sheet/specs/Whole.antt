@@ -9,23 +9,23 @@ use native.Mathlib.Omega.{arith}
 use lib.Dec.{leb}
 use lib.ListN.{length, take, replicate}
 use Rattle.base_laws.specs.Bools.{either}
-use Rattle.base_ids.specs.Refusals.{none, refused, accepted, unless-true, unless-false, first-none}
-use Rattle.settings_values.specs.Settings.{nodes}
+use Rattle.base_ids.specs.Definitions.{none, refused, accepted}
+use Rattle.base_ids.specs.Refusals.{unless-true, unless-false, first-none}
+use Rattle.settings_values.specs.Definitions.{nodes}
 use Rattle.state_planner.specs.declared.State.{State}
-use Rattle.state_planner.specs.Refusing.{decideRefusal}
+use Rattle.state_planner.specs.Definitions.{decideRefusal}
 use Rattle.state_readiness.specs.declared.ReadyRows.{ReadyRows}
-use Rattle.state_readiness.specs.Readying.{ready, slotsRefusal, sizeRefusal, readyRefusal, Readies}
+use Rattle.state_readiness.specs.Definitions.{ready, slotsRefusal, sizeRefusal, readyRefusal, Readies}
 use Rattle.state_readiness.specs.Answers.{row-in-range, readies-one}
-use Rattle.program_blocks.specs.Blocks.{blocks}
+use Rattle.program_blocks.specs.Definitions.{blocks}
 use Rattle.program_text.specs.Puts.{puts-first}
 use Rattle.program_run.specs.declared.Run.{Run}
-use Rattle.program_run.specs.Runs.{Progress, Started, Underway, Ended, after, atStart}
-use Rattle.program_run.specs.Machine.{started, progress, Feeds, Closes}
+use Rattle.program_run.specs.Definitions.{Progress, Started, Underway, Ended, after, atStart, startedRun, progressOf, Feeds, Closes}
 use Rattle.program_run.specs.Whole.{run-comes}
 use Rattle.program_run_laws.specs.Reaches.{decide-taken}
-use Rattle.program_sheet_text.specs.Sheets.{rowsWith}
+use Rattle.program_sheet_text.specs.Definitions.{rowsWith}
 use Rattle.program_sheet_text.specs.Laws.{counts-add-up}
-use Rattle.program_sheet.specs.Printing.{readinessText, SheetPrints, Sheeted, SheetWrites}
+use Rattle.program_sheet.specs.Definitions.{readinessText, SheetPrints, Sheeted, SheetWrites}
 
 -- what is put into the bytes `out` is what is printed for an input that leads there
 pub writes-sheeted : (p : Progress) (out text : List ℕ) (n : ℕ) → SheetWrites p out text n → 32768 ≤ length out → (input : List ℕ)
@@ -37,10 +37,10 @@ writes-sheeted p out text n writes room input whole =
     (subst (λ (q : Progress). SheetPrints q (writes .text)) whole (writes .prints))
 
 -- the bytes fed, the close and the print give what is printed for those bytes
-pub sheet-prints : (input bytes : List ℕ) (r : Run) (e b : List ℕ) (last : Run) (f out text : List ℕ) (n : ℕ) → Feeds started (replicate 16384 0) bytes input r e b
-    → Closes r e b last f → SheetWrites (progress last f) out text n → 32768 ≤ length out → Sheeted input (take n text)
+pub sheet-prints : (input bytes : List ℕ) (r : Run) (e b : List ℕ) (last : Run) (f out text : List ℕ) (n : ℕ) → Feeds startedRun (replicate 16384 0) bytes input r e b
+    → Closes r e b last f → SheetWrites (progressOf last f) out text n → 32768 ≤ length out → Sheeted input (take n text)
 sheet-prints input bytes r e b last f out text n fed closes writes room =
-    writes-sheeted (progress last f) out text n writes room input
+    writes-sheeted (progressOf last f) out text n writes room input
     (run-comes (replicate 16384 0) input bytes r e b last f fed closes [] refl ∙ ap (λ (l : List ℕ). after atStart (blocks l)) (append-nil input))
 
 -- one input: one text

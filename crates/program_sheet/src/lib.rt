@@ -3,14 +3,14 @@ use base_ids::Refusal;
 use program_run::Run;
 use program_run::Stage;
 ghost use mathlib.Core.Path.{_≡_};
-ghost use Rattle.base_lent.specs.Lent.{wordsIn};
-ghost use Rattle.program_run.specs.Machine.{progress, RightSettings};
-ghost use Rattle.program_sheet.specs.Printing.{SheetWrites};
+ghost use Rattle.base_lent.specs.Definitions.{wordsIn};
+ghost use Rattle.program_run.specs.Definitions.{progressOf, RightSettings};
+ghost use Rattle.program_sheet.specs.Definitions.{SheetWrites};
 
 // What a run prints whose blocks were all accepted.
 fn print_ready(run: Run, desk: &[u8], out: &mut [u8]) -> usize
     requires { ⌜ (run .stage ≡ Stage.Open) × RightSettings run ⌝ }
-    ensures { λ r. ⌜ SheetWrites (progress run (wordsIn (now (desk .entry)))) (now (out .entry)) (now (out .exit)) r ⌝ }
+    ensures { λ r. ⌜ SheetWrites (progressOf run (wordsIn (now (desk .entry)))) (now (out .entry)) (now (out .exit)) r ⌝ }
 {
     let n = run.words;
     let settings = run.settings;
@@ -27,7 +27,7 @@ fn print_ready(run: Run, desk: &[u8], out: &mut [u8]) -> usize
 // What a run prints after the last block: its sheet, or the number of a refusal.
 pub fn print(run: Run, desk: &[u8], out: &mut [u8]) -> usize
     requires { ⌜ RightSettings run ⌝ }
-    ensures { λ r. ⌜ SheetWrites (progress run (wordsIn (now (desk .entry)))) (now (out .entry)) (now (out .exit)) r ⌝ }
+    ensures { λ r. ⌜ SheetWrites (progressOf run (wordsIn (now (desk .entry)))) (now (out .entry)) (now (out .exit)) r ⌝ }
 {
     let stage = run.stage;
     match stage {

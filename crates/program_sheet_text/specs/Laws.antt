@@ -12,11 +12,14 @@ use lib.Dec.{eqb}
 use lib.ListN.{length, getD, length-append}
 use lib.Pow.{pow-mono}
 use borrow.Author.Tests.{eqb-true, eq-eqb}
-use Rattle.base_laws.specs.Below.{countBelow, count-hit, count-miss, count-cong, count-le, count-single, count-zero}
+use Rattle.base_laws.specs.Definitions.{countBelow, tabulate}
+use Rattle.base_laws.specs.Below.{count-hit, count-miss, count-cong, count-le, count-single, count-zero}
 use Rattle.base_laws.specs.Bools.{either, same, eq-or-ne}
-use Rattle.base_laws.specs.Tables.{tabulate, tabulate-add, tabulate-cong, getD-tabulate}
-use Rattle.program_text.specs.Text.{decimal, line, space, decimal-length, field-length, line-length}
-use Rattle.program_sheet_text.specs.Sheets.{sheet, maskLine, rowLine, rowsWith, countsLine, sheetText, linesBelow}
+use Rattle.base_laws.specs.Tables.{tabulate-add, tabulate-cong, getD-tabulate}
+use Rattle.program_text.specs.Definitions.{decimal, line, space}
+use Rattle.program_text.specs.Text.{decimal-length, field-length, line-length}
+use Rattle.program_sheet_text.specs.Definitions.{sheet, maskLine, rowLine, rowsWith, countsLine, sheetText}
+use Rattle.program_sheet_text.specs.Sheets.{linesBelow}
 
 -- ---- every mask
 

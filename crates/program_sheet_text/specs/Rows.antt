@@ -3,9 +3,9 @@
 use Prim.Native.Nat.{ℕ}
 use mathlib.Core.List.{List, [], _∷_, _++_, flatten}
 use mathlib.Core.Path.{_≡_, refl}
-use Rattle.base_laws.specs.Below.{countBelow}
-use Rattle.program_text.specs.Text.{digitsBy, decimal, field, line}
-use Rattle.program_sheet_text.specs.Sheets.{sheet, maskLine, rowsWith, countsLine, sheetText}
+use Rattle.base_laws.specs.Definitions.{countBelow}
+use Rattle.program_text.specs.Definitions.{digitsBy, decimal, field, line}
+use Rattle.program_sheet_text.specs.Definitions.{sheet, maskLine, rowsWith, countsLine, sheetText}
 
 -- sixteen rows, with another count of each number
 abbrev sixteen : List ℕ

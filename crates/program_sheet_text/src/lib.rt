@@ -5,14 +5,14 @@ ghost use mathlib.Core.Bool.{cond};
 ghost use mathlib.Core.Path.{_≡_};
 ghost use lib.Dec.{eqb};
 ghost use lib.ListN.{length};
-ghost use Rattle.program_text.specs.Text.{field, space};
-ghost use Rattle.program_text.specs.Puts.{Puts};
+ghost use Rattle.program_text.specs.Definitions.{field, space, Puts};
+ghost use Rattle.program_sheet_text.specs.Definitions as Definitions;
 ghost use Rattle.program_sheet_text.specs.Sheets as Sheets;
 
 // The line of a mask: the mask and its number.
 fn put_row(out: &mut [u8], at: usize, mask: u32, number: u8) -> usize
     requires { ⌜ at ≤ length (now out) ⌝ }
-    ensures { λ r. ⌜ Puts (now (out .entry)) at (Sheets.maskLine mask number) (now (out .exit)) r ⌝ }
+    ensures { λ r. ⌜ Puts (now (out .entry)) at (Definitions.maskLine mask number) (now (out .exit)) r ⌝ }
 {
     let next = program_text::put_decimal(out, at, mask);
     program_text::put_line(out, next, b" ", number as u32)
@@ -46,7 +46,7 @@ fn counted(found: u32, row: u8, number: u8) -> u32
 // How many of the first count rows have a number.
 fn rows_with(rows: &[u8; 1024], count: u32, number: u8) -> u32
     requires { ⌜ count ≤ 1024 ⌝ }
-    ensures { λ r. ⌜ r ≡ Sheets.rowsWith (now (rows .entry)) count number ⌝ }
+    ensures { λ r. ⌜ r ≡ Definitions.rowsWith (now (rows .entry)) count number ⌝ }
 {
     let mut found: u32 = 0;
     let mut mask: u32 = 0;
@@ -60,7 +60,7 @@ fn rows_with(rows: &[u8; 1024], count: u32, number: u8) -> u32
 // A space, and how many of the first count rows have a number.
 fn put_count(out: &mut [u8], at: usize, rows: &[u8; 1024], count: u32, number: u8) -> usize
     requires { ⌜ (at ≤ length (now out)) × (count ≤ 1024) ⌝ }
-    ensures { λ r. ⌜ Puts (now (out .entry)) at (field space (Sheets.rowsWith (now (rows .entry)) count number)) (now (out .exit)) r ⌝ }
+    ensures { λ r. ⌜ Puts (now (out .entry)) at (field space (Definitions.rowsWith (now (rows .entry)) count number)) (now (out .exit)) r ⌝ }
 {
     program_text::put_field(out, at, b" ", rows_with(rows, count, number))
 }
@@ -68,7 +68,7 @@ fn put_count(out: &mut [u8], at: usize, rows: &[u8; 1024], count: u32, number: u
 // The last line: how many rows have a plan, and how many each of waits 2 to 5.
 fn put_counts(out: &mut [u8], at: usize, rows: &[u8; 1024], count: u32) -> usize
     requires { ⌜ (at ≤ length (now out)) × (count ≤ 1024) ⌝ }
-    ensures { λ r. ⌜ Puts (now (out .entry)) at (Sheets.countsLine (now (rows .entry)) count) (now (out .exit)) r ⌝ }
+    ensures { λ r. ⌜ Puts (now (out .entry)) at (Definitions.countsLine (now (rows .entry)) count) (now (out .exit)) r ⌝ }
 {
     let plans = program_text::put_decimal(out, at, rows_with(rows, count, 0));
     let second = put_count(out, plans, rows, count, 2);
@@ -89,7 +89,7 @@ fn masks_of(nodes: u32) -> u32
 // The whole sheet.
 pub fn put_sheet(out: &mut [u8], rows: &[u8; 1024], nodes: u32) -> usize
     requires { ⌜ nodes ≤ 10 ⌝ }
-    ensures { λ r. ⌜ Puts (now (out .entry)) 0 (Sheets.sheetText (now (rows .entry)) nodes) (now (out .exit)) r ⌝ }
+    ensures { λ r. ⌜ Puts (now (out .entry)) 0 (Definitions.sheetText (now (rows .entry)) nodes) (now (out .exit)) r ⌝ }
 {
     let count = masks_of(nodes);
     let next = put_rows(out, rows, count);

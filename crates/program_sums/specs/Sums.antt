@@ -1,4 +1,4 @@
--- The sum of numbers. Laws: of two lists one after the other, a turn of a loop that adds up, and the sum of bytes is bounded.
+-- Laws of the sum of numbers: of two lists one after the other, a turn of a loop that adds up, and the sum of bytes is bounded.
 use Prim.Native.Nat.{ℕ, zero, suc, _+_, _*_, _-_, _≤_, _<_}
 use mathlib.Core.List.{List, [], _∷_, _++_}
 use mathlib.Core.Path.{_≡_, sym, ap, _∙_}
@@ -6,10 +6,7 @@ use native.Mathlib.Numerals.{add-one}
 use native.Mathlib.Omega.{arith}
 use lib.ListN.{length, take, drop, getD}
 use lib.Seq.{take-suc, take-add}
-
-unfoldable pub sumOf : List ℕ → ℕ
-sumOf [] = 0
-sumOf (m ∷ ms) = m + sumOf ms
+use Rattle.program_sums.specs.Definitions.{sumOf}
 
 -- ---- laws
 

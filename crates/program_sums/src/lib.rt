@@ -2,7 +2,7 @@
 ghost use mathlib.Core.Path.{_≡_};
 ghost use Prim.Native.Nat.{_≤_, min};
 ghost use lib.ListN.{length};
-ghost use Rattle.program_sums.specs.Sums.{sumOf};
+ghost use Rattle.program_sums.specs.Definitions.{sumOf};
 
 fn half(x: u8) -> u16
     ensures { λ r. ⌜ r ≡ x ⌝ }

@@ -1,4 +1,5 @@
 -- Numbers as text, and text put into lent bytes.
+pub mod Definitions
 pub mod Text
 pub mod Puts
 pub mod NumberLines

@@ -1,8 +1,8 @@
 -- Lines of refusals as they are printed: the record after 8, 9, 16 and 17, the head too, and none after any other number.
 use mathlib.Core.List.{[], _∷_}
 use mathlib.Core.Path.{_≡_, refl}
-use Rattle.base_ids.specs.Refusals.{refused, refusedAt, located}
-use Rattle.program_text.specs.Text.{digitsBy, decimal, field, line, numberLine}
+use Rattle.base_ids.specs.Definitions.{refused, refusedAt, located}
+use Rattle.program_text.specs.Definitions.{digitsBy, decimal, field, line, numberLine}
 
 pub record NumberLines : Type 0 where
   -- "number 8 2"

@@ -1,5 +1,4 @@
--- Numbers as text: decimal digits, a label with a number, and the line of a refusal. A text is the list of its bytes. Laws: a
--- number's digits from the last one on, and how long a text can be.
+-- Laws of numbers as text: a number's digits from the last one on, and how long a text can be.
 use Prim.Native.Nat.{ℕ, zero, suc, _+_, _-_, _/_, _%_, _^_, _≤_, _<_}
 use mathlib.Core.Bool.{Bool, true, false, cond}
 use mathlib.Core.List.{List, [], _∷_, _++_}
@@ -13,35 +12,8 @@ use borrow.Author.Tests.{lt-ltb, le-ltb, eq-eqb, ne-eqb}
 use Rattle.base_laws.specs.Tables.{drop-set}
 use Rattle.base_laws.specs.Bools.{lt-or-le}
 use Rattle.base_ids.specs.declared.Refusal.{Refusal}
-use Rattle.base_ids.specs.Refusals.{numberIn, indexIn, located}
-
--- the decimal digits of n, which has at most k + 1 of them
-unfoldable pub digitsBy : ℕ → ℕ → List ℕ
-digitsBy zero n = (48 + n % 10) ∷ []
-digitsBy (suc k) n = cond (ltb n 10) ((48 + n) ∷ []) (digitsBy k (n / 10) ++ ((48 + n % 10) ∷ []))
-
--- a word in decimal: a word has at most ten digits
-unfoldable pub decimal : ℕ → List ℕ
-decimal n = digitsBy 9 n
-
--- a label and a number
-unfoldable pub field : List ℕ → ℕ → List ℕ
-field label n = label ++ decimal n
-
--- the same as a line, ended by a newline
-unfoldable pub line : List ℕ → ℕ → List ℕ
-line label n = field label n ++ (10 ∷ [])
-
--- "number "
-abbrev pub numberLabel : List ℕ
-numberLabel = 110 ∷ 117 ∷ 109 ∷ 98 ∷ 101 ∷ 114 ∷ 32 ∷ []
-
-abbrev pub space : List ℕ
-space = 32 ∷ []
-
--- number n, and after it the index of the record that number n tells, if it tells one
-unfoldable pub numberLine : Refusal → List ℕ
-numberLine r = cond (located (numberIn r)) (field numberLabel (numberIn r) ++ line space (indexIn r)) (line numberLabel (numberIn r))
+use Rattle.base_ids.specs.Definitions.{numberIn, indexIn, located}
+use Rattle.program_text.specs.Definitions.{digitsBy, decimal, field, space, line, numberLabel, numberLine}
 
 -- ---- laws
 

@@ -5,10 +5,8 @@ ghost use mathlib.Core.List.{[], _∷_};
 ghost use mathlib.Core.Path.{_≡_};
 ghost use Prim.Native.Nat.{_+_, _≤_, _<_};
 ghost use lib.ListN.{length};
-ghost use Rattle.base_ids.specs.Refusals.{located};
-ghost use Rattle.program_text.specs.Text.{decimal, numberLine};
-ghost use Rattle.program_text.specs.Text.{field as Text·field, line as Text·line};
-ghost use Rattle.program_text.specs.Puts.{Puts};
+ghost use Rattle.base_ids.specs.Definitions.{located};
+ghost use Rattle.program_text.specs.Definitions.{decimal, numberLine, field as Text·field, line as Text·line, Puts};
 
 // One byte.
 pub fn put_byte(out: &mut [u8], at: usize, byte: u8) -> usize

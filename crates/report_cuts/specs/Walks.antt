@@ -9,9 +9,8 @@ use lib.Dec.{eqb, ltb, leb}
 use borrow.Author.Tests.{eq-eqb, ne-eqb, le-leb, lt-leb, lt-ltb, le-ltb}
 use Rattle.base_laws.specs.Bools.{either, clash, and-both, and-left, and-right, and-fails-left, and-fails-right, eq-or-ne}
 use Rattle.base_ids.specs.declared.Position.{Position}
-use Rattle.message_format.specs.Records.{word1, word2}
-use Rattle.report_views.specs.Logs.{pos, start, run, runsFrom, runsOf}
-use Rattle.report_views.specs.Cuts.{runsTo, sharedAfter, cutFrom}
+use Rattle.message_format.specs.Definitions.{word1, word2}
+use Rattle.report_views.specs.Definitions.{pos, start, isRun, runsFrom, runsOf, runsTo, sharedAfter, cutFrom}
 
 -- ---- the next run
 
@@ -19,12 +18,12 @@ use Rattle.report_views.specs.Cuts.{runsTo, sharedAfter, cutFrom}
 pub record NextRun (b : List ℕ) (len s i r : ℕ) : Type 0 where
   pub from : i ≤ r
   pub within : r ≤ len
-  pub is-run : r < len → run b s r ≡ true
+  pub is-run : r < len → isRun b s r ≡ true
   pub rest : runsFrom b s i (len - i) ≡ runsFrom b s r (len - r)
 
 module _ (b : List ℕ) (len s : ℕ) where
   -- a record that is no run is passed over
-  pub pass-over : (j : ℕ) → j < len → run b s j ≡ false → runsFrom b s j (len - j) ≡ runsFrom b s (j + 1) (len - (j + 1))
+  pub pass-over : (j : ℕ) → j < len → isRun b s j ≡ false → runsFrom b s j (len - j) ≡ runsFrom b s (j + 1) (len - (j + 1))
   unfolding runsFrom
   pass-over j l h =
       let e : len - j ≡ suc (len - (j + 1)) = omega arith in
@@ -32,7 +31,7 @@ module _ (b : List ℕ) (len s : ℕ) where
       rw (e, h, d)
 
   -- at a run the log goes on with it
-  pub run-first : (j : ℕ) → j < len → run b s j ≡ true
+  pub run-first : (j : ℕ) → j < len → isRun b s j ≡ true
       → runsFrom b s j (len - j) ≡ pos (word1 b j) (word2 b j) ∷ runsFrom b s (j + 1) (len - (j + 1))
   unfolding runsFrom
   run-first j l h =
@@ -162,7 +161,7 @@ module _ (b : List ℕ) (len : ℕ) (hb : List ℕ) (hlen s : ℕ) (t : Position
     unfolding runsTo
     walk-holder-ends l = rw (runs-end hb hlen s j l) (sym (shared-none a (runsFrom b s i (len - i))))
 
-    module _ (l : i < len) (m : j < hlen) (e : run b s i ≡ true) (d : run hb s j ≡ true) (r q : Position)
+    module _ (l : i < len) (m : j < hlen) (e : isRun b s i ≡ true) (d : isRun hb s j ≡ true) (r q : Position)
         (is-r : r ≡ pos (word1 b i) (word2 b i)) (is-q : q ≡ pos (word1 hb j) (word2 hb j)) where
       runs-go : runsFrom b s i (len - i) ≡ r ∷ runsFrom b s (i + 1) (len - (i + 1))
       runs-go = run-first b len s i l e ∙ ap (λ (x : Position). x ∷ runsFrom b s (i + 1) (len - (i + 1))) (sym is-r)

@@ -7,9 +7,8 @@ ghost use mathlib.Core.List.{[], _∷_};
 ghost use mathlib.Core.Path.{_≡_};
 ghost use Prim.Native.Nat.{_<_, _≤_};
 ghost use Prim.Native.Nat as Nat;
-ghost use Rattle.message_format.specs.Records.{word1, word2};
-ghost use Rattle.report_views.specs.Logs.{pos, run};
-ghost use Rattle.report_views.specs.Cuts.{runsTo, sharedAfter, cutFrom};
+ghost use Rattle.message_format.specs.Definitions.{word1, word2};
+ghost use Rattle.report_views.specs.Definitions.{pos, isRun, runsTo, sharedAfter, cutFrom};
 ghost use Rattle.report_cuts.specs.Walks.{NextRun, wholeRun};
 
 fn min(a: u32, b: u32) -> u32
@@ -21,9 +20,9 @@ fn min(a: u32, b: u32) -> u32
 // Record j is a run of shard s.
 fn is_run(body: &[u32; 381], s: Shard, j: usize) -> bool
     requires { ⌜ j < 127 ⌝ }
-    ensures { λ r. ⌜ r ≡ run (now (body .entry)) (s .0) j ⌝ }
+    ensures { λ r. ⌜ r ≡ isRun (now (body .entry)) (s .0) j ⌝ }
 {
-    base_ids::wide(message_fields::tag(body, j)) == 768 + base_ids::wide(s.0)
+    base_ids::wide(message_rows::fields::tag(body, j)) == 768 + base_ids::wide(s.0)
 }
 
 // The last position of run j.
@@ -32,8 +31,8 @@ fn run_end(body: &[u32; 381], j: usize) -> Position
     ensures { λ r. ⌜ r ≡ pos (word1 (now (body .entry)) j) (word2 (now (body .entry)) j) ⌝ }
 {
     Position {
-        view: View(message_fields::word1(body, j)),
-        k: message_fields::word2(body, j),
+        view: View(message_rows::fields::word1(body, j)),
+        k: message_rows::fields::word2(body, j),
     }
 }
 

@@ -8,11 +8,15 @@ use native.Mathlib.Omega.{arith}
 use lib.ListN.{length, getD, set, length-set, List·getD-eq-default}
 use borrow.Rule.Slice.PartMut.{putMid}
 use Rattle.base_laws.specs.Bools.{lt-or-le}
-use Rattle.base_laws.specs.Tables.{tabulate-ext, part, length-part, getD-part, padded, length-padded, getD-padded, padded-ext, set-more, replaced, length-replaced, getD-replaced-low, getD-replaced, getD-replaced-high, put-replaced}
-use Rattle.base_bytes.specs.Words.{wordAt, wordsOf, bytesOf, length-words, length-bytes, getD-words, word-lt, words-bytes, bytes-words}
-use Rattle.base_lent.specs.Lent.{wordsIn, words-of-bytes, bytes-of-words, all-words}
-use Rattle.report_views.specs.Reports.{slot}
-use Rattle.report_desk.specs.Desk.{deskWith, desk-replaced}
+use Rattle.base_laws.specs.Definitions.{part, padded, replaced}
+use Rattle.base_laws.specs.Tables.{tabulate-ext, length-part, getD-part, length-padded, getD-padded, padded-ext, set-more, length-replaced, getD-replaced-low, getD-replaced, getD-replaced-high, put-replaced}
+use Rattle.base_bytes.specs.Definitions.{wordAt, wordsOf, bytesOf}
+use Rattle.base_bytes.specs.Words.{length-words, length-bytes, getD-words, word-lt, words-bytes, bytes-words}
+use Rattle.base_lent.specs.Definitions.{wordsIn}
+use Rattle.base_lent.specs.Lent.{words-of-bytes, bytes-of-words, all-words}
+use Rattle.report_views.specs.Definitions.{slot}
+use Rattle.report_desk.specs.Definitions.{deskWith}
+use Rattle.report_desk.specs.Desk.{desk-replaced}
 
 -- ---- words of bytes
 
@@ -70,25 +74,25 @@ module _ (b : List ℕ) (e : length b ≡ 65536) where
 
 module _ (b : List ℕ) (n : ℕ) (m : List ℕ) (e : length b ≡ 65536) (l : n < 32) (whole : length m % 4 ≡ 0) (few : length m ≤ 2048) where
   -- the bytes afterwards
-  abbrev placed : List ℕ
-  placed = replaced (2048 * n) (padded 2048 m) b
+  abbrev placedBytes : List ℕ
+  placedBytes = replaced (2048 * n) (padded 2048 m) b
 
-  long : length placed ≡ 65536
+  long : length placedBytes ≡ 65536
   long = length-replaced (2048 * n) (padded 2048 m) b (omega (arith, length-padded 2048 m)) ∙ e
 
   -- words before the slot, in it, and after it
-  low : (i : ℕ) → i < 512 * n → getD (replaced (512 * n) (padded 512 (wordsIn m)) (wordsIn b)) i 0 ≡ wordAt placed i
+  low : (i : ℕ) → i < 512 * n → getD (replaced (512 * n) (padded 512 (wordsIn m)) (wordsIn b)) i 0 ≡ wordAt placedBytes i
   low i h =
       getD-replaced-low (512 * n) (padded 512 (wordsIn m)) (wordsIn b) i 0 (omega (arith, desk-length b e)) h
       ∙ desk-word b e i (omega arith)
-      ∙ word-as b placed i i (λ k j. sym (getD-replaced-low (2048 * n) (padded 2048 m) b (4 * i + k) 0 (omega arith) (omega arith)))
+      ∙ word-as b placedBytes i i (λ k j. sym (getD-replaced-low (2048 * n) (padded 2048 m) b (4 * i + k) 0 (omega arith) (omega arith)))
 
   high : (i : ℕ) → 512 * n + 512 ≤ i → i < 16384
-      → getD (replaced (512 * n) (padded 512 (wordsIn m)) (wordsIn b)) i 0 ≡ wordAt placed i
+      → getD (replaced (512 * n) (padded 512 (wordsIn m)) (wordsIn b)) i 0 ≡ wordAt placedBytes i
   high i h r =
       getD-replaced-high (512 * n) (padded 512 (wordsIn m)) (wordsIn b) i 0 (omega (arith, desk-length b e)) (omega (arith, length-padded 512 (wordsIn m)))
       ∙ desk-word b e i r
-      ∙ word-as b placed i i (λ k j. sym (getD-replaced-high (2048 * n) (padded 2048 m) b (4 * i + k) 0 (omega arith) (omega (arith, length-padded 2048 m))))
+      ∙ word-as b placedBytes i i (λ k j. sym (getD-replaced-high (2048 * n) (padded 2048 m) b (4 * i + k) 0 (omega arith) (omega (arith, length-padded 2048 m))))
 
   message-word : (j : ℕ) → getD (wordsIn m) j 0 ≡ wordAt m j
   message-word j =
@@ -99,51 +103,51 @@ module _ (b : List ℕ) (n : ℕ) (m : List ℕ) (e : length b ≡ 65536) (l : n
       (lt-or-le j (length m / 4))
 
   inside : (j : ℕ) → j < 512
-      → getD (replaced (512 * n) (padded 512 (wordsIn m)) (wordsIn b)) (512 * n + j) 0 ≡ wordAt placed (512 * n + j)
+      → getD (replaced (512 * n) (padded 512 (wordsIn m)) (wordsIn b)) (512 * n + j) 0 ≡ wordAt placedBytes (512 * n + j)
   inside j h =
       getD-replaced (512 * n) (padded 512 (wordsIn m)) (wordsIn b) j 0 (omega (arith, desk-length b e)) (omega (arith, length-padded 512 (wordsIn m)))
       ∙ getD-padded 512 (wordsIn m) j h
       ∙ message-word j
-      ∙ word-as m placed j (512 * n + j) byte
+      ∙ word-as m placedBytes j (512 * n + j) byte
     where
-      byte : (k : ℕ) → k < 4 → getD m (4 * j + k) 0 ≡ getD placed (4 * (512 * n + j) + k) 0
+      byte : (k : ℕ) → k < 4 → getD m (4 * j + k) 0 ≡ getD placedBytes (4 * (512 * n + j) + k) 0
       byte k i =
           let at : 2048 * n + (4 * j + k) ≡ 4 * (512 * n + j) + k = omega arith in
           sym (getD-padded 2048 m (4 * j + k) (omega arith))
           ∙ sym (getD-replaced (2048 * n) (padded 2048 m) b (4 * j + k) 0 (omega arith) (omega (arith, length-padded 2048 m)))
-          ∙ ap (λ (x : ℕ). getD placed x 0) at
+          ∙ ap (λ (x : ℕ). getD placedBytes x 0) at
 
-  words-placed : wordsOf placed 16384 ≡ deskWith (wordsIn b) n (wordsIn m)
+  words-placed : wordsOf placedBytes 16384 ≡ deskWith (wordsIn b) n (wordsIn m)
   unfolding wordsOf
   words-placed =
       sym (desk-replaced (wordsIn b) n (wordsIn m)
-      ∙ tabulate-ext 0 16384 (wordAt placed) (replaced (512 * n) (padded 512 (wordsIn m)) (wordsIn b))
+      ∙ tabulate-ext 0 16384 (wordAt placedBytes) (replaced (512 * n) (padded 512 (wordsIn m)) (wordsIn b))
       (length-replaced (512 * n) (padded 512 (wordsIn m)) (wordsIn b) (omega (arith, length-padded 512 (wordsIn m), desk-length b e)) ∙ desk-length b e)
       (λ i r. ⊎-elim (low i) (λ h. ⊎-elim (λ g. at i h g) (λ g. high i g r) (lt-or-le i (512 * n + 512))) (lt-or-le i (512 * n))))
     where
       at : (i : ℕ) → 512 * n ≤ i → i < 512 * n + 512
-          → getD (replaced (512 * n) (padded 512 (wordsIn m)) (wordsIn b)) i 0 ≡ wordAt placed i
+          → getD (replaced (512 * n) (padded 512 (wordsIn m)) (wordsIn b)) i 0 ≡ wordAt placedBytes i
       at i h g =
           let q : 512 * n + (i - 512 * n) ≡ i = omega arith in
           sym (ap (λ (x : ℕ). getD (replaced (512 * n) (padded 512 (wordsIn m)) (wordsIn b)) x 0) q)
           ∙ inside (i - 512 * n) (omega arith)
-          ∙ ap (wordAt placed) q
+          ∙ ap (wordAt placedBytes) q
 
   -- what the loan of the slot's bytes leaves in the desk
   module _ (s : List ℕ) (f : s ≡ padded 2048 m) where
-    put-placed : putMid (2048 * n) (2048 * n + 2048 - 2048 * n) b s ≡ placed
+    put-placed : putMid (2048 * n) (2048 * n + 2048 - 2048 * n) b s ≡ placedBytes
     put-placed =
         ap (putMid (2048 * n) (2048 * n + 2048 - 2048 * n) b) f
         ∙ put-replaced (2048 * n) (2048 * n + 2048 - 2048 * n) b (padded 2048 m) (omega (arith, length-padded 2048 m))
 
     words-put : wordsIn (putMid (2048 * n) (2048 * n + 2048 - 2048 * n) b s) ≡ deskWith (wordsIn b) n (wordsIn m)
-    words-put = ap wordsIn put-placed ∙ sym (all-words placed 16384 long) ∙ words-placed
+    words-put = ap wordsIn put-placed ∙ sym (all-words placedBytes 16384 long) ∙ words-placed
 
     bytes-put : ((k : ℕ) → getD (putMid (2048 * n) (2048 * n + 2048 - 2048 * n) b s) k 0 < 256)
         → putMid (2048 * n) (2048 * n + 2048 - 2048 * n) b s ≡ bytesOf (deskWith (wordsIn b) n (wordsIn m))
     bytes-put h =
         put-placed
-        ∙ sym (bytes-words placed 16384 long (λ k. subst (λ (x : List ℕ). getD x k 0 < 256) put-placed (h k)))
+        ∙ sym (bytes-words placedBytes 16384 long (λ k. subst (λ (x : List ℕ). getD x k 0 < 256) put-placed (h k)))
         ∙ ap bytesOf words-placed
 
 -- the same of a message given as words
@@ -167,13 +171,13 @@ module _ (b : List ℕ) (n : ℕ) (w : List ℕ) (e : length b ≡ 65536) (l : n
 -- ---- a loop that copies a message to a slot's bytes
 
 -- the first k bytes are the message's, with zeros after it
-pub record Copied (m s : List ℕ) (k : ℕ) : Type 0 where
+pub record CopiedSoFar (m s : List ℕ) (k : ℕ) : Type 0 where
   pub few : length m ≤ 2048
   pub room : length s ≡ 2048
   pub same : (i : ℕ) → i < k → getD s i 0 ≡ getD m i 0
 
 -- the message's bytes p are put to the front
-pub copied-front : (m s p : List ℕ) (k : ℕ) → length m ≤ 2048 → length s ≡ 2048 → k ≡ length m → p ≡ m → Copied m (putMid 0 (k - 0) s p) k
+pub copied-front : (m s p : List ℕ) (k : ℕ) → length m ≤ 2048 → length s ≡ 2048 → k ≡ length m → p ≡ m → CopiedSoFar m (putMid 0 (k - 0) s p) k
 copied-front m s p k f r e q =
     let put : putMid 0 (k - 0) s p ≡ replaced 0 m s =
     ap (putMid 0 (k - 0) s) q ∙ put-replaced 0 (k - 0) s m (omega arith) in
@@ -188,8 +192,8 @@ copied-front m s p k f r e q =
           ∙ getD-replaced 0 m s i 0 (omega arith) (omega arith);
     }
 
-module _ {m s : List ℕ} {k : ℕ} (c : Copied m s k) where
-  pub copied-turn : (v : ℕ) → k < 2048 → v ≡ getD m k 0 → Copied m (set s k v) (k + 1)
+module _ {m s : List ℕ} {k : ℕ} (c : CopiedSoFar m s k) where
+  pub copied-turn : (v : ℕ) → k < 2048 → v ≡ getD m k 0 → CopiedSoFar m (set s k v) (k + 1)
   copied-turn v l e =
       record {
         few = c .few;
@@ -198,7 +202,7 @@ module _ {m s : List ℕ} {k : ℕ} (c : Copied m s k) where
       }
 
   -- a zero past the end
-  pub copied-zero : k < 2048 → length m ≤ k → Copied m (set s k 0) (k + 1)
+  pub copied-zero : k < 2048 → length m ≤ k → CopiedSoFar m (set s k 0) (k + 1)
   copied-zero l h = copied-turn 0 l (sym (List·getD-eq-default m 0 h))
 
   pub copied-all : 2048 ≤ k → s ≡ padded 2048 m

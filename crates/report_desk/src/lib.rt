@@ -1,13 +1,16 @@
 // The desk as 65536 lent bytes, 2048 for each node: a slot is read as words, and a message is stored in it.
+pub mod ends;
+pub mod slots;
+
 use base_ids::Node;
 ghost use mathlib.Core.Path.{_≡_};
 ghost use Prim.Native.Nat.{_<_, _≤_};
 ghost use lib.ListN.{length};
-ghost use Rattle.base_laws.specs.Tables.{padded};
-ghost use Rattle.base_bytes.specs.Words.{bytesOf};
-ghost use Rattle.base_lent.specs.Lent.{wordsIn};
-ghost use Rattle.report_views.specs.Reports.{slot};
-ghost use Rattle.report_desk.specs.Desk.{deskWith};
+ghost use Rattle.base_laws.specs.Definitions.{padded};
+ghost use Rattle.base_bytes.specs.Definitions.{bytesOf};
+ghost use Rattle.base_lent.specs.Definitions.{wordsIn};
+ghost use Rattle.report_views.specs.Definitions.{slot};
+ghost use Rattle.report_desk.specs.Definitions.{deskWith};
 
 // The words of a node's slot.
 pub fn slot_words(desk: &[u8], node: Node) -> [u32; 512]

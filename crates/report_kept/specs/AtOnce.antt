@@ -10,19 +10,18 @@ use lib.ListN.{length, getD}
 use borrow.Author.Tests.{eq-eqb}
 use Rattle.base_laws.specs.Bools.{either, clash, no-true}
 use Rattle.base_ids.specs.declared.View.{View}
-use Rattle.settings_values.specs.Settings.{Settings}
-use Rattle.base_ids.specs.Refusals.{none, accepted, unless-none, first-none}
+use Rattle.settings_values.specs.Definitions.{Settings}
+use Rattle.base_ids.specs.Definitions.{none, accepted}
+use Rattle.base_ids.specs.Refusals.{unless-none, first-none}
 use Rattle.message_format.specs.declared.Form.the-variants.{Report}
 use Rattle.message_format.specs.declared.Contents.{Contents}
-use Rattle.message_format.specs.Messages.{messageRefusal, contentsOf}
+use Rattle.message_format.specs.Definitions.{messageRefusal, contentsOf}
 use Rattle.message_format.specs.Passed.{MessagePasses, message-none}
 use Rattle.report_views.specs.declared.Layout.{Layout}
 use Rattle.report_views.specs.declared.Termination.{Termination}
-use Rattle.report_views.specs.Empty.{noTermination}
-use Rattle.report_views.specs.Reports.{terminated}
-use Rattle.report_views.specs.Slots.{row12, row13, termKept}
-use Rattle.report_latest.specs.declared.Latest.{Latest}
-use Rattle.report_latest.specs.Remembered.{latestAt, row18}
+use Rattle.report_views.specs.Definitions.{noTermination, terminated, row12, row13, termKept}
+use Rattle.report_rows.specs.declared.latest.Latest.{Latest}
+use Rattle.report_rows.specs.Definitions.{latestAt, row18}
 use Rattle.report_walk.specs.Pairs.{FitWords, pairsOf}
 use Rattle.report_walk.specs.Seen.{SlotTold}
 use Rattle.report_walk.specs.Kept.{TablesOf, ready-means}
@@ -30,12 +29,13 @@ use Rattle.report_walk.specs.declared.Tables.{Tables}
 use Rattle.report_walk.specs.Sound.{Walked, told-passes, told-view, told-row12, told-row13, told-kept}
 use Rattle.report_kept.specs.declared.Kept.{Kept}
 use Rattle.report_kept.specs.declared.Received.{Received}
-use Rattle.report_kept.specs.Reports.{keptRefusal, refusalBeside, terminationOf, keeps, renewed, takenIn}
+use Rattle.report_kept.specs.Definitions.{keptRefusal, refusalBeside, terminationOf, keeps, renewed}
+use Rattle.report_kept.specs.Reports.{takenIn}
 use Rattle.report_kept.specs.Words.{madeFirst}
 use Rattle.report_kept.specs.Laws.{termination-none, renewed-equal, in-taken}
 
 -- w reports the kept view and passes rows 5 to 13; a termination in it is kept
-pub record OfKept (σ : List ℕ) (v : Layout) (t : Termination) (w : List ℕ) : Type 0 where
+pub record ReportsKept (σ : List ℕ) (v : Layout) (t : Termination) (w : List ℕ) : Type 0 where
   pub passes : MessagePasses Report σ w
   pub view : contentsOf w .view .0 ≡ v .number .0
   pub masks : row12 σ v (contentsOf w) ≡ true
@@ -56,7 +56,7 @@ pub record TakenAtOnce (σ : List ℕ) (v : Layout) (t : Termination) (m : Lates
 pub walked-kept : (σ : List ℕ) (v : Layout) (t : Termination) (w : List ℕ) (x : Tables) {b k l : List ℕ} {node n : ℕ}
     → Settings σ → TablesOf σ v t x → FitWords w → b ≡ pairsOf w
     → (n ≤ 127 → (x .frame .ready ≡ true) × SlotTold (x .frame .number .0) (x .frame .members) (x .masks) (x .frame .made) (x .positions) (x .frame .count) b node k l n)
-    → length w ≤ 512 → length w % 4 ≡ 0 → n < length w / 4 → OfKept σ v t w
+    → length w ≤ 512 → length w % 4 ≡ 0 → n < length w / 4 → ReportsKept σ v t w
 walked-kept σ v t w x {b = b} {k = k} {l = l} {node = node} {n = n} right tables words pairs seen short whole within =
     record {
       passes = told-passes g short whole within;
@@ -85,7 +85,7 @@ walked-kept σ v t w x {b = b} {k = k} {l = l} {node = node} {n = n} right table
               (subst (λ (y : View). SlotTold (y .0) (x .frame .members) (x .masks) (x .frame .made) (x .positions) (x .frame .count) b node k l n) (tables .number) (told .1))));
         }
 
-module _ (σ : List ℕ) (v : Layout) (t : Termination) (m : Latest) (w : List ℕ) (g : OfKept σ v t w) where
+module _ (σ : List ℕ) (v : Layout) (t : Termination) (m : Latest) (w : List ℕ) (g : ReportsKept σ v t w) where
   abbrev reportKept : Contents
   reportKept = contentsOf w
 

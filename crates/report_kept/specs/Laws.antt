@@ -11,26 +11,25 @@ use lib.ListN.{length, getD, replicate}
 use borrow.Author.Tests.{eq-eqb, ne-eqb, lt-ltb, le-ltb, ltb-true, leb-true}
 use Rattle.base_laws.specs.Bools.{either, and-left, and-right}
 use Rattle.base_laws.specs.Tables.{tabulate-same}
-use Rattle.settings_values.specs.Settings.{nodes, shards, Settings}
+use Rattle.settings_values.specs.Definitions.{nodes, shards, Settings}
 use Rattle.base_ids.specs.declared.Position.{Position}
 use Rattle.base_ids.specs.declared.Refusal.{Refusal}
-use Rattle.base_ids.specs.Refusals.{refused, none, accepted, accepted-none, first-left, first-none, first-refused}
+use Rattle.base_ids.specs.Definitions.{refused, none, accepted}
+use Rattle.base_ids.specs.Refusals.{accepted-none, first-left, first-none, first-refused}
 use Rattle.message_format.specs.declared.Form.the-variants.{Report}
 use Rattle.message_format.specs.declared.Contents.{Contents}
 use Rattle.message_format.specs.declared.Reading.{Reading}
-use Rattle.message_format.specs.Chain.{row5}
-use Rattle.message_format.specs.Rows.{row6}
-use Rattle.message_format.specs.Messages.{messageRefusal, contentsOf}
+use Rattle.message_format.specs.Definitions.{row5, row6, messageRefusal, contentsOf}
 use Rattle.message_format.specs.Passed.{message-given}
 use Rattle.message_reader.specs.Readings.{readingUnder}
 use Rattle.report_views.specs.declared.Layout.{Layout}
 use Rattle.report_views.specs.declared.Termination.{Termination}
-use Rattle.report_views.specs.Logs.{start}
-use Rattle.report_views.specs.Reports.{terminated}
-use Rattle.report_latest.specs.declared.Latest.{Latest}
+use Rattle.report_views.specs.Definitions.{start, terminated}
+use Rattle.report_rows.specs.declared.latest.Latest.{Latest}
 use Rattle.report_kept.specs.declared.Kept.{Kept}
 use Rattle.report_kept.specs.declared.Received.{Received}
-use Rattle.report_kept.specs.Reports.{keptRefusal, refusalBeside, readingBeside, layoutOf, terminationOf, keeps, renewed, takesIn, leaves, takenIn}
+use Rattle.report_kept.specs.Definitions.{keptRefusal, refusalBeside, layoutOf, terminationOf, keeps, renewed}
+use Rattle.report_kept.specs.Reports.{readingBeside, takesIn, leaves, takenIn}
 use Rattle.report_kept.specs.Words.{masksIn, positionsIn, madeFirst}
 
 -- ---- rows 5 to 13 with 18

@@ -3,11 +3,11 @@ use Prim.Native.Nat.{ℕ, _+_}
 use mathlib.Core.Bool.{cond}
 use mathlib.Core.List.{List}
 use lib.Dec.{ltb}
-use Rattle.base_laws.specs.Tables.{tabulate}
+use Rattle.base_laws.specs.Definitions.{tabulate}
 use Rattle.base_ids.specs.declared.Position.{Position}
-use Rattle.message_format.specs.Records.{word1, word2, membersOf}
+use Rattle.message_format.specs.Definitions.{word1, word2, membersOf}
 use Rattle.report_views.specs.declared.Termination.{Termination}
-use Rattle.report_views.specs.Logs.{pos, start}
+use Rattle.report_views.specs.Definitions.{pos, start}
 
 -- the members of shard s, of the first count
 abbrev pub maskIn : List ℕ → ℕ → ℕ → ℕ

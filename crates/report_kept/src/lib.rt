@@ -6,7 +6,7 @@ use base_ids::View;
 use message_format::Contents;
 use message_format::Form;
 use message_format::Reading;
-use report_latest::Latest;
+use report_rows::latest::Latest;
 use report_views::Layout;
 use report_views::Termination;
 use report_walk::Tables;
@@ -15,13 +15,14 @@ ghost use mathlib.Core.List.{List};
 ghost use mathlib.Core.Path.{_≡_};
 ghost use Prim.Native.Nat.{ℕ, _%_, _<_, _≤_};
 ghost use lib.ListN.{length};
-ghost use Rattle.settings_values.specs.Settings.{Settings};
+ghost use Rattle.settings_values.specs.Definitions.{Settings};
 ghost use Rattle.report_views.specs.declared.Layout as Layouts;
 ghost use Rattle.report_views.specs.declared.Termination as Terminations;
 ghost use Rattle.report_walk.specs.Kept.{TablesOf};
+ghost use Rattle.report_kept.specs.Definitions as Definitions;
 ghost use Rattle.report_kept.specs.Reports as Reports;
 ghost use Rattle.report_kept.specs.Words.{maskIn, masksIn, positionIn, positionsIn, madeFirst};
-ghost use Rattle.report_kept.specs.AtOnce.{OfKept, TakenAtOnce, keptStays};
+ghost use Rattle.report_kept.specs.AtOnce.{ReportsKept, TakenAtOnce, keptStays};
 
 // What is kept of the reports: the view and its termination.
 pub struct Kept {
@@ -43,9 +44,9 @@ pub struct Received {
 fn kept_refusal(settings: &[u32], v: Layout, t: Termination, latest: Latest, c: Contents) -> Refusal
     requires { ⌜ Settings (now settings) ⌝ }
     requires { ⌜ c .node .0 < 32 ⌝ }
-    ensures { λ r. ⌜ r ≡ Reports.keptRefusal (now (settings .entry)) v t latest c ⌝ }
+    ensures { λ r. ⌜ r ≡ Definitions.keptRefusal (now (settings .entry)) v t latest c ⌝ }
 {
-    if !report_latest::row18(latest, c.node, c.view) {
+    if !report_rows::latest::row18(latest, c.node, c.view) {
         return Refusal { code: 18 };
     }
     if !report_rows::row12(settings, v, c) {
@@ -102,7 +103,7 @@ fn masks_in(body: &[u32; 381], count: usize) -> [u32; 16]
 // The view that a report gives.
 fn layout_of(settings: &[u32], c: Contents) -> Layout
     requires { ⌜ Settings (now settings) ⌝ }
-    ensures { λ r. ⌜ r ≡ Reports.layoutOf (now (settings .entry)) c ⌝ }
+    ensures { λ r. ⌜ r ≡ Definitions.layoutOf (now (settings .entry)) c ⌝ }
 {
     let count = settings_values::shards(settings) as usize;
     Layout {
@@ -146,7 +147,7 @@ fn positions_in(body: &[u32; 381], count: usize) -> [Position; 16]
 // The termination that a report gives, or none.
 fn termination_of(settings: &[u32], c: Contents) -> Termination
     requires { ⌜ Settings (now settings) ⌝ }
-    ensures { λ r. ⌜ r ≡ Reports.terminationOf (now (settings .entry)) c ⌝ }
+    ensures { λ r. ⌜ r ≡ Definitions.terminationOf (now (settings .entry)) c ⌝ }
 {
     if !report_rows::terminated(settings, c) {
         return Termination {
@@ -162,7 +163,7 @@ fn termination_of(settings: &[u32], c: Contents) -> Termination
 }
 
 fn keep(view: Layout, termination: Termination) -> Kept
-    ensures { λ r. ⌜ r ≡ Reports.keeps view termination ⌝ }
+    ensures { λ r. ⌜ r ≡ Definitions.keeps view termination ⌝ }
 {
     Kept { view, termination }
 }
@@ -177,7 +178,7 @@ fn made_first(t: Termination, u: Termination) -> Termination
 // What is kept after a report: a greater view with its termination or none; of an equal view the termination if none is kept.
 fn renew(settings: &[u32], v: Layout, t: Termination, c: Contents) -> Kept
     requires { ⌜ Settings (now settings) ⌝ }
-    ensures { λ r. ⌜ r ≡ Reports.renewed (now (settings .entry)) v t c ⌝ }
+    ensures { λ r. ⌜ r ≡ Definitions.renewed (now (settings .entry)) v t c ⌝ }
 {
     let kept = v.number;
     let view = c.view;
@@ -226,7 +227,7 @@ fn read_in(settings: &[u32], v: Layout, t: Termination, latest: Latest, message:
 fn of_kept(tables: Tables, message: &[u32]) -> bool
     requires { ⌜ (4 ≤ length (now message)) × (length (now message) ≤ 512) × (length (now message) % 4 ≡ 0) ⌝ }
     requires { ⌜ (1 ≤ tables .frame .count) × (tables .frame .count ≤ 16) ⌝ }
-    ensures { λ r. ⌜ (r ≡ true → (σ : List ℕ) (v : Layouts.Layout) (t : Terminations.Termination) → Settings σ → TablesOf σ v t tables → OfKept σ v t (now (message .entry))) ⌝ }
+    ensures { λ r. ⌜ (r ≡ true → (σ : List ℕ) (v : Layouts.Layout) (t : Terminations.Termination) → Settings σ → TablesOf σ v t tables → ReportsKept σ v t (now (message .entry))) ⌝ }
 {
     let b = report_walk::pairs(message);
     let node = Node(message[0]);
@@ -263,7 +264,7 @@ fn taken_at_once(tables: Tables, latest: Latest, message: &[u32]) -> bool
     if !of_kept(tables, message) {
         return false;
     }
-    report_latest::row18(latest, Node(message[0]), number)
+    report_rows::latest::row18(latest, Node(message[0]), number)
 }
 
 // What is kept stays: the view, and its termination if one was made.

@@ -10,26 +10,24 @@ use lib.ListN.{length, getD}
 use lib.Pow.{pow-pos}
 use borrow.Author.Tests.{eqb-true, eq-eqb, ne-eqb, lt-ltb, le-ltb, le-leb, lt-leb}
 use Rattle.base_laws.specs.Bools.{either, and-both, and-fails-left, and-fails-right, or-left, or-right, not-of-false, lt-or-le}
-use Rattle.base_laws.specs.Below.{allBelow, all-of}
+use Rattle.base_laws.specs.Definitions.{allBelow, has, subset}
+use Rattle.base_laws.specs.Below.{all-of}
 use Rattle.base_laws.specs.Tables.{length-part}
-use Rattle.base_laws.specs.Masks.{has, subset, subset-of}
-use Rattle.settings_values.specs.Settings.{shards, Settings}
+use Rattle.base_laws.specs.Masks.{subset-of}
+use Rattle.settings_values.specs.Definitions.{shards, Settings}
 use Rattle.base_ids.specs.declared.Refusal.{Refusal}
-use Rattle.base_ids.specs.Refusals.{none}
+use Rattle.base_ids.specs.Definitions.{none}
 use Rattle.message_format.specs.declared.Form.the-variants.{Report}
-use Rattle.message_format.specs.Chain.{records, next, following, row5, row8}
-use Rattle.message_format.specs.Records.{tag, word1, word2, kind, shard, precedes, shardsWhere, shardsOf, membersOf}
-use Rattle.message_format.specs.Rows.{position, viewFits, kindOk, plain, kindAt, shardAt, surplus, sequenceAt, everyShard, complete, row10, legal, row11At}
+use Rattle.message_format.specs.Definitions.{next, following, row5, row8, tag, word1, word2, kind, recordShard, precedes, shardsWhere, shardsOf, membersOf, isPosition, viewFits, kindOk, plain, kindAt, shardAt, surplus, sequenceAt, everyShard, complete, row10, legal, row11At, bodyOf, contentsOf, messageRefusal}
+use Rattle.message_format.specs.Shorthands.{records}
 use Rattle.message_format.specs.Rising.{precedes-tag, precedes-view}
-use Rattle.message_format.specs.Messages.{bodyOf, contentsOf, messageRefusal}
 use Rattle.message_format.specs.Passed.{HeadPasses, RecordsPass, MessagePasses, message-none}
 use Rattle.message_format.specs.Alike.{row10-same}
 use Rattle.message_format.specs.Straight.{straight-following, straight-row8, straight-tag, straight-word1, straight-word2}
 use Rattle.message_format.specs.Laws.{where-at}
 use Rattle.report_views.specs.declared.Layout.{Layout}
 use Rattle.report_views.specs.declared.Termination.{Termination}
-use Rattle.report_views.specs.Reports.{slot, reportOf, terminatedAt, maskAt, positionAt}
-use Rattle.report_views.specs.Slots.{row12, row13, termKept, sameView, samePosition, sameTermination, slotOk}
+use Rattle.report_views.specs.Definitions.{slot, reportOf, terminatedAt, maskAt, positionAt, row12, row13, termKept, sameView, samePosition, sameTermination, slotOk}
 use Rattle.report_quick.specs.Told.{MemberTold, PositionTold, RunTold, RunsTold, HeadTold, maskTold, MasksFit, EndFits}
 
 -- the records before the runs: members for each shard, then a position for each or none; m of them
@@ -42,7 +40,7 @@ pub record RecordTold (count view a b c : ℕ) : Type 0 where
   pub known : (a / 256 ≡ 1) ⊎ ((a / 256 ≡ 2) ⊎ (a / 256 ≡ 3))
   pub below : a % 256 < count
   pub zero : a / 256 ≡ 1 → c ≡ 0
-  pub at : a / 256 ≡ 2 → (b ≤ view) × (position b c ≡ true)
+  pub at : a / 256 ≡ 2 → (b ≤ view) × (isPosition b c ≡ true)
   pub run : a / 256 ≡ 3 → (1 ≤ b) × (1 ≤ c) × (b ≤ view)
 
 -- no record is picked
@@ -135,7 +133,7 @@ module _ (σ : List ℕ) (w : List ℕ) (view m n : ℕ) (right : Settings σ) (
         known = inr (inl (omega (arith, tag-is j l, t .tagged, few)));
         below = omega (arith, tag-is j l, t .tagged, few);
         zero = λ e. absurd (omega (arith, tag-is j l, t .tagged, few));
-        at = λ e. (omega (arith, word1-is j l, t .view-to), subst (λ (x : ℕ). position x (word2 (bodyOf w) j) ≡ true) (sym (word1-is j l)) (subst (λ (x : ℕ). position (getD w (4 * j + 5) 0) x ≡ true) (sym (word2-is j l)) (t .placed)));
+        at = λ e. (omega (arith, word1-is j l, t .view-to), subst (λ (x : ℕ). isPosition x (word2 (bodyOf w) j) ≡ true) (sym (word1-is j l)) (subst (λ (x : ℕ). isPosition (getD w (4 * j + 5) 0) x ≡ true) (sym (word2-is j l)) (t .placed)));
         run = λ e. absurd (omega (arith, tag-is j l, t .tagged, few));
       })
       (λ h t. record {
@@ -152,7 +150,7 @@ module _ (σ : List ℕ) (w : List ℕ) (view m n : ℕ) (right : Settings σ) (
 
   pub front-shards : allBelow n (shardAt σ (bodyOf w)) ≡ true
   unfolding shardAt
-  front-shards = all-of n (shardAt σ (bodyOf w)) (λ j l. lt-ltb (shard (bodyOf w) j) many (told j l .below))
+  front-shards = all-of n (shardAt σ (bodyOf w)) (λ j l. lt-ltb (recordShard (bodyOf w) j) many (told j l .below))
 
   pub front-positions : (members : ℕ) → allBelow n (row11At Report view members (bodyOf w)) ≡ true
   unfolding row11At
@@ -198,7 +196,7 @@ module _ (σ : List ℕ) (w : List ℕ) (view m n : ℕ) (right : Settings σ) (
   every k base h =
       subset-of many (everyShard σ) (shardsOf k (bodyOf w) n) (full-less many) (λ s l p.
       let e = h s l in
-      subst (λ (x : ℕ). has (shardsOf k (bodyOf w) n) x ≡ true) (let g : shard (bodyOf w) (base + s) ≡ s = omega (arith, e .1, few) in g)
+      subst (λ (x : ℕ). has (shardsOf k (bodyOf w) n) x ≡ true) (let g : recordShard (bodyOf w) (base + s) ≡ s = omega (arith, e .1, few) in g)
       (where-at (λ j. eqb (kind (bodyOf w) j) k) (bodyOf w) n (base + s) (e .0) (eq-eqb (kind (bodyOf w) (base + s)) k (omega (arith, e .1, few)))))
 
   within-all : m ≤ n

@@ -6,12 +6,12 @@ use mathlib.Core.List.{List}
 use mathlib.Core.Logic.{_⊎_}
 use mathlib.Core.Path.{_≡_}
 use lib.ListN.{getD}
-use Rattle.settings_values.specs.Settings.{shards}
+use Rattle.settings_values.specs.Definitions.{shards}
 use Rattle.message_format.specs.declared.Form.the-variants.{Report}
-use Rattle.message_format.specs.Rows.{row6, row7, row10, position}
+use Rattle.message_format.specs.Definitions.{row6, row7, row10, isPosition}
 use Rattle.report_views.specs.declared.Layout.{Layout}
 use Rattle.report_views.specs.declared.Termination.{Termination}
-use Rattle.report_views.specs.Reports.{maskAt, positionAt}
+use Rattle.report_views.specs.Definitions.{maskAt, positionAt}
 
 -- record s + 1 stands after the one before it and gives the members of shard s
 pub record MemberTold (w : List ℕ) (s : ℕ) : Type 0 where
@@ -24,7 +24,7 @@ pub record PositionTold (w : List ℕ) (view i s : ℕ) : Type 0 where
   pub linked : getD w (4 * i + 3) 0 ≡ i + 1
   pub tagged : getD w (4 * i + 4) 0 ≡ 512 + s
   pub view-to : getD w (4 * i + 5) 0 ≤ view
-  pub placed : position (getD w (4 * i + 5) 0) (getD w (4 * i + 6) 0) ≡ true
+  pub placed : isPosition (getD w (4 * i + 5) 0) (getD w (4 * i + 6) 0) ≡ true
 
 -- a run, tag, view v and count k, that may follow a record with this tag and word 1
 pub record RunFits (before since tag v k count view : ℕ) : Type 0 where

@@ -9,8 +9,8 @@ ghost use mathlib.Core.Logic.{_⊎_};
 ghost use mathlib.Core.Path.{_≡_};
 ghost use Prim.Native.Nat.{ℕ, _+_, _*_, _<_, _≤_};
 ghost use lib.ListN.{length, getD};
-ghost use Rattle.settings_values.specs.Settings.{Settings, shards};
-ghost use Rattle.message_format.specs.Rows.{row10};
+ghost use Rattle.settings_values.specs.Definitions.{Settings, shards};
+ghost use Rattle.message_format.specs.Definitions.{row10};
 ghost use Rattle.report_quick.specs.Told.{MemberTold, PositionTold, RunFits, RunsTold, HeadTold, maskTold};
 ghost use Rattle.report_quick.specs.Accepts.{RestFits, WordsFit};
 
@@ -187,7 +187,7 @@ fn masks_fit(settings: &[u32], w: &[u32], count: usize) -> bool
     ensures { λ r. ⌜ (r ≡ true → row10 (now (settings .entry)) (getD (now (w .entry)) 2 0) (maskTold (now (w .entry))) ≡ true) ⌝ }
 {
     let masks = masks_told(w, count);
-    message_shards::row10(settings, w[2], &masks)
+    message_rows::shards::row10(settings, w[2], &masks)
 }
 
 // The records after the masks: a termination or none, and the runs.

@@ -8,16 +8,14 @@ use lib.Dec.{eqb}
 use lib.ListN.{getD}
 use borrow.Author.Tests.{eq-eqb, ne-eqb, lt-ltb, le-ltb}
 use Rattle.base_laws.specs.Bools.{and-rest, and-fails-left, and-fails-right, unasked}
-use Rattle.base_laws.specs.Below.{allBelow}
-use Rattle.settings_values.specs.Settings.{shards}
+use Rattle.base_laws.specs.Definitions.{allBelow}
+use Rattle.settings_values.specs.Definitions.{shards}
 use Rattle.base_ids.specs.declared.Position.{Position}
 use Rattle.message_format.specs.declared.Contents.{Contents}
-use Rattle.message_format.specs.Records.{word1, word2, kind, membersOf}
+use Rattle.message_format.specs.Definitions.{word1, word2, kind, membersOf}
 use Rattle.report_views.specs.declared.Layout.{Layout}
 use Rattle.report_views.specs.declared.Termination.{Termination}
-use Rattle.report_views.specs.Logs.{pos, start}
-use Rattle.report_views.specs.Reports.{terminated}
-use Rattle.report_views.specs.Slots.{ofKept, sameView, samePosition, sameTermination, row13}
+use Rattle.report_views.specs.Definitions.{pos, start, terminated, ofKept, sameView, samePosition, sameTermination, row13}
 
 -- the body has these masks for its first n shards
 unfoldable pub masksSame : List ℕ → List ℕ → ℕ → Bool

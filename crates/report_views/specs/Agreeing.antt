@@ -11,19 +11,18 @@ use lib.ListN.{length, take, drop}
 use lib.Seq.{take-nil, drop-length}
 use Rattle.base_laws.specs.Bools.{either, lt-or-le, and-left, and-fails-left}
 use Rattle.base_laws.specs.Below.{lowest-cong}
-use Rattle.base_laws.specs.Masks.{has}
+use Rattle.base_laws.specs.Definitions.{has}
 use Rattle.base_laws.specs.Tables.{tabulate-cong}
-use Rattle.settings_values.specs.Settings.{shards}
+use Rattle.settings_values.specs.Definitions.{shards}
 use Rattle.base_ids.specs.declared.Node.{Node}
 use Rattle.base_ids.specs.declared.Position.{Position}
 use Rattle.message_format.specs.declared.Contents.{Contents}
-use Rattle.message_format.specs.Messages.{contentsOf}
+use Rattle.message_format.specs.Definitions.{contentsOf}
 use Rattle.report_views.specs.declared.Layout.{Layout}
 use Rattle.report_views.specs.declared.Termination.{Termination}
-use Rattle.report_views.specs.Logs.{start, endOf, hasUpdate}
-use Rattle.report_views.specs.Reports.{slot, reportOf, viewOf, endAt, hasAt, maskAt, positionAt}
-use Rattle.report_views.specs.Quorums.{candidate, best, target, able, holder, unheld, firstUnheld, quorumOf}
-use Rattle.report_views.specs.Standings.{holdersOf, targetsOf, standingOf}
+use Rattle.report_views.specs.Definitions.{start, endOf, hasUpdate, slot, reportOf, endAt, maskAt, positionAt, candidate, best, target, able, holder, firstUnheld, quorumOf, holdersOf, targetsOf}
+use Rattle.report_views.specs.Shorthands.{hasAt, unheld, viewOf}
+use Rattle.report_views.specs.Standings.{standingOf}
 use Rattle.report_views.specs.Best.{best-cong, best-given, best-le}
 
 -- every held node's slot says the same on both desks

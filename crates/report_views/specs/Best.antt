@@ -8,21 +8,22 @@ use native.Mathlib.Omega.{arith}
 use lib.Dec.{eqb}
 use borrow.Author.Tests.{eq-eqb, ne-eqb}
 use Rattle.base_laws.specs.Bools.{either, clash, and-both, and-left, and-right, and-fails-left, or-left, or-right, or-holds, or-neither, not-of-false, of-not-true, no-true, eq-or-ne}
-use Rattle.base_laws.specs.Below.{allBelow, anyBelow, any-suc, all-at, all-of, any-at, any-fails, any-witness, lowest-le, any-none-of, lowest-none, lowest-unique, lowest-below, lowest-holds, lowest-some, lowest-first}
+use Rattle.base_laws.specs.Definitions.{allBelow, anyBelow}
+use Rattle.base_laws.specs.Below.{any-suc, all-at, all-of, any-at, any-fails, any-witness, lowest-le, any-none-of, lowest-none, lowest-unique, lowest-below, lowest-holds, lowest-some, lowest-first}
 use Rattle.base_laws.specs.Positions.{not-after-refl, not-after-trans, not-after-total}
 use Rattle.base_ids.specs.declared.Position.{Position}
-use Rattle.base_ids.specs.Order.{notAfter}
-use Rattle.report_views.specs.Quorums.{greatest, best}
+use Rattle.base_ids.specs.Definitions.{notAfter}
+use Rattle.report_views.specs.Definitions.{greatest, best}
 
 -- of the n lowest nodes that f picks, a has the greatest end
-pub record Greatest (f : ℕ → Bool) (end : ℕ → Position) (n a : ℕ) : Type 0 where
+pub record GreatestEnd (f : ℕ → Bool) (end : ℕ → Position) (n a : ℕ) : Type 0 where
   pub below : a < n
   pub picked : f a ≡ true
   pub top : (m : ℕ) → m < n → f m ≡ true → notAfter (end m) (end a) ≡ true
 
 module _ (f : ℕ → Bool) (end : ℕ → Position) where
   -- the test says so
-  greatest-given : (n a : ℕ) → a < n → greatest f end n a ≡ true → Greatest f end n a
+  greatest-given : (n a : ℕ) → a < n → greatest f end n a ≡ true → GreatestEnd f end n a
   unfolding greatest
   greatest-given n a l h =
       record {
@@ -34,7 +35,7 @@ module _ (f : ℕ → Bool) (end : ℕ → Position) where
             (all-at n (λ i. not (f i) || notAfter (end i) (end a)) (and-right (f a) (allBelow n (λ i. not (f i) || notAfter (end i) (end a))) h) m k));
       }
 
-  greatest-test : (n a : ℕ) → Greatest f end n a → greatest f end n a ≡ true
+  greatest-test : (n a : ℕ) → GreatestEnd f end n a → greatest f end n a ≡ true
   unfolding greatest
   greatest-test n a g =
       and-both (g .picked)
@@ -42,7 +43,7 @@ module _ (f : ℕ → Bool) (end : ℕ → Position) where
       (λ m l. ⊎-elim (λ e. or-right (not (f m)) (g .top m l e)) (λ e. or-left (notAfter (end m) (end a)) (not-of-false e)) (either (f m))))
 
   -- one node more, n, that is not picked or does not lie after a
-  widen : (n a : ℕ) → Greatest f end n a → (f n ≡ true → notAfter (end n) (end a) ≡ true) → Greatest f end (suc n) a
+  widen : (n a : ℕ) → GreatestEnd f end n a → (f n ≡ true → notAfter (end n) (end a) ≡ true) → GreatestEnd f end (suc n) a
   widen n a g p =
       record {
         below = omega (arith, g .below);
@@ -54,7 +55,7 @@ module _ (f : ℕ → Bool) (end : ℕ → Position) where
       }
 
   -- one node more, n, that is picked and after which none of the picked lies
-  replace : (n : ℕ) → f n ≡ true → ((m : ℕ) → m < n → f m ≡ true → notAfter (end m) (end n) ≡ true) → Greatest f end (suc n) n
+  replace : (n : ℕ) → f n ≡ true → ((m : ℕ) → m < n → f m ≡ true → notAfter (end m) (end n) ≡ true) → GreatestEnd f end (suc n) n
   replace n hit p =
       record {
         below = omega arith;
@@ -67,7 +68,7 @@ module _ (f : ℕ → Bool) (end : ℕ → Position) where
       }
 
   -- with the greatest of the nodes below n, the greatest with n
-  extend : (n : ℕ) → (a : ℕ) × Greatest f end n a → (a : ℕ) × Greatest f end (suc n) a
+  extend : (n : ℕ) → (a : ℕ) × GreatestEnd f end n a → (a : ℕ) × GreatestEnd f end (suc n) a
   extend n (a, g) =
       ⊎-elim
       (λ hit.
@@ -82,11 +83,11 @@ module _ (f : ℕ → Bool) (end : ℕ → Position) where
       (either (f n))
 
   -- where one is picked, some node has the greatest end
-  greatest-exists : (n : ℕ) → anyBelow n f ≡ true → (a : ℕ) × Greatest f end n a
+  greatest-exists : (n : ℕ) → anyBelow n f ≡ true → (a : ℕ) × GreatestEnd f end n a
   greatest-exists zero h = let w = any-witness 0 f h in absurd (omega (arith, w .1))
   greatest-exists (suc n) h = ⊎-elim (λ e. extend n (greatest-exists n e)) (λ e. (n, only e)) (either (anyBelow n f))
     where
-      only : anyBelow n f ≡ false → Greatest f end (suc n) n
+      only : anyBelow n f ≡ false → GreatestEnd f end (suc n) n
       only e = replace n (alone (any-witness (suc n) f h)) (λ m l q. clash q (any-fails n f e m l))
         where
           alone : (k : ℕ) × (k < suc n) × (f k ≡ true) → f n ≡ true
@@ -94,7 +95,7 @@ module _ (f : ℕ → Bool) (end : ℕ → Position) where
               ⊎-elim (λ d. subst (λ (x : ℕ). f x ≡ true) d (w .2)) (λ d. clash (w .2) (any-fails n f e (w .0) (omega (arith, w .1)))) (eq-or-ne (w .0) n)
 
   -- a node is picked: best names one with the greatest end
-  pub best-found : (n m : ℕ) → m < n → f m ≡ true → Greatest f end n (best f end n)
+  pub best-found : (n m : ℕ) → m < n → f m ≡ true → GreatestEnd f end n (best f end n)
   unfolding best
   best-found n m l p =
       let some = greatest-exists n (any-at n f m l p) in
@@ -102,7 +103,7 @@ module _ (f : ℕ → Bool) (end : ℕ → Position) where
       greatest-given n (best f end n) (lowest-below n (greatest f end n) held) (lowest-holds n (greatest f end n) held)
 
   -- best names a node below n: it has the greatest end
-  pub best-given : (n : ℕ) → best f end n < n → Greatest f end n (best f end n)
+  pub best-given : (n : ℕ) → best f end n < n → GreatestEnd f end n (best f end n)
   unfolding best
   best-given n l =
       greatest-given n (best f end n) l (lowest-holds n (greatest f end n) (lowest-some n (greatest f end n) l))
@@ -116,7 +117,7 @@ module _ (f : ℕ → Bool) (end : ℕ → Position) where
   unfolding best
   best-lowest n m b l p = no-true (notAfter (end (best f end n)) (end m)) (λ e. clash (greatest-test n m (top e)) (lowest-first n (greatest f end n) m l))
     where
-      top : notAfter (end (best f end n)) (end m) ≡ true → Greatest f end n m
+      top : notAfter (end (best f end n)) (end m) ≡ true → GreatestEnd f end n m
       top e =
           record {
             below = omega arith;
@@ -127,7 +128,7 @@ module _ (f : ℕ → Bool) (end : ℕ → Position) where
           }
 
   -- a node is the best if it has the greatest end, and every lower one that is picked has a lesser
-  pub best-unique : (n a : ℕ) → Greatest f end n a → ((m : ℕ) → m < a → f m ≡ true → notAfter (end a) (end m) ≡ false) → best f end n ≡ a
+  pub best-unique : (n a : ℕ) → GreatestEnd f end n a → ((m : ℕ) → m < a → f m ≡ true → notAfter (end a) (end m) ≡ false) → best f end n ≡ a
   unfolding best
   best-unique n a g low =
       lowest-unique n (greatest f end n) a (g .below) (greatest-test n a g)

@@ -8,35 +8,35 @@ use native.Mathlib.Omega.{arith}
 use lib.Dec.{eqb, leb}
 use borrow.Author.Tests.{eqb-true, leb-true, eq-eqb, le-leb}
 use Rattle.base_laws.specs.Bools.{clash, and-both, and-left, and-right, eq-or-ne}
-use Rattle.base_laws.specs.Below.{allBelow, anyBelow, any-at, any-witness}
+use Rattle.base_laws.specs.Definitions.{allBelow, anyBelow}
+use Rattle.base_laws.specs.Below.{any-at, any-witness}
 use Rattle.base_laws.specs.Positions.{not-after-view, not-after-place}
 use Rattle.base_ids.specs.declared.Position.{Position}
-use Rattle.base_ids.specs.Order.{notAfter}
-use Rattle.message_format.specs.Records.{tag, word1, word2}
-use Rattle.message_format.specs.Rows.{sequenceAt}
+use Rattle.base_ids.specs.Definitions.{notAfter}
+use Rattle.message_format.specs.Definitions.{tag, word1, word2, sequenceAt}
 use Rattle.message_format.specs.Rising.{views-rise}
-use Rattle.report_views.specs.Logs.{pos, run, endOf, reaches, holds}
+use Rattle.report_views.specs.Definitions.{pos, isRun, endOf, reaches, holds}
 
 -- what it means that run j reaches p
-pub reaches-run : (b : List ℕ) (s : ℕ) (p : Position) (j : ℕ) → reaches b s p j ≡ true → run b s j ≡ true
+pub reaches-run : (b : List ℕ) (s : ℕ) (p : Position) (j : ℕ) → reaches b s p j ≡ true → isRun b s j ≡ true
 unfolding reaches
 reaches-run b s p j h =
-    and-left (run b s j) (eqb (word1 b j) (p .view .0))
-    (and-left (run b s j && eqb (word1 b j) (p .view .0)) (leb (p .k) (word2 b j)) h)
+    and-left (isRun b s j) (eqb (word1 b j) (p .view .0))
+    (and-left (isRun b s j && eqb (word1 b j) (p .view .0)) (leb (p .k) (word2 b j)) h)
 
 pub reaches-view : (b : List ℕ) (s : ℕ) (p : Position) (j : ℕ) → reaches b s p j ≡ true → word1 b j ≡ p .view .0
 unfolding reaches
 reaches-view b s p j h =
     eqb-true (word1 b j) (p .view .0)
-    (and-right (run b s j) (eqb (word1 b j) (p .view .0))
-    (and-left (run b s j && eqb (word1 b j) (p .view .0)) (leb (p .k) (word2 b j)) h))
+    (and-right (isRun b s j) (eqb (word1 b j) (p .view .0))
+    (and-left (isRun b s j && eqb (word1 b j) (p .view .0)) (leb (p .k) (word2 b j)) h))
 
 pub reaches-count : (b : List ℕ) (s : ℕ) (p : Position) (j : ℕ) → reaches b s p j ≡ true → p .k ≤ word2 b j
 unfolding reaches
 reaches-count b s p j h =
-    leb-true (p .k) (word2 b j) (and-right (run b s j && eqb (word1 b j) (p .view .0)) (leb (p .k) (word2 b j)) h)
+    leb-true (p .k) (word2 b j) (and-right (isRun b s j && eqb (word1 b j) (p .view .0)) (leb (p .k) (word2 b j)) h)
 
-pub reaches-of : (b : List ℕ) (s : ℕ) (p : Position) (j : ℕ) → run b s j ≡ true → word1 b j ≡ p .view .0 → p .k ≤ word2 b j → reaches b s p j ≡ true
+pub reaches-of : (b : List ℕ) (s : ℕ) (p : Position) (j : ℕ) → isRun b s j ≡ true → word1 b j ≡ p .view .0 → p .k ≤ word2 b j → reaches b s p j ≡ true
 unfolding reaches
 reaches-of b s p j r e l = and-both (and-both r (eq-eqb (word1 b j) (p .view .0) e)) (le-leb (p .k) (word2 b j) l)
 
@@ -49,7 +49,7 @@ at-run b p n (inr e) =
 
 -- the runs of shard s among the first len records rise by view
 abbrev pub RunsRise : List ℕ → ℕ → ℕ → Type 0
-RunsRise b len s = (i j : ℕ) → i < j → j < len → run b s i ≡ true → run b s j ≡ true → word1 b i < word1 b j
+RunsRise b len s = (i j : ℕ) → i < j → j < len → isRun b s i ≡ true → isRun b s j ≡ true → word1 b i < word1 b j
 
 -- so they do where row 17's pass finds nothing wrong
 pub runs-rise : (node : ℕ) (b : List ℕ) (len : ℕ) → allBelow len (sequenceAt node b) ≡ true → (s : ℕ) → RunsRise b len s
@@ -61,11 +61,11 @@ module _ (b : List ℕ) (len s : ℕ) (rise : RunsRise b len s) where
   within-end : (p : Position) (n : ℕ) → n ≤ len → anyBelow n (reaches b s p) ≡ true → notAfter p (endOf b s n) ≡ true
   unfolding endOf
   within-end p zero l e = let w = any-witness 0 (reaches b s p) e in absurd (omega (arith, w .1))
-  within-end p (suc n) l e = go (run b s n) refl (within-end p n (omega arith)) (any-witness (suc n) (reaches b s p) e)
+  within-end p (suc n) l e = go (isRun b s n) refl (within-end p n (omega arith)) (any-witness (suc n) (reaches b s p) e)
     where
-      go : (r : Bool) → run b s n ≡ r → (anyBelow n (reaches b s p) ≡ true → notAfter p (endOf b s n) ≡ true)
+      go : (r : Bool) → isRun b s n ≡ r → (anyBelow n (reaches b s p) ≡ true → notAfter p (endOf b s n) ≡ true)
           → (k : ℕ) × (k < suc n) × (reaches b s p k ≡ true)
-          → notAfter p (cond (run b s n) (pos (word1 b n) (word2 b n)) (endOf b s n)) ≡ true
+          → notAfter p (cond (isRun b s n) (pos (word1 b n) (word2 b n)) (endOf b s n)) ≡ true
       go true r rest w =
           rw r
           (⊎-elim

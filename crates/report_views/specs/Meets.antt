@@ -10,13 +10,13 @@ use lib.Arith.{lt-of-le-ne}
 use lib.Bits.{bitAnd}
 use borrow.Author.Tests.{eqb-true, eqb-false, leb-true, ltb-true, ltb-false}
 use Rattle.base_laws.specs.Bools.{clash, and-left, and-right, or-holds, of-not-true, of-not-false}
-use Rattle.base_laws.specs.Below.{all-at, lowest, lowest-first}
-use Rattle.base_laws.specs.Masks.{has, count}
-use Rattle.settings_values.specs.Settings.{least, shards}
-use Rattle.base_ids.specs.Order.{notAfter}
-use Rattle.base_ids.specs.Refusals.{accepted, none, accepted-none}
+use Rattle.base_laws.specs.Definitions.{lowest, has, count}
+use Rattle.base_laws.specs.Below.{all-at, lowest-first}
+use Rattle.settings_values.specs.Definitions.{least, shards}
+use Rattle.base_ids.specs.Definitions.{notAfter, accepted, none}
+use Rattle.base_ids.specs.Refusals.{accepted-none}
 use Rattle.message_format.specs.declared.Form.the-variants.{Report}
-use Rattle.message_format.specs.Messages.{messageRefusal, contentsOf}
+use Rattle.message_format.specs.Definitions.{messageRefusal, contentsOf}
 use Rattle.message_format.specs.Passed.{RecordsPass, message-given}
 use Rattle.base_ids.specs.declared.Position.{Position}
 use Rattle.report_views.specs.LogLaws.{holds-end}
@@ -26,10 +26,9 @@ use Rattle.report_views.specs.declared.Quorum.{Quorum}
 use Rattle.report_views.specs.declared.Quorum.the-variants.{Met, Short}
 use Rattle.report_views.specs.declared.Reason.{Reason}
 use Rattle.report_views.specs.declared.Reason.the-variants.{NoView, NoMajority, TooFew, NoHolder}
-use Rattle.report_views.specs.Reports.{slot, reportOf, viewOf, endAt, holdsAt, hasAt, maskAt}
-use Rattle.report_views.specs.Slots.{row12, row13, termKept, slotOk, slotsOk}
-use Rattle.report_views.specs.Quorums.{candidate, target, able, holder, majority, unheld, firstUnheld, quorumOf}
-use Rattle.report_views.specs.Best.{Greatest, best-found, best-given, best-le}
+use Rattle.report_views.specs.Definitions.{slot, reportOf, endAt, holdsAt, maskAt, row12, row13, termKept, slotOk, slotsOk, candidate, target, able, holder, majority, firstUnheld, quorumOf}
+use Rattle.report_views.specs.Shorthands.{hasAt, unheld, viewOf}
+use Rattle.report_views.specs.Best.{GreatestEnd, best-found, best-given, best-le}
 
 -- waits 1 to 4 do not apply
 pub record QuorumMet (σ : List ℕ) (v : Layout) (t : Termination) (held : ℕ) (d : List ℕ) : Type 0 where
@@ -56,7 +55,7 @@ pub record SlotSound (σ : List ℕ) (v : Layout) (t : Termination) (d : List �
   pub term-same : row13 σ v t (reportOf d n) ≡ true
   pub term-kept : termKept σ v t (reportOf d n) ≡ true
 
-pub record Candidate (v : Layout) (held : ℕ) (d : List ℕ) (s n : ℕ) : Type 0 where
+pub record IsCandidate (v : Layout) (held : ℕ) (d : List ℕ) (s n : ℕ) : Type 0 where
   pub is-held : has held n ≡ true
   pub member : has (maskAt v s) n ≡ true
   pub of-kept : viewOf d n ≡ v .number .0
@@ -129,7 +128,7 @@ log-end σ v t d n sound s p e =
     holds-end (reportOf d n .node .0) (reportOf d n .body) (reportOf d n .len) (report-records σ v t d n sound .sequence-passes) s p e
 
 module _ (v : Layout) (held : ℕ) (d : List ℕ) (s n : ℕ) where
-  pub candidate-given : candidate v held d s n ≡ true → Candidate v held d s n
+  pub candidate-given : candidate v held d s n ≡ true → IsCandidate v held d s n
   unfolding candidate
   candidate-given h =
       let e = and-left (has held n && has (maskAt v s) n) (eqb (viewOf d n) (v .number .0)) h in
@@ -141,7 +140,7 @@ module _ (v : Layout) (held : ℕ) (d : List ℕ) (s n : ℕ) where
 
 module _ (v : Layout) (t : Termination) (held : ℕ) (d : List ℕ) (s : ℕ) where
   -- the holder is a candidate that has the target, and no other such has a greater end
-  pub holder-given : holder v t held d s < 32 → Greatest (able v t held d s) (endAt d s) 32 (holder v t held d s)
+  pub holder-given : holder v t held d s < 32 → GreatestEnd (able v t held d s) (endAt d s) 32 (holder v t held d s)
   unfolding holder
   holder-given l = best-given (able v t held d s) (endAt d s) 32 l
 

@@ -9,8 +9,8 @@ use borrow.Author.Tests.{ltb-true, lt-ltb}
 use Rattle.base_laws.specs.Bools.{same, lt-or-le}
 use Rattle.base_laws.specs.Positions.{pairBefore, before-cases, before-view, before-place, before-not-after}
 use Rattle.base_ids.specs.declared.Position.{Position}
-use Rattle.base_ids.specs.Order.{notAfter}
-use Rattle.report_views.specs.Logs.{pos, start}
+use Rattle.base_ids.specs.Definitions.{notAfter}
+use Rattle.report_views.specs.Definitions.{pos, start}
 
 unfoldable pub asNumber : Position → ℕ
 asNumber p = 4294967296 * p .view .0 + p .k

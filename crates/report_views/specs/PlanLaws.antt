@@ -7,18 +7,13 @@ use mathlib.Core.Path.{_≡_, refl, ap}
 use lib.Dec.{eqb, ltb}
 use lib.ListN.{getD}
 use Rattle.base_laws.specs.Tables.{getD-tabulate}
-use Rattle.settings_values.specs.Settings.{shards}
+use Rattle.settings_values.specs.Definitions.{shards}
 use Rattle.base_ids.specs.declared.Node.{Node}
 use Rattle.base_ids.specs.declared.Position.{Position}
 use Rattle.report_views.specs.declared.Layout.{Layout}
 use Rattle.report_views.specs.declared.Termination.{Termination}
 use Rattle.report_views.specs.declared.Plan.{Plan}
-use Rattle.report_views.specs.Logs.{start}
-use Rattle.report_views.specs.Reports.{nodeAt, holderAt, targetAt}
-use Rattle.report_views.specs.Slots.{samePosition}
-use Rattle.report_views.specs.Quorums.{target, holder}
-use Rattle.report_views.specs.Standings.{holdersOf, targetsOf}
-use Rattle.report_views.specs.Soundness.{shardPlanned}
+use Rattle.report_views.specs.Definitions.{start, nodeAt, holderAt, targetAt, samePosition, target, holder, holdersOf, targetsOf, shardPlanned}
 
 -- the entries of a plan and of the standing's tables are equal at shard s
 unfoldable pub sameShard : Plan → List Node → List Position → ℕ → Bool

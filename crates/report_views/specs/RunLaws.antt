@@ -10,23 +10,23 @@ use lib.Dec.{eqb, leb}
 use lib.Arith.{lt-of-le-ne}
 use borrow.Author.Tests.{eqb-true, leb-true, eq-eqb, le-leb}
 use Rattle.base_laws.specs.Bools.{and-both, and-left, and-right, or-left, or-right, or-holds, eq-or-ne}
-use Rattle.base_laws.specs.Below.{anyBelow, all-at, any-at, any-witness}
+use Rattle.base_laws.specs.Definitions.{anyBelow}
+use Rattle.base_laws.specs.Below.{all-at, any-at, any-witness}
 use Rattle.base_laws.specs.Positions.{not-after-view, not-after-place}
 use Rattle.base_ids.specs.declared.Position.{Position}
-use Rattle.base_ids.specs.Order.{notAfter}
+use Rattle.base_ids.specs.Definitions.{notAfter}
 use Rattle.message_format.specs.declared.Form.the-variants.{Report}
-use Rattle.message_format.specs.Records.{tag, word1, word2, kind}
-use Rattle.message_format.specs.Rows.{position, viewFits, legal, row11At}
+use Rattle.message_format.specs.Definitions.{tag, word1, word2, kind, isPosition, viewFits, legal, row11At}
 use Rattle.message_format.specs.Passed.{RecordsPass}
-use Rattle.report_views.specs.Logs.{pos, start, run, endOf, reaches, holds, hasUpdate, isStart}
+use Rattle.report_views.specs.Definitions.{pos, start, isRun, endOf, reaches, holds, hasUpdate, isStart}
 use Rattle.report_views.specs.LogLaws.{reaches-run, reaches-view, reaches-of, RunsRise, runs-rise}
 
 -- ---- the runs of a shard in a report that passes rows 9 and 11
 
 pub record Runs (b : List ℕ) (len s : ℕ) : Type 0 where
   pub rise : RunsRise b len s
-  pub view-from : (j : ℕ) → j < len → run b s j ≡ true → 1 ≤ word1 b j
-  pub count-from : (j : ℕ) → j < len → run b s j ≡ true → 1 ≤ word2 b j
+  pub view-from : (j : ℕ) → j < len → isRun b s j ≡ true → 1 ≤ word1 b j
+  pub count-from : (j : ℕ) → j < len → isRun b s j ≡ true → 1 ≤ word2 b j
 
 -- row 11 at a run
 run-legal : (view members k a c : ℕ) → k ≡ 3 → legal Report view members k a c ≡ true → (1 ≤ a) × (1 ≤ c)
@@ -37,7 +37,7 @@ run-legal view members k a c e h =
     (leb-true 1 a (and-left (leb 1 a) (leb 1 c) both), leb-true 1 c (and-right (leb 1 a) (leb 1 c) both))
 
 module _ (σ : List ℕ) (node view members : ℕ) (b : List ℕ) (len : ℕ) (p : RecordsPass Report σ node view members b len) where
-  run-from : (s : ℕ) → s < 256 → (j : ℕ) → j < len → run b s j ≡ true → (1 ≤ word1 b j) × (1 ≤ word2 b j)
+  run-from : (s : ℕ) → s < 256 → (j : ℕ) → j < len → isRun b s j ≡ true → (1 ≤ word1 b j) × (1 ≤ word2 b j)
   unfolding row11At
   run-from s l j m h =
       let e : kind b j ≡ 3 = omega (arith, eqb-true (tag b j) (768 + s) h) in
@@ -53,29 +53,29 @@ module _ (σ : List ℕ) (node view members : ℕ) (b : List ℕ) (len : ℕ) (p
 
 -- ---- what the test of a position says
 
-pub position-start : (v k : ℕ) → v ≡ 0 → k ≡ 0 → position v k ≡ true
-unfolding position
+pub position-start : (v k : ℕ) → v ≡ 0 → k ≡ 0 → isPosition v k ≡ true
+unfolding isPosition
 position-start v k e f = or-left (leb 1 v && leb 1 k) (and-both (eq-eqb v 0 e) (eq-eqb k 0 f))
 
-pub position-from : (v k : ℕ) → 1 ≤ v → 1 ≤ k → position v k ≡ true
-unfolding position
+pub position-from : (v k : ℕ) → 1 ≤ v → 1 ≤ k → isPosition v k ≡ true
+unfolding isPosition
 position-from v k l m = or-right (eqb v 0 && eqb k 0) (and-both (le-leb 1 v l) (le-leb 1 k m))
 
 -- ---- the end of a log: a run, or (0, 0)
 
 pub record LastRun (b : List ℕ) (s n j : ℕ) (p : Position) : Type 0 where
   pub below : j < n
-  pub is-run : run b s j ≡ true
+  pub is-run : isRun b s j ≡ true
   pub at : p ≡ pos (word1 b j) (word2 b j)
 
 pub end-cases : (b : List ℕ) (s n : ℕ) → (endOf b s n ≡ start) ⊎ ((j : ℕ) × LastRun b s n j (endOf b s n))
 unfolding endOf
 end-cases b s zero = inl refl
-end-cases b s (suc n) = go (run b s n) refl (end-cases b s n)
+end-cases b s (suc n) = go (isRun b s n) refl (end-cases b s n)
   where
-    go : (r : Bool) → run b s n ≡ r → (endOf b s n ≡ start) ⊎ ((j : ℕ) × LastRun b s n j (endOf b s n))
-        → (cond (run b s n) (pos (word1 b n) (word2 b n)) (endOf b s n) ≡ start)
-        ⊎ ((j : ℕ) × LastRun b s (suc n) j (cond (run b s n) (pos (word1 b n) (word2 b n)) (endOf b s n)))
+    go : (r : Bool) → isRun b s n ≡ r → (endOf b s n ≡ start) ⊎ ((j : ℕ) × LastRun b s n j (endOf b s n))
+        → (cond (isRun b s n) (pos (word1 b n) (word2 b n)) (endOf b s n) ≡ start)
+        ⊎ ((j : ℕ) × LastRun b s (suc n) j (cond (isRun b s n) (pos (word1 b n) (word2 b n)) (endOf b s n)))
     go true r rest = inr (n, record { below = omega arith; is-run = r; at = rw r })
     go false r (inl e) = inl (rw r e)
     go false r (inr w) = inr (w .0, record { below = omega (arith, w .1 .below); is-run = w .1 .is-run; at = rw r (w .1 .at) })
@@ -92,12 +92,12 @@ start-first p = go (eq-or-ne (p .view .0) 0)
 
 -- ---- what a log holds
 
-pub record Held (b : List ℕ) (len s : ℕ) (p : Position) : Type 0 where
+pub record HasPosition (b : List ℕ) (len s : ℕ) (p : Position) : Type 0 where
   pub from : 1 ≤ p .k
   pub by : (j : ℕ) × (j < len) × (reaches b s p j ≡ true)
 
 module _ (b : List ℕ) (len s : ℕ) (p : Position) where
-  pub held-given : holds b len s p ≡ true → Held b len s p
+  pub held-given : holds b len s p ≡ true → HasPosition b len s p
   unfolding holds
   held-given h =
       record {
@@ -105,13 +105,13 @@ module _ (b : List ℕ) (len s : ℕ) (p : Position) where
         by = any-witness len (reaches b s p) (and-right (leb 1 (p .k)) (anyBelow len (reaches b s p)) h);
       }
 
-  pub held-of : (j : ℕ) → j < len → run b s j ≡ true → word1 b j ≡ p .view .0 → 1 ≤ p .k → p .k ≤ word2 b j → holds b len s p ≡ true
+  pub held-of : (j : ℕ) → j < len → isRun b s j ≡ true → word1 b j ≡ p .view .0 → 1 ≤ p .k → p .k ≤ word2 b j → holds b len s p ≡ true
   unfolding holds
   held-of j l r e m n =
       and-both (le-leb 1 (p .k) m) (any-at len (reaches b s p) j l (reaches-of b s p j r e n))
 
   -- it is a legal position
-  pub held-position : Runs b len s → holds b len s p ≡ true → position (p .view .0) (p .k) ≡ true
+  pub held-position : Runs b len s → holds b len s p ≡ true → isPosition (p .view .0) (p .k) ≡ true
   held-position runs h =
       let w = held-given h .by in
       position-from (p .view .0) (p .k)

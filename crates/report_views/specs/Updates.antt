@@ -4,10 +4,8 @@ use Prim.Native.Nat.{ℕ, zero, suc}
 use mathlib.Core.Bool.{Bool, cond, not}
 use mathlib.Core.List.{List, [], _∷_, _++_}
 use Rattle.base_ids.specs.declared.Position.{Position}
-use Rattle.base_ids.specs.Order.{notAfter}
-use Rattle.report_views.specs.Logs.{pos, runsOf}
-use Rattle.report_views.specs.Reports.{reportOf}
-use Rattle.report_views.specs.Slots.{samePosition}
+use Rattle.base_ids.specs.Definitions.{notAfter}
+use Rattle.report_views.specs.Definitions.{pos, runsOf, reportOf, samePosition}
 
 -- n updates of view v, after update k
 unfoldable pub updatesAfter : ℕ → ℕ → ℕ → List Position

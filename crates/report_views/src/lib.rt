@@ -5,7 +5,7 @@ use base_ids::Shard;
 use base_ids::View;
 ghost use mathlib.Core.Path.{_≡_};
 ghost use lib.ListN.{replicate};
-ghost use Rattle.report_views.specs.Logs.{start};
+ghost use Rattle.report_views.specs.Definitions.{start};
 
 // A view: its number (0: none), its members and each shard's members. Entries from S up are 0.
 pub struct Layout {

@@ -11,12 +11,11 @@ use lib.Seq.{getD-set-same, getD-set-other}
 use borrow.Author.Tests.{eq-eqb, ne-eqb}
 use Rattle.base_laws.specs.Bools.{eq-or-ne}
 use Rattle.base_ids.specs.declared.Position.{Position}
-use Rattle.settings_values.specs.Settings.{shards}
-use Rattle.message_format.specs.Messages.{bodyOf, contentsOf}
-use Rattle.message_format.specs.Records.{tag, word1, word2}
+use Rattle.settings_values.specs.Definitions.{shards}
+use Rattle.message_format.specs.Definitions.{bodyOf, contentsOf, tag, word1, word2}
 use Rattle.report_views.specs.declared.Layout.{Layout}
 use Rattle.report_views.specs.declared.Termination.{Termination}
-use Rattle.report_views.specs.Logs.{pos, start, endOf}
+use Rattle.report_views.specs.Definitions.{pos, start, endOf}
 use Rattle.report_quick.specs.Accepts.{front-following, tag-is, word1-is, word2-is}
 use Rattle.report_walk.specs.Updates.{RecordsAre}
 use Rattle.report_walk.specs.Seen.{runsNoted, endKey, RunsSeen, RunsAfter, length-noted}

@@ -4,18 +4,17 @@ use mathlib.Core.Bool.{Bool, true, false, not, _&&_, _||_}
 use mathlib.Core.List.{List}
 use mathlib.Core.Path.{_≡_, refl, ap, _∙_}
 use borrow.Author.Tests.{leb-true}
-use Rattle.base_laws.specs.Below.{allBelow, all-at}
+use Rattle.base_laws.specs.Definitions.{allBelow, within}
+use Rattle.base_laws.specs.Below.{all-at}
 use Rattle.base_laws.specs.Bools.{and-left, and-right, clash}
-use Rattle.base_laws.specs.Masks.{within}
-use Rattle.settings_values.specs.Settings.{nodes, shards}
+use Rattle.settings_values.specs.Definitions.{nodes, shards}
 use Rattle.message_format.specs.declared.Form.the-variants.{Report}
-use Rattle.message_format.specs.Rows.{viewOk, row10, position}
+use Rattle.message_format.specs.Definitions.{viewOk, row10, isPosition}
 use Rattle.report_views.specs.declared.Layout.{Layout}
 use Rattle.report_views.specs.declared.Termination.{Termination}
-use Rattle.report_views.specs.Reports.{maskAt, positionAt}
-use Rattle.report_views.specs.Soundness.{positionSound}
+use Rattle.report_views.specs.Definitions.{maskAt, positionAt, positionSound}
 use Rattle.report_walk.specs.declared.Tables.{Tables}
-use Rattle.report_walk.specs.Seen.{MaskRecords, PositionRecords, Ready}
+use Rattle.report_walk.specs.Seen.{MaskRecords, PositionRecords, KeptReady}
 
 -- the kept view and termination pass rows 7, 10 and 11, whatever the node
 unfoldable pub readyOf : List ℕ → Layout → Termination → Bool
@@ -32,7 +31,7 @@ pub record TablesOf (σ : List ℕ) (v : Layout) (t : Termination) (x : Tables) 
   pub masks : MaskRecords (v .masks) (x .masks)
   pub positions : PositionRecords (t .positions) (shards σ) (x .positions)
 
-pub ready-means : (σ : List ℕ) (v : Layout) (t : Termination) → readyOf σ v t ≡ true → Ready σ v t
+pub ready-means : (σ : List ℕ) (v : Layout) (t : Termination) → readyOf σ v t ≡ true → KeptReady σ v t
 unfolding readyOf positionSound
 ready-means σ v t h =
     record {
@@ -42,8 +41,8 @@ ready-means σ v t h =
       positions = λ m s l.
           let p = all-at (shards σ) f (made-then (t .made) (allBelow (shards σ) f) m (and-right (a && b && c) e h)) s l in
           record {
-            placed = and-left (position (positionAt t s .view .0) (positionAt t s .k)) _ p;
-            view-to = leb-true (positionAt t s .view .0) (v .number .0) (and-right (position (positionAt t s .view .0) (positionAt t s .k)) _ p);
+            placed = and-left (isPosition (positionAt t s .view .0) (positionAt t s .k)) _ p;
+            view-to = leb-true (positionAt t s .view .0) (v .number .0) (and-right (isPosition (positionAt t s .view .0) (positionAt t s .k)) _ p);
           };
     }
   where

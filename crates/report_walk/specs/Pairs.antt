@@ -6,7 +6,8 @@ use mathlib.Core.Path.{_≡_, ap, _∙_}
 use native.Mathlib.Omega.{arith}
 use lib.ListN.{length, getD, replicate, length-replicate, getD-replicate, List·getD-eq-default}
 use Rattle.base_laws.specs.Bools.{lt-or-le}
-use Rattle.base_laws.specs.Tables.{tabulate, filled, getD-tabulate, tabulate-ext, length-filled, getD-filled, getD-filled-rest}
+use Rattle.base_laws.specs.Definitions.{tabulate}
+use Rattle.base_laws.specs.Tables.{filled, getD-tabulate, tabulate-ext, length-filled, getD-filled, getD-filled-rest}
 
 -- words 2i and 2i + 1 as one number
 unfoldable pub pairOf : List ℕ → ℕ → ℕ

@@ -12,15 +12,14 @@ use lib.ListN.{length, getD, set, length-set}
 use lib.Seq.{getD-set-same, getD-set-other}
 use borrow.Author.Tests.{lt-ltb, le-ltb}
 use Rattle.base_laws.specs.Bools.{eq-or-ne}
-use Rattle.base_laws.specs.Masks.{has, within}
+use Rattle.base_laws.specs.Definitions.{has, within}
 use Rattle.base_ids.specs.declared.Position.{Position}
-use Rattle.settings_values.specs.Settings.{nodes, shards}
+use Rattle.settings_values.specs.Definitions.{nodes, shards}
 use Rattle.message_format.specs.declared.Form.the-variants.{Report}
-use Rattle.message_format.specs.Rows.{viewOk, row10, position}
+use Rattle.message_format.specs.Definitions.{viewOk, row10, isPosition}
 use Rattle.report_views.specs.declared.Layout.{Layout}
 use Rattle.report_views.specs.declared.Termination.{Termination}
-use Rattle.report_views.specs.Logs.{start}
-use Rattle.report_views.specs.Reports.{maskAt, positionAt}
+use Rattle.report_views.specs.Definitions.{start, maskAt, positionAt}
 
 -- the tag and word 1 of a record as one number
 unfoldable pub keyOf : ℕ → ℕ
@@ -111,11 +110,11 @@ pub record PositionRecords (positions : List Position) (count : ℕ) (r : List �
 
 -- a position of no view above the given one
 pub record PositionLegal (number : ℕ) (p : Position) : Type 0 where
-  pub placed : position (p .view .0) (p .k) ≡ true
+  pub placed : isPosition (p .view .0) (p .k) ≡ true
   pub view-to : p .view .0 ≤ number
 
 -- what the kept view and termination have to meet
-pub record Ready (σ : List ℕ) (v : Layout) (t : Termination) : Type 0 where
+pub record KeptReady (σ : List ℕ) (v : Layout) (t : Termination) : Type 0 where
   pub view : viewOk Report (v .number .0) ≡ true
   pub inside : within (nodes σ) (v .members) ≡ true
   pub masks : row10 σ (v .members) (maskAt v) ≡ true

@@ -11,26 +11,24 @@ use borrow.Author.Tests.{lt-ltb, le-leb, eq-eqb}
 use Rattle.base_laws.specs.Bools.{and-both, lt-or-le, eq-or-ne}
 use Rattle.base_laws.specs.Masks.{within-has}
 use Rattle.base_ids.specs.declared.Refusal.{Refusal}
-use Rattle.settings_values.specs.Settings.{nodes, shards, Settings}
+use Rattle.settings_values.specs.Definitions.{nodes, shards, Settings}
 use Rattle.message_format.specs.declared.Form.the-variants.{Report}
-use Rattle.message_format.specs.Chain.{records}
-use Rattle.message_format.specs.Rows.{row6, row7, row10, position}
+use Rattle.message_format.specs.Definitions.{row6, row7, row10, isPosition, contentsOf}
+use Rattle.message_format.specs.Shorthands.{records}
 use Rattle.message_format.specs.Alike.{row10-same}
-use Rattle.message_format.specs.Messages.{contentsOf}
 use Rattle.message_format.specs.Passed.{HeadPasses, MessagePasses, message-none}
 use Rattle.report_views.specs.declared.Layout.{Layout}
 use Rattle.report_views.specs.declared.Termination.{Termination}
-use Rattle.report_views.specs.Reports.{slot, reportOf, viewOf, maskAt, positionAt}
-use Rattle.report_views.specs.Slots.{row12, row13, termKept, slotOk}
+use Rattle.report_views.specs.Definitions.{slot, reportOf, maskAt, positionAt, row12, row13, termKept, slotOk}
 use Rattle.report_quick.specs.Told.{MemberTold, PositionTold, RunTold, RunsTold, maskTold, MasksFit, PositionFits}
 use Rattle.report_quick.specs.Accepts.{FrontTold, Ending, few-words, front-passes, front-row12, front-row13, front-kept}
 use Rattle.report_walk.specs.Pairs.{FitWords, pairsOf, pair-at, pair-low, pair-high}
-use Rattle.report_walk.specs.Seen.{keyOf, beforeAt, RunsSeen, RunsAfter, PositionsSeen, SlotTold, MaskRecords, PositionRecords, Ready, before-first, before-next}
+use Rattle.report_walk.specs.Seen.{keyOf, beforeAt, RunsSeen, RunsAfter, PositionsSeen, SlotTold, MaskRecords, PositionRecords, KeptReady, before-first, before-next}
 
 -- the walk over the pairs b of the words w by the kept view and termination, from the list k to l, ends with record n
 pub record Walked (σ : List ℕ) (v : Layout) (t : Termination) (w b masks positions k l : List ℕ) (node n : ℕ) : Type 0 where
   pub right : Settings σ
-  pub kept : Ready σ v t
+  pub kept : KeptReady σ v t
   pub words : FitWords w
   pub pairs : b ≡ pairsOf w
   pub members : MaskRecords (v .masks) masks
@@ -56,8 +54,8 @@ module _ {σ : List ℕ} {v : Layout} {t : Termination} {w b masks positions k l
   some = g .right .sizes .shards-from
 
   -- the report's view
-  abbrev number : ℕ
-  number = v .number .0
+  abbrev reportView : ℕ
+  reportView = v .number .0
 
   pub low-at : (i a : ℕ) → a ≡ 2 * i → i < 256 → getD w a 0 ≡ getD b i 0 % 4294967296
   low-at i a e h =
@@ -75,7 +73,7 @@ module _ {σ : List ℕ} {v : Layout} {t : Termination} {w b masks positions k l
   node-is : getD w 0 0 ≡ node
   node-is = omega (arith, low-at 0 0 refl (omega arith), g .seen .front .head-front, g .seen .front .node-fits)
 
-  view-is : getD w 1 0 ≡ number
+  view-is : getD w 1 0 ≡ reportView
   view-is = omega (arith, high-at 0 1 refl (omega arith), g .seen .front .head-front, g .seen .front .node-fits)
 
   members-is : getD w 2 0 ≡ v .members
@@ -138,7 +136,7 @@ module _ {σ : List ℕ} {v : Layout} {t : Termination} {w b masks positions k l
           k = low-at (2 * shardCount + 2 * s + 3) (4 * (shardCount + s) + 6) (omega arith) (omega (arith, few)) ∙ position-back s h;
         }
 
-    position-told : (s : ℕ) → s < shardCount → PositionTold w number (shardCount + s) s
+    position-told : (s : ℕ) → s < shardCount → PositionTold w reportView (shardCount + s) s
     position-told s h =
         let f = position-fits s h in
         let q = g .kept .positions (p .kept) s h in
@@ -146,7 +144,7 @@ module _ {σ : List ℕ} {v : Layout} {t : Termination} {w b masks positions k l
           linked = position-linked s h;
           tagged = omega (arith, low-at (2 * shardCount + 2 * s + 2) (4 * (shardCount + s) + 4) (omega arith) (omega (arith, few)), position-front s h, few);
           view-to = omega (arith, f .view, q .view-to);
-          placed = subst (λ (x : ℕ). position x (getD w (4 * (shardCount + s) + 6) 0) ≡ true) (sym (f .view)) (subst (λ (x : ℕ). position (positionAt t s .view .0) x ≡ true) (sym (f .k)) (q .placed));
+          placed = subst (λ (x : ℕ). isPosition x (getD w (4 * (shardCount + s) + 6) 0) ≡ true) (sym (f .view)) (subst (λ (x : ℕ). isPosition (positionAt t s .view .0) x ≡ true) (sym (f .k)) (q .placed));
         }
 
   -- the last record before the runs
@@ -156,7 +154,7 @@ module _ {σ : List ℕ} {v : Layout} {t : Termination} {w b masks positions k l
   front-to : (1 ≤ frontOf) × (frontOf ≤ 32)
   front-to = ⊎-elim (λ e. (omega (arith, some), omega (arith, few))) (λ e. (omega (arith, some, e .0), omega (arith, few, e .0))) (g .seen .rest .ending)
 
-  pub front-told : FrontTold w shardCount number frontOf
+  pub front-told : FrontTold w shardCount reportView frontOf
   front-told =
       record {
         members = member;
@@ -180,7 +178,7 @@ module _ {σ : List ℕ} {v : Layout} {t : Termination} {w b masks positions k l
       omega (arith, ap (λ (x : ℕ). getD w x 0) d, front-tags (frontOf - 1) (omega (arith, front-to .0)))
 
   -- the runs
-  module _ (linked : getD b (2 * frontOf + 1) 0 / 4294967296 ≡ frontOf + 1) (r : RunsSeen b (frontOf + 1) shardCount number k l n) where
+  module _ (linked : getD b (2 * frontOf + 1) 0 / 4294967296 ≡ frontOf + 1) (r : RunsSeen b (frontOf + 1) shardCount reportView k l n) where
     abbrev key : ℕ → ℕ
     key j = keyOf (getD b (2 * j) 0)
 
@@ -189,13 +187,13 @@ module _ {σ : List ℕ} {v : Layout} {t : Termination} {w b masks positions k l
     key-is j h = rw (low-at (2 * j) (4 * j) (omega arith) (omega arith), high-at (2 * j) (4 * j + 1) (omega arith) (omega arith)) refl
 
     -- record j is a run
-    record RunAt (j : ℕ) : Type 0 where
+    record RunFacts (j : ℕ) : Type 0 where
       pub rises : beforeAt b (frontOf + 1) j < key j
       pub view-from : 1 ≤ getD w (4 * j + 1) 0
-      pub view-to : getD w (4 * j + 1) 0 ≤ number
+      pub view-to : getD w (4 * j + 1) 0 ≤ reportView
       pub some-k : 1 ≤ getD w (4 * j + 2) 0
 
-    run-at : (j : ℕ) → frontOf < j → j ≤ n → RunAt j
+    run-at : (j : ℕ) → frontOf < j → j ≤ n → RunFacts j
     run-at j h i =
         ⊎-elim
         (λ m. let s = r .on .each j (omega arith) m in
@@ -209,7 +207,7 @@ module _ {σ : List ℕ} {v : Layout} {t : Termination} {w b masks positions k l
         record {
           rises = subst (λ (x : ℕ). beforeAt b (frontOf + 1) x < key x) (sym e) (r .last .rises);
           view-from = omega (arith, high, subst (λ (x : ℕ). 1 ≤ getD b (2 * x) 0 / 4294967296) (sym e) (r .last .view-from));
-          view-to = omega (arith, high, subst (λ (x : ℕ). getD b (2 * x) 0 / 4294967296 ≤ number) (sym e) (r .last .view-to));
+          view-to = omega (arith, high, subst (λ (x : ℕ). getD b (2 * x) 0 / 4294967296 ≤ reportView) (sym e) (r .last .view-to));
           some-k = omega (arith, low, subst (λ (x : ℕ). 1 ≤ getD b (2 * x + 1) 0 % 4294967296) (sym e) (omega (arith, r .last .some, r .last .end)));
         })
         (lt-or-le j n)
@@ -251,7 +249,7 @@ module _ {σ : List ℕ} {v : Layout} {t : Termination} {w b masks positions k l
         tag-to x y a c m p q s = omega arith
 
     -- record i + 1 is a run that stands after record i
-    run-told : (i : ℕ) → frontOf ≤ i → i < n → RunTold w shardCount number i
+    run-told : (i : ℕ) → frontOf ≤ i → i < n → RunTold w shardCount reportView i
     run-told i h m =
         record {
           linked = ⊎-elim (λ e. subst (λ (x : ℕ). getD w (4 * x + 3) 0 ≡ x + 1) (sym e) (high-at (2 * frontOf + 1) (4 * frontOf + 3) (omega arith) (omega (arith, front-to .1)) ∙ linked)) (λ e. high-at (2 * i + 1) (4 * i + 3) (omega arith) (omega (arith, r .on .few)) ∙ r .on .each i (above e) m .linked) (eq-or-ne i frontOf);
@@ -281,7 +279,7 @@ module _ {σ : List ℕ} {v : Layout} {t : Termination} {w b masks positions k l
         k-next : getD w (4 * (i + 1) + 2) 0 ≡ getD w (4 * i + 6) 0
         k-next = ap (λ (x : ℕ). getD w x 0) (omega arith)
 
-    runs-seen : RunsTold w frontOf shardCount number n
+    runs-seen : RunsTold w frontOf shardCount reportView n
     runs-seen =
         record {
           from = omega (arith, r .on .from);
@@ -290,11 +288,11 @@ module _ {σ : List ℕ} {v : Layout} {t : Termination} {w b masks positions k l
           end = omega (arith, high-at (2 * n + 1) (4 * n + 3) (omega arith) (omega (arith, r .on .few)), r .last .end);
         }
 
-  pub runs-told : RunsTold w frontOf shardCount number n
+  pub runs-told : RunsTold w frontOf shardCount reportView n
   unfolding RunsAfter
   runs-told = of (g .seen .rest .runs)
     where
-      of : RunsAfter b frontOf shardCount number k l n → RunsTold w frontOf shardCount number n
+      of : RunsAfter b frontOf shardCount reportView k l n → RunsTold w frontOf shardCount reportView n
       of (inl e) =
           record {
             from = omega (arith, e .0);
@@ -312,7 +310,7 @@ module _ {σ : List ℕ} {v : Layout} {t : Termination} {w b masks positions k l
         masks = λ d. mask;
       }
 
-  ending : Ending σ w number frontOf n (g .right) front-told runs-told v t view-is
+  ending : Ending σ w reportView frontOf n (g .right) front-told runs-told v t view-is
   unfolding Ending
   ending = ⊎-elim (λ e. inl e) (λ e. inr (e .0, record { made = λ d. e .1 .kept; positions = λ d. position-fits (e .1) })) (g .seen .rest .ending)
 
@@ -328,37 +326,36 @@ module _ {σ : List ℕ} {v : Layout} {t : Termination} {w b masks positions k l
   -- rows 5 to 11
   pub told-passes : length w ≤ 512 → length w % 4 ≡ 0 → n < records w → MessagePasses Report σ w
   told-passes h i j =
-      front-passes σ w number frontOf n (g .right) front-told runs-told (few-words w (omega arith) h i) j head view-is (masks-fit .sound)
+      front-passes σ w reportView frontOf n (g .right) front-told runs-told (few-words w (omega arith) h i) j head view-is (masks-fit .sound)
 
   pub told-node : contentsOf w .node .0 ≡ node
   unfolding contentsOf
   told-node = node-is
 
-  pub told-view : contentsOf w .view .0 ≡ number
+  pub told-view : contentsOf w .view .0 ≡ reportView
   unfolding contentsOf
   told-view = view-is
 
   -- rows 12 and 13, and a termination is kept
   pub told-row12 : row12 σ v (contentsOf w) ≡ true
-  told-row12 = front-row12 σ w number frontOf n (g .right) front-told runs-told v t view-is masks-fit
+  told-row12 = front-row12 σ w reportView frontOf n (g .right) front-told runs-told v t view-is masks-fit
 
   pub told-row13 : row13 σ v t (contentsOf w) ≡ true
-  told-row13 = front-row13 σ w number frontOf n (g .right) front-told runs-told v t view-is ending
+  told-row13 = front-row13 σ w reportView frontOf n (g .right) front-told runs-told v t view-is ending
 
   pub told-kept : termKept σ v t (contentsOf w) ≡ true
-  told-kept = front-kept σ w number frontOf n (g .right) front-told runs-told v t view-is ending
+  told-kept = front-kept σ w reportView frontOf n (g .right) front-told runs-told v t view-is ending
 
   -- the slot is sound
   pub told-sound : (d : List ℕ) → slot d node ≡ w → length w ≡ 512 → slotOk σ v t d node ≡ true
   unfolding slotOk reportOf
   told-sound d e h =
       let pass = message-none Report σ w (told-passes (omega arith) (omega arith) (omega (arith, runs-told .few))) in
-      let seen-view : viewOf d node ≡ number = ap (λ (x : List ℕ). contentsOf x .view .0) e ∙ told-view in
       rw e
       (and-both (and-both (and-both (and-both (and-both
       (eq-eqb _ 0 (ap (λ (x : Refusal). x .code) pass))
       (eq-eqb _ node told-node))
-      (le-leb (viewOf d node) number (omega (arith, seen-view))))
+      (le-leb (contentsOf w .view .0) reportView (omega (arith, told-view))))
       told-row12)
       told-row13)
       told-kept)

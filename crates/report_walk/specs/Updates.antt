@@ -7,11 +7,12 @@ use mathlib.Core.Path.{_≡_, sym, ap, ap₂}
 use lib.Dec.{eqb, leb}
 use lib.ListN.{getD}
 use borrow.Author.Tests.{eqb-true, eq-eqb, ne-eqb, le-leb, lt-leb}
-use Rattle.base_laws.specs.Below.{anyBelow, any-cong}
+use Rattle.base_laws.specs.Definitions.{anyBelow}
+use Rattle.base_laws.specs.Below.{any-cong}
 use Rattle.base_laws.specs.Bools.{same, and-both, and-left, and-right}
 use Rattle.base_ids.specs.declared.Position.{Position}
-use Rattle.message_format.specs.Records.{tag, word1, word2}
-use Rattle.report_views.specs.Logs.{start, reaches, holds, isStart, hasUpdate}
+use Rattle.message_format.specs.Definitions.{tag, word1, word2}
+use Rattle.report_views.specs.Definitions.{start, reaches, holds, isStart, hasUpdate}
 use Rattle.report_views.specs.Numbers.{asNumber, fromNumber}
 use Rattle.report_walk.specs.Seen.{PositionRecords}
 

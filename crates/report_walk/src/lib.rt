@@ -11,10 +11,9 @@ ghost use mathlib.Core.Bool.{true};
 ghost use mathlib.Core.Path.{_≡_};
 ghost use Prim.Native.Nat.{ℕ, _+_, _*_, _-_, _/_, _%_, _<_, _≤_};
 ghost use lib.ListN.{length, getD};
-ghost use Rattle.settings_values.specs.Settings.{Settings};
-ghost use Rattle.base_laws.specs.Below.{allBelow};
-ghost use Rattle.report_views.specs.Reports.{positionAt};
-ghost use Rattle.report_views.specs.Soundness.{positionSound};
+ghost use Rattle.settings_values.specs.Definitions.{Settings};
+ghost use Rattle.base_laws.specs.Definitions.{allBelow};
+ghost use Rattle.report_views.specs.Definitions.{positionAt, positionSound};
 ghost use Rattle.report_walk.specs.Pairs.{pairOf, pairsOf};
 ghost use Rattle.report_walk.specs.Seen.{keyOf, beforeAt, runsNoted, Goes, RunEnds, RunsOn, RunsSeen, RunsAfter, PositionsSeen, RestSeen, FrontSeen, SlotTold, MaskRecords, PositionRecords, endKey};
 ghost use Rattle.report_walk.specs.Updates.{runHas, updateSeen, goalAt};
@@ -424,7 +423,7 @@ fn ready(settings: &[u32], v: Layout, t: Termination) -> bool
     if !base_masks::within(settings_values::nodes(settings) as usize, v.members) {
         return false;
     }
-    if !message_shards::row10(settings, v.members, &v.masks) {
+    if !message_rows::shards::row10(settings, v.members, &v.masks) {
         return false;
     }
     if !t.made {

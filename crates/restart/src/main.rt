@@ -2,8 +2,8 @@
 // cannot be read to its end nothing is decided.
 use libc::STDOUT_FILENO;
 use program_reading::Reply;
-ghost use Rattle.program_run.specs.Runs.{Printed};
-ghost use Rattle.program_reading.specs.Reading.{Answers};
+ghost use Rattle.program_run.specs.Definitions.{Printed};
+ghost use Rattle.program_reading.specs.Definitions.{Answers};
 
 // The answer to the input, as text in lent bytes; none if the input was cut.
 fn answer(out: &mut [u8; 8192]) -> Reply

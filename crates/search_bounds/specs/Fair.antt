@@ -10,12 +10,12 @@ use lib.Dec.{eqb}
 use lib.ListN.{getD}
 use borrow.Author.Tests.{eq-eqb, ne-eqb, lt-ltb}
 use Rattle.base_laws.specs.Bools.{lt-or-le, eq-or-ne}
-use Rattle.base_laws.specs.Masks.{has}
-use Rattle.base_sums.specs.Sums.{sum-none, sum-single}
-use Rattle.search_theory.specs.Case.{Case, Valid, weight}
-use Rattle.search_theory.specs.Order.{Agree, Begun}
-use Rattle.search_theory.specs.Duality.{DualWeights, Modest, Bounds, asked, gain, toll, weak}
-use Rattle.search_theory.specs.Cut.{keeps, open-pair}
+use Rattle.base_laws.specs.Definitions.{has}
+use Rattle.base_sum_laws.specs.Sums.{sum-none, sum-single}
+use Rattle.search_laws.specs.Case.{Case, Valid, weight}
+use Rattle.search_laws.specs.Order.{Agree, Begun}
+use Rattle.search_laws.specs.Duality.{DualWeights, Modest, Bounds, asked, gain, toll, weak}
+use Rattle.search_laws.specs.Cut.{keeps, open-pair}
 use Rattle.search_bounds.specs.Post.{OpenFor}
 
 -- the inequalities hold for each node that has an owner, for each that has none and stays so, and for each open pair

@@ -6,7 +6,8 @@ use native.Mathlib.Nat.{mod-lt, zero-lt-suc}
 use native.Mathlib.Omega.{arith}
 use lib.Dec.{eqb}
 use lib.Count.{trailingZeros, under}
-use Rattle.base_laws.specs.Masks.{has, has-lowest, has-suc}
+use Rattle.base_laws.specs.Definitions.{has}
+use Rattle.base_laws.specs.Masks.{has-lowest, has-suc}
 
 -- by the lowest digit d
 by-digit : (m d r : ℕ) → m % 2 ≡ d → (d ≡ 0 → has (m / 2) r ≡ true) → has m (under d r) ≡ true

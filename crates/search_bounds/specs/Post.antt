@@ -7,10 +7,10 @@ use Prim.Native.Nat.{ℕ, _+_, _*_, _≤_, _<_, min}
 use lib.Dec.{ltb, leb}
 use borrow.Author.Tests.{lt-ltb, le-ltb}
 use lib.ListN.{length, getD}
-use Rattle.base_laws.specs.Masks.{has}
-use Rattle.search_theory.specs.Case.{Case, Valid, weight}
-use Rattle.search_theory.specs.Order.{Agree}
-use Rattle.search_theory.specs.Duality.{DualWeights, asked}
+use Rattle.base_laws.specs.Definitions.{has}
+use Rattle.search_laws.specs.Case.{Case, Valid, weight}
+use Rattle.search_laws.specs.Order.{Agree}
+use Rattle.search_laws.specs.Duality.{DualWeights, asked}
 
 -- weights of shards' needs and rooms, of nodes, and of shard i and set f at i * 16 + f, at most the need's; those of nodes are counted
 -- from 16384

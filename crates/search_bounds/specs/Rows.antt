@@ -12,13 +12,15 @@ use lib.ListN.{length, getD, set, length-set}
 use lib.Seq.{getD-set-same, getD-set-other}
 use borrow.Author.Tests.{leb-true, ltb-true, le-leb, lt-ltb, le-ltb, ne-eqb}
 use Rattle.base_laws.specs.Bools.{either, clash, and-both, and-left, and-right, or-holds, eq-or-ne, lt-or-le, not-of-false}
-use Rattle.base_laws.specs.Below.{allBelow, all-at}
-use Rattle.base_laws.specs.Masks.{has, without, minus, has-and, has-or, has-minus, has-without, has-past, has-zero}
-use Rattle.base_laws.specs.Picked.{maskBelow, mask-at}
+use Rattle.base_laws.specs.Definitions.{allBelow, has, without, minus}
+use Rattle.base_laws.specs.Below.{all-at}
+use Rattle.base_laws.specs.Masks.{has-and, has-or, has-minus, has-without, has-past, has-zero}
+use Rattle.base_sum_laws.specs.Definitions.{maskBelow}
+use Rattle.base_sum_laws.specs.Picked.{mask-at}
 use lib.Pow.{pow-pos}
-use Rattle.search_theory.specs.Case.{Case, Valid, weight}
-use Rattle.search_theory.specs.Order.{Agree, Begun}
-use Rattle.search_theory.specs.Duality.{DualWeights, Modest, asked, gain, toll}
+use Rattle.search_laws.specs.Case.{Case, Valid, weight}
+use Rattle.search_laws.specs.Order.{Agree, Begun}
+use Rattle.search_laws.specs.Duality.{DualWeights, Modest, asked, gain, toll}
 use Rattle.search_bounds.specs.Fair.{FairOpen, floor, dear, away}
 use Rattle.search_bounds.specs.Post.{weightsOf, OpenFor, SoundBound, steady}
 

@@ -8,11 +8,12 @@ use lib.Dec.{eqb}
 use borrow.Author.Tests.{eq-eqb}
 use Rattle.base_laws.specs.Bools.{clash}
 use Rattle.base_laws.specs.Below.{count-pos}
-use Rattle.base_laws.specs.Masks.{has, has-zero}
-use Rattle.search_theory.specs.Case.{Case, Valid, Within}
-use Rattle.search_theory.specs.Tables.{caseOf, ownersOf}
-use Rattle.search_theory.specs.Order.{First, None, From, agree-start, first-end}
-use Rattle.search_theory.specs.Least.{AtLeast, weight-most}
+use Rattle.base_laws.specs.Definitions.{has}
+use Rattle.base_laws.specs.Masks.{has-zero}
+use Rattle.search_laws.specs.Case.{Case, Valid, WeighsWithin}
+use Rattle.search_laws.specs.Tables.{caseOf, ownersOf}
+use Rattle.search_laws.specs.Order.{First, HasNone, From, agree-start, first-end}
+use Rattle.search_laws.specs.Least.{AtLeast, weight-most}
 use Rattle.search_bounds.specs.Post.{OpenFor, SoundBound}
 use Rattle.search_total.specs.declared.Solution.{Solution}
 use Rattle.search_total.specs.Post.{WithinAnswer, noOwners}
@@ -22,7 +23,7 @@ use Rattle.search_hinted.specs.Stage.{Narrowed, Exceeded, OpenBelow, At,
 -- at p, and what is first from here is first of all
 pub record Sure (K : Case) (k : ℕ) (o : List ℕ) (p : ℕ) (rows : List ℕ) : Type 0 where
   pub at : At K k o p rows
-  pub first : (z : ℕ → ℕ) → First (From (Within K k) (ownersOf o) (p / 2)) z → First (Within K k) z
+  pub first : (z : ℕ → ℕ) → First (From (WeighsWithin K k) (ownersOf o) (p / 2)) z → First (WeighsWithin K k) z
 
 pub sure-start : {K : Case} {k : ℕ} {rows : List ℕ} → Narrowed K k noOwners 0 rows → Sure K k noOwners 0 rows
 sure-start s =
@@ -57,7 +58,7 @@ pub at-least : (sets needs caps prices : List ℕ) (idle k floor : ℕ) {rows af
 at-least sets needs caps prices idle k floor s c = record { bound = λ y v. c .bound y v (agree-start y (ownersOf noOwners)) (open-all sets needs caps prices idle v s) }
 
 -- less than every valid placement weighs
-pub none-below : {K : Case} {j k : ℕ} → j < k → AtLeast K k → None (Within K j)
+pub none-below : {K : Case} {j k : ℕ} → j < k → AtLeast K k → HasNone (WeighsWithin K j)
 none-below h a = record { none = λ y w. omega (arith, a .bound y (w .valid), w .cheap) }
 
 -- an answer that has the first placement
@@ -66,9 +67,9 @@ pub record Found (K : Case) (k : ℕ) (a : Solution) : Type 0 where
   pub within : WithinAnswer K k a
 
 -- the owners at the end are within k
-pub found-end : {K : Case} {k p : ℕ} {o rows : List ℕ} {a : Solution} → p ≤ 1024 → 1024 ≤ p → Sure K k o p rows → Within K k (ownersOf o) → HasOwners K o a → Found K k a
+pub found-end : {K : Case} {k p : ℕ} {o rows : List ℕ} {a : Solution} → p ≤ 1024 → 1024 ≤ p → Sure K k o p rows → WeighsWithin K k (ownersOf o) → HasOwners K o a → Found K k a
 found-end {K} {k} {p} {o} {rows} l g s w h =
-    record { exists = h .exists; within = within-found (s .first (ownersOf o) (subst (λ (j : ℕ). First (From (Within K k) (ownersOf o) j) (ownersOf o)) end (first-end w))) (s .at .stage .ready .owners) h }
+    record { exists = h .exists; within = within-found (s .first (ownersOf o) (subst (λ (j : ℕ). First (From (WeighsWithin K k) (ownersOf o) j) (ownersOf o)) end (first-end w))) (s .at .stage .ready .owners) h }
   where
     end : 512 ≡ p / 2
     end = omega arith
@@ -88,10 +89,10 @@ within-capped {K} {j} {k} d e w =
       owners = w .owners;
     }
   where
-    up : (y : ℕ → ℕ) → Within K j y → Within K k y
+    up : (y : ℕ → ℕ) → WeighsWithin K j y → WeighsWithin K k y
     up y g = record { valid = g .valid; cheap = omega (arith, g .cheap) }
 
-    down : (y : ℕ → ℕ) → Within K k y → Within K j y
+    down : (y : ℕ → ℕ) → WeighsWithin K k y → WeighsWithin K j y
     down y g = record { valid = g .valid; cheap = omega (arith, g .cheap, weight-most d (g .valid)) }
 
 -- a floor above k at the owners

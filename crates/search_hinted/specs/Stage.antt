@@ -13,12 +13,14 @@ use borrow.Author.Tests.{eqb-true, eqb-false, eq-eqb, lt-ltb, le-ltb}
 use lib.Bits.{bitOr}
 use Rattle.base_laws.specs.Bools.{lt-or-le, eq-or-ne, clash, and-both, and-left, and-right, and-fails-right, of-not-true, no-true, or-left, or-right}
 use Rattle.base_laws.specs.Below.{count-mono, count-past, count-le}
-use Rattle.base_laws.specs.Masks.{has, without, minus, has-without, has-minus, has-or, some-bit}
-use Rattle.base_laws.specs.Picked.{maskBelow, mask-at}
-use Rattle.search_theory.specs.Case.{Case, Within, size}
-use Rattle.search_theory.specs.Tables.{ownersOf}
-use Rattle.search_theory.specs.Order.{takes, shardEnd, Begun, First, None, From, TakesPair, from-left, from-closed, from-taken, begun-close, pair-takes, first-leave, first-close, first-take}
-use Rattle.search_theory.specs.Cut.{keeps, decided}
+use Rattle.base_laws.specs.Definitions.{has, without, minus}
+use Rattle.base_laws.specs.Masks.{has-without, has-minus, has-or, some-bit}
+use Rattle.base_sum_laws.specs.Definitions.{maskBelow}
+use Rattle.base_sum_laws.specs.Picked.{mask-at}
+use Rattle.search_laws.specs.Case.{Case, WeighsWithin, size}
+use Rattle.search_laws.specs.Tables.{ownersOf}
+use Rattle.search_laws.specs.Order.{takes, shardEnd, Begun, First, HasNone, From, TakesPair, from-left, from-closed, from-taken, begun-close, pair-takes, first-leave, first-close, first-take}
+use Rattle.search_laws.specs.Cut.{keeps, decided}
 use Rattle.search_bounds.specs.Post.{OpenFor, SoundBound}
 use Rattle.search_total.specs.Post.{ReadyFrom}
 use Rattle.search_total.specs.Steps.{ready-leave, ready-stored, taken}
@@ -26,18 +28,18 @@ use Rattle.search_total.specs.Steps.{ready-leave, ready-stored, taken}
 pub record Narrowed (K : Case) (k : ℕ) (o : List ℕ) (t : ℕ) (rows : List ℕ) : Type 0 where
   pub ready : ReadyFrom o t
   pub long : length rows ≡ 17
-  pub uses : (y : ℕ → ℕ) → From (Within K k) (ownersOf o) t y → OpenFor rows y
+  pub uses : (y : ℕ → ℕ) → From (WeighsWithin K k) (ownersOf o) t y → OpenFor rows y
   pub bare : (n : ℕ) → n < 32 → has (getD rows 16 0) n ≡ true → 16 ≤ ownersOf o n
-  pub placed : (n : ℕ) → n < 32 → has (getD rows 16 0) n ≡ true → (y : ℕ → ℕ) → From (Within K k) (ownersOf o) t y → y n < 16
+  pub placed : (n : ℕ) → n < 32 → has (getD rows 16 0) n ≡ true → (y : ℕ → ℕ) → From (WeighsWithin K k) (ownersOf o) t y → y n < 16
 
 -- from pair t to the next one: what is first from there is first from here
 pub record Advanced (K : Case) (k : ℕ) (o : List ℕ) (t : ℕ) (after rows : List ℕ) : Type 0 where
   pub stage : Narrowed K k after (t + 1) rows
-  pub first : (z : ℕ → ℕ) → First (From (Within K k) (ownersOf after) (t + 1)) z → First (From (Within K k) (ownersOf o) t) z
+  pub first : (z : ℕ → ℕ) → First (From (WeighsWithin K k) (ownersOf after) (t + 1)) z → First (From (WeighsWithin K k) (ownersOf o) t) z
 
 -- none that takes open pairs only is within k
 pub record Exceeded (K : Case) (k : ℕ) (o : ℕ → ℕ) (t : ℕ) (rows : List ℕ) : Type 0 where
-  pub none : (y : ℕ → ℕ) → From (Within K k) o t y → OpenFor rows y → ⊥
+  pub none : (y : ℕ → ℕ) → From (WeighsWithin K k) o t y → OpenFor rows y → ⊥
 
 -- m has each node that is open for a shard past i and below k
 pub record Later (rows : List ℕ) (i k m : ℕ) : Type 0 where
@@ -140,20 +142,20 @@ module _ {K : Case} {k t : ℕ} {o rows : List ℕ} (s : Narrowed K k o t rows) 
       }
 
   -- a pair that is not open is taken by none
-  pub stage-shut : t < 512 → has (getD rows (t / 32) 0) (t % 32) ≡ false → (y : ℕ → ℕ) → From (Within K k) (ownersOf o) t y → takes y t ≡ true → ⊥
+  pub stage-shut : t < 512 → has (getD rows (t / 32) 0) (t % 32) ≡ false → (y : ℕ → ℕ) → From (WeighsWithin K k) (ownersOf o) t y → takes y t ≡ true → ⊥
   stage-shut l h y f e =
       let here : y (t % 32) ≡ t / 32 = eqb-true (y (t % 32)) (t / 32) e in
       clash (ap (λ (i : ℕ). has (getD rows i 0) (t % 32)) (sym here) ∙ s .uses y f .bit (t % 32) (omega arith) (omega arith)) h
 
   -- a pair whose node has an owner is taken by none
-  pub stage-owned : t < 512 → ownersOf o (t % 32) < 16 → (y : ℕ → ℕ) → From (Within K k) (ownersOf o) t y → takes y t ≡ true → ⊥
+  pub stage-owned : t < 512 → ownersOf o (t % 32) < 16 → (y : ℕ → ℕ) → From (WeighsWithin K k) (ownersOf o) t y → takes y t ≡ true → ⊥
   stage-owned l h y f e =
       clash
       (eq-eqb (ownersOf o (t % 32)) (t / 32) (sym (keeps (s .ready .begun) (f .agree) (t % 32) (omega arith) h) ∙ eqb-true (y (t % 32)) (t / 32) e))
       (s .ready .begun .rest t (omega arith) l)
 
   -- the pair is left
-  pub advance-leave : t < 512 → ((y : ℕ → ℕ) → From (Within K k) (ownersOf o) t y → takes y t ≡ true → ⊥) → Advanced K k o t o rows
+  pub advance-leave : t < 512 → ((y : ℕ → ℕ) → From (WeighsWithin K k) (ownersOf o) t y → takes y t ≡ true → ⊥) → Advanced K k o t o rows
   advance-leave l h =
       record {
         stage = record {
@@ -167,7 +169,7 @@ module _ {K : Case} {k t : ℕ} {o rows : List ℕ} (s : Narrowed K k o t rows) 
       }
 
   -- the pair is taken; v is its shard, and its node need not be placed any more
-  pub advance-take : {v : ℕ} → t < 512 → None (From (Within K k) (ownersOf o) (shardEnd t)) → v ≡ t / 32 → 16 ≤ ownersOf o (t % 32) →
+  pub advance-take : {v : ℕ} → t < 512 → HasNone (From (WeighsWithin K k) (ownersOf o) (shardEnd t)) → v ≡ t / 32 → 16 ≤ ownersOf o (t % 32) →
       Advanced K k o t (set o (t % 32) v) (set rows 16 (without (getD rows 16 0) (t % 32)))
   advance-take {v} l on e h =
       record {
@@ -184,7 +186,7 @@ module _ {K : Case} {k t : ℕ} {o rows : List ℕ} (s : Narrowed K k o t rows) 
       kept : TakesPair (ownersOf o) t (ownersOf (set o (t % 32) v))
       kept = subst (λ (a : ℕ). TakesPair (ownersOf o) t (ownersOf (set o (t % 32) a))) (sym e) (taken (s .ready .owners))
 
-      back : (y : ℕ → ℕ) → From (Within K k) (ownersOf (set o (t % 32) v)) (t + 1) y → From (Within K k) (ownersOf o) t y
+      back : (y : ℕ → ℕ) → From (WeighsWithin K k) (ownersOf (set o (t % 32) v)) (t + 1) y → From (WeighsWithin K k) (ownersOf o) t y
       back y f = from-taken l (s .ready .begun) h kept y f
 
       same : (j : ℕ) → j < 16 → getD (set rows 16 (without (getD rows 16 0) (t % 32))) j 0 ≡ getD rows j 0
@@ -213,11 +215,11 @@ module _ {K : Case} {k t : ℕ} {o rows : List ℕ} (s : Narrowed K k o t rows) 
       }
 
   -- none that takes open pairs only: none
-  pub stage-none : Exceeded K k (ownersOf o) t rows → None (From (Within K k) (ownersOf o) t)
+  pub stage-none : Exceeded K k (ownersOf o) t rows → HasNone (From (WeighsWithin K k) (ownersOf o) t)
   stage-none n = record { none = λ y f. n .none y f (s .uses y f) }
 
   -- a node that must be placed can't be placed once the list is ended
-  pub stage-only-here : t < 512 → OnlyHere rows (t / 32) → None (From (Within K k) (ownersOf o) (shardEnd t))
+  pub stage-only-here : t < 512 → OnlyHere rows (t / 32) → HasNone (From (WeighsWithin K k) (ownersOf o) (shardEnd t))
   stage-only-here l u =
       record {
         none = λ y f.
@@ -233,14 +235,14 @@ module _ {K : Case} {k t : ℕ} {o rows : List ℕ} (s : Narrowed K k o t rows) 
 -- where the search stands: at pair p / 2, and, where p is odd, with none that ends the list there
 pub record At (K : Case) (k : ℕ) (o : List ℕ) (p : ℕ) (rows : List ℕ) : Type 0 where
   pub stage : Narrowed K k o (p / 2) rows
-  pub on : p % 2 ≡ 1 → None (From (Within K k) (ownersOf o) (shardEnd (p / 2)))
+  pub on : p % 2 ≡ 1 → HasNone (From (WeighsWithin K k) (ownersOf o) (shardEnd (p / 2)))
 
 -- from p to r: what is first from there is first from here
 pub record Moved (K : Case) (k : ℕ) (o : List ℕ) (p : ℕ) (after rows : List ℕ) (r : ℕ) : Type 0 where
   pub more : p < r
   pub most : r ≤ 1024
   pub at : At K k after r rows
-  pub first : (z : ℕ → ℕ) → First (From (Within K k) (ownersOf after) (r / 2)) z → First (From (Within K k) (ownersOf o) (p / 2)) z
+  pub first : (z : ℕ → ℕ) → First (From (WeighsWithin K k) (ownersOf after) (r / 2)) z → First (From (WeighsWithin K k) (ownersOf o) (p / 2)) z
 
 -- the next pair of the same shard is a pair
 inside : (t : ℕ) → t < 512 → shardEnd (t + 1) ≡ shardEnd t → t + 1 < 512
@@ -257,23 +259,23 @@ module _ {K : Case} {k p : ℕ} {o rows : List ℕ} (a : At K k o p rows) (l : p
           stage = subst (λ (t : ℕ). Narrowed K k o t rows) half (stage-close (a .stage) (omega arith));
           on = λ d. absurd (omega arith);
         };
-        first = λ z f. first-close (omega arith) (a .stage .ready .begun) (subst (λ (t : ℕ). First (From (Within K k) (ownersOf o) t) z) (sym half) f);
+        first = λ z f. first-close (omega arith) (a .stage .ready .begun) (subst (λ (t : ℕ). First (From (WeighsWithin K k) (ownersOf o) t) z) (sym half) f);
       }
     where
       half : shardEnd (p / 2) ≡ 2 * j / 2
       half = omega arith
 
   -- the list goes on
-  pub moved-on : p % 2 ≡ 0 → None (From (Within K k) (ownersOf o) (shardEnd (p / 2))) → Moved K k o p o rows (p + 1)
+  pub moved-on : p % 2 ≡ 0 → HasNone (From (WeighsWithin K k) (ownersOf o) (shardEnd (p / 2))) → Moved K k o p o rows (p + 1)
   moved-on e n =
       record {
         more = omega arith;
         most = omega arith;
         at = record {
           stage = subst (λ (t : ℕ). Narrowed K k o t rows) half (a .stage);
-          on = λ d. subst (λ (t : ℕ). None (From (Within K k) (ownersOf o) (shardEnd t))) half n;
+          on = λ d. subst (λ (t : ℕ). HasNone (From (WeighsWithin K k) (ownersOf o) (shardEnd t))) half n;
         };
-        first = λ z f. subst (λ (t : ℕ). First (From (Within K k) (ownersOf o) t) z) (sym half) f;
+        first = λ z f. subst (λ (t : ℕ). First (From (WeighsWithin K k) (ownersOf o) t) z) (sym half) f;
       }
     where
       half : p / 2 ≡ (p + 1) / 2
@@ -286,7 +288,7 @@ module _ {K : Case} {k p : ℕ} {o rows : List ℕ} (a : At K k o p rows) (l : p
         more = omega arith;
         most = omega arith;
         at = record { stage = subst (λ (t : ℕ). Narrowed K k q t after) half (v .stage); on = λ d. absurd (omega arith) };
-        first = λ z f. v .first z (subst (λ (t : ℕ). First (From (Within K k) (ownersOf q) t) z) (sym half) f);
+        first = λ z f. v .first z (subst (λ (t : ℕ). First (From (WeighsWithin K k) (ownersOf q) t) z) (sym half) f);
       }
     where
       half : p / 2 + 1 ≡ (p + 1) / 2
@@ -300,9 +302,9 @@ module _ {K : Case} {k p : ℕ} {o rows : List ℕ} (a : At K k o p rows) (l : p
         most = omega (arith, inside (p / 2) (omega arith) d);
         at = record {
           stage = subst (λ (t : ℕ). Narrowed K k o t after) half (v .stage);
-          on = λ h. subst (λ (t : ℕ). None (From (Within K k) (ownersOf o) t)) (sym d ∙ ap shardEnd half) (a .on e);
+          on = λ h. subst (λ (t : ℕ). HasNone (From (WeighsWithin K k) (ownersOf o) t)) (sym d ∙ ap shardEnd half) (a .on e);
         };
-        first = λ z f. v .first z (subst (λ (t : ℕ). First (From (Within K k) (ownersOf o) t) z) (sym half) f);
+        first = λ z f. v .first z (subst (λ (t : ℕ). First (From (WeighsWithin K k) (ownersOf o) t) z) (sym half) f);
       }
     where
       half : p / 2 + 1 ≡ (p + 2) / 2

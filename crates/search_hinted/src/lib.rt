@@ -8,12 +8,12 @@ ghost use mathlib.Core.Logic.{_⊎_};
 ghost use Prim.Native.Nat.{_+_, _*_, _/_, _%_, _≤_, _<_, min};
 ghost use lib.Dec.{ltb};
 ghost use lib.ListN.{length, getD, set};
-ghost use Rattle.base_laws.specs.Masks.{without};
-ghost use Rattle.base_laws.specs.Picked.{maskBelow};
-ghost use Rattle.search_theory.specs.Case.{Within, spread};
-ghost use Rattle.search_theory.specs.Tables.{caseOf, ownersOf};
-ghost use Rattle.search_theory.specs.Order.{Begun, None, From, shardEnd};
-ghost use Rattle.search_theory.specs.Floor.{SheetFor};
+ghost use Rattle.base_laws.specs.Definitions.{without};
+ghost use Rattle.base_sum_laws.specs.Definitions.{maskBelow};
+ghost use Rattle.search_laws.specs.Case.{WeighsWithin, spread};
+ghost use Rattle.search_laws.specs.Tables.{caseOf, ownersOf};
+ghost use Rattle.search_laws.specs.Order.{Begun, HasNone, From, shardEnd};
+ghost use Rattle.search_laws.specs.Floor.{SheetFor};
 ghost use Rattle.search_bounds.specs.Post.{Small, SoundBound};
 ghost use Rattle.search_total.specs.Post.{WithinAnswer, LeastAnswer, noOwners};
 ghost use Rattle.search_total.specs.Answers.{Empty};
@@ -205,7 +205,7 @@ fn ends(
     requires { ⌜ (t < 512) × (k ≤ 8192) ⌝ }
     requires { ⌜ Small (now sets) ⌝ }
     requires { ⌜ Narrowed (caseOf (now sets) (now needs) (now caps) (now prices) idle) k (now owner) t (now rows) ⌝ }
-    ensures { λ r. ⌜ (r ≡ 2 → None (From (Within (caseOf (now (sets .entry)) (now (needs .entry)) (now (caps .entry)) (now (prices .entry)) idle) k) (ownersOf (now (owner .entry))) (shardEnd t))) ⌝ }
+    ensures { λ r. ⌜ (r ≡ 2 → HasNone (From (WeighsWithin (caseOf (now (sets .entry)) (now (needs .entry)) (now (caps .entry)) (now (prices .entry)) idle) k) (ownersOf (now (owner .entry))) (shardEnd t))) ⌝ }
     ensures { λ r. ⌜ r ≤ 2 ⌝ }
 {
     if rows[t / 32] == 0 {
@@ -577,7 +577,7 @@ fn quick_least(
     if !fit(sets) {
         return unsure();
     }
-    if search_floor::short(needs, sheet) {
+    if search_judge::floor::short(needs, sheet) {
         return none();
     }
     by_claim(sets, needs, caps, prices, idle)

@@ -8,10 +8,11 @@ use native.Mathlib.Omega.{arith}
 use lib.Dec.{eqb}
 use lib.ListN.{getD}
 use borrow.Author.Tests.{eq-eqb, ne-eqb}
-use Rattle.base_laws.specs.Below.{anyBelow, any-none, any-step, count-cong}
-use Rattle.base_laws.specs.Masks.{has, with, count, has-zero, has-with, with-lt, count-below}
-use Rattle.search_theory.specs.Case.{meets, spread}
-use Rattle.search_theory.specs.Tables.{caseOf, ownersOf}
+use Rattle.base_laws.specs.Definitions.{anyBelow, has, with, count}
+use Rattle.base_laws.specs.Below.{any-none, any-step, count-cong}
+use Rattle.base_laws.specs.Masks.{has-zero, has-with, with-lt, count-below}
+use Rattle.search_laws.specs.Case.{meets, spread}
+use Rattle.search_laws.specs.Tables.{caseOf, ownersOf}
 
 -- r is m with set f added, where the owner o is shard i
 pub record Joined (m o i f r : ℕ) : Type 0 where

@@ -11,9 +11,10 @@ use lib.ListN.{getD}
 use borrow.Author.Tests.{eq-eqb, eqb-true, le-leb}
 use Rattle.base_laws.specs.Bools.{lt-or-le, eq-or-ne, clash, and-both, or-left, or-right}
 use Rattle.base_laws.specs.Below.{count-some}
-use Rattle.base_laws.specs.Masks.{has, with, has-with}
-use Rattle.search_theory.specs.Case.{size}
-use Rattle.search_theory.specs.Tables.{ownersOf}
+use Rattle.base_laws.specs.Definitions.{has, with}
+use Rattle.base_laws.specs.Masks.{has-with}
+use Rattle.search_laws.specs.Case.{size}
+use Rattle.search_laws.specs.Tables.{ownersOf}
 
 -- m has the owner of each node below n
 pub record OwnersHeld (owner : List ℕ) (n m : ℕ) : Type 0 where

@@ -7,15 +7,16 @@ use native.Mathlib.Omega.{arith}
 use lib.Dec.{leb, ltb}
 use borrow.Author.Tests.{le-leb, lt-leb, leb-true, lt-ltb, le-ltb, ltb-true}
 use Rattle.base_laws.specs.Bools.{lt-or-le, or-holds, or-left, or-right, or-neither}
-use Rattle.base_laws.specs.Below.{anyBelow, any-witness}
-use Rattle.search_theory.specs.Case.{Case, Valid, Within, size, spread, moves}
-use Rattle.search_theory.specs.Order.{takes, Agree, Begun, From, None}
-use Rattle.search_theory.specs.Tests.{none-thin, none-dear, owned, dearest, full}
+use Rattle.base_laws.specs.Definitions.{anyBelow}
+use Rattle.base_laws.specs.Below.{any-witness}
+use Rattle.search_laws.specs.Case.{Case, Valid, WeighsWithin, size, spread, moves}
+use Rattle.search_laws.specs.Order.{takes, Agree, Begun, From, HasNone}
+use Rattle.search_laws.specs.Tests.{none-thin, none-dear, owned, dearest, full}
 
 -- r tells whether z is valid with a weight of at most k
-pub record Judged (K : Case) (k : ℕ) (z : ℕ → ℕ) (r : Bool) : Type 0 where
-  pub yes : r ≡ true → Within K k z
-  pub no : r ≡ false → Within K k z → ⊥
+pub record WeightJudged (K : Case) (k : ℕ) (z : ℕ → ℕ) (r : Bool) : Type 0 where
+  pub yes : r ≡ true → WeighsWithin K k z
+  pub no : r ≡ false → WeighsWithin K k z → ⊥
 
 -- pair t's node has an owner or is not allowed in its shard, or the shard is full
 unfoldable pub isBarred : Case → (ℕ → ℕ) → ℕ → Bool
@@ -26,7 +27,7 @@ unfoldable pub hopelessFrom : Case → ℕ → (ℕ → ℕ) → ℕ → Bool
 hopelessFrom K k o t = ltb k (moves (K .cost) o) || anyBelow (t / 32) (λ i. ltb (spread K o i) (K .need i))
 
 -- then no valid placement of a weight of at most k agrees with the owners
-pub hopeless-none : {K : Case} {k : ℕ} {o : ℕ → ℕ} {t : ℕ} → t ≤ 512 → Begun o t → hopelessFrom K k o t ≡ true → None (From (Within K k) o t)
+pub hopeless-none : {K : Case} {k : ℕ} {o : ℕ → ℕ} {t : ℕ} → t ≤ 512 → Begun o t → hopelessFrom K k o t ≡ true → HasNone (From (WeighsWithin K k) o t)
 unfolding hopelessFrom
 hopeless-none {K} {k} {o} {t} l b h =
     ⊎-elim (λ e. none-dear b (ltb-true k (moves (K .cost) o) e))
@@ -35,10 +36,10 @@ hopeless-none {K} {k} {o} {t} l b h =
     none-thin i (omega arith) (omega arith) (ltb-true (spread K o i) (K .need i) d))
     (or-holds (ltb k (moves (K .cost) o)) (anyBelow (t / 32) (λ i. ltb (spread K o i) (K .need i))) h)
 
-pub judged : {K : Case} {k : ℕ} {z : ℕ → ℕ} → Within K k z → Judged K k z true
+pub judged : {K : Case} {k : ℕ} {z : ℕ → ℕ} → WeighsWithin K k z → WeightJudged K k z true
 judged w = record { yes = λ e. w; no = λ e. absurd (true≢false e) }
 
-pub rejected : {K : Case} {k : ℕ} {z : ℕ → ℕ} → (Within K k z → ⊥) → Judged K k z false
+pub rejected : {K : Case} {k : ℕ} {z : ℕ → ℕ} → (WeighsWithin K k z → ⊥) → WeightJudged K k z false
 rejected w = record { yes = λ e. absurd (false≢true e); no = λ e. w }
 
 -- whether a pair is barred, test by test

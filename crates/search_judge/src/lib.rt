@@ -1,17 +1,18 @@
 // Tests on a subgroup's tables: sets and owners by node, needs and caps by shard, costs at shard * 32 + node (from 255 up
 // not allowed). An owner below 16 is the node's shard; any other means that the node is placed nowhere, which costs idle.
+pub mod floor;
+
 ghost use mathlib.Core.Path.{_≡_};
 ghost use mathlib.Core.Bool.{cond, true, false};
 ghost use mathlib.Core.List.{[]};
 ghost use Prim.Native.Nat.{_+_, _*_, _/_, _%_, _<_, _≤_};
 ghost use lib.ListN.{getD};
 ghost use lib.Dec.{eqb, ltb};
-ghost use Rattle.base_laws.specs.Below.{allBelow, anyBelow};
-ghost use Rattle.base_laws.specs.Masks.{has};
-ghost use Rattle.search_theory.specs.Case.{size, spread, weight};
-ghost use Rattle.search_theory.specs.Tables.{caseOf, ownersOf};
-ghost use Rattle.search_theory.specs.Tests.{stands, needsMet};
-ghost use Rattle.search_judge.specs.Post.{Judged, isBarred, hopelessFrom};
+ghost use Rattle.base_laws.specs.Definitions.{allBelow, anyBelow, has};
+ghost use Rattle.search_laws.specs.Case.{size, spread, weight};
+ghost use Rattle.search_laws.specs.Tables.{caseOf, ownersOf};
+ghost use Rattle.search_laws.specs.Tests.{stands, needsMet};
+ghost use Rattle.search_judge.specs.Post.{WeightJudged, isBarred, hopelessFrom};
 ghost use Rattle.search_judge.specs.Met.{Joined, Met};
 ghost use Rattle.search_judge.specs.Owners.{OwnersHeld};
 
@@ -223,7 +224,7 @@ pub fn within(
     idle: u8,
     k: usize,
 ) -> bool
-    ensures { λ r. ⌜ Judged (caseOf (now (sets .entry)) (now (needs .entry)) (now (caps .entry)) (now (costs .entry)) idle) k (ownersOf (now (owner .entry))) r ⌝ }
+    ensures { λ r. ⌜ WeightJudged (caseOf (now (sets .entry)) (now (needs .entry)) (now (caps .entry)) (now (costs .entry)) idle) k (ownersOf (now (owner .entry))) r ⌝ }
 {
     if !stands(costs, owner) {
         return false;

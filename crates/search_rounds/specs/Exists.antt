@@ -8,10 +8,10 @@ use native.Mathlib.Omega.{arith}
 use lib.Dec.{eqb, leb}
 use borrow.Author.Tests.{eq-eqb, ne-eqb, leb-true, le-leb}
 use Rattle.base_laws.specs.Bools.{either, clash, and-both, and-left, and-right, lt-or-le}
-use Rattle.base_laws.specs.Below.{allBelow}
-use Rattle.search_theory.specs.Case.{Case, Within, weight}
-use Rattle.search_theory.specs.Order.{takes, shardEnd, First, None, From, Begun, TakesPair, begun-leave, first-leave, none-leave, begun-close, first-close, begun-take, first-take, none-take, first-end, none-end, first-start, none-start, begun-start}
-use Rattle.search_theory.specs.Tests.{stands, needsMet, valid-of, valid-stands, valid-met, within-same, owned}
+use Rattle.base_laws.specs.Definitions.{allBelow}
+use Rattle.search_laws.specs.Case.{Case, WeighsWithin, weight}
+use Rattle.search_laws.specs.Order.{takes, shardEnd, First, HasNone, From, Begun, TakesPair, begun-leave, first-leave, none-leave, begun-close, first-close, begun-take, first-take, none-take, first-end, none-end, first-start, none-start, begun-start}
+use Rattle.search_laws.specs.Tests.{stands, needsMet, valid-of, valid-stands, valid-met, within-same, owned}
 use Rattle.search_rounds.specs.Post.{Fewer, within-fewer, within-none, Steps, start, more}
 
 module _ (K : Case) (k : ℕ) where
@@ -19,7 +19,7 @@ module _ (K : Case) (k : ℕ) where
   within : (ℕ → ℕ) → Bool
   within o = (allBelow 32 (stands K o) && allBelow 16 (needsMet K o)) && leb (weight K o) k
 
-  judged : (o : ℕ → ℕ) → Within K k o ⊎ (Within K k o → ⊥)
+  judged : (o : ℕ → ℕ) → WeighsWithin K k o ⊎ (WeighsWithin K k o → ⊥)
   unfolding within
   judged o =
       ⊎-elim
@@ -34,7 +34,7 @@ module _ (K : Case) (k : ℕ) where
 
   -- from the owners o before pair t there is a first, or none
   abbrev FoundFrom : (ℕ → ℕ) → ℕ → Type 0
-  FoundFrom o t = ((z : ℕ → ℕ) × First (From (Within K k) o t) z) ⊎ None (From (Within K k) o t)
+  FoundFrom o t = ((z : ℕ → ℕ) × First (From (WeighsWithin K k) o t) z) ⊎ HasNone (From (WeighsWithin K k) o t)
 
   at-end : (o : ℕ → ℕ) (t : ℕ) → 512 ≡ t → FoundFrom o t
   at-end o t e =
@@ -61,7 +61,7 @@ module _ (K : Case) (k : ℕ) where
         (λ h. ⊎-elim (λ x. inl (x .0, first-take l b h takes-pair-t n (x .1))) (λ q. leave on (none-take l b h takes-pair-t q)) (pair h))
         (lt-or-le (o (t % 32)) 16)
       where
-        leave : FoundFrom o (t + 1) → ((y : ℕ → ℕ) → From (Within K k) o t y → takes y t ≡ true → ⊥) → FoundFrom o t
+        leave : FoundFrom o (t + 1) → ((y : ℕ → ℕ) → From (WeighsWithin K k) o t y → takes y t ≡ true → ⊥) → FoundFrom o t
         leave (inl (z, f)) not = inl (z, first-leave l b not f)
         leave (inr q) not = inr (none-leave l b not q)
 
@@ -74,7 +74,7 @@ module _ (K : Case) (k : ℕ) where
       (λ h. seek m (withPair o t l b) (t + 1) (omega arith) (omega arith) (begun-take l b h (takes-pair-t o t l b))))
       (λ l. at-end o t (omega arith)) (lt-or-le t 512)
 
-  pub first-or-none : ((z : ℕ → ℕ) × First (Within K k) z) ⊎ None (Within K k)
+  pub first-or-none : ((z : ℕ → ℕ) × First (WeighsWithin K k) z) ⊎ HasNone (WeighsWithin K k)
   first-or-none =
       ⊎-elim (λ x. inl (x .0, first-start (x .1))) (λ n. inr (none-start n))
       (seek 512 (λ n. 16) 0 (omega arith) (omega arith) (begun-start (λ n l. omega arith)))
@@ -85,11 +85,11 @@ pub record AllRounds (K : Case) (n c : ℕ) (y : ℕ → ℕ) : Type 0 where
   pub left : ℕ
   pub steps : Steps K n y left end
   pub used : n ≤ left + c
-  pub first : First (Within K (weight K end)) end
-  pub none : None (Fewer K end)
+  pub first : First (WeighsWithin K (weight K end)) end
+  pub none : HasNone (Fewer K end)
 
 -- what is first within a weight is first within its own
-pub first-own : {K : Case} {k : ℕ} {z : ℕ → ℕ} → First (Within K k) z → First (Within K (weight K z)) z
+pub first-own : {K : Case} {k : ℕ} {z : ℕ → ℕ} → First (WeighsWithin K k) z → First (WeighsWithin K (weight K z)) z
 first-own f =
     record {
       is = record { valid = f .is .valid; cheap = omega arith };
@@ -98,7 +98,7 @@ first-own f =
 
 -- as many rounds as the weight are enough
 all-rounds : {K : Case} (fuel d : ℕ) {n m c : ℕ} {y z : ℕ → ℕ} → weight K z ≤ fuel → fuel ≤ m → n ≤ m + d → d + fuel ≤ c → Steps K n y m z
-    → First (Within K (weight K z)) z → AllRounds K n c y
+    → First (WeighsWithin K (weight K z)) z → AllRounds K n c y
 all-rounds zero d {m = m} {z = z} w l u v s f =
     record { end = z; left = m; steps = s; used = omega arith; first = f; none = record { none = λ x g. omega (arith, g .less) } }
 all-rounds {K} (suc fuel) d {n} {m} {c} {y} {z} w l u v s f =
@@ -115,5 +115,5 @@ all-rounds {K} (suc fuel) d {n} {m} {c} {y} {z} w l u v s f =
     back : m ≡ m - 1 + 1
     back = omega arith
 
-pub rounds-to-the-end : {K : Case} {n c : ℕ} {y : ℕ → ℕ} → weight K y ≤ c → c ≤ n → First (Within K (weight K y)) y → AllRounds K n c y
+pub rounds-to-the-end : {K : Case} {n c : ℕ} {y : ℕ → ℕ} → weight K y ≤ c → c ≤ n → First (WeighsWithin K (weight K y)) y → AllRounds K n c y
 rounds-to-the-end {n = n} {c = c} h l f = all-rounds c 0 {m = n} h l (omega arith) (omega arith) start f

@@ -1,5 +1,5 @@
 // Improving rounds in one subgroup: from a placement, each round goes to the first valid placement of less weight.
-ghost use Rattle.search_theory.specs.Tables.{caseOf};
+ghost use Rattle.search_laws.specs.Tables.{caseOf};
 ghost use Rattle.search_rounds.specs.Post.{Low, Weighed, Improved};
 use search_total::Solution;
 

@@ -6,10 +6,10 @@ use Prim.Native.Nat.{ℕ, _≤_, _<_}
 use native.Mathlib.Omega.{arith}
 use lib.ListN.{length-replicate, getD-replicate}
 use Rattle.base_laws.specs.Bools.{clash}
-use Rattle.search_theory.specs.Case.{Case, Valid, Within, weight}
-use Rattle.search_theory.specs.Tables.{ownersOf}
-use Rattle.search_theory.specs.Order.{First, None, begun-start}
-use Rattle.search_theory.specs.Least.{AtLeast, first-least, none-all}
+use Rattle.search_laws.specs.Case.{Case, Valid, WeighsWithin, weight}
+use Rattle.search_laws.specs.Tables.{ownersOf}
+use Rattle.search_laws.specs.Order.{First, HasNone, begun-start}
+use Rattle.search_laws.specs.Least.{AtLeast, first-least, none-all}
 use Rattle.search_total.specs.declared.Solution.{Solution}
 use Rattle.search_total.specs.Post.{Owners, ReadyFrom, WithinAnswer, LeastAnswer, noOwners}
 
@@ -28,7 +28,7 @@ pub record Empty (a : Solution) : Type 0 where
 -- a valid placement of a weight of at most k
 pub record WeightReached (K : Case) (k : ℕ) : Type 0 where
   pub at : ℕ → ℕ
-  pub within : Within K k at
+  pub within : WeighsWithin K k at
 
 blank-owner : (n : ℕ) → n < 32 → ownersOf noOwners n ≡ 16
 blank-owner n l = getD-replicate 32 n 16 0 l
@@ -39,17 +39,17 @@ owners-blank = record { long = length-replicate {A = ℕ} 32 16; least = λ n l.
 pub ready-blank : ReadyFrom noOwners 0
 ready-blank = record { owners = owners-blank; begun = begun-start (λ n l. omega (arith, blank-owner n l)) }
 
-pub within-found : {K : Case} {k : ℕ} {p : List ℕ} {a : Solution} → First (Within K k) (ownersOf p) → Owners p → HasOwners K p a → WithinAnswer K k a
+pub within-found : {K : Case} {k : ℕ} {p : List ℕ} {a : Solution} → First (WeighsWithin K k) (ownersOf p) → Owners p → HasOwners K p a → WithinAnswer K k a
 within-found {K} {k} f o h =
     record {
-      found = λ e. subst (λ (w : List ℕ). First (Within K k) (ownersOf w)) (sym (h .owners)) f;
+      found = λ e. subst (λ (w : List ℕ). First (WeighsWithin K k) (ownersOf w)) (sym (h .owners)) f;
       exact = λ e. h .weight ∙ ap (λ (w : List ℕ). weight K (ownersOf w)) (sym (h .owners));
       none = λ e. clash (h .exists) e;
       empty = λ e. clash (h .exists) e;
       owners = subst Owners (sym (h .owners)) o;
     }
 
-pub within-none : {K : Case} {k : ℕ} {a : Solution} → None (Within K k) → Empty a → WithinAnswer K k a
+pub within-none : {K : Case} {k : ℕ} {a : Solution} → HasNone (WeighsWithin K k) → Empty a → WithinAnswer K k a
 within-none n h =
     record {
       found = λ e. clash e (h .exists);
@@ -100,7 +100,7 @@ module _ {K : Case} {k : ℕ} {a : Solution} (w : WithinAnswer K k a) (e : a .ex
   pub found-below : a .weight ≤ k
   found-below = omega (arith, w .exact e, w .found e .is .cheap)
 
-pub least-none : {K : Case} {a : Solution} → None (Valid K) → Empty a → LeastAnswer K a
+pub least-none : {K : Case} {a : Solution} → HasNone (Valid K) → Empty a → LeastAnswer K a
 least-none n h =
     record {
       found = λ e. clash e (h .exists);

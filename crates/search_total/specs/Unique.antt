@@ -7,9 +7,9 @@ use Prim.Native.Nat.{ℕ, _<_}
 use native.Mathlib.Omega.{arith}
 use lib.Seq.{ext-getD}
 use Rattle.base_laws.specs.Bools.{either}
-use Rattle.search_theory.specs.Case.{Case, Valid, Within, Least, weight}
-use Rattle.search_theory.specs.Tables.{ownersOf}
-use Rattle.search_theory.specs.Order.{First, None, Same, first-unique}
+use Rattle.search_laws.specs.Case.{Case, Valid, WeighsWithin, LeastWeight, weight}
+use Rattle.search_laws.specs.Tables.{ownersOf}
+use Rattle.search_laws.specs.Order.{First, HasNone, Same, first-unique}
 use Rattle.search_total.specs.declared.Solution.{Solution}
 use Rattle.search_total.specs.Post.{Owners, WithinAnswer, LeastAnswer, noOwners}
 
@@ -25,7 +25,7 @@ same-answer p q r = λ i. record { exists = p i; weight = q i; owners = r i }
 record FirstOrNone (K : Case) (P Q : (ℕ → ℕ) → Type 0) (a : Solution) : Type 0 where
   found : a .exists ≡ true → First P (ownersOf (a .owners))
   exact : a .exists ≡ true → a .weight ≡ weight K (ownersOf (a .owners))
-  none : a .exists ≡ false → None Q
+  none : a .exists ≡ false → HasNone Q
   empty : a .exists ≡ false → (a .weight ≡ 0) × (a .owners ≡ noOwners)
   owners : Owners (a .owners)
 
@@ -45,10 +45,10 @@ unique {K} q {a} {b} u w =
     (either (b .exists)))
     (either (a .exists))
 
-least-kept : {K : Case} {a : Solution} → LeastAnswer K a → FirstOrNone K (Least K) (Valid K) a
+least-kept : {K : Case} {a : Solution} → LeastAnswer K a → FirstOrNone K (LeastWeight K) (Valid K) a
 least-kept u = record { found = u .found; exact = u .exact; none = u .none; empty = u .empty; owners = u .owners }
 
-within-kept : {K : Case} {k : ℕ} {a : Solution} → WithinAnswer K k a → FirstOrNone K (Within K k) (Within K k) a
+within-kept : {K : Case} {k : ℕ} {a : Solution} → WithinAnswer K k a → FirstOrNone K (WeighsWithin K k) (WeighsWithin K k) a
 within-kept u = record { found = u .found; exact = u .exact; none = u .none; empty = u .empty; owners = u .owners }
 
 pub least-unique : {K : Case} {a b : Solution} → LeastAnswer K a → LeastAnswer K b → a ≡ b

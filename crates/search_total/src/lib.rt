@@ -5,9 +5,9 @@ ghost use mathlib.Core.Bool.{true};
 ghost use mathlib.Core.List.{[]};
 ghost use Prim.Native.Nat.{_+_, _≤_, _<_};
 ghost use lib.Dec.{eqb};
-ghost use Rattle.search_theory.specs.Case.{Within};
-ghost use Rattle.search_theory.specs.Order.{None, From, shardEnd};
-ghost use Rattle.search_theory.specs.Tables.{caseOf, ownersOf};
+ghost use Rattle.search_laws.specs.Case.{WeighsWithin};
+ghost use Rattle.search_laws.specs.Order.{HasNone, From, shardEnd};
+ghost use Rattle.search_laws.specs.Tables.{caseOf, ownersOf};
 ghost use Rattle.search_total.specs.Post.{ReadyFrom, Sought, WithinAnswer, LeastAnswer};
 ghost use Rattle.search_total.specs.Answers.{HasOwners, Empty};
 
@@ -49,7 +49,7 @@ fn seek(
 ) -> bool
     requires { ⌜ t ≤ 512 ⌝ }
     requires { ⌜ ReadyFrom (now owner) t ⌝ }
-    requires { ⌜ (tried ≡ true → None (From (Within (caseOf (now sets) (now needs) (now caps) (now costs) idle) k) (ownersOf (now owner)) (shardEnd t))) ⌝ }
+    requires { ⌜ (tried ≡ true → HasNone (From (WeighsWithin (caseOf (now sets) (now needs) (now caps) (now costs) idle) k) (ownersOf (now owner)) (shardEnd t))) ⌝ }
     ensures { λ r. ⌜ Sought (caseOf (now (sets .entry)) (now (needs .entry)) (now (caps .entry)) (now (costs .entry)) idle) k (now (owner .entry)) t (now (owner .exit)) r ⌝ }
 {
     if t == 512 {

@@ -3,7 +3,7 @@ use base_ids::Shard;
 ghost use mathlib.Core.Path.{_≡_};
 ghost use Prim.Native.Nat.{_<_, _≤_};
 ghost use lib.ListN.{length};
-ghost use Rattle.settings_values.specs.Settings.{rangesOk, sizesOk, nodesOk, shardOk, shardsOk, settingsOk, Sizes, shards};
+ghost use Rattle.settings_values.specs.Definitions.{rangesOk, sizesOk, nodesOk, shardOk, shardsOk, settingsOk, Sizes, shards};
 
 // The first four words are in their ranges.
 fn ranges_ok(settings: &[u32]) -> bool

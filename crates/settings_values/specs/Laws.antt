@@ -9,7 +9,7 @@ use lib.ListN.{length}
 use borrow.Author.Tests.{leb-true, ltb-true, eqb-true, le-leb, lt-ltb, eq-eqb}
 use Rattle.base_laws.specs.Bools.{and-both, and-left, and-right}
 use Rattle.base_laws.specs.Below.{all-at, all-of}
-use Rattle.settings_values.specs.Settings.{nodes, sets, least, shards, setOf, subgroup, need, cap, from-to, rangesOk, sizesOk, nodesOk, shardOk, shardsOk, settingsOk, Sizes, Settings}
+use Rattle.settings_values.specs.Definitions.{nodes, sets, least, shards, setOf, subgroup, need, cap, from-to, rangesOk, sizesOk, nodesOk, shardOk, shardsOk, settingsOk, Sizes, Settings}
 
 -- ---- low ≤ x ≤ high
 

@@ -1,3 +1,3 @@
 -- Settings: what their words mean, and when they are right.
-pub mod Settings
+pub mod Definitions
 pub mod Laws

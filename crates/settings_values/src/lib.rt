@@ -3,7 +3,7 @@ use base_ids::Node;
 use base_ids::Shard;
 ghost use mathlib.Core.Path.{_≡_};
 ghost use Prim.Native.Nat.{_<_};
-ghost use Rattle.settings_values.specs.Settings.{from-to, Sizes, Settings, nodes, sets, least, shards, setOf, shardWord, subgroup, need, cap};
+ghost use Rattle.settings_values.specs.Definitions.{from-to, Sizes, Settings, nodes, sets, least, shards, setOf, shardWord, subgroup, need, cap};
 
 // low ≤ x ≤ high
 pub fn from_to(low: u32, high: u32, x: u32) -> bool

@@ -3,8 +3,8 @@
 // printed.
 use libc::STDOUT_FILENO;
 use program_reading::Reply;
-ghost use Rattle.program_reading.specs.Reading.{Answers};
-ghost use Rattle.program_sheet.specs.Printing.{Sheeted};
+ghost use Rattle.program_reading.specs.Definitions.{Answers};
+ghost use Rattle.program_sheet.specs.Definitions.{Sheeted};
 
 // The sheet of the input, as text in lent bytes; none if the input was cut.
 fn answer(out: &mut [u8; 32768]) -> Reply

@@ -2,47 +2,35 @@
 -- false.
 use Prim.Native.Nat.{ℕ}
 use mathlib.Core.Bool.{true, false, _&&_}
-use mathlib.Core.List.{[]}
+use mathlib.Core.List.{List, []}
 use mathlib.Core.Path.{_≡_, refl}
 use lib.Count.{ones, onesIn}
 use lib.ListN.{replicate}
 use Rattle.base_laws.specs.Bools.{and-both, and-fails-left, and-fails-right}
-use Rattle.base_laws.specs.Below.{allBelow, anyBelow, countBelow, lowest}
-use Rattle.base_laws.specs.Positions.{pairNotAfter}
-use Rattle.base_laws.specs.Tables.{tabulate}
-use Rattle.base_sums.specs.Sums.{sumBelow}
-use Rattle.settings_values.specs.Settings.{cap, sizesOk, nodesOk, shardOk, shardsOk, settingsOk}
-use Rattle.base_ids.specs.Refusals.{none, refused, unless, unlessAt, firstOf}
-use Rattle.message_format.specs.Chain.{place, following, row5, row8}
-use Rattle.message_format.specs.Records.{precedes, shardsWhere}
-use Rattle.message_format.specs.Rows.{row6, viewOk, row7, kindOk, plain, kindAt, shardAt, surplus, sequenceAt, complete, shardApart, row10At, row10, position, viewFits, legal, row11At}
-use Rattle.message_format.specs.Messages.{bodyWord, bodyOf, contentsOf, recordsRefusal, headRefusal, messageRefusal}
-use Rattle.place_groups.specs.Placements.{meetsSet, setsIn, shardValid, groupValidAt, groupValid, groupMovesAt, groupMoves}
+use Rattle.base_laws.specs.Definitions.{allBelow, anyBelow, countBelow, lowest, pairNotAfter, tabulate}
+use Rattle.base_sum_laws.specs.Definitions.{sumBelow}
+use Rattle.settings_values.specs.Definitions.{cap, sizesOk, nodesOk, shardOk, shardsOk, settingsOk}
+use Rattle.base_ids.specs.Definitions.{none, refused, unless, unlessAt, firstOf}
+use Rattle.message_format.specs.Definitions.{place, following, row5, row8, precedes, shardsWhere, row6, viewOk, row7, kindOk, plain, kindAt, shardAt, surplus, sequenceAt, complete, shardApart, row10At, row10, isPosition, viewFits, legal, row11At, bodyWord, bodyOf, contentsOf, recordsRefusal, headRefusal, messageRefusal}
+use Rattle.place_groups.specs.Definitions.{meetsSet, setsIn, shardValid, groupValidAt, groupValid, groupMovesAt, groupMoves}
 use Rattle.report_views.specs.declared.Phase.{Phase}
 use Rattle.report_views.specs.declared.Phase.the-variants.{Gathering, Ordered, Preparing, Committed}
 use Rattle.report_views.specs.declared.Reason.the-variants.{TooFew}
 use Rattle.report_views.specs.declared.Quorum.the-variants.{Met, Short}
-use Rattle.report_views.specs.Empty.{noTermination, noPlan}
-use Rattle.report_views.specs.Logs.{endOf, reaches, holds, hasUpdate}
-use Rattle.report_views.specs.Reports.{slot, reportOf}
-use Rattle.report_views.specs.Slots.{sameView, row12, sameTermination, row13, termKept, slotOk, slotsOk}
-use Rattle.report_views.specs.Quorums.{candidate, greatest, best, target, able, holder, majority, firstUnheld, quorumOf}
-use Rattle.report_views.specs.Soundness.{layoutTidy, layoutBlank, viewSound, termSoundAt, termSound, nothingKept, keptSound, marksSound, planBlank, isMet, shardPlanned, allMoves, planSound, planFits}
-use Rattle.report_latest.specs.declared.Latest.{Latest}
-use Rattle.report_latest.specs.Remembered.{noLatest, row18, noted, recalled, latestSound}
-use Rattle.report_kept.specs.Reports.{keptRefusal, refusalBeside, layoutOf, terminationOf, renewed}
-use Rattle.report_desk.specs.Desk.{deskWith}
-use Rattle.report_examples.specs.Kept.{openReport, endedReport, endedAt, view7As}
-use Rattle.report_examples.specs.Sound.{planOfCaseA}
+use Rattle.report_views.specs.Definitions.{noTermination, noPlan, endOf, reaches, holds, hasUpdate, slot, reportOf, sameView, row12, sameTermination, row13, termKept, slotOk, slotsOk, candidate, greatest, best, target, able, holder, majority, firstUnheld, quorumOf, layoutTidy, layoutBlank, viewSound, termSoundAt, termSound, nothingKept, keptSound, marksSound, planBlank, isMet, shardPlanned, allMoves, planSound, planFits}
+use Rattle.report_rows.specs.declared.latest.Latest.{Latest}
+use Rattle.report_rows.specs.Definitions.{noLatest, row18, noted, recalled, latestSound}
+use Rattle.report_kept.specs.Definitions.{keptRefusal, refusalBeside, layoutOf, terminationOf, renewed}
+use Rattle.report_desk.specs.Definitions.{deskWith}
+use Rattle.report_cases.specs.Kept.{openReport, endedReport, endedAt, view7As}
+use Rattle.report_cases.specs.Sound.{planOfCaseA}
 use Rattle.history_cases.specs.Runs.{caseSettings, desk, view7}
-use Rattle.state_rows.specs.Rows.{entryRows, nodeRefusal}
+use Rattle.state_rows.specs.Definitions.{nodeRefusal}
 use Rattle.state_planner.specs.declared.State.{State}
 use Rattle.state_planner.specs.declared.Answer.{Answer}
-use Rattle.state_planner.specs.States.{sound, ofParts, fresh, holding, keeping, marked, restarted, planned}
-use Rattle.state_planner.specs.Refusing.{entryRefusal, eventRefusal, reportRefusal, dropRefusal, decideRefusal, orderRefusal, fetchedRefusal, preparedRefusal}
-use Rattle.state_planner.specs.Events.{afterReport, droppedIn, afterDrop, afterFetched, afterPrepared, outcome, deskAfter}
+use Rattle.state_planner.specs.Definitions.{sound, ofParts, fresh, holding, keeping, marked, restarted, planned, entryRefusal, eventRefusal, reportRefusal, dropRefusal, decideRefusal, orderRefusal, fetchedRefusal, preparedRefusal, afterReport, droppedIn, afterDrop, afterFetched, afterPrepared, outcomeOf, deskAfter, still}
 use Rattle.state_planner.specs.declared.Decision.{Decision}
-use Rattle.state_planner.specs.Decide.{still, stateBy, decisionBy, decidedBy}
+use Rattle.state_planner.specs.Decide.{stateBy, decisionBy, decidedBy}
 use Rattle.state_cases.specs.Start.{reportedAt, gathered}
 
 -- view 7 kept with a termination, and reported by nodes 0 to 5
@@ -75,20 +63,40 @@ pub record EventClauses : Type 0 where
   pub prepared-one : afterPrepared (withEnds Preparing 63 63 15) 4 ≡ withEnds Preparing 63 63 31
   pub prepared-last : afterPrepared (withEnds Preparing 63 63 31) 5 ≡ withEnds Committed 63 63 63
   -- the next state, or beside a refusal the state as it was
-  pub outcome-taken : outcome none fresh (gathered view7 1) ≡ record { state = gathered view7 1; answer = Answer.Accepted }
-  pub outcome-refused : outcome (refused 4) fresh (gathered view7 1) ≡ record { state = fresh; answer = Answer.Refused (refused 4) }
+  pub outcome-taken : outcomeOf none fresh (gathered view7 1) ≡ record { state = gathered view7 1; answer = Answer.Accepted }
+  pub outcome-refused : outcomeOf (refused 4) fresh (gathered view7 1) ≡ record { state = fresh; answer = Answer.Refused (refused 4) }
   -- rows 1 to 4 in their order, then rows 6 and 14
-  pub row-1 : entryRows false false false false ≡ refused 1
-  pub row-2 : entryRows true false false false ≡ refused 2
-  pub row-3 : entryRows true true false false ≡ refused 3
-  pub row-4 : entryRows true true true false ≡ refused 4
-  pub row-none : entryRows true true true true ≡ none
+  pub row-1 : (σ d : List ℕ) (x : State) → entryRefusal false σ x d false ≡ refused 1
+  pub row-2 : (σ d : List ℕ) (x : State) → settingsOk σ ≡ false → entryRefusal true σ x d false ≡ refused 2
+  pub row-3 : (σ d : List ℕ) (x : State) → settingsOk σ ≡ true → sound σ x d ≡ false → entryRefusal true σ x d false ≡ refused 3
+  pub row-4 : (σ d : List ℕ) (x : State) → settingsOk σ ≡ true → sound σ x d ≡ true → entryRefusal true σ x d false ≡ refused 4
+  pub row-none : (σ d : List ℕ) (x : State) → settingsOk σ ≡ true → sound σ x d ≡ true → entryRefusal true σ x d true ≡ none
   pub row-6 : nodeRefusal caseSettings 7 false ≡ refused 6
   pub row-14 : nodeRefusal caseSettings 6 false ≡ refused 14
   pub node-none : nodeRefusal caseSettings 6 true ≡ none
 
+first-row : (σ d : List ℕ) (x : State) → entryRefusal false σ x d false ≡ refused 1
+unfolding unless entryRefusal
+first-row σ d x = refl
+
+second-row : (σ d : List ℕ) (x : State) → settingsOk σ ≡ false → entryRefusal true σ x d false ≡ refused 2
+unfolding unless entryRefusal
+second-row σ d x a = rw a
+
+third-row : (σ d : List ℕ) (x : State) → settingsOk σ ≡ true → sound σ x d ≡ false → entryRefusal true σ x d false ≡ refused 3
+unfolding unless entryRefusal
+third-row σ d x a b = rw (a, b)
+
+fourth-row : (σ d : List ℕ) (x : State) → settingsOk σ ≡ true → sound σ x d ≡ true → entryRefusal true σ x d false ≡ refused 4
+unfolding unless entryRefusal
+fourth-row σ d x a b = rw (a, b)
+
+no-row : (σ d : List ℕ) (x : State) → settingsOk σ ≡ true → sound σ x d ≡ true → entryRefusal true σ x d true ≡ none
+unfolding unless entryRefusal
+no-row σ d x a b = rw (a, b)
+
 pub event-clauses : EventClauses
-unfolding allBelow anyBelow lowest tabulate unless place following bodyWord bodyOf contentsOf layoutOf terminationOf renewed noted fresh holding keeping marked restarted planned afterReport droppedIn afterFetched afterPrepared outcome stateBy decisionBy nodeRefusal
+unfolding allBelow anyBelow lowest tabulate unless place following bodyWord bodyOf contentsOf layoutOf terminationOf renewed noted fresh holding keeping marked restarted planned afterReport droppedIn afterFetched afterPrepared outcomeOf stateBy decisionBy nodeRefusal
 event-clauses =
     record {
       report-holds = refl;
@@ -107,11 +115,11 @@ event-clauses =
       prepared-last = refl;
       outcome-taken = refl;
       outcome-refused = refl;
-      row-1 = refl;
-      row-2 = refl;
-      row-3 = refl;
-      row-4 = refl;
-      row-none = refl;
+      row-1 = first-row;
+      row-2 = second-row;
+      row-3 = third-row;
+      row-4 = fourth-row;
+      row-none = no-row;
       row-6 = refl;
       row-14 = refl;
       node-none = refl;
@@ -184,7 +192,7 @@ pub record RefusalClauses : Type 0 where
   pub prepared-twice : preparedRefusal caseSettings preparingA desk 0 ≡ refused 14
 
 parts-sound : slotsOk caseSettings view7 noTermination 63 desk ≡ true
-unfolding desk allBelow anyBelow lowest tabulate unless unlessAt firstOf place following row5 row8 precedes shardsWhere row6 viewOk row7 kindOk plain kindAt shardAt surplus sequenceAt complete shardApart row10At row10 position viewFits legal row11At bodyWord bodyOf contentsOf recordsRefusal headRefusal messageRefusal slot reportOf sameView row12 sameTermination row13 termKept slotOk slotsOk
+unfolding desk allBelow anyBelow lowest tabulate unless unlessAt firstOf place following row5 row8 precedes shardsWhere row6 viewOk row7 kindOk plain kindAt shardAt surplus sequenceAt complete shardApart row10At row10 isPosition viewFits legal row11At bodyWord bodyOf contentsOf recordsRefusal headRefusal messageRefusal slot reportOf sameView row12 sameTermination row13 termKept slotOk slotsOk
 parts-sound = refl
 
 kept-is-sound : keptSound caseSettings view7 noTermination 63 ≡ true
@@ -205,7 +213,7 @@ gathered-sound = and-both (and-both (and-both (and-both kept-is-sound parts-soun
 
 -- node 1 was dropped; nobody is held, with and without what is remembered; and the fresh state
 dropped-sound : sound caseSettings (afterDrop (gathered view7 63) 1) desk ≡ true
-unfolding desk allBelow anyBelow lowest tabulate unless unlessAt firstOf place following row5 row8 precedes shardsWhere row6 viewOk row7 kindOk plain kindAt shardAt surplus sequenceAt complete shardApart row10At row10 position viewFits legal row11At bodyWord bodyOf contentsOf recordsRefusal headRefusal messageRefusal slot reportOf sameView row12 sameTermination row13 termKept slotOk slotsOk layoutTidy layoutBlank viewSound termSoundAt termSound nothingKept keptSound marksSound planBlank planFits recalled latestSound holding droppedIn sound
+unfolding desk allBelow anyBelow lowest tabulate unless unlessAt firstOf place following row5 row8 precedes shardsWhere row6 viewOk row7 kindOk plain kindAt shardAt surplus sequenceAt complete shardApart row10At row10 isPosition viewFits legal row11At bodyWord bodyOf contentsOf recordsRefusal headRefusal messageRefusal slot reportOf sameView row12 sameTermination row13 termKept slotOk slotsOk layoutTidy layoutBlank viewSound termSoundAt termSound nothingKept keptSound marksSound planBlank planFits recalled latestSound holding droppedIn sound
 dropped-sound = refl
 
 restarted-is-sound : sound caseSettings (afterDrop orderedA 5) desk ≡ true
@@ -245,7 +253,7 @@ unfolding marksSound planFits sound
 committed-sound = and-both (and-both (and-both (and-both kept-is-sound parts-sound) refl) latest-is-sound) plan-is-sound
 
 pub refusal-clauses : RefusalClauses
-unfolding desk allBelow anyBelow lowest tabulate sizesOk nodesOk cap shardOk shardsOk settingsOk unless unlessAt firstOf place following row5 row8 precedes shardsWhere row6 viewOk row7 kindOk plain kindAt shardAt surplus sequenceAt complete shardApart row10At row10 position viewFits legal row11At bodyWord bodyOf contentsOf recordsRefusal headRefusal messageRefusal sameView row12 sameTermination row13 noLatest row18 keptRefusal refusalBeside fresh holding restarted droppedIn entryRefusal eventRefusal nodeRefusal reportRefusal dropRefusal decideRefusal orderRefusal fetchedRefusal preparedRefusal deskAfter
+unfolding desk allBelow anyBelow lowest tabulate sizesOk nodesOk cap shardOk shardsOk settingsOk unless unlessAt firstOf place following row5 row8 precedes shardsWhere row6 viewOk row7 kindOk plain kindAt shardAt surplus sequenceAt complete shardApart row10At row10 isPosition viewFits legal row11At bodyWord bodyOf contentsOf recordsRefusal headRefusal messageRefusal sameView row12 sameTermination row13 noLatest row18 keptRefusal refusalBeside fresh holding restarted droppedIn entryRefusal eventRefusal nodeRefusal reportRefusal dropRefusal decideRefusal orderRefusal fetchedRefusal preparedRefusal deskAfter
 refusal-clauses =
     record {
       report-desk = refl;

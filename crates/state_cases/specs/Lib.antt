@@ -7,3 +7,6 @@ pub mod PlanA
 pub mod Table
 pub mod Events
 pub mod Readiness
+pub mod Rows
+pub mod Refusing
+pub mod Worlds

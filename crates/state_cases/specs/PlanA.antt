@@ -10,39 +10,29 @@ use lib.Dec.{eqb, ltb}
 use lib.ListN.{replicate}
 use borrow.Author.Tests.{eqb-true, le-ltb}
 use Rattle.base_laws.specs.Bools.{clash, or-holds}
-use Rattle.base_laws.specs.Below.{allBelow, anyBelow, countBelow, lowest, all-at}
-use Rattle.base_laws.specs.Masks.{count, minus}
-use Rattle.base_laws.specs.Positions.{pairNotAfter}
-use Rattle.base_laws.specs.Tables.{tabulate}
-use Rattle.base_sums.specs.Sums.{sumBelow}
-use Rattle.settings_values.specs.Settings.{shards, cap}
+use Rattle.base_laws.specs.Definitions.{allBelow, anyBelow, countBelow, lowest, count, minus, pairNotAfter, tabulate}
+use Rattle.base_laws.specs.Below.{all-at}
+use Rattle.base_sum_laws.specs.Definitions.{sumBelow}
+use Rattle.settings_values.specs.Definitions.{shards, cap}
 use Rattle.base_ids.specs.declared.Node.{Node}
-use Rattle.message_format.specs.Chain.{place, following}
-use Rattle.message_format.specs.Rows.{shardApart}
-use Rattle.message_format.specs.Messages.{bodyWord, bodyOf, contentsOf}
-use Rattle.place_groups.specs.Placements.{meetsSet, setsIn, shardValid, groupValid, groupValidAt, groupMoves, groupMovesAt}
+use Rattle.message_format.specs.Definitions.{place, following, shardApart, bodyWord, bodyOf, contentsOf}
+use Rattle.place_groups.specs.Definitions.{meetsSet, setsIn, shardValid, groupValid, groupValidAt, groupMoves, groupMovesAt}
 use Rattle.report_views.specs.declared.Layout.{Layout}
 use Rattle.report_views.specs.declared.Plan.{Plan}
-use Rattle.report_views.specs.Logs.{pos, start, endOf, reaches, holds, hasUpdate}
-use Rattle.report_views.specs.Reports.{slot, reportOf, maskAt}
-use Rattle.report_views.specs.Quorums.{candidate, greatest, best, target, able, holder}
-use Rattle.report_views.specs.Standings.{holdersOf, targetsOf}
-use Rattle.report_views.specs.Soundness.{layoutTidy, allMoves}
+use Rattle.report_views.specs.Definitions.{pos, start, endOf, reaches, holds, hasUpdate, slot, reportOf, maskAt, candidate, greatest, best, target, able, holder, holdersOf, targetsOf, layoutTidy, allMoves, noTermination}
 use Rattle.history_cases.specs.Runs.{caseSettings, desk, view7}
-use Rattle.report_views.specs.Empty.{noTermination}
 use Rattle.history_cases.specs.Cases.{cases}
 use Rattle.history_cases.specs.Placed.{planA, a-least}
 use Rattle.state_planner.specs.declared.Decision.{Decision}
 use Rattle.state_planner.specs.declared.Decided.{Decided}
-use Rattle.state_planner.specs.States.{planned}
-use Rattle.state_planner.specs.Decide.{still, WithPlan, Decides}
-use Rattle.state_exact.specs.Exactly.{plans-where-possible}
+use Rattle.state_planner.specs.Definitions.{planned, still, WithPlan, Decides}
+use Rattle.state_laws.specs.Exactly.{plans-where-possible}
 use Rattle.state_cases.specs.Start.{gathered}
 use Rattle.state_cases.specs.Taken.{taken}
 
 -- node n
-abbrev node : ℕ → Node
-node n = record { 0 = n }
+abbrev theNode : ℕ → Node
+theNode n = record { 0 = n }
 
 -- the plan that document 01 prints
 pub record PlanOfA (r : Decided) : Type 0 where
@@ -51,7 +41,7 @@ pub record PlanOfA (r : Decided) : Type 0 where
   pub view : plan .layout .number .0 ≡ 8
   pub members : plan .layout .members ≡ 63
   pub moves : plan .total ≡ 2
-  pub holders : plan .holders ≡ node 0 ∷ node 1 ∷ node 5 ∷ replicate 13 (node 0)
+  pub holders : plan .holders ≡ theNode 0 ∷ theNode 1 ∷ theNode 5 ∷ replicate 13 (theNode 0)
   pub targets : plan .targets ≡ start ∷ pos 7 5 ∷ replicate 14 start
   -- nodes 0 and 2; 1, 4 and 5; 3
   pub shard0 : maskAt (plan .layout) 0 ≡ 5
@@ -68,7 +58,7 @@ placements (suc (suc zero)) l = refl
 placements (suc (suc (suc zero))) l = refl
 placements (suc (suc (suc (suc g)))) l = absurd (omega arith)
 
-holders-are : holdersOf caseSettings view7 noTermination 63 desk ≡ node 0 ∷ node 1 ∷ node 5 ∷ replicate 13 (node 0)
+holders-are : holdersOf caseSettings view7 noTermination 63 desk ≡ theNode 0 ∷ theNode 1 ∷ theNode 5 ∷ replicate 13 (theNode 0)
 unfolding desk ones onesIn allBelow anyBelow lowest tabulate pairNotAfter place following bodyWord bodyOf contentsOf endOf reaches holds hasUpdate slot reportOf candidate greatest best target able holder holdersOf
 holders-are = refl
 

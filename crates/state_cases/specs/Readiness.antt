@@ -3,20 +3,14 @@
 use mathlib.Core.Bool.{true, false}
 use mathlib.Core.List.{[], _∷_}
 use mathlib.Core.Path.{_≡_, refl}
-use Rattle.base_laws.specs.Below.{allBelow, anyBelow, lowest}
-use Rattle.base_laws.specs.Tables.{tabulate}
-use Rattle.base_ids.specs.Refusals.{none, refused, unless, unlessAt, firstOf}
-use Rattle.message_format.specs.Chain.{place, following, row5, row8}
-use Rattle.message_format.specs.Records.{precedes, shardsWhere}
-use Rattle.message_format.specs.Rows.{row6, viewOk, row7, kindOk, plain, kindAt, shardAt, surplus, sequenceAt, complete, shardApart, row10At, row10, position, viewFits, legal, row11At}
-use Rattle.message_format.specs.Messages.{bodyWord, bodyOf, contentsOf, recordsRefusal, headRefusal, messageRefusal}
-use Rattle.report_views.specs.Reports.{slot, reportOf}
-use Rattle.report_views.specs.Slots.{sameView, row12, sameTermination, row13, termKept, slotOk, slotsOk}
+use Rattle.base_laws.specs.Definitions.{allBelow, anyBelow, lowest, tabulate}
+use Rattle.base_ids.specs.Definitions.{none, refused, unless, unlessAt, firstOf}
+use Rattle.message_format.specs.Definitions.{place, following, row5, row8, precedes, shardsWhere, row6, viewOk, row7, kindOk, plain, kindAt, shardAt, surplus, sequenceAt, complete, shardApart, row10At, row10, isPosition, viewFits, legal, row11At, bodyWord, bodyOf, contentsOf, recordsRefusal, headRefusal, messageRefusal}
+use Rattle.report_views.specs.Definitions.{slot, reportOf, sameView, row12, sameTermination, row13, termKept, slotOk, slotsOk, noTermination}
 use Rattle.history_cases.specs.Runs.{caseSettings, desk, view7}
-use Rattle.report_views.specs.Empty.{noTermination}
-use Rattle.state_planner.specs.States.{fresh, keeping}
-use Rattle.state_readiness.specs.Readying.{ready, slotsRefusal, sizeRefusal, readyRefusal}
-use Rattle.state_invariant.specs.Carried.{reportedViews}
+use Rattle.state_planner.specs.Definitions.{fresh, keeping}
+use Rattle.state_readiness.specs.Definitions.{ready, slotsRefusal, sizeRefusal, readyRefusal}
+use Rattle.state_laws.specs.Carried.{reportedViews}
 use Rattle.state_readiness.specs.Answers.{asHeld}
 use Rattle.state_cases.specs.Start.{reportedAt, gathered, deskOfSeven}
 use Rattle.state_cases.specs.Events.{orderedA, gatheringA, refusal-clauses}
@@ -48,11 +42,11 @@ unfolding fresh ready
 ten-view = refl
 
 six-slots : ready caseSettings view7 noTermination desk ≡ false
-unfolding desk allBelow anyBelow lowest tabulate unless unlessAt firstOf place following row5 row8 precedes shardsWhere row6 viewOk row7 kindOk plain kindAt shardAt surplus sequenceAt complete shardApart row10At row10 position viewFits legal row11At bodyWord bodyOf contentsOf recordsRefusal headRefusal messageRefusal slot reportOf sameView row12 sameTermination row13 termKept slotOk slotsOk ready
+unfolding desk allBelow anyBelow lowest tabulate unless unlessAt firstOf place following row5 row8 precedes shardsWhere row6 viewOk row7 kindOk plain kindAt shardAt surplus sequenceAt complete shardApart row10At row10 isPosition viewFits legal row11At bodyWord bodyOf contentsOf recordsRefusal headRefusal messageRefusal slot reportOf sameView row12 sameTermination row13 termKept slotOk slotsOk ready
 six-slots = refl
 
 seven-slots : ready caseSettings view7 noTermination deskOfSeven ≡ true
-unfolding deskOfSeven allBelow anyBelow lowest tabulate unless unlessAt firstOf place following row5 row8 precedes shardsWhere row6 viewOk row7 kindOk plain kindAt shardAt surplus sequenceAt complete shardApart row10At row10 position viewFits legal row11At bodyWord bodyOf contentsOf recordsRefusal headRefusal messageRefusal slot reportOf sameView row12 sameTermination row13 termKept slotOk slotsOk ready
+unfolding deskOfSeven allBelow anyBelow lowest tabulate unless unlessAt firstOf place following row5 row8 precedes shardsWhere row6 viewOk row7 kindOk plain kindAt shardAt surplus sequenceAt complete shardApart row10At row10 isPosition viewFits legal row11At bodyWord bodyOf contentsOf recordsRefusal headRefusal messageRefusal slot reportOf sameView row12 sameTermination row13 termKept slotOk slotsOk ready
 seven-slots = refl
 
 seven-remembered : reportedViews 127 deskOfSeven ≡ reportedAt 7 127

@@ -3,15 +3,13 @@ use Prim.Native.Nat.{ℕ}
 use mathlib.Core.Bool.{cond}
 use mathlib.Core.List.{List, [], _∷_, _++_}
 use lib.ListN.{replicate}
-use Rattle.base_laws.specs.Masks.{has}
-use Rattle.base_laws.specs.Tables.{tabulate}
+use Rattle.base_laws.specs.Definitions.{has, tabulate}
 use Rattle.report_views.specs.declared.Layout.{Layout}
 use Rattle.report_views.specs.declared.Phase.the-variants.{Gathering}
 use Rattle.history_cases.specs.Runs.{caseReport, noRuns, run1, slotOf, sixSlots}
-use Rattle.report_views.specs.Empty.{noTermination}
-use Rattle.report_latest.specs.declared.Latest.{Latest}
+use Rattle.report_views.specs.Definitions.{noTermination, noPlan}
+use Rattle.report_rows.specs.declared.latest.Latest.{Latest}
 use Rattle.state_planner.specs.declared.State.{State}
-use Rattle.state_planner.specs.States.{noPlan}
 
 -- these nodes have reported the view of this number, and no others any
 abbrev pub reportedAt : ℕ → ℕ → Latest

@@ -7,25 +7,17 @@ use mathlib.Core.Path.{_≡_, refl, ap, _∙_}
 use native.Mathlib.Omega.{arith}
 use lib.Count.{ones, onesIn}
 use Rattle.base_laws.specs.Bools.{eq-or-ne}
-use Rattle.base_laws.specs.Below.{allBelow, anyBelow, lowest}
-use Rattle.base_laws.specs.Masks.{count}
-use Rattle.base_laws.specs.Positions.{pairNotAfter}
-use Rattle.base_laws.specs.Tables.{tabulate}
-use Rattle.message_format.specs.Chain.{place, following}
-use Rattle.message_format.specs.Messages.{bodyWord, bodyOf, contentsOf}
+use Rattle.base_laws.specs.Definitions.{allBelow, anyBelow, lowest, count, pairNotAfter, tabulate}
+use Rattle.message_format.specs.Definitions.{place, following, bodyWord, bodyOf, contentsOf}
 use Rattle.report_views.specs.declared.Reason.the-variants.{NoView, NoMajority, TooFew, NoHolder, NoPlacement}
 use Rattle.report_views.specs.declared.Quorum.the-variants.{Short}
-use Rattle.report_views.specs.Logs.{endOf, reaches, holds, hasUpdate}
-use Rattle.report_views.specs.Reports.{slot, reportOf}
-use Rattle.report_views.specs.Quorums.{candidate, greatest, best, target, able, holder, majority, firstUnheld, quorumOf}
+use Rattle.report_views.specs.Definitions.{endOf, reaches, holds, hasUpdate, slot, reportOf, candidate, greatest, best, target, able, holder, majority, firstUnheld, quorumOf, noTermination}
 use Rattle.history_cases.specs.Runs.{caseSettings, settingsWith, desk, view7, sixMembers}
-use Rattle.report_views.specs.Empty.{noTermination}
 use Rattle.history_cases.specs.Cases.{cases}
 use Rattle.state_planner.specs.declared.State.{State}
 use Rattle.state_planner.specs.declared.Decision.{Decision}
 use Rattle.state_planner.specs.declared.Decided.{Decided}
-use Rattle.state_planner.specs.States.{fresh}
-use Rattle.state_planner.specs.Decide.{still, Decides, Stuck}
+use Rattle.state_planner.specs.Definitions.{fresh, still, Decides, Stuck}
 use Rattle.state_cases.specs.Start.{gathered, deskOfSix, deskOfSeven}
 use Rattle.state_cases.specs.Taken.{taken}
 use Rattle.state_cases.specs.PlanA.{PlanOfA, printed}

@@ -7,25 +7,20 @@ use mathlib.Core.Path.{_≡_, refl, ap, _∙_}
 use lib.Dec.{leb}
 use borrow.Author.Tests.{leb-true}
 use Rattle.base_laws.specs.Bools.{either, and-both, or-left, or-right, not-of-false}
-use Rattle.base_laws.specs.Below.{allBelow, anyBelow, lowest, all-at, all-of}
-use Rattle.base_laws.specs.Masks.{has, has-below, lt-within}
-use Rattle.base_laws.specs.Tables.{tabulate, getD-tabulate}
-use Rattle.settings_values.specs.Settings.{cap, sizesOk, nodesOk, shardOk, shardsOk, settingsOk}
-use Rattle.base_ids.specs.Refusals.{accepted, unless, unlessAt, firstOf}
+use Rattle.base_laws.specs.Definitions.{allBelow, anyBelow, lowest, has, tabulate}
+use Rattle.base_laws.specs.Below.{all-at, all-of}
+use Rattle.base_laws.specs.Masks.{has-below, lt-within}
+use Rattle.base_laws.specs.Tables.{getD-tabulate}
+use Rattle.settings_values.specs.Definitions.{cap, sizesOk, nodesOk, shardOk, shardsOk, settingsOk}
+use Rattle.base_ids.specs.Definitions.{none, accepted, unless, unlessAt, firstOf}
 use Rattle.base_ids.specs.declared.View.{View}
-use Rattle.message_format.specs.Chain.{place, following, row5, row8}
-use Rattle.message_format.specs.Records.{precedes, shardsWhere}
-use Rattle.message_format.specs.Rows.{row6, viewOk, row7, kindOk, plain, kindAt, shardAt, surplus, sequenceAt, complete, shardApart, row10At, row10, position, viewFits, legal, row11At}
-use Rattle.message_format.specs.Messages.{bodyWord, bodyOf, contentsOf, recordsRefusal, headRefusal, messageRefusal}
-use Rattle.report_views.specs.Reports.{slot, reportOf, viewOf}
-use Rattle.report_views.specs.Slots.{sameView, row12, sameTermination, row13, termKept, slotOk, slotsOk}
-use Rattle.report_views.specs.Soundness.{layoutTidy, layoutBlank, viewSound, positionSound, termSoundAt, termSound, nothingKept, keptSound, marksSound, planBlank, planFits}
-use Rattle.report_latest.specs.Remembered.{noLatest, latestAt, recalled, latestSound}
-use Rattle.report_latest.specs.Laws.{latest-test}
+use Rattle.message_format.specs.Definitions.{place, following, row5, row8, precedes, shardsWhere, row6, viewOk, row7, kindOk, plain, kindAt, shardAt, surplus, sequenceAt, complete, shardApart, row10At, row10, isPosition, viewFits, legal, row11At, bodyWord, bodyOf, contentsOf, recordsRefusal, headRefusal, messageRefusal}
+use Rattle.report_views.specs.Definitions.{slot, reportOf, sameView, row12, sameTermination, row13, termKept, slotOk, slotsOk, layoutTidy, layoutBlank, viewSound, positionSound, termSoundAt, termSound, nothingKept, keptSound, marksSound, planBlank, planFits, noTermination}
+use Rattle.report_views.specs.Shorthands.{viewOf}
+use Rattle.report_rows.specs.Definitions.{noLatest, latestAt, recalled, latestSound}
+use Rattle.report_rows.specs.Laws.{latest-test}
 use Rattle.history_cases.specs.Runs.{caseSettings, settingsWith, desk, view7, sixMembers}
-use Rattle.report_views.specs.Empty.{noTermination}
-use Rattle.state_planner.specs.States.{sound, fresh}
-use Rattle.state_planner.specs.Refusing.{entryRows, entryRefusal, decideRefusal}
+use Rattle.state_planner.specs.Definitions.{sound, fresh, entryRefusal, decideRefusal}
 use Rattle.state_cases.specs.Start.{reportedAt, gathered, deskOfSix, deskOfSeven}
 
 pub record StatesTaken : Type 0 where
@@ -41,7 +36,7 @@ pub record StatesTaken : Type 0 where
 -- ---- B: the seven slots are sound, so those of any held nodes are
 
 seven : allBelow 7 (slotOk caseSettings view7 noTermination deskOfSeven) ≡ true
-unfolding deskOfSeven allBelow anyBelow lowest tabulate unless unlessAt firstOf place following row5 row8 precedes shardsWhere row6 viewOk row7 kindOk plain kindAt shardAt surplus sequenceAt complete shardApart row10At row10 position viewFits legal row11At bodyWord bodyOf contentsOf recordsRefusal headRefusal messageRefusal slot reportOf sameView row12 sameTermination row13 termKept slotOk
+unfolding deskOfSeven allBelow anyBelow lowest tabulate unless unlessAt firstOf place following row5 row8 precedes shardsWhere row6 viewOk row7 kindOk plain kindAt shardAt surplus sequenceAt complete shardApart row10At row10 isPosition viewFits legal row11At bodyWord bodyOf contentsOf recordsRefusal headRefusal messageRefusal slot reportOf sameView row12 sameTermination row13 termKept slotOk
 seven = refl
 
 held-slots : (held : ℕ) → held < 128 → slotsOk caseSettings view7 noTermination held deskOfSeven ≡ true
@@ -83,7 +78,7 @@ unfolding allBelow layoutBlank marksSound planBlank planFits sound
 held-sound held l = and-both (and-both (and-both (and-both (held-kept held l) (held-slots held l)) refl) (held-latest held l)) refl
 
 -- rows 1 to 4 find nothing wrong
-entered : (lengths settings state : Bool) → lengths ≡ true → settings ≡ true → state ≡ true → accepted (entryRows lengths settings state true) ≡ true
+entered : (lengths settings state : Bool) → lengths ≡ true → settings ≡ true → state ≡ true → accepted (unless lengths 1 (unless settings 2 (unless state 3 (unless true 4 none)))) ≡ true
 unfolding unless
 entered lengths settings state a b c = rw (a, b, c)
 
@@ -92,7 +87,7 @@ unfolding deskOfSeven allBelow sizesOk nodesOk cap shardOk shardsOk settingsOk e
 b-taken held l = entered _ _ _ refl refl (held-sound held l)
 
 pub taken : StatesTaken
-unfolding desk deskOfSix fresh allBelow anyBelow lowest tabulate sizesOk nodesOk cap shardOk shardsOk settingsOk unless unlessAt firstOf place following row5 row8 precedes shardsWhere row6 viewOk row7 kindOk plain kindAt shardAt surplus sequenceAt complete shardApart row10At row10 position viewFits legal row11At bodyWord bodyOf contentsOf recordsRefusal headRefusal messageRefusal slot reportOf sameView row12 sameTermination row13 termKept slotOk slotsOk layoutTidy layoutBlank viewSound positionSound termSoundAt termSound nothingKept keptSound marksSound planBlank planFits noLatest recalled latestSound sound entryRefusal decideRefusal
+unfolding desk deskOfSix fresh allBelow anyBelow lowest tabulate sizesOk nodesOk cap shardOk shardsOk settingsOk unless unlessAt firstOf place following row5 row8 precedes shardsWhere row6 viewOk row7 kindOk plain kindAt shardAt surplus sequenceAt complete shardApart row10At row10 isPosition viewFits legal row11At bodyWord bodyOf contentsOf recordsRefusal headRefusal messageRefusal slot reportOf sameView row12 sameTermination row13 termKept slotOk slotsOk layoutTidy layoutBlank viewSound positionSound termSoundAt termSound nothingKept keptSound marksSound planBlank planFits noLatest recalled latestSound sound entryRefusal decideRefusal
 taken =
     record {
       a = refl;

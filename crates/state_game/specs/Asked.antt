@@ -6,19 +6,18 @@ use mathlib.Core.List.{List}
 use mathlib.Core.Logic.{⊎-elim}
 use mathlib.Core.Path.{_≡_, sym, ap, _∙_}
 use Rattle.base_laws.specs.Bools.{either}
-use Rattle.base_ids.specs.Refusals.{accepted}
-use Rattle.settings_values.specs.Settings.{nodes}
+use Rattle.base_ids.specs.Definitions.{accepted}
+use Rattle.settings_values.specs.Definitions.{nodes}
 use Rattle.game_rules.specs.Once.{won-unique, NoOther, no-other}
 use Rattle.state_planner.specs.declared.State.{State}
 use Rattle.state_planner.specs.declared.Decision.{Decision}
 use Rattle.state_planner.specs.declared.Decided.{Decided}
-use Rattle.state_planner.specs.States.{keeping}
-use Rattle.state_planner.specs.Decide.{Decides}
-use Rattle.state_exact.specs.Exactly.{plans-where-possible, possible-where-planned}
+use Rattle.state_planner.specs.Definitions.{keeping, Decides}
+use Rattle.state_laws.specs.Exactly.{plans-where-possible, possible-where-planned}
 use Rattle.state_readiness.specs.Answers.{asHeld, ready-given, held-decided}
 use Rattle.state_game.specs.declared.Played.{Played}
 use Rattle.state_game.specs.declared.Played.the-variants.{Won}
-use Rattle.state_game.specs.Playing.{gameLimits, gameRefusal, restartsWith, Plays}
+use Rattle.state_game.specs.Definitions.{gameLimits, gameRefusal, restartsWith, Plays}
 
 module _ (σ : List ℕ) (x : State) (d : List ℕ) (held rounds : ℕ) where
   -- decide plans with h held exactly where a restart exists

@@ -3,7 +3,7 @@ use Prim.Native.Nat.{ℕ}
 use mathlib.Core.Bool.{true, false}
 use mathlib.Core.List.{List, [], _∷_}
 use mathlib.Core.Path.{_≡_, refl}
-use Rattle.state_game.specs.Playing.{gameLimits}
+use Rattle.state_game.specs.Definitions.{gameLimits}
 
 -- settings of four nodes: the words after the first play no part
 abbrev fourNodes : List ℕ

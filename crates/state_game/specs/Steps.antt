@@ -8,24 +8,25 @@ use lib.Dec.{leb}
 use lib.ListN.{getD}
 use borrow.Author.Tests.{eqb-true, eqb-false, eq-eqb, leb-true, le-leb, lt-leb}
 use Rattle.base_laws.specs.Bools.{clash, and-left, and-right, and-fails-left}
-use Rattle.base_laws.specs.Masks.{within, within-lt}
+use Rattle.base_laws.specs.Definitions.{within}
+use Rattle.base_laws.specs.Masks.{within-lt}
 use Rattle.base_ids.specs.declared.Refusal.{Refusal}
-use Rattle.base_ids.specs.Refusals.{refused, accepted}
-use Rattle.settings_values.specs.Settings.{nodes, settingsOk}
+use Rattle.base_ids.specs.Definitions.{refused, accepted}
+use Rattle.settings_values.specs.Definitions.{nodes, settingsOk}
 use Rattle.plan_masks.specs.Numbered.{plan-exists, wait-none}
 use Rattle.game_rules.specs.declared.Winner.{Winner}
-use Rattle.game_rules.specs.Game.{WonBy}
+use Rattle.game_rules.specs.Definitions.{WonBy}
 use Rattle.game_rules.specs.Turns.{winnerOf}
 use Rattle.game_rules.specs.Decided.{decided}
 use Rattle.game_turns.specs.Table.{planAt}
 use Rattle.state_planner.specs.declared.State.{State}
-use Rattle.state_planner.specs.Refusing.{deskOk}
+use Rattle.state_planner.specs.Definitions.{deskOk}
 use Rattle.state_readiness.specs.declared.ReadyRows.{ReadyRows}
-use Rattle.state_readiness.specs.Readying.{readyRefusal, deskSays, Readies}
+use Rattle.state_readiness.specs.Definitions.{readyRefusal, deskSays, Readies}
 use Rattle.state_readiness.specs.Steps.{length-refused, settings-refused}
 use Rattle.state_readiness.specs.Answers.{ReadyGiven, ready-given}
-use Rattle.state_game.specs.declared.Played.the-variants.{Won, Refused}
-use Rattle.state_game.specs.Playing.{gameLimits, gameRefusal, restartsWith, Plays}
+use Rattle.state_game.specs.declared.Played.the-variants.{Won, Unplayed}
+use Rattle.state_game.specs.Definitions.{gameLimits, gameRefusal, restartsWith, Plays}
 
 module _ (σ : List ℕ) (held rounds : ℕ) where
   pub limits-passed : 3 < rounds → false ≡ gameLimits σ held rounds
@@ -38,18 +39,18 @@ module _ (σ : List ℕ) (held rounds : ℕ) where
 
 module _ (σ : List ℕ) (x : State) (d : List ℕ) (held rounds : ℕ) where
   -- the game's refusal is k
-  pub game-refused : (k : Refusal) → k ≡ gameRefusal σ x d held rounds → (k .code ≡ 0 → ⊥) → Plays σ x d held rounds (Refused k)
+  pub game-refused : (k : Refusal) → k ≡ gameRefusal σ x d held rounds → (k .code ≡ 0 → ⊥) → Plays σ x d held rounds (Unplayed k)
   game-refused k e h =
       record {
-        refused = λ _. ap Refused e;
+        refused = λ _. ap Unplayed e;
         won = λ t. absurd (h (eqb-true (k .code) 0 (ap accepted e ∙ t)));
       }
 
-  pub game-length : deskOk d ≡ false → Plays σ x d held rounds (Refused (refused 1))
+  pub game-length : deskOk d ≡ false → Plays σ x d held rounds (Unplayed (refused 1))
   unfolding gameRefusal
   game-length h = game-refused (refused 1) (length-refused (gameLimits σ held rounds) σ x d h) (λ e. omega (arith, e))
 
-  pub game-settings : deskOk d ≡ true → settingsOk σ ≡ false → Plays σ x d held rounds (Refused (refused 2))
+  pub game-settings : deskOk d ≡ true → settingsOk σ ≡ false → Plays σ x d held rounds (Unplayed (refused 2))
   unfolding gameRefusal
   game-settings h k = game-refused (refused 2) (settings-refused (gameLimits σ held rounds) σ x d h k) (λ e. omega (arith, e))
 
@@ -59,7 +60,7 @@ module _ (σ : List ℕ) (x : State) (d : List ℕ) (held rounds : ℕ) where
     unfolding gameRefusal
     refusal-is = readies .answers ∙ ap (λ (b : Bool). readyRefusal b σ x d) l
 
-    pub game-not-ready : (ready .refusal .code ≡ 0 → ⊥) → Plays σ x d held rounds (Refused (ready .refusal))
+    pub game-not-ready : (ready .refusal .code ≡ 0 → ⊥) → Plays σ x d held rounds (Unplayed (ready .refusal))
     game-not-ready h = game-refused (ready .refusal) refusal-is h
 
     module _ (h : ready .refusal .code ≡ 0) where

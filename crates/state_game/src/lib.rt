@@ -4,14 +4,14 @@ use game_rules::Winner;
 use state_planner::State;
 ghost use mathlib.Core.Path.{_≡_};
 ghost use lib.ListN.{length};
-ghost use Rattle.base_lent.specs.Lent.{wordsIn};
-ghost use Rattle.settings_values.specs.Settings.{Settings};
-ghost use Rattle.state_game.specs.Playing.{gameLimits, Plays};
+ghost use Rattle.base_lent.specs.Definitions.{wordsIn};
+ghost use Rattle.settings_values.specs.Definitions.{Settings};
+ghost use Rattle.state_game.specs.Definitions.{gameLimits, Plays};
 
 // Who wins, or a refusal.
 pub enum Played {
     Won(Winner),
-    Refused(Refusal),
+    Unplayed(Refusal),
 }
 
 // At most three rounds, and no held node from the number of nodes up.
@@ -35,7 +35,7 @@ pub fn game_under(settings: &[u32], x: State, desk: &[u8], held: u32, rounds: u3
     let ready = state_readiness::readiness_under(settings, x, desk, limits);
     let refusal = ready.refusal;
     if refusal.code != 0 {
-        return Played::Refused(refusal);
+        return Played::Unplayed(refusal);
     }
     let rows = ready.rows;
     let nodes = base_ids::wide(settings_values::nodes(settings));
@@ -47,10 +47,10 @@ pub fn game(settings: &[u32], x: State, desk: &[u8], held: u32, rounds: u32) -> 
     ensures { λ r. ⌜ Plays (now (settings .entry)) x (wordsIn (now (desk .entry))) held rounds r ⌝ }
 {
     if desk.len() != 65536 {
-        return Played::Refused(Refusal { code: 1 });
+        return Played::Unplayed(Refusal { code: 1 });
     }
     if !settings_check::check(settings) {
-        return Played::Refused(Refusal { code: 2 });
+        return Played::Unplayed(Refusal { code: 2 });
     }
     game_under(settings, x, desk, held, rounds)
 }

@@ -1,31 +1,12 @@
--- What the order event hands back, and the lent words afterwards.
+-- Rows 1 and 2 of the order event.
 use Prim.Native.Nat.{ℕ}
-use mathlib.Core.Bool.{cond}
 use mathlib.Core.List.{List}
 use lib.Dec.{eqb}
 use lib.ListN.{length}
 use Rattle.base_ids.specs.declared.Refusal.{Refusal}
-use Rattle.base_ids.specs.Refusals.{unless, accepted}
-use Rattle.message_format.specs.declared.Writing.{Writing}
-use Rattle.message_format.specs.Messages.{messageLength, messageOf}
-use Rattle.plan_order.specs.Orders.{orderContents}
-use Rattle.state_planner.specs.declared.State.{State}
-use Rattle.state_planner.specs.Refusing.{callRefusal, orderRefusal}
+use Rattle.base_ids.specs.Definitions.{unless}
+use Rattle.state_planner.specs.Refusing.{callRefusal}
 
 -- rows 1 and 2: the buffer's length and the desk's, and the settings
 unfoldable pub callRefuses : List ℕ → List ℕ → List ℕ → Refusal
 callRefuses σ d buffer = unless (eqb (length buffer) 512) 1 (callRefusal σ d)
-
--- what the call answers: the length of the message, or 0 beside a refusal
-unfoldable pub ordered : List ℕ → State → List ℕ → ℕ → List ℕ → Writing
-ordered σ x d n buffer =
-    record {
-      refusal = orderRefusal σ x d n buffer;
-      length =
-          cond (accepted (orderRefusal σ x d n buffer)) (messageLength (orderContents σ (x .plan) d n)) 0;
-    }
-
--- the lent words afterwards: the order, then zeros, or what they were
-unfoldable pub orderBuffer : List ℕ → State → List ℕ → ℕ → List ℕ → List ℕ
-orderBuffer σ x d n buffer =
-    cond (accepted (orderRefusal σ x d n buffer)) (messageOf (orderContents σ (x .plan) d n) 512) buffer

@@ -7,18 +7,18 @@ use mathlib.Core.Path.{_≡_, refl, sym, ap, ap₂, _∙_}
 use lib.Dec.{ltb}
 use lib.ListN.{take, getD}
 use Rattle.base_laws.specs.Tables.{getD-tabulate, tabulate-cong}
-use Rattle.base_ids.specs.Refusals.{none}
+use Rattle.base_ids.specs.Definitions.{none}
 use Rattle.message_format.specs.declared.Form.the-variants.{Order}
 use Rattle.message_format.specs.declared.Writing.{Writing}
 use Rattle.message_format.specs.Messages.{readingOf, writingOf, tidy}
-use Rattle.settings_values.specs.Settings.{shards}
+use Rattle.settings_values.specs.Definitions.{shards}
 use Rattle.report_views.specs.declared.Plan.{Plan}
-use Rattle.report_views.specs.Reports.{holderAt, targetAt}
+use Rattle.report_views.specs.Definitions.{holderAt, targetAt}
 use Rattle.report_views.specs.Updates.{updatesAt, upTo, keptUpdates, fetchedUpdates}
-use Rattle.plan_order.specs.Orders.{cutOf, orderLen, orderWord, orderBody, orderContents}
-use Rattle.message_inverse.specs.Calls.{readAs, written-buffer, written-words}
+use Rattle.plan_order.specs.Definitions.{cutOf, orderLen, orderWord, orderBody, orderContents}
+use Rattle.message_inverse_laws.specs.Calls.{readAs, written-buffer, written-words}
 use Rattle.state_planner.specs.declared.State.{State}
-use Rattle.state_order.specs.Orders.{ordered, orderBuffer}
+use Rattle.state_order.specs.Definitions.{ordered, orderBuffer}
 use Rattle.state_order.specs.Taken.{taken-restored, writer-takes, written-answer, written-leaves}
 
 -- the words of an order past its records are zero

@@ -9,32 +9,35 @@ use lib.Dec.{eqb}
 use lib.ListN.{length}
 use borrow.Author.Tests.{eqb-true, ne-eqb}
 use Rattle.base_laws.specs.Bools.{either, clash, and-left, and-right, and-fails-right}
-use Rattle.base_laws.specs.Masks.{has}
-use Rattle.settings_values.specs.Settings.{shards, settingsOk, Settings}
+use Rattle.base_laws.specs.Definitions.{has}
+use Rattle.settings_values.specs.Definitions.{shards, settingsOk, Settings}
 use Rattle.settings_values.specs.Laws.{settings-give}
 use Rattle.base_ids.specs.declared.Refusal.{Refusal}
-use Rattle.base_ids.specs.Refusals.{refused, none, unless-true, unless-false, unless-ok, unless-rest, first-refused}
+use Rattle.base_ids.specs.Definitions.{refused, none}
+use Rattle.base_ids.specs.Refusals.{unless-true, unless-false, unless-ok, unless-rest, first-refused}
 use Rattle.message_format.specs.declared.Form.the-variants.{Order}
 use Rattle.message_format.specs.declared.Contents.{Contents}
 use Rattle.message_format.specs.declared.Writing.{Writing}
-use Rattle.message_format.specs.Messages.{contentsRefusal, messageLength, messageOf, writeRefusal, writingOf, bufferAfter}
+use Rattle.message_format.specs.Definitions.{contentsRefusal, messageLength, messageOf}
+use Rattle.message_format.specs.Messages.{writeRefusal, writingOf, bufferAfter}
 use Rattle.message_format.specs.Passed.{contents-few, write-none}
 use Rattle.report_views.specs.declared.Layout.{Layout}
 use Rattle.report_views.specs.declared.Termination.{Termination}
 use Rattle.report_views.specs.declared.Plan.{Plan}
 use Rattle.report_views.specs.declared.Phase.{Phase}
 use Rattle.report_views.specs.declared.Phase.the-variants.{Gathering, Ordered, Preparing, Committed}
-use Rattle.report_views.specs.Reports.{holderAt, targetAt}
+use Rattle.report_views.specs.Definitions.{holderAt, targetAt, planSound, planFits, isOrdered}
 use Rattle.report_views.specs.Updates.{updatesAt, upTo, keptUpdates, fetchedUpdates}
-use Rattle.report_views.specs.Soundness.{planSound, planFits}
-use Rattle.plan_order.specs.Orders.{cutOf, orderContents}
+use Rattle.plan_order.specs.Definitions.{cutOf, orderContents}
 use Rattle.plan_order.specs.Readable.{ReadableSlot, Holders}
 use Rattle.plan_order_laws.specs.Accepted.{planned-holders, held-readable, order-restored, order-accepted}
 use Rattle.state_planner.specs.declared.State.{State}
-use Rattle.state_planner.specs.Refusing.{isOrdered, deskOk, callRefusal, entryRefusal, eventRefusal, orderRefusal}
+use Rattle.state_planner.specs.Definitions.{deskOk, entryRefusal, eventRefusal, orderRefusal}
+use Rattle.state_planner.specs.Refusing.{callRefusal}
 use Rattle.state_planner.specs.CallLaws.{called-desk, called-settings, call-event}
-use Rattle.state_planner.specs.Entry.{Sound, sound-given, node-given}
-use Rattle.state_order.specs.Orders.{callRefuses, ordered, orderBuffer}
+use Rattle.state_planner.specs.Entry.{SoundState, sound-given, node-given}
+use Rattle.state_order.specs.Definitions.{ordered, orderBuffer}
+use Rattle.state_order.specs.Orders.{callRefuses}
 
 module _ (σ : List ℕ) (x : State) (d : List ℕ) (n : ℕ) (buffer : List ℕ) where
   -- row 1 for the buffer: a wrong length is refused before all else, and a right one leaves the rows of any event that names a node
@@ -101,7 +104,7 @@ pub record OrderTaken (σ : List ℕ) (x : State) (d : List ℕ) (n : ℕ) (buff
   pub desk-words : length d ≡ 16384
   pub buffer-words : eqb (length buffer) 512 ≡ true
   pub settings-right : settingsOk σ ≡ true
-  pub state-sound : Sound σ x d
+  pub state-sound : SoundState σ x d
   pub plan-sound : planSound σ (x .kept) (x .termination) (x .held) d (x .plan) ≡ true
   pub node-held : has (x .held) n ≡ true
 
@@ -180,11 +183,11 @@ module _ (σ : List ℕ) (x : State) (d : List ℕ) (n : ℕ) (buffer : List ℕ
 -- ---- what is answered and left beside a refusal
 
 -- what is answered beside the refusal r
-abbrev writing : Refusal → ℕ → Writing
-writing r n = record { refusal = r; length = n }
+abbrev writingBeside : Refusal → ℕ → Writing
+writingBeside r n = record { refusal = r; length = n }
 
 module _ (σ : List ℕ) (x : State) (d : List ℕ) (n : ℕ) (buffer : List ℕ) (r : Refusal) (e : r ≡ orderRefusal σ x d n buffer) where
-  pub refused-answer : (r .code ≡ 0 → ⊥) → writing r 0 ≡ ordered σ x d n buffer
+  pub refused-answer : (r .code ≡ 0 → ⊥) → writingBeside r 0 ≡ ordered σ x d n buffer
   unfolding ordered
   refused-answer h = rw (sym e, ne-eqb (r .code) 0 h)
 
@@ -200,7 +203,7 @@ module _ (σ : List ℕ) (x : State) (d : List ℕ) (n : ℕ) (buffer : List ℕ
     pub made-few : c .len ≤ 127
     made-few = contents-few Order σ c (ap (contentsRefusal Order σ) made ∙ taken-passes σ x d n buffer (not-refused h))
 
-    pub made-answer : (l : ℕ) → l ≡ messageLength c → writing r l ≡ ordered σ x d n buffer
+    pub made-answer : (l : ℕ) → l ≡ messageLength c → writingBeside r l ≡ ordered σ x d n buffer
     unfolding ordered
     made-answer l i = rw (i, made, e, not-refused h)
 

@@ -5,9 +5,10 @@ use message_format::Writing;
 use state_planner::State;
 ghost use mathlib.Core.Path.{_≡_};
 ghost use lib.ListN.{length};
-ghost use Rattle.base_lent.specs.Lent.{wordsIn};
-ghost use Rattle.settings_values.specs.Settings.{Settings};
-ghost use Rattle.state_order.specs.Orders.{callRefuses, ordered, orderBuffer};
+ghost use Rattle.base_lent.specs.Definitions.{wordsIn};
+ghost use Rattle.settings_values.specs.Definitions.{Settings};
+ghost use Rattle.state_order.specs.Definitions.{ordered, orderBuffer};
+ghost use Rattle.state_order.specs.Orders.{callRefuses};
 
 // Writes the node's order into 512 lent words, where rows 1 and 2 do not refuse: rows 3, 4, 6 and 14. No row of the writer refuses an
 // order, so it is not judged again.

@@ -7,22 +7,24 @@ use lib.ListN.{length}
 use borrow.Author.Tests.{eqb-true, eq-eqb}
 use Rattle.base_laws.specs.Bools.{clash}
 use Rattle.base_ids.specs.declared.Refusal.{Refusal}
-use Rattle.base_ids.specs.Refusals.{refused, none, accepted, accepted-none, unless, unless-ok, unless-rest}
+use Rattle.base_ids.specs.Definitions.{refused, none, accepted, unless}
+use Rattle.base_ids.specs.Refusals.{accepted-none, unless-ok, unless-rest}
 use Rattle.base_roles.specs.declared.Role.{Role}
-use Rattle.base_roles.specs.Roles.{mayRead}
-use Rattle.settings_values.specs.Settings.{settingsOk, Settings}
+use Rattle.base_roles.specs.Definitions.{mayRead}
+use Rattle.settings_values.specs.Definitions.{settingsOk, Settings}
 use Rattle.settings_values.specs.Laws.{settings-give, settings-of}
 use Rattle.plan_seen.specs.declared.Seen.{Seen}
 use Rattle.plan_seen.specs.Sight.{seenOf}
 use Rattle.plan_page.specs.declared.Page.{Page}
-use Rattle.plan_page.specs.Pages.{PageSeen, blankPage}
+use Rattle.plan_page.specs.Definitions.{blankPage}
+use Rattle.plan_page.specs.Pages.{PageSeen}
 use Rattle.plan_page.specs.Seeing.{page-seen}
 use Rattle.state_planner.specs.declared.State.{State}
-use Rattle.state_planner.specs.States.{sound}
-use Rattle.state_planner.specs.Refusing.{deskOk, entryRefusal}
-use Rattle.state_planner.specs.Entry.{Sound, sound-given}
+use Rattle.state_planner.specs.Definitions.{sound, deskOk, entryRefusal}
+use Rattle.state_planner.specs.Entry.{SoundState, sound-given}
 use Rattle.state_page.specs.declared.Paged.{Paged}
-use Rattle.state_page.specs.Paging.{soundRefusal, askedRefusal, pageRefusal, PagedAs, PageCalled, PageUnder}
+use Rattle.state_page.specs.Definitions.{soundRefusal, pageRefusal, PagedAs, PageCalled, PageUnder}
+use Rattle.state_page.specs.Paging.{askedRefusal}
 
 module _ (σ d : List ℕ) (role : Role) (g : ℕ) where
   pub asked-length : deskOk d ≡ false → refused 1 ≡ askedRefusal σ d role g
@@ -102,7 +104,7 @@ paged-refused σ x d g k e h w =
     }
 
 -- what row 3 gives where it does not refuse
-pub sound-passed : (σ : List ℕ) (x : State) (d : List ℕ) → accepted (soundRefusal σ x d) ≡ true → Sound σ x d
+pub sound-passed : (σ : List ℕ) (x : State) (d : List ℕ) → accepted (soundRefusal σ x d) ≡ true → SoundState σ x d
 unfolding soundRefusal
 sound-passed σ x d t = sound-given σ x d (unless-ok (sound σ x d) 2 none (accepted-none _ t))
 

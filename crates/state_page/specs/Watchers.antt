@@ -7,23 +7,23 @@ use lib.ListN.{length}
 use borrow.Author.Tests.{eq-eqb, le-leb}
 use Rattle.base_laws.specs.Bools.{and-both}
 use Rattle.base_ids.specs.declared.Refusal.{Refusal}
-use Rattle.base_ids.specs.Refusals.{refused, none, accepted, unless}
+use Rattle.base_ids.specs.Definitions.{refused, none, accepted, unless}
 use Rattle.base_roles.specs.declared.Role.{Role}
 use Rattle.base_roles.specs.declared.Role.the-variants.{Watcher}
-use Rattle.base_roles.specs.Roles.{mayRead}
-use Rattle.settings_values.specs.Settings.{nodes, settingsOk, Settings}
+use Rattle.base_roles.specs.Definitions.{mayRead}
+use Rattle.settings_values.specs.Definitions.{nodes, settingsOk, Settings}
 use Rattle.settings_values.specs.Laws.{settings-of}
 use Rattle.report_views.specs.declared.Phase.{Phase}
 use Rattle.plan_restart.specs.Kept.{held-below}
 use Rattle.plan_page.specs.declared.Page.{Page}
-use Rattle.plan_page.specs.Pages.{PageOf, blankPage}
+use Rattle.plan_page.specs.Definitions.{PageOf, blankPage}
 use Rattle.plan_page.specs.Same.{AgreeOn, same-page}
 use Rattle.state_planner.specs.declared.State.{State}
-use Rattle.state_planner.specs.States.{sound}
-use Rattle.state_planner.specs.Refusing.{deskOk}
+use Rattle.state_planner.specs.Definitions.{sound, deskOk}
 use Rattle.state_planner.specs.Entry.{sound-given}
 use Rattle.state_page.specs.declared.Paged.{Paged}
-use Rattle.state_page.specs.Paging.{soundRefusal, askedRefusal, pageRefusal, PageCalled}
+use Rattle.state_page.specs.Definitions.{soundRefusal, pageRefusal, PageCalled}
+use Rattle.state_page.specs.Paging.{askedRefusal}
 use Rattle.state_page.specs.Steps.{page-barred, page-allowed}
 
 -- two states, each with its settings and desk, agree on all that the page of subgroup g may depend on

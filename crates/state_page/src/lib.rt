@@ -5,10 +5,11 @@ use plan_page::Page;
 use state_planner::State;
 ghost use mathlib.Core.Path.{_≡_};
 ghost use lib.ListN.{length};
-ghost use Rattle.base_lent.specs.Lent.{wordsIn};
-ghost use Rattle.settings_values.specs.Settings.{Settings};
-ghost use Rattle.plan_page.specs.Pages.{blankPage};
-ghost use Rattle.state_page.specs.Paging.{askedRefusal, PageCalled, PageUnder};
+ghost use Rattle.base_lent.specs.Definitions.{wordsIn};
+ghost use Rattle.settings_values.specs.Definitions.{Settings};
+ghost use Rattle.plan_page.specs.Definitions.{blankPage};
+ghost use Rattle.state_page.specs.Definitions.{PageCalled, PageUnder};
+ghost use Rattle.state_page.specs.Paging.{askedRefusal};
 
 // What the page call hands back. Beside a refusal the page tells nothing.
 pub struct Paged {

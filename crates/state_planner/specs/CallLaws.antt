@@ -5,13 +5,15 @@ use mathlib.Core.List.{List}
 use mathlib.Core.Path.{_≡_, sym, ap, _∙_}
 use lib.ListN.{length}
 use borrow.Author.Tests.{eqb-true, ne-eqb}
-use Rattle.settings_values.specs.Settings.{settingsOk, Settings}
+use Rattle.settings_values.specs.Definitions.{settingsOk, Settings}
 use Rattle.settings_values.specs.Laws.{settings-give}
 use Rattle.base_ids.specs.declared.Refusal.{Refusal}
-use Rattle.base_ids.specs.Refusals.{refused, none, unless, unless-ok, unless-rest, rows-refused}
+use Rattle.base_ids.specs.Definitions.{refused, none, unless}
+use Rattle.base_ids.specs.Refusals.{unless-ok, unless-rest, rows-refused}
 use Rattle.state_planner.specs.declared.State.{State}
-use Rattle.state_planner.specs.States.{sound}
-use Rattle.state_planner.specs.Refusing.{entryRows, nodeRefusal, deskOk, callRefusal, entryRefusal, eventRefusal}
+use Rattle.state_planner.specs.Definitions.{sound, deskOk, entryRefusal, eventRefusal}
+use Rattle.state_rows.specs.Definitions.{nodeRefusal}
+use Rattle.state_planner.specs.Refusing.{callRefusal}
 
 module _ (σ d : List ℕ) where
   pub call-length : deskOk d ≡ false → refused 1 ≡ callRefusal σ d
@@ -45,7 +47,7 @@ module _ (σ d : List ℕ) (r : Refusal) (e : r ≡ callRefusal σ d) where
     unfolding callRefusal entryRefusal unless
     call-entry = go (deskOk d) (settingsOk σ) e
       where
-        go : (a b : Bool) → r ≡ unless a 1 (unless b 2 none) → r ≡ entryRows a b (sound σ x d) inPhase
+        go : (a b : Bool) → r ≡ unless a 1 (unless b 2 none) → r ≡ unless a 1 (unless b 2 (unless (sound σ x d) 3 (unless inPhase 4 none)))
         go false b g = g
         go true false g = g
         go true true g = absurd (h (ap (λ (q : Refusal). q .code) g))

@@ -7,20 +7,20 @@ use mathlib.Core.Path.{_≡_, ap}
 use lib.ListN.{length}
 use borrow.Author.Tests.{eqb-true}
 use Rattle.base_laws.specs.Bools.{clash}
-use Rattle.settings_values.specs.Settings.{Settings}
+use Rattle.settings_values.specs.Definitions.{Settings}
 use Rattle.settings_values.specs.Laws.{settings-give}
-use Rattle.base_ids.specs.Refusals.{accepted, accepted-none}
+use Rattle.base_ids.specs.Definitions.{accepted}
+use Rattle.base_ids.specs.Refusals.{accepted-none}
 use Rattle.report_views.specs.declared.Quorum.{Quorum}
-use Rattle.report_views.specs.Slots.{slotsOk}
-use Rattle.report_views.specs.Soundness.{keptSound}
+use Rattle.report_views.specs.Definitions.{slotsOk, keptSound, isGathering}
 use Rattle.plan_restart.specs.declared.Verdict.{Verdict}
 use Rattle.plan_restart.specs.Restarts.{Restarts}
 use Rattle.state_planner.specs.declared.State.{State}
 use Rattle.state_planner.specs.declared.Decision.{Decision}
 use Rattle.state_planner.specs.declared.Decided.{Decided}
-use Rattle.state_planner.specs.Refusing.{isGathering, deskOk, decideRefusal}
+use Rattle.state_planner.specs.Definitions.{deskOk, decideRefusal, still, Decides}
 use Rattle.state_planner.specs.Entry.{sound-given, Entered, entry-given}
-use Rattle.state_planner.specs.Decide.{still, stateBy, decisionBy, decidedBy, Decides}
+use Rattle.state_planner.specs.Decide.{stateBy, decisionBy, decidedBy}
 
 module _ (σ : List ℕ) (x : State) (d : List ℕ) where
   -- a refusal

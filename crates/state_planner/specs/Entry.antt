@@ -6,18 +6,17 @@ use mathlib.Core.Path.{_≡_}
 use lib.Dec.{ltb}
 use borrow.Author.Tests.{ltb-true}
 use Rattle.base_laws.specs.Bools.{and-left, and-right}
-use Rattle.settings_values.specs.Settings.{nodes, settingsOk}
-use Rattle.base_ids.specs.Refusals.{none, unless-ok, unless-rest, first-left, first-right}
-use Rattle.report_views.specs.Slots.{slotsOk}
-use Rattle.report_views.specs.Soundness.{keptSound, marksSound, planFits}
-use Rattle.report_latest.specs.Remembered.{latestSound}
-use Rattle.state_rows.specs.Rows.{nodeRefusal}
+use Rattle.settings_values.specs.Definitions.{nodes, settingsOk}
+use Rattle.base_ids.specs.Definitions.{none}
+use Rattle.base_ids.specs.Refusals.{unless-ok, unless-rest, first-left, first-right}
+use Rattle.report_views.specs.Definitions.{slotsOk, keptSound, marksSound, planFits}
+use Rattle.report_rows.specs.Definitions.{latestSound}
+use Rattle.state_rows.specs.Definitions.{nodeRefusal}
 use Rattle.state_planner.specs.declared.State.{State}
-use Rattle.state_planner.specs.States.{sound}
-use Rattle.state_planner.specs.Refusing.{entryRefusal, eventRefusal}
+use Rattle.state_planner.specs.Definitions.{sound, entryRefusal, eventRefusal}
 
 -- a sound state
-pub record Sound (σ : List ℕ) (x : State) (d : List ℕ) : Type 0 where
+pub record SoundState (σ : List ℕ) (x : State) (d : List ℕ) : Type 0 where
   pub kept-sound : keptSound σ (x .kept) (x .termination) (x .held) ≡ true
   pub slots-ok : slotsOk σ (x .kept) (x .termination) (x .held) d ≡ true
   pub marks-sound : marksSound (x .phase) (x .held) (x .fetched) (x .prepared) ≡ true
@@ -25,7 +24,7 @@ pub record Sound (σ : List ℕ) (x : State) (d : List ℕ) : Type 0 where
   pub plan-fits : planFits (x .phase) σ (x .kept) (x .termination) (x .held) d (x .plan) ≡ true
 
 module _ (σ : List ℕ) (x : State) (d : List ℕ) where
-  pub sound-given : sound σ x d ≡ true → Sound σ x d
+  pub sound-given : sound σ x d ≡ true → SoundState σ x d
   unfolding sound
   sound-given h =
       let k = keptSound σ (x .kept) (x .termination) (x .held) in

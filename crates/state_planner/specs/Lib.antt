@@ -1,5 +1,5 @@
 -- The planner's state, its soundness, and each event: when it is refused and what it leads to.
-pub mod States
+pub mod Definitions
 pub mod Refusing
 pub mod Entry
 pub mod Events

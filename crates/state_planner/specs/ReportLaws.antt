@@ -6,23 +6,25 @@ use mathlib.Core.List.{List}
 use mathlib.Core.Path.{_≡_, sym, ap, _∙_}
 use lib.ListN.{length, getD}
 use borrow.Author.Tests.{eq-eqb, ne-eqb}
-use Rattle.base_laws.specs.Masks.{with}
-use Rattle.base_bytes.specs.Words.{bytesOf}
-use Rattle.base_lent.specs.Lent.{wordsIn}
-use Rattle.settings_values.specs.Settings.{Settings}
+use Rattle.base_laws.specs.Definitions.{with}
+use Rattle.base_bytes.specs.Definitions.{bytesOf}
+use Rattle.base_lent.specs.Definitions.{wordsIn}
+use Rattle.settings_values.specs.Definitions.{Settings}
 use Rattle.base_ids.specs.declared.Refusal.{Refusal}
-use Rattle.base_ids.specs.Refusals.{accepted, accepted-none, first-right, rows-refused, rows-followed}
-use Rattle.message_format.specs.Messages.{contentsOf}
-use Rattle.report_latest.specs.Remembered.{noted}
+use Rattle.base_ids.specs.Definitions.{accepted}
+use Rattle.base_ids.specs.Refusals.{accepted-none, first-right, rows-refused, rows-followed}
+use Rattle.message_format.specs.Definitions.{contentsOf}
+use Rattle.report_rows.specs.Definitions.{noted}
 use Rattle.report_kept.specs.declared.Received.{Received}
-use Rattle.report_kept.specs.Reports.{refusalBeside, renewed, takesIn, takenIn}
+use Rattle.report_kept.specs.Definitions.{refusalBeside, renewed}
+use Rattle.report_kept.specs.Reports.{takesIn, takenIn}
 use Rattle.report_kept.specs.Laws.{in-refusal, in-taken, taken-node, taken-words, taken-few}
-use Rattle.report_desk.specs.Desk.{deskWith}
+use Rattle.report_desk.specs.Definitions.{deskWith}
 use Rattle.state_planner.specs.declared.State.{State}
 use Rattle.state_planner.specs.declared.Outcome.{Outcome}
-use Rattle.state_planner.specs.States.{keeping}
-use Rattle.state_planner.specs.Refusing.{isGathering, deskOk, entryRefusal, reportRefusal}
-use Rattle.state_planner.specs.Events.{refusing, accepting, isAccepted, afterReport, reported, deskAfter, deskLeft}
+use Rattle.state_planner.specs.Definitions.{keeping, deskOk, entryRefusal, reportRefusal, refusing, accepting, afterReport, reported, deskAfter, deskLeft}
+use Rattle.report_views.specs.Definitions.{isGathering}
+use Rattle.state_planner.specs.Events.{isAccepted}
 use Rattle.state_planner.specs.EventLaws.{settles-refused, settles-accepted, answer-accepts}
 
 -- r: the report beside what is kept and remembered

@@ -2,10 +2,10 @@
 use base_ids::Node;
 use base_ids::Refusal;
 use plan_restart::Verdict;
-use plan_rounds::Offered;
+use plan_restart::rounds::Offered;
 use plan_seen::Seen;
 use report_kept::Received;
-use report_latest::Latest;
+use report_rows::latest::Latest;
 use report_views::Layout;
 use report_views::Phase;
 use report_views::Plan;
@@ -17,13 +17,13 @@ ghost use mathlib.Core.List.{List};
 ghost use mathlib.Core.Path.{_≡_};
 ghost use Prim.Native.Nat.{ℕ, _<_};
 ghost use lib.ListN.{length};
-ghost use Rattle.base_laws.specs.Masks.{with};
-ghost use Rattle.base_lent.specs.Lent.{wordsIn};
-ghost use Rattle.settings_values.specs.Settings.{Settings};
-ghost use Rattle.report_latest.specs.Remembered.{noted};
+ghost use Rattle.base_laws.specs.Definitions.{with};
+ghost use Rattle.base_lent.specs.Definitions.{wordsIn};
+ghost use Rattle.settings_values.specs.Definitions.{Settings};
+ghost use Rattle.report_rows.specs.Definitions.{noted};
 ghost use Rattle.report_walk.specs.Kept.{readyOf, TablesOf};
 ghost use Rattle.plan_seen.specs.Sight.{seenOf};
-ghost use Rattle.state_planner.specs.States as States;
+ghost use Rattle.state_planner.specs.Definitions as Definitions;
 ghost use Rattle.state_planner.specs.Refusing as Refusing;
 ghost use Rattle.state_planner.specs.Events as Events;
 ghost use Rattle.state_planner.specs.Decide as Decide;
@@ -98,31 +98,31 @@ fn call_refusal(settings: &[u32], desk: &[u8]) -> Refusal
 fn is_sound(settings: &[u32], x: State, seen: Seen, ready: bool) -> bool
     requires { ⌜ Settings (now settings) ⌝ }
     requires { ⌜ ready ≡ readyOf (now settings) (x .kept) (x .termination) ⌝ }
-    ensures { λ r. ⌜ ((d : List ℕ) → seen ≡ seenOf (now (settings .entry)) (x .kept) (x .termination) (x .held) d → r ≡ States.sound (now (settings .entry)) x d) ⌝ }
+    ensures { λ r. ⌜ ((d : List ℕ) → seen ≡ seenOf (now (settings .entry)) (x .kept) (x .termination) (x .held) d → r ≡ Definitions.sound (now (settings .entry)) x d) ⌝ }
 {
     let kept = x.kept;
-    if !state_sound_parts::kept_sound(settings, kept, x.termination, x.held, ready) {
+    if !state_rows::sound_parts::kept_sound(settings, kept, x.termination, x.held, ready) {
         return false;
     }
     if !seen.ok {
         return false;
     }
     let phase = x.phase;
-    if !state_sound_parts::marks_sound(phase, x.held, x.fetched, x.prepared) {
+    if !state_rows::sound_parts::marks_sound(phase, x.held, x.fetched, x.prepared) {
         return false;
     }
     let views = seen.views;
-    if !report_latest::latest_sound(settings, kept.number, x.held, views, x.latest) {
+    if !report_rows::latest::latest_sound(settings, kept.number, x.held, views, x.latest) {
         return false;
     }
-    state_sound_plan::plan_fits(phase, settings, kept, x.held, seen, x.plan)
+    state_rows::sound_plan::plan_fits(phase, settings, kept, x.held, seen, x.plan)
 }
 
 // Rows 3 and 4, and what the desk tells, where rows 1 and 2 do not refuse.
 pub fn enter(settings: &[u32], x: State, desk: &[u8], in_phase: bool) -> Sighted
     requires { ⌜ Settings (now settings) ⌝ }
     requires { ⌜ length (now desk) ≡ 65536 ⌝ }
-    ensures refusal { λ r. ⌜ r .refusal ≡ Refusing.entryRefusal (Refusing.deskOk (wordsIn (now (desk .entry)))) (now (settings .entry)) x (wordsIn (now (desk .entry))) in_phase ⌝ }
+    ensures refusal { λ r. ⌜ r .refusal ≡ Definitions.entryRefusal (Definitions.deskOk (wordsIn (now (desk .entry)))) (now (settings .entry)) x (wordsIn (now (desk .entry))) in_phase ⌝ }
     ensures seen { λ r. ⌜ r .seen ≡ seenOf (now (settings .entry)) (x .kept) (x .termination) (x .held) (wordsIn (now (desk .entry))) ⌝ }
     ensures tables { λ r. ⌜ TablesOf (now (settings .entry)) (x .kept) (x .termination) (r .tables) ⌝ }
 {
@@ -161,7 +161,7 @@ pub fn event_refusal(
 ) -> Refusal
     requires { ⌜ Settings (now settings) ⌝ }
     requires { ⌜ length (now desk) ≡ 65536 ⌝ }
-    ensures { λ r. ⌜ r ≡ Refusing.eventRefusal (Refusing.deskOk (wordsIn (now (desk .entry)))) (now (settings .entry)) x (wordsIn (now (desk .entry))) in_phase (node .0) ok ⌝ }
+    ensures { λ r. ⌜ r ≡ Definitions.eventRefusal (Definitions.deskOk (wordsIn (now (desk .entry)))) (now (settings .entry)) x (wordsIn (now (desk .entry))) in_phase (node .0) ok ⌝ }
 {
     let entry = enter(settings, x, desk, in_phase);
     let refusal = entry.refusal;
@@ -173,7 +173,7 @@ pub fn event_refusal(
 
 // The state as it was, beside a refusal.
 fn refuse(x: State, refusal: Refusal) -> Outcome
-    ensures { λ r. ⌜ r ≡ Events.refusing x refusal ⌝ }
+    ensures { λ r. ⌜ r ≡ Definitions.refusing x refusal ⌝ }
 {
     Outcome {
         state: x,
@@ -183,7 +183,7 @@ fn refuse(x: State, refusal: Refusal) -> Outcome
 
 // The next state.
 fn accept(next: State) -> Outcome
-    ensures { λ r. ⌜ r ≡ Events.accepting next ⌝ }
+    ensures { λ r. ⌜ r ≡ Definitions.accepting next ⌝ }
 {
     Outcome {
         state: next,
@@ -203,7 +203,7 @@ fn is_accepted(answer: Answer) -> bool
 
 // Gathering anew: the kept view, its termination and the views that nodes have reported remain.
 fn restarted(x: State) -> State
-    ensures { λ r. ⌜ r ≡ States.restarted x ⌝ }
+    ensures { λ r. ⌜ r ≡ Definitions.restarted x ⌝ }
 {
     State {
         phase: Phase::Gathering,
@@ -218,13 +218,13 @@ fn restarted(x: State) -> State
 // The node that reports is held, what is kept is renewed, and its view is remembered.
 fn after_report(x: State, taken: Received) -> State
     requires { ⌜ taken .node .0 < 32 ⌝ }
-    ensures { λ r. ⌜ r ≡ States.keeping x (taken .kept) (taken .termination) (with (x .held) (taken .node .0)) (noted (x .latest) (taken .node .0) (taken .view .0)) ⌝ }
+    ensures { λ r. ⌜ r ≡ Definitions.keeping x (taken .kept) (taken .termination) (with (x .held) (taken .node .0)) (noted (x .latest) (taken .node .0) (taken .view .0)) ⌝ }
 {
     let node = taken.node;
     let kept = taken.kept;
     let termination = taken.termination;
     let held = base_masks::with(x.held, node.0 as usize);
-    let latest = report_latest::note(x.latest, node, taken.view);
+    let latest = report_rows::latest::note(x.latest, node, taken.view);
     State {
         kept,
         termination,
@@ -236,7 +236,7 @@ fn after_report(x: State, taken: Received) -> State
 
 // While gathering the node is no longer held; while ordered or preparing gathering starts again.
 fn after_drop(x: State, node: Node) -> State
-    ensures { λ r. ⌜ r ≡ Events.afterDrop x (node .0) ⌝ }
+    ensures { λ r. ⌜ r ≡ Definitions.afterDrop x (node .0) ⌝ }
 {
     let phase = x.phase;
     match phase {
@@ -252,7 +252,7 @@ fn after_drop(x: State, node: Node) -> State
 
 // The node is marked, and preparing follows when every held node is.
 fn after_fetched(x: State, node: Node) -> State
-    ensures { λ r. ⌜ (node .0 < 32 → r ≡ Events.afterFetched x (node .0)) ⌝ }
+    ensures { λ r. ⌜ (node .0 < 32 → r ≡ Definitions.afterFetched x (node .0)) ⌝ }
 {
     let fetched = state_rows::mark(x.fetched, node);
     let phase = state_rows::phase_after(fetched, x.held, Phase::Ordered, Phase::Preparing);
@@ -265,7 +265,7 @@ fn after_fetched(x: State, node: Node) -> State
 
 // The node is marked, and committed follows when every held node is.
 fn after_prepared(x: State, node: Node) -> State
-    ensures { λ r. ⌜ (node .0 < 32 → r ≡ Events.afterPrepared x (node .0)) ⌝ }
+    ensures { λ r. ⌜ (node .0 < 32 → r ≡ Definitions.afterPrepared x (node .0)) ⌝ }
 {
     let prepared = state_rows::mark(x.prepared, node);
     let phase = state_rows::phase_after(prepared, x.held, Phase::Preparing, Phase::Committed);
@@ -327,7 +327,7 @@ fn after_offer(x: State, offered: Offered) -> DecidedWithin
 impl State {
     // The state before any report.
     pub fn fresh() -> State
-        ensures { λ r. ⌜ r ≡ States.fresh ⌝ }
+        ensures { λ r. ⌜ r ≡ Definitions.fresh ⌝ }
     {
         State {
             phase: Phase::Gathering,
@@ -340,7 +340,7 @@ impl State {
             fetched: 0,
             prepared: 0,
             plan: plan_restart::no_plan(),
-            latest: report_latest::no_latest(),
+            latest: report_rows::latest::no_latest(),
         }
     }
 
@@ -348,7 +348,7 @@ impl State {
     fn report_by(self, settings: &[u32], desk: &[u8], message: &[u32]) -> Outcome
         requires { ⌜ Settings (now settings) ⌝ }
         requires { ⌜ length (now desk) ≡ 65536 ⌝ }
-        ensures { λ r. ⌜ r ≡ Events.reported (now (settings .entry)) self (wordsIn (now (desk .entry))) (now (message .entry)) ⌝ }
+        ensures { λ r. ⌜ r ≡ Definitions.reported (now (settings .entry)) self (wordsIn (now (desk .entry))) (now (message .entry)) ⌝ }
     {
         let phase = self.phase;
         let in_phase = state_rows::is_gathering(phase);
@@ -376,9 +376,9 @@ impl State {
     pub fn report_under(self, settings: &[u32], desk: &mut [u8], message: &[u32]) -> Outcome
         requires { ⌜ Settings (now settings) ⌝ }
         requires { ⌜ length (now desk) ≡ 65536 ⌝ }
-        ensures outcome { λ r. ⌜ r ≡ Events.reported (now (settings .entry)) self (wordsIn (now (desk .entry))) (now (message .entry)) ⌝ }
-        ensures words { λ r. ⌜ wordsIn (now (desk .exit)) ≡ Events.deskAfter (now (settings .entry)) self (wordsIn (now (desk .entry))) (now (message .entry)) ⌝ }
-        ensures bytes { λ r. ⌜ now (desk .exit) ≡ Events.deskLeft (now (settings .entry)) self (now (desk .entry)) (now (message .entry)) ⌝ }
+        ensures outcome { λ r. ⌜ r ≡ Definitions.reported (now (settings .entry)) self (wordsIn (now (desk .entry))) (now (message .entry)) ⌝ }
+        ensures words { λ r. ⌜ wordsIn (now (desk .exit)) ≡ Definitions.deskAfter (now (settings .entry)) self (wordsIn (now (desk .entry))) (now (message .entry)) ⌝ }
+        ensures bytes { λ r. ⌜ now (desk .exit) ≡ Definitions.deskLeft (now (settings .entry)) self (now (desk .entry)) (now (message .entry)) ⌝ }
     {
         let outcome = State::report_by(self, settings, desk, message);
         let answer = outcome.answer;
@@ -391,9 +391,9 @@ impl State {
 
     // A node reports: its message is copied to its slot of the desk, and the node is held.
     pub fn report(self, settings: &[u32], desk: &mut [u8], message: &[u32]) -> Outcome
-        ensures outcome { λ r. ⌜ r ≡ Events.reported (now (settings .entry)) self (wordsIn (now (desk .entry))) (now (message .entry)) ⌝ }
-        ensures words { λ r. ⌜ wordsIn (now (desk .exit)) ≡ Events.deskAfter (now (settings .entry)) self (wordsIn (now (desk .entry))) (now (message .entry)) ⌝ }
-        ensures bytes { λ r. ⌜ now (desk .exit) ≡ Events.deskLeft (now (settings .entry)) self (now (desk .entry)) (now (message .entry)) ⌝ }
+        ensures outcome { λ r. ⌜ r ≡ Definitions.reported (now (settings .entry)) self (wordsIn (now (desk .entry))) (now (message .entry)) ⌝ }
+        ensures words { λ r. ⌜ wordsIn (now (desk .exit)) ≡ Definitions.deskAfter (now (settings .entry)) self (wordsIn (now (desk .entry))) (now (message .entry)) ⌝ }
+        ensures bytes { λ r. ⌜ now (desk .exit) ≡ Definitions.deskLeft (now (settings .entry)) self (now (desk .entry)) (now (message .entry)) ⌝ }
     {
         let refusal = call_refusal(settings, desk);
         if refusal.code != 0 {
@@ -406,7 +406,7 @@ impl State {
     pub fn drop_under(self, settings: &[u32], desk: &[u8], node: Node) -> Outcome
         requires { ⌜ Settings (now settings) ⌝ }
         requires { ⌜ length (now desk) ≡ 65536 ⌝ }
-        ensures { λ r. ⌜ r ≡ Events.dropped (now (settings .entry)) self (wordsIn (now (desk .entry))) (node .0) ⌝ }
+        ensures { λ r. ⌜ r ≡ Definitions.dropped (now (settings .entry)) self (wordsIn (now (desk .entry))) (node .0) ⌝ }
     {
         let phase = self.phase;
         let in_phase = !state_rows::is_committed(phase);
@@ -420,7 +420,7 @@ impl State {
 
     // A node is no longer there.
     pub fn drop(self, settings: &[u32], desk: &[u8], node: Node) -> Outcome
-        ensures { λ r. ⌜ r ≡ Events.dropped (now (settings .entry)) self (wordsIn (now (desk .entry))) (node .0) ⌝ }
+        ensures { λ r. ⌜ r ≡ Definitions.dropped (now (settings .entry)) self (wordsIn (now (desk .entry))) (node .0) ⌝ }
     {
         let refusal = call_refusal(settings, desk);
         if refusal.code != 0 {
@@ -433,7 +433,7 @@ impl State {
     pub fn fetched_under(self, settings: &[u32], desk: &[u8], node: Node) -> Outcome
         requires { ⌜ Settings (now settings) ⌝ }
         requires { ⌜ length (now desk) ≡ 65536 ⌝ }
-        ensures { λ r. ⌜ r ≡ Events.fetchedOf (now (settings .entry)) self (wordsIn (now (desk .entry))) (node .0) ⌝ }
+        ensures { λ r. ⌜ r ≡ Definitions.fetchedOf (now (settings .entry)) self (wordsIn (now (desk .entry))) (node .0) ⌝ }
     {
         let phase = self.phase;
         let in_phase = state_rows::is_ordered(phase);
@@ -447,7 +447,7 @@ impl State {
 
     // A node has fetched what it lacked.
     pub fn fetched(self, settings: &[u32], desk: &[u8], node: Node) -> Outcome
-        ensures { λ r. ⌜ r ≡ Events.fetchedOf (now (settings .entry)) self (wordsIn (now (desk .entry))) (node .0) ⌝ }
+        ensures { λ r. ⌜ r ≡ Definitions.fetchedOf (now (settings .entry)) self (wordsIn (now (desk .entry))) (node .0) ⌝ }
     {
         let refusal = call_refusal(settings, desk);
         if refusal.code != 0 {
@@ -460,7 +460,7 @@ impl State {
     pub fn prepared_under(self, settings: &[u32], desk: &[u8], node: Node) -> Outcome
         requires { ⌜ Settings (now settings) ⌝ }
         requires { ⌜ length (now desk) ≡ 65536 ⌝ }
-        ensures { λ r. ⌜ r ≡ Events.preparedOf (now (settings .entry)) self (wordsIn (now (desk .entry))) (node .0) ⌝ }
+        ensures { λ r. ⌜ r ≡ Definitions.preparedOf (now (settings .entry)) self (wordsIn (now (desk .entry))) (node .0) ⌝ }
     {
         let phase = self.phase;
         let in_phase = state_rows::is_preparing(phase);
@@ -474,7 +474,7 @@ impl State {
 
     // A node has prepared the new view.
     pub fn prepared(self, settings: &[u32], desk: &[u8], node: Node) -> Outcome
-        ensures { λ r. ⌜ r ≡ Events.preparedOf (now (settings .entry)) self (wordsIn (now (desk .entry))) (node .0) ⌝ }
+        ensures { λ r. ⌜ r ≡ Definitions.preparedOf (now (settings .entry)) self (wordsIn (now (desk .entry))) (node .0) ⌝ }
     {
         let refusal = call_refusal(settings, desk);
         if refusal.code != 0 {
@@ -487,7 +487,7 @@ impl State {
     pub fn decide_under(self, settings: &[u32], desk: &[u8]) -> Decided
         requires { ⌜ Settings (now settings) ⌝ }
         requires { ⌜ length (now desk) ≡ 65536 ⌝ }
-        ensures { λ r. ⌜ Decide.Decides (now (settings .entry)) self (wordsIn (now (desk .entry))) r ⌝ }
+        ensures { λ r. ⌜ Definitions.Decides (now (settings .entry)) self (wordsIn (now (desk .entry))) r ⌝ }
     {
         let phase = self.phase;
         let in_phase = state_rows::is_gathering(phase);
@@ -505,7 +505,7 @@ impl State {
 
     // A plan for the held nodes, or the first reason to wait.
     pub fn decide(self, settings: &[u32], desk: &[u8]) -> Decided
-        ensures { λ r. ⌜ Decide.Decides (now (settings .entry)) self (wordsIn (now (desk .entry))) r ⌝ }
+        ensures { λ r. ⌜ Definitions.Decides (now (settings .entry)) self (wordsIn (now (desk .entry))) r ⌝ }
     {
         let refusal = call_refusal(settings, desk);
         if refusal.code != 0 {
@@ -521,7 +521,7 @@ impl State {
     pub fn decide_within_under(self, settings: &[u32], desk: &[u8], rounds: u32) -> DecidedWithin
         requires { ⌜ Settings (now settings) ⌝ }
         requires { ⌜ length (now desk) ≡ 65536 ⌝ }
-        ensures { λ r. ⌜ DecideWithin.DecidesWithin (now (settings .entry)) self (wordsIn (now (desk .entry))) rounds r ⌝ }
+        ensures { λ r. ⌜ Definitions.DecidesWithin (now (settings .entry)) self (wordsIn (now (desk .entry))) rounds r ⌝ }
     {
         let phase = self.phase;
         let in_phase = state_rows::is_gathering(phase);
@@ -534,13 +534,19 @@ impl State {
                 gap: 0,
             };
         }
-        let offered = plan_rounds::offer(settings, self.kept, self.held, sighted.seen, rounds);
+        let offered = plan_restart::rounds::offer(
+            settings,
+            self.kept,
+            self.held,
+            sighted.seen,
+            rounds,
+        );
         after_offer(self, offered)
     }
 
     // A plan that so many improving rounds reach, or the first reason to wait.
     pub fn decide_within(self, settings: &[u32], desk: &[u8], rounds: u32) -> DecidedWithin
-        ensures { λ r. ⌜ DecideWithin.DecidesWithin (now (settings .entry)) self (wordsIn (now (desk .entry))) rounds r ⌝ }
+        ensures { λ r. ⌜ Definitions.DecidesWithin (now (settings .entry)) self (wordsIn (now (desk .entry))) rounds r ⌝ }
     {
         let refusal = call_refusal(settings, desk);
         if refusal.code != 0 {
@@ -557,7 +563,7 @@ impl State {
     pub fn check_under(self, settings: &[u32], desk: &[u8]) -> Refusal
         requires { ⌜ Settings (now settings) ⌝ }
         requires { ⌜ length (now desk) ≡ 65536 ⌝ }
-        ensures { λ r. ⌜ r ≡ Refusing.checkRefusal (now (settings .entry)) self (wordsIn (now (desk .entry))) ⌝ }
+        ensures { λ r. ⌜ r ≡ Definitions.checkRefusal (now (settings .entry)) self (wordsIn (now (desk .entry))) ⌝ }
     {
         let entry = enter(settings, self, desk, true);
         entry.refusal
@@ -565,7 +571,7 @@ impl State {
 
     // Whether the state is sound beside these settings and this desk, in whatever phase it is: rows 1 to 3.
     pub fn check(self, settings: &[u32], desk: &[u8]) -> Refusal
-        ensures { λ r. ⌜ r ≡ Refusing.checkRefusal (now (settings .entry)) self (wordsIn (now (desk .entry))) ⌝ }
+        ensures { λ r. ⌜ r ≡ Definitions.checkRefusal (now (settings .entry)) self (wordsIn (now (desk .entry))) ⌝ }
     {
         let refusal = call_refusal(settings, desk);
         if refusal.code != 0 {

@@ -9,31 +9,32 @@ use native.Mathlib.Omega.{arith}
 use lib.ListN.{length}
 use borrow.Author.Tests.{eqb-true, lt-ltb}
 use Rattle.base_laws.specs.Bools.{either, clash, no-true}
-use Rattle.base_laws.specs.Masks.{has, without, has-zero, minus-subset}
+use Rattle.base_laws.specs.Definitions.{has, without}
+use Rattle.base_laws.specs.Masks.{has-zero, minus-subset}
 use Rattle.base_ids.specs.declared.Refusal.{Refusal}
-use Rattle.base_ids.specs.Refusals.{none, accepted, accepted-none, unless, firstOf, first-left}
-use Rattle.settings_values.specs.Settings.{nodes, Settings}
+use Rattle.base_ids.specs.Definitions.{none, accepted, unless, firstOf}
+use Rattle.base_ids.specs.Refusals.{accepted-none, first-left}
+use Rattle.settings_values.specs.Definitions.{nodes, Settings}
 use Rattle.settings_values.specs.Laws.{settings-give}
 use Rattle.report_views.specs.declared.Plan.{Plan}
 use Rattle.report_views.specs.declared.Reason.{Reason}
 use Rattle.plan_losses.specs.Losses.{lost-one}
-use Rattle.state_rows.specs.Rows.{nodeRefusal}
+use Rattle.state_rows.specs.Definitions.{nodeRefusal}
+use Rattle.report_views.specs.Definitions.{isGathering, isCommitted}
 use Rattle.state_planner.specs.declared.State.{State}
 use Rattle.state_planner.specs.declared.Decision.{Decision}
 use Rattle.state_planner.specs.declared.Decision.the-variants.{Planned, Wait, Refused}
 use Rattle.state_planner.specs.declared.Decided.{Decided}
 use Rattle.state_planner.specs.declared.Outcome.{Outcome}
-use Rattle.state_planner.specs.States.{holding, planned}
-use Rattle.state_planner.specs.Refusing.{isGathering, isCommitted, deskOk, entryRefusal, eventRefusal, dropRefusal, decideRefusal}
+use Rattle.state_planner.specs.Definitions.{holding, planned, deskOk, entryRefusal, eventRefusal, dropRefusal, decideRefusal, afterDrop, dropped, still, Decides}
 use Rattle.state_planner.specs.Entry.{NodeTaken, node-given, entry-given}
-use Rattle.state_planner.specs.Events.{isAccepted, afterDrop, dropped}
+use Rattle.state_planner.specs.Events.{isAccepted}
 use Rattle.state_planner.specs.EventLaws.{outcome-accepted, answer-accepts}
-use Rattle.state_planner.specs.Decide.{still, Decides}
-use Rattle.state_exact.specs.Exactly.{plans-where-possible, possible-where-planned}
-use Rattle.state_exact.specs.Once.{decides-unique}
-use Rattle.state_invariant.specs.Parts.{gathering-is}
+use Rattle.state_laws.specs.Exactly.{plans-where-possible, possible-where-planned}
+use Rattle.state_laws.specs.Once.{decides-unique}
+use Rattle.state_laws.specs.Parts.{gathering-is}
 use Rattle.state_preview.specs.declared.Warning.{Warning}
-use Rattle.state_preview.specs.Previews.{previewRefusal, Previews, Warns}
+use Rattle.state_preview.specs.Definitions.{previewRefusal, Previews, Warns}
 use Rattle.state_preview.specs.Split.{sound-fewer}
 use Rattle.state_preview.specs.Steps.{decides-answers, decide-sound, preview-sound, dropped-is}
 
@@ -100,17 +101,17 @@ module _ (σ : List ℕ) (x : State) (d : List ℕ) (n : ℕ) where
           preview-answers
 
     -- what is kept, its termination and what is remembered are those of the state
-    abbrev Keeps : State → Type 0
-    Keeps y = (y .kept ≡ x .kept) × (y .termination ≡ x .termination) × (y .latest ≡ x .latest)
+    abbrev KeepsView : State → Type 0
+    KeepsView y = (y .kept ≡ x .kept) × (y .termination ≡ x .termination) × (y .latest ≡ x .latest)
 
-    pub preview-keeps : Keeps (p .state)
+    pub preview-keeps : KeepsView (p .state)
     unfolding holding planned
     preview-keeps = ⊎-elim answered (λ f. kept-in (ap (λ (o : Decided). o .state) (previews .refused f)) (refl, refl, refl)) (either (accepted (previewRefusal σ x d n)))
       where
-        kept-in : {y z : State} → y ≡ z → Keeps z → Keeps y
-        kept-in e k = subst Keeps (sym e) k
+        kept-in : {y z : State} → y ≡ z → KeepsView z → KeepsView y
+        kept-in e k = subst KeepsView (sym e) k
 
-        answered : accepted (previewRefusal σ x d n) ≡ true → Keeps (p .state)
+        answered : accepted (previewRefusal σ x d n) ≡ true → KeepsView (p .state)
         answered t =
             ⊎-elim (λ e. kept-in (ap (λ (o : Decided). o .state) (e .1)) (refl, refl, refl)) (λ e. kept-in (ap (λ (o : Decided). o .state) (e .1)) (refl, refl, refl))
             (decides-answers σ (holding x (without (x .held) n)) d p (copied t) (ap accepted (copy-taken t)))

@@ -11,16 +11,16 @@ use lib.Pow.{pow-pos}
 use borrow.Author.Tests.{eqb-true, eq-eqb}
 use Rattle.base_laws.specs.Bools.{either, clash, and-both, and-left, and-right, or-holds, not-of-false, of-not-true}
 use Rattle.base_laws.specs.Below.{all-at}
-use Rattle.base_laws.specs.Masks.{has, within, subset, minus, has-minus, has-zero, has-full, subset-has, subset-of, subset-le, within-has, lt-within, within-subset, width}
-use Rattle.settings_values.specs.Settings.{nodes}
+use Rattle.base_laws.specs.Definitions.{has, within, subset, minus}
+use Rattle.base_laws.specs.Masks.{has-minus, has-zero, has-full, subset-has, subset-of, subset-le, within-has, lt-within, within-subset, width}
+use Rattle.settings_values.specs.Definitions.{nodes}
 use Rattle.report_views.specs.declared.Phase.the-variants.{Gathering}
-use Rattle.report_views.specs.Slots.{slotOk, slotsOk}
-use Rattle.report_views.specs.Soundness.{layoutBlank, nothingKept}
-use Rattle.report_latest.specs.Laws.{latest-given, latest-test}
+use Rattle.report_views.specs.Definitions.{slotOk, slotsOk, layoutBlank, nothingKept}
+use Rattle.report_rows.specs.Laws.{latest-given, latest-test}
 use Rattle.plan_masks.specs.Counting.{slots-fewer}
 use Rattle.state_planner.specs.declared.State.{State}
-use Rattle.state_planner.specs.States.{sound, holding}
-use Rattle.state_invariant.specs.Parts.{sound-given, sound-test, kept-given, kept-test, slots-of, marks-still, plan-still}
+use Rattle.state_planner.specs.Definitions.{sound, holding}
+use Rattle.state_laws.specs.Parts.{sound-given, sound-test, kept-given, kept-test, slots-of, marks-still, plan-still}
 
 module _ (σ : List ℕ) (x : State) (d : List ℕ) (gathering : x .phase ≡ Gathering) where
   slot-at : (held : ℕ) → slotsOk σ (x .kept) (x .termination) held d ≡ true → (k : ℕ) → k < 32 → has held k ≡ true → slotOk σ (x .kept) (x .termination) d k ≡ true

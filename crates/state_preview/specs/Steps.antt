@@ -8,10 +8,11 @@ use native.Mathlib.Omega.{arith}
 use lib.ListN.{length}
 use borrow.Author.Tests.{eqb-true, eq-eqb, lt-ltb}
 use Rattle.base_laws.specs.Bools.{either, clash, no-true, and-fails-right, not-of-true}
-use Rattle.base_laws.specs.Masks.{has, minus, without, has-without, minus-subset, subset-of, within-has, width}
+use Rattle.base_laws.specs.Definitions.{has, minus, without}
+use Rattle.base_laws.specs.Masks.{has-without, minus-subset, subset-of, within-has, width}
 use Rattle.base_ids.specs.declared.Refusal.{Refusal}
-use Rattle.base_ids.specs.Refusals.{refused, none, accepted, unless, firstOf}
-use Rattle.settings_values.specs.Settings.{nodes, Settings}
+use Rattle.base_ids.specs.Definitions.{refused, none, accepted, unless, firstOf}
+use Rattle.settings_values.specs.Definitions.{nodes, Settings}
 use Rattle.settings_values.specs.Laws.{settings-of}
 use Rattle.report_views.specs.declared.Plan.{Plan}
 use Rattle.report_views.specs.declared.Reason.{Reason}
@@ -20,24 +21,22 @@ use Rattle.report_views.specs.declared.Quorum.{Quorum}
 use Rattle.report_views.specs.declared.Quorum.the-variants.{Met, Short}
 use Rattle.report_views.specs.declared.Phase.{Phase}
 use Rattle.report_views.specs.declared.Phase.the-variants.{Gathering}
-use Rattle.report_views.specs.Quorums.{quorumOf}
+use Rattle.report_views.specs.Definitions.{quorumOf, isGathering}
 use Rattle.plan_restart.specs.Kept.{kept-given, held-below}
 use Rattle.plan_masks.specs.declared.HolderMasks.{HolderMasks}
 use Rattle.plan_masks.specs.Counting.{countedOf, counted-masks}
-use Rattle.plan_losses.specs.Losses.{quorumsIn, Lost, lost-desk}
-use Rattle.state_rows.specs.Rows.{nodeRefusal}
+use Rattle.plan_losses.specs.Definitions.{Lost}
+use Rattle.plan_losses.specs.Losses.{quorumsIn, lost-desk}
+use Rattle.state_rows.specs.Definitions.{nodeRefusal}
 use Rattle.state_planner.specs.declared.State.{State}
 use Rattle.state_planner.specs.declared.Decision.{Decision}
 use Rattle.state_planner.specs.declared.Decision.the-variants.{Planned, Wait, Refused}
 use Rattle.state_planner.specs.declared.Decided.{Decided}
-use Rattle.state_planner.specs.States.{sound, holding, planned}
-use Rattle.state_planner.specs.Refusing.{isGathering, deskOk, entryRefusal, eventRefusal, decideRefusal, checkRefusal}
+use Rattle.state_planner.specs.Definitions.{sound, holding, planned, deskOk, entryRefusal, eventRefusal, decideRefusal, checkRefusal, droppedIn, afterDrop, still, Decides}
 use Rattle.state_planner.specs.Entry.{sound-given, node-given}
-use Rattle.state_planner.specs.Events.{droppedIn, afterDrop}
-use Rattle.state_planner.specs.Decide.{still, Decides}
 use Rattle.state_planner.specs.DecideLaws.{decide-settings, decide-desk, decide-kept, decide-slots}
-use Rattle.state_invariant.specs.Parts.{gathering-is}
-use Rattle.state_preview.specs.Previews.{previewRefusal, Previews, Warns}
+use Rattle.state_laws.specs.Parts.{gathering-is}
+use Rattle.state_preview.specs.Definitions.{previewRefusal, Previews, Warns}
 use Rattle.state_preview.specs.Split.{sound-fewer, sound-both}
 
 -- what is found before the copy decides: the preview's refusal, or that its node is held while gathering, and sound with the nodes that are

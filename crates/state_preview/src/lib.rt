@@ -7,12 +7,12 @@ use state_planner::Decision;
 use state_planner::State;
 ghost use mathlib.Core.Path.{_≡_};
 ghost use lib.ListN.{length};
-ghost use Rattle.base_lent.specs.Lent.{wordsIn};
-ghost use Rattle.settings_values.specs.Settings.{Settings};
-ghost use Rattle.state_planner.specs.States as States;
+ghost use Rattle.base_lent.specs.Definitions.{wordsIn};
+ghost use Rattle.settings_values.specs.Definitions.{Settings};
+ghost use Rattle.state_planner.specs.Definitions as Definitions;
 ghost use Rattle.state_planner.specs.Refusing.{callRefusal};
-ghost use Rattle.state_planner.specs.Decide.{still};
-ghost use Rattle.state_preview.specs.Previews.{Previews, Warns};
+ghost use Rattle.state_planner.specs.Definitions.{still};
+ghost use Rattle.state_preview.specs.Definitions.{Previews, Warns};
 ghost use Rattle.state_preview.specs.Steps.{FirstFound, handedBack};
 
 // What the preview of all held nodes hands back: beside a refusal no node, else those whose loss means waiting.
@@ -46,7 +46,7 @@ fn refuse(x: State, refusal: Refusal) -> Decided
 
 // A copy of the state with other held nodes.
 fn holding(x: State, held: u32) -> State
-    ensures { λ r. ⌜ r ≡ States.holding x held ⌝ }
+    ensures { λ r. ⌜ r ≡ Definitions.holding x held ⌝ }
 {
     State { held, ..x }
 }

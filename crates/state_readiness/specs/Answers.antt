@@ -11,35 +11,35 @@ use lib.ListN.{length, getD}
 use lib.Pow.{pow-pos}
 use borrow.Author.Tests.{eqb-true, eqb-false, leb-true}
 use Rattle.base_laws.specs.Bools.{either, and-left, and-right, of-not-true}
-use Rattle.base_laws.specs.Masks.{has, lt-within, has-below, has-full, has-past}
+use Rattle.base_laws.specs.Definitions.{has}
+use Rattle.base_laws.specs.Masks.{lt-within, has-below, has-full, has-past}
 use Rattle.base_laws.specs.Tables.{getD-tabulate}
 use Rattle.base_ids.specs.declared.View.{View}
-use Rattle.base_ids.specs.Refusals.{none, accepted, accepted-none, unless-ok, unless-rest, unless-none, first-left, first-right}
-use Rattle.settings_values.specs.Settings.{nodes, settingsOk}
+use Rattle.base_ids.specs.Definitions.{none, accepted}
+use Rattle.base_ids.specs.Refusals.{accepted-none, unless-ok, unless-rest, unless-none, first-left, first-right}
+use Rattle.settings_values.specs.Definitions.{nodes, settingsOk}
 use Rattle.settings_values.specs.Laws.{settings-give}
 use Rattle.report_views.specs.declared.Quorum.{Quorum}
 use Rattle.report_views.specs.declared.Quorum.the-variants.{Met, Short}
 use Rattle.report_views.specs.declared.Reason.{Reason}
 use Rattle.report_views.specs.declared.Reason.the-variants.{NoPlacement}
 use Rattle.report_views.specs.Meets.{slot-given}
-use Rattle.report_views.specs.Quorums.{numberOf}
-use Rattle.report_views.specs.Reports.{viewOf, maskAt}
-use Rattle.report_views.specs.Slots.{slotsOk}
-use Rattle.report_latest.specs.Remembered.{latestAt, latestSound}
-use Rattle.report_latest.specs.Laws.{latest-test}
+use Rattle.report_views.specs.Definitions.{numberOf, maskAt, slotsOk, isGathering}
+use Rattle.report_views.specs.Shorthands.{viewOf}
+use Rattle.report_rows.specs.Definitions.{latestAt, latestSound}
+use Rattle.report_rows.specs.Laws.{latest-test}
 use Rattle.plan_masks.specs.Counting.{countedOf, slots-fewer, quorum-given}
-use Rattle.plan_masks.specs.Numbered.{Numbered, in-range, refuted}
-use Rattle.plan_rows.specs.Rows.{rows-one}
+use Rattle.plan_masks.specs.Definitions.{Numbered}
+use Rattle.plan_masks.specs.Numbered.{in-range, refuted}
+use Rattle.plan_masks.specs.Rows.{rows-one}
 use Rattle.state_planner.specs.declared.State.{State}
 use Rattle.state_planner.specs.declared.Decision.{Decision}
 use Rattle.state_planner.specs.declared.Decided.{Decided}
-use Rattle.state_planner.specs.States.{sound, keeping}
-use Rattle.state_planner.specs.Refusing.{isGathering, deskOk, entryRefusal, decideRefusal}
-use Rattle.state_planner.specs.Decide.{Decides}
-use Rattle.state_invariant.specs.Parts.{Sound, sound-given, sound-test, kept-given, kept-test, kept-view, gathering-is, marks-still, plan-still, entry-given}
-use Rattle.state_invariant.specs.Carried.{reportedViews}
+use Rattle.state_planner.specs.Definitions.{sound, keeping, deskOk, entryRefusal, decideRefusal, Decides}
+use Rattle.state_laws.specs.Parts.{SoundState, sound-given, sound-test, kept-given, kept-test, kept-view, gathering-is, marks-still, plan-still, entry-given}
+use Rattle.state_laws.specs.Carried.{reportedViews}
 use Rattle.state_readiness.specs.declared.ReadyRows.{ReadyRows}
-use Rattle.state_readiness.specs.Readying.{ready, slotsRefusal, sizeRefusal, readyRefusal, deskSays, Readies}
+use Rattle.state_readiness.specs.Definitions.{ready, slotsRefusal, sizeRefusal, readyRefusal, deskSays, Readies}
 use Rattle.state_readiness.specs.Steps.{among-all, given-all}
 
 -- the state with h held, and each node remembered at its report's view
@@ -55,7 +55,7 @@ SaysNumber a k = ((a ≡ Decision.Planned) × (k ≡ 0)) ⊎ ((reason : Reason) 
 pub record ReadyGiven (limits : Bool) (σ : List ℕ) (x : State) (d : List ℕ) : Type 0 where
   pub settings-ok : settingsOk σ ≡ true
   pub desk-ok : deskOk d ≡ true
-  pub parts : Sound σ x d
+  pub parts : SoundState σ x d
   pub in-phase : isGathering (x .phase) ≡ true
   pub few : nodes σ ≤ 10
   pub in-limits : limits ≡ true

@@ -7,21 +7,25 @@ use lib.Dec.{leb}
 use lib.ListN.{length}
 use borrow.Author.Tests.{eqb-true, eq-eqb, ne-eqb}
 use Rattle.base_laws.specs.Bools.{clash}
-use Rattle.base_laws.specs.Masks.{subset, subset-of, has-full}
+use Rattle.base_laws.specs.Definitions.{subset}
+use Rattle.base_laws.specs.Masks.{subset-of, has-full}
 use Rattle.base_ids.specs.declared.Refusal.{Refusal}
-use Rattle.base_ids.specs.Refusals.{refused, none, accepted, unless, firstOf, first-none, rows-refused}
-use Rattle.settings_values.specs.Settings.{nodes, settingsOk, Settings}
+use Rattle.base_ids.specs.Definitions.{refused, none, accepted, unless, firstOf}
+use Rattle.base_ids.specs.Refusals.{first-none, rows-refused}
+use Rattle.settings_values.specs.Definitions.{nodes, settingsOk, Settings}
 use Rattle.report_views.specs.declared.Layout.{Layout}
 use Rattle.report_views.specs.declared.Termination.{Termination}
 use Rattle.report_views.specs.declared.Quorum.{Quorum}
-use Rattle.report_views.specs.Slots.{slotsOk}
+use Rattle.report_views.specs.Definitions.{slotsOk, isGathering}
 use Rattle.plan_masks.specs.declared.HolderMasks.{HolderMasks}
 use Rattle.plan_masks.specs.Counting.{countedOf, Given, counted-ok, counted-masks, slots-fewer, quorum-given}
-use Rattle.plan_rows.specs.Rows.{masksSay, Rows, rows-said}
+use Rattle.plan_masks.specs.Definitions.{Rows}
+use Rattle.plan_masks.specs.Rows.{masksSay, rows-said}
 use Rattle.state_planner.specs.declared.State.{State}
-use Rattle.state_planner.specs.Refusing.{isGathering, deskOk, entryRefusal, decideRefusal}
+use Rattle.state_planner.specs.Definitions.{deskOk, entryRefusal, decideRefusal}
 use Rattle.state_readiness.specs.declared.ReadyRows.{ReadyRows}
-use Rattle.state_readiness.specs.Readying.{ready, slotsRefusal, sizeRefusal, readyRefusal, deskSays, notReady, ReadiesAs}
+use Rattle.state_readiness.specs.Definitions.{ready, slotsRefusal, sizeRefusal, readyRefusal, deskSays, ReadiesAs}
+use Rattle.state_readiness.specs.Readying.{notReady}
 
 -- ---- the rows
 

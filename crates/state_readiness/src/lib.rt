@@ -6,9 +6,10 @@ ghost use mathlib.Core.Bool.{_&&_};
 ghost use mathlib.Core.Path.{_≡_};
 ghost use lib.Dec.{leb};
 ghost use lib.ListN.{length};
-ghost use Rattle.base_lent.specs.Lent.{wordsIn};
-ghost use Rattle.settings_values.specs.Settings.{nodes, Settings};
-ghost use Rattle.state_readiness.specs.Readying.{notReady, slotsRefusal, deskSays, ReadiesAs, Readies};
+ghost use Rattle.base_lent.specs.Definitions.{wordsIn};
+ghost use Rattle.settings_values.specs.Definitions.{nodes, Settings};
+ghost use Rattle.state_readiness.specs.Definitions.{slotsRefusal, deskSays, ReadiesAs, Readies};
+ghost use Rattle.state_readiness.specs.Readying.{notReady};
 
 // The row of each mask of held nodes. Beside a refusal they are zeros.
 pub struct ReadyRows {
@@ -64,7 +65,7 @@ fn rows_ready(settings: &[u32], x: State, desk: &[u8]) -> ReadyRows
     let masks = counted.masks;
     ReadyRows {
         refusal: Refusal { code: 0 },
-        rows: plan_rows::rows_of(settings, kept, &masks),
+        rows: plan_masks::rows::rows_of(settings, kept, &masks),
     }
 }
 

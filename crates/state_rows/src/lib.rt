@@ -1,17 +1,20 @@
 // What the events ask of a state's parts: its phase, rows 6 and 14 of a node, and the marks of its nodes.
+pub mod sound_parts;
+pub mod sound_plan;
+
 use base_ids::Node;
 use base_ids::Refusal;
 use report_views::Phase;
 ghost use mathlib.Core.Bool.{cond, not, _&&_};
 ghost use mathlib.Core.Path.{_≡_};
 ghost use lib.Dec.{eqb, ltb};
-ghost use Rattle.base_laws.specs.Masks.{has, with};
-ghost use Rattle.settings_values.specs.Settings.{Settings};
-ghost use Rattle.state_rows.specs.Phases as Phases;
-ghost use Rattle.state_rows.specs.Rows as Rows;
+ghost use Rattle.base_laws.specs.Definitions.{has, with};
+ghost use Rattle.settings_values.specs.Definitions.{Settings};
+ghost use Rattle.report_views.specs.Definitions.{isGathering, isOrdered, isPreparing, isCommitted};
+ghost use Rattle.state_rows.specs.Definitions as Definitions;
 
 pub fn is_gathering(phase: Phase) -> bool
-    ensures { λ r. ⌜ r ≡ Phases.isGathering phase ⌝ }
+    ensures { λ r. ⌜ r ≡ isGathering phase ⌝ }
 {
     match phase {
         Phase::Gathering => true,
@@ -22,7 +25,7 @@ pub fn is_gathering(phase: Phase) -> bool
 }
 
 pub fn is_ordered(phase: Phase) -> bool
-    ensures { λ r. ⌜ r ≡ Phases.isOrdered phase ⌝ }
+    ensures { λ r. ⌜ r ≡ isOrdered phase ⌝ }
 {
     match phase {
         Phase::Gathering => false,
@@ -33,7 +36,7 @@ pub fn is_ordered(phase: Phase) -> bool
 }
 
 pub fn is_preparing(phase: Phase) -> bool
-    ensures { λ r. ⌜ r ≡ Phases.isPreparing phase ⌝ }
+    ensures { λ r. ⌜ r ≡ isPreparing phase ⌝ }
 {
     match phase {
         Phase::Gathering => false,
@@ -44,7 +47,7 @@ pub fn is_preparing(phase: Phase) -> bool
 }
 
 pub fn is_committed(phase: Phase) -> bool
-    ensures { λ r. ⌜ r ≡ Phases.isCommitted phase ⌝ }
+    ensures { λ r. ⌜ r ≡ isCommitted phase ⌝ }
 {
     match phase {
         Phase::Gathering => false,
@@ -57,7 +60,7 @@ pub fn is_committed(phase: Phase) -> bool
 // Rows 6 and 14, for a node that an event names.
 pub fn node_refusal(settings: &[u32], node: Node, ok: bool) -> Refusal
     requires { ⌜ Settings (now settings) ⌝ }
-    ensures { λ r. ⌜ r ≡ Rows.nodeRefusal (now (settings .entry)) (node .0) ok ⌝ }
+    ensures { λ r. ⌜ r ≡ Definitions.nodeRefusal (now (settings .entry)) (node .0) ok ⌝ }
 {
     if settings_values::nodes(settings) <= node.0 {
         return Refusal { code: 6 };

@@ -6,7 +6,8 @@ use Prim.Native.Nat.{_-_, _≤_}
 use native.Mathlib.Omega.{arith}
 use lib.ListN.{length, length-set}
 use Rattle.base_laws.specs.Tables.{filled, filled-none, filled-turn}
-use Rattle.base_bytes.specs.Words.{wordAt, words-filled}
+use Rattle.base_bytes.specs.Definitions.{wordAt}
+use Rattle.base_bytes.specs.Words.{words-filled}
 use Rattle.base_bytes.proofs.decode.Statement.{statement}
 use Rattle.base_bytes.proofs.decode.Tie as tie
 

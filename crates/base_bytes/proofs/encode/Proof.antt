@@ -6,7 +6,8 @@ use Prim.Native.Nat.{_*_, _-_, _≤_}
 use native.Mathlib.Omega.{arith}
 use lib.ListN.{length, getD}
 use Rattle.base_laws.specs.Tables.{filled, filled-none}
-use Rattle.base_bytes.specs.Words.{byteAt, bytes-filled, stored-turn, length-stored}
+use Rattle.base_bytes.specs.Definitions.{byteAt}
+use Rattle.base_bytes.specs.Words.{bytes-filled, stored-turn, length-stored}
 use Rattle.base_bytes.proofs.encode.Statement.{statement}
 use Rattle.base_bytes.proofs.encode.Tie as tie
 

@@ -1,6 +1,6 @@
 -- `base_bytes::word_at` meets its contract: the four bytes are within the slice, and `join` gives the word that they make. Assumes nothing.
 use borrow.Author.Needs.{needs}
-use Rattle.base_bytes.specs.Words.{wordAt}
+use Rattle.base_bytes.specs.Definitions.{wordAt}
 use Rattle.base_bytes.proofs.word_at.Statement.{statement}
 use Rattle.base_bytes.proofs.word_at.Tie as tie
 

@@ -1,7 +1,8 @@
 -- Each answer follows from the tests on the way to it.
 use lib.Dec.{leb·zero}
 use borrow.Author.Tests.{eq-eqb, ne-eqb, le-leb, lt-leb}
-use Rattle.base_lent.specs.Lent.{wordCount, countWithin}
+use Rattle.base_lent.specs.Definitions.{wordCount}
+use Rattle.base_lent.specs.Lent.{countWithin}
 use Rattle.base_lent.proofs.count_within.Statement.{statement}
 use Rattle.base_lent.proofs.count_within.Tie as tie
 

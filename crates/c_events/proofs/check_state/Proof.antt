@@ -2,13 +2,13 @@
 use mathlib.Core.Path.{sym, ap, _∙_, subst}
 use mathlib.Core.List.{List}
 use Prim.Native.Nat.{ℕ}
-use Rattle.settings_values.specs.Settings.{Settings}
+use Rattle.settings_values.specs.Definitions.{Settings}
 use Rattle.settings_values.specs.Laws.{settings-give}
-use Rattle.state_planner.specs.Refusing.{checkRefusal}
-use Rattle.base_lent.specs.Lent.{wordsIn}
-use Rattle.c_state.specs.Calls.{byPlanner}
+use Rattle.state_planner.specs.Definitions.{checkRefusal}
+use Rattle.base_lent.specs.Definitions.{wordsIn}
+use Rattle.c_state.specs.Definitions.{byPlanner}
 use Rattle.c_state.specs.CallLaws.{desk-passes, desk-long, settings-few, settings-long, settings-front}
-use Rattle.c_events.specs.Cases.{check-refused, check-done}
+use Rattle.c_events.specs.EventCases.{check-refused, check-done}
 use native.Mathlib.Omega.{arith}
 use borrow.Author.Needs.{needs}
 use Rattle.c_events.proofs.check_state.Statement.{statement}

@@ -1,7 +1,7 @@
 -- Each return is a case of what the call answers and leaves.
 use mathlib.Core.Path.{sym, _∙_}
 use borrow.Author.Tests.{not-true, not-false}
-use Rattle.c_events.specs.Cases.{fresh-barred, fresh-not-640, fresh-stored}
+use Rattle.c_events.specs.EventCases.{fresh-barred, fresh-not-640, fresh-stored}
 use borrow.Author.Needs.{needs}
 use Rattle.c_events.proofs.fresh.Statement.{statement}
 use Rattle.c_events.proofs.fresh.Tie as tie

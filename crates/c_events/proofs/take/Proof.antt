@@ -2,13 +2,13 @@
 use mathlib.Core.Path.{sym, ap, _∙_, subst}
 use mathlib.Core.List.{List}
 use Prim.Native.Nat.{ℕ}
-use Rattle.settings_values.specs.Settings.{Settings}
+use Rattle.settings_values.specs.Definitions.{Settings}
 use Rattle.settings_values.specs.Laws.{settings-give}
-use Rattle.base_lent.specs.Lent.{wordsIn}
-use Rattle.c_state.specs.Calls.{byPlanner}
+use Rattle.base_lent.specs.Definitions.{wordsIn}
+use Rattle.c_state.specs.Definitions.{byPlanner}
 use Rattle.c_state.specs.CallLaws.{desk-passes, desk-long, settings-few, settings-long, settings-front}
-use Rattle.c_events.specs.Events.{happened}
-use Rattle.c_events.specs.Cases.{take-refused, take-done}
+use Rattle.c_events.specs.Definitions.{happened}
+use Rattle.c_events.specs.EventCases.{take-refused, take-done}
 use native.Mathlib.Omega.{arith}
 use borrow.Author.Needs.{needs}
 use Rattle.c_events.proofs.take.Statement.{statement}

@@ -3,7 +3,7 @@ use mathlib.Core.Path.{sym, ap, _∙_}
 use native.Mathlib.Omega.{arith}
 use borrow.Author.Needs.{needs}
 use borrow.Author.Tests.{not-true, not-false}
-use Rattle.settings_values.specs.Settings.{settingsOk}
+use Rattle.settings_values.specs.Definitions.{settingsOk}
 use Rattle.c_messages.specs.Limits.{check-wrong, check-right}
 use Rattle.c_messages.proofs.check_settings.Statement.{statement}
 use Rattle.c_messages.proofs.check_settings.Tie as tie

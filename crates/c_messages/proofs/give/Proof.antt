@@ -1,7 +1,7 @@
 -- The words as they were laid out, as bytes.
 use mathlib.Core.Path.{ap, _∙_}
 use borrow.Author.Needs.{needs}
-use Rattle.base_bytes.specs.Words.{bytesOf}
+use Rattle.base_bytes.specs.Definitions.{bytesOf}
 use Rattle.c_messages.proofs.give.Statement.{statement}
 use Rattle.c_messages.proofs.give.Tie as tie
 

@@ -6,12 +6,12 @@ use native.Mathlib.Omega.{arith}
 use lib.Dec.{lit≤}
 use lib.ListN.{set, getD}
 use borrow.Author.Needs.{needs}
-use Rattle.c_messages.specs.Layout.{laid, headed, laid-start, laid-more, laid-end}
+use Rattle.c_messages.specs.Layout.{laidOut, headed, laid-start, laid-more, laid-end}
 use Rattle.c_messages.proofs.lay_out.Statement.{statement}
 use Rattle.c_messages.proofs.lay_out.Tie as tie
 
 abbrev Inv-loop : tie.InvT-loop
-Inv-loop words₀ body k₀ words k = (k ≤ 381) × (words ≡ laid words₀ body k)
+Inv-loop words₀ body k₀ words k = (k ≤ 381) × (words ≡ laidOut words₀ body k)
 
 abbrev μ-loop : tie.MeasureT-loop
 μ-loop words₀ body k₀ words k = 381 - k
@@ -39,7 +39,7 @@ returns c =
     let x = c .before .before .before .args .c in
     let l = c .before .loop in
     let all : l .k ≡ 381 = omega arith in
-    l .inv .1 ∙ ap (laid (headed x) (x .body)) all ∙ laid-end x
+    l .inv .1 ∙ ap (laidOut (headed x) (x .body)) all ∙ laid-end x
 
 pub lay-out-spec : {M : Type 1} → statement M
 lay-out-spec =

@@ -1,7 +1,7 @@
 -- Each answer follows from the tests on the way to it.
 use borrow.Author.Tests.{eq-eqb, ne-eqb, le-leb, lt-leb}
 use borrow.Author.Needs.{needs}
-use Rattle.c_messages.specs.Answers.{recordCount}
+use Rattle.c_messages.specs.Definitions.{recordCount}
 use Rattle.c_messages.proofs.record_count.Statement.{statement}
 use Rattle.c_messages.proofs.record_count.Tie as tie
 

@@ -1,6 +1,6 @@
 -- What is allowed to the role that the word stands for.
 use mathlib.Core.Path.{ap, _∙_}
-use Rattle.base_roles.specs.Roles.{mayPlan}
+use Rattle.base_roles.specs.Definitions.{mayPlan}
 use borrow.Author.Needs.{needs}
 use Rattle.c_state.proofs.by_planner.Statement.{statement}
 use Rattle.c_state.proofs.by_planner.Tie as tie

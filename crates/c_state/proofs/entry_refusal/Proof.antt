@@ -1,6 +1,6 @@
 -- Each answer follows from the tests on the way to it.
 use borrow.Author.Tests.{not-true, not-false}
-use Rattle.base_ids.specs.Refusals.{unless}
+use Rattle.base_ids.specs.Definitions.{unless}
 use Rattle.c_state.proofs.entry_refusal.Statement.{statement}
 use Rattle.c_state.proofs.entry_refusal.Tie as tie
 

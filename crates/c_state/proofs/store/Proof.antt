@@ -1,6 +1,6 @@
 -- The words of the state, as bytes.
 use mathlib.Core.Path.{ap, _∙_}
-use Rattle.base_bytes.specs.Words.{bytesOf}
+use Rattle.base_bytes.specs.Definitions.{bytesOf}
 use borrow.Author.Needs.{needs}
 use Rattle.c_state.proofs.store.Statement.{statement}
 use Rattle.c_state.proofs.store.Tie as tie

@@ -1,5 +1,5 @@
 -- Each answer follows from the tests on the way to it.
-use Rattle.c_state_words.specs.StateWords.{isState}
+use Rattle.c_state_words.specs.Definitions.{isState}
 use mathlib.Core.Path.{sym}
 use borrow.Author.Tests.{eq-eqb, ne-eqb, le-leb, lt-leb}
 use borrow.Author.Needs.{needs}

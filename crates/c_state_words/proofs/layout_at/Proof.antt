@@ -1,5 +1,5 @@
 -- The parts are those of the definition.
-use Rattle.c_state_words.specs.StateWords.{layoutAt}
+use Rattle.c_state_words.specs.Definitions.{layoutAt}
 use borrow.Author.Needs.{needs}
 use Rattle.c_state_words.proofs.layout_at.Statement.{statement}
 use Rattle.c_state_words.proofs.layout_at.Tie as tie

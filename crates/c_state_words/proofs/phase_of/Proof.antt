@@ -1,5 +1,5 @@
 -- Each answer follows from the tests on the way to it.
-use Rattle.c_state_words.specs.StateWords.{phaseOf}
+use Rattle.c_state_words.specs.Definitions.{phaseOf}
 use borrow.Author.Tests.{eq-eqb, ne-eqb}
 use Rattle.c_state_words.proofs.phase_of.Statement.{statement}
 use Rattle.c_state_words.proofs.phase_of.Tie as tie

@@ -7,8 +7,8 @@ use lib.Dec.{lit≤}
 use lib.ListN.{getD, replicate}
 use Rattle.base_laws.specs.Tables.{filled, fill-start, fill-turn, fill-end}
 use Rattle.base_ids.specs.declared.Position.{Position}
-use Rattle.report_views.specs.Logs.{pos, start}
-use Rattle.c_state_words.specs.StateWords.{positionsAt}
+use Rattle.report_views.specs.Definitions.{pos, start}
+use Rattle.c_state_words.specs.Definitions.{positionsAt}
 use borrow.Author.Needs.{needs}
 use Rattle.c_state_words.proofs.positions_at.Statement.{statement}
 use Rattle.c_state_words.proofs.positions_at.Tie as tie

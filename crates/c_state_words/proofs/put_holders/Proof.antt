@@ -4,7 +4,7 @@ use native.Mathlib.Omega.{arith}
 use mathlib.Core.Path.{_≡_, refl, sym}
 use lib.Dec.{lit≤}
 use Rattle.base_laws.specs.Loops.{turns, turns-none, turned, turned-all}
-use Rattle.report_views.specs.Reports.{nodeAt}
+use Rattle.report_views.specs.Definitions.{nodeAt}
 use Rattle.c_state_words.specs.Stores.{storeWord}
 use borrow.Author.Needs.{needs}
 use Rattle.c_state_words.proofs.put_holders.Statement.{statement}

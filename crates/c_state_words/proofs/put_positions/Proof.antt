@@ -5,7 +5,7 @@ use mathlib.Core.Path.{_≡_, sym}
 use lib.Dec.{lit≤}
 use lib.ListN.{getD}
 use Rattle.base_laws.specs.Loops.{turns, turns-none, turned, turned-all}
-use Rattle.report_views.specs.Logs.{start}
+use Rattle.report_views.specs.Definitions.{start}
 use Rattle.c_state_words.specs.Stores.{storePosition}
 use borrow.Author.Needs.{needs}
 use Rattle.c_state_words.proofs.put_positions.Statement.{statement}

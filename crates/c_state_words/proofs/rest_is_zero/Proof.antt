@@ -6,8 +6,9 @@ use native.Mathlib.Omega.{arith}
 use lib.Dec.{lit≤, eqb}
 use lib.ListN.{getD}
 use borrow.Author.Tests.{eq-eqb, ne-eqb}
-use Rattle.base_laws.specs.Below.{allBelow, all-none, all-more, all-fails, all-fewer}
-use Rattle.c_state_words.specs.StateWords.{restZero}
+use Rattle.base_laws.specs.Definitions.{allBelow}
+use Rattle.base_laws.specs.Below.{all-none, all-more, all-fails, all-fewer}
+use Rattle.c_state_words.specs.Definitions.{restZero}
 use borrow.Author.Needs.{needs}
 use Rattle.c_state_words.proofs.rest_is_zero.Statement.{statement}
 use Rattle.c_state_words.proofs.rest_is_zero.Tie as tie

@@ -1,5 +1,5 @@
 -- The parts are those of the definition.
-use Rattle.c_state_words.specs.StateWords.{stateIn}
+use Rattle.c_state_words.specs.Definitions.{stateIn}
 use borrow.Author.Needs.{needs}
 use Rattle.c_state_words.proofs.state_in.Statement.{statement}
 use Rattle.c_state_words.proofs.state_in.Tie as tie

@@ -7,7 +7,7 @@ use lib.Dec.{lit≤}
 use lib.ListN.{getD, replicate}
 use Rattle.base_laws.specs.Tables.{filled, fill-start, fill-turn, fill-end}
 use Rattle.base_ids.specs.declared.View.{View}
-use Rattle.c_state_words.specs.StateWords.{viewsAt}
+use Rattle.c_state_words.specs.Definitions.{viewsAt}
 use borrow.Author.Needs.{needs}
 use Rattle.c_state_words.proofs.views_at.Statement.{statement}
 use Rattle.c_state_words.proofs.views_at.Tie as tie

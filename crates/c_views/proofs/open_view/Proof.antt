@@ -1,7 +1,7 @@
 -- `c_views::open_view` meets its contract: the word of what is found.
 use mathlib.Core.Path.{ap, _∙_}
 use borrow.Author.Needs.{needs}
-use Rattle.c_views.specs.ViewAnswers.{findingWord, openViewAnswer}
+use Rattle.c_views.specs.Definitions.{findingWord, openViewAnswer}
 use Rattle.c_views.proofs.open_view.Statement.{statement}
 use Rattle.c_views.proofs.open_view.Tie as tie
 

@@ -7,8 +7,9 @@ use Rattle.base_laws.specs.Bools.{and-both, and-fails-left, and-fails-right, or
 use native.Mathlib.Omega.{arith}
 use borrow.Author.Needs.{needs}
 use borrow.Author.Tests.{not-true, not-false}
-use Rattle.base_laws.specs.Below.{allBelow, anyBelow, all-none, any-none, any-more, all-more}
-use Rattle.base_laws.specs.Masks.{has, with, without, with-lt}
+use Rattle.base_laws.specs.Definitions.{allBelow, anyBelow, has, with, without}
+use Rattle.base_laws.specs.Below.{all-none, any-none, any-more, all-more}
+use Rattle.base_laws.specs.Masks.{with-lt}
 use Rattle.game_rules.specs.Turns.{absent, outageTurn, crewTurn, saves, survives}
 use Rattle.game_turns.specs.Table.{planAt}
 use Rattle.game_turns.specs.Steps.{small, outage-none, outage-passes, outage-lost, outage-kept, crew-none, crew-fails, crew-goes, crew-saved, crew-lost}

@@ -4,7 +4,8 @@ use mathlib.Core.Bool.{false}
 use mathlib.Core.Path.{_≡_, sym, _∙_}
 use native.Mathlib.Omega.{arith}
 use borrow.Author.Needs.{needs}
-use Rattle.base_laws.specs.Below.{anyBelow, any-none, any-more, any-at}
+use Rattle.base_laws.specs.Definitions.{anyBelow}
+use Rattle.base_laws.specs.Below.{any-none, any-more, any-at}
 use Rattle.game_rules.specs.Turns.{absent}
 use Rattle.game_turns.proofs.some_absent.Statement.{statement}
 use Rattle.game_turns.proofs.some_absent.Tie as tie

@@ -7,8 +7,9 @@ use native.Mathlib.Omega.{arith}
 use borrow.Author.Needs.{needs}
 use borrow.Author.Tests.{not-true, not-false}
 use Rattle.base_laws.specs.Bools.{or-left, or-right, not-of-false}
-use Rattle.base_laws.specs.Below.{allBelow, all-none, all-more}
-use Rattle.base_laws.specs.Masks.{has, without, without-lt}
+use Rattle.base_laws.specs.Definitions.{allBelow, has, without}
+use Rattle.base_laws.specs.Below.{all-none, all-more}
+use Rattle.base_laws.specs.Masks.{without-lt}
 use Rattle.game_rules.specs.Turns.{crewTurn, survives}
 use Rattle.game_turns.specs.Table.{planAt}
 use Rattle.game_turns.specs.Steps.{outage-none, outage-passes, outage-lost, outage-kept, won-crew, won-passing, won-taking}

@@ -1,7 +1,7 @@
 -- `history_open::judge` meets its contract: the four cases of the two things that views say.
 use mathlib.Core.Path.{sym}
 use borrow.Author.Needs.{needs}
-use Rattle.history_open.specs.Judged.{judged}
+use Rattle.history_open.specs.Definitions.{judged}
 use Rattle.history_open.proofs.judge.Statement.{statement}
 use Rattle.history_open.proofs.judge.Tie as tie
 

@@ -2,7 +2,7 @@
 use mathlib.Core.Path.{sym}
 use borrow.Author.Needs.{needs}
 use borrow.Author.Tests.{not-true, not-false}
-use Rattle.history_open.specs.Judged.{saysNever}
+use Rattle.history_open.specs.Definitions.{saysNever}
 use Rattle.history_open.proofs.says_never.Statement.{statement}
 use Rattle.history_open.proofs.says_never.Tie as tie
 

@@ -2,7 +2,7 @@
 use mathlib.Core.Path.{sym}
 use borrow.Author.Needs.{needs}
 use borrow.Author.Tests.{eq-eqb, ne-eqb}
-use Rattle.history_open.specs.Judged.{saysSure}
+use Rattle.history_open.specs.Definitions.{saysSure}
 use Rattle.history_open.proofs.says_sure.Statement.{statement}
 use Rattle.history_open.proofs.says_sure.Tie as tie
 

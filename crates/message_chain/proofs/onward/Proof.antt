@@ -42,7 +42,7 @@ use denote.Triple.Table.{entered, cited}
 use denote.Triple.Walked.{says, Stays, stay-none, walkOf, goes-none, Walks, ends-at, walked, walk-meets}
 use denote.Exit.{yes}
 use denote.Triple.Clauses.{ensured, lasts}
-use Rattle.message_format.specs.Chain as Chain
+use Rattle.message_format.specs.Definitions as Definitions
 use Rattle.message_chain.specs.declared.Reader.{Reader}
 use Rattle.message_chain.proofs.Reader as T
 use Rattle.message_chain.proofs.Reader.Laws as T′
@@ -74,7 +74,7 @@ module _ {M : Type 1} (𝓤 : URA M) (H : Heap 𝓤) (A : Atoms 𝓤) (W : Given
   v = sliceVal (d .words .ptr) (length (d .words .now))
 
   abbrev found : ℕ
-  found = Chain.next (now (d .words)) (d .at)
+  found = Definitions.next (now (d .words)) (d .at)
 
   abbrev Post : Val → SProp 𝓤
   Post = walkOf 𝓤 H A own.ended stayed (own.clauses 𝓤 H A mem run) .post (((κ, tt), (q, tt), tt, (d, tt), (mach ∷ [], tt)), tt)

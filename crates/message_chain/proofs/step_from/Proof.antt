@@ -39,7 +39,7 @@ use denote.Triple.Table.{entered, cited}
 use denote.Triple.Walked.{says, Stays, stay-none, stay-none-slice, walkOf, goes-none, goes-none-slice, Walks, ends-at, walked, walk-meets}
 use denote.Exit.{yes}
 use denote.Triple.Clauses.{ensured, lasts}
-use Rattle.message_format.specs.Chain as Chain
+use Rattle.message_format.specs.Definitions as Definitions
 use Rattle.message_chain.specs.Steps.{recordAt, stepFrom}
 use Rattle.message_chain.specs.declared.Reader.{Reader}
 use Rattle.message_chain.specs.declared.Record.{Record}
@@ -151,7 +151,7 @@ module _ {M : Type 1} (𝓤 : URA M) (H : Heap 𝓤) (A : Atoms 𝓤) (W : Given
   goes-move r u = qed W (‵ (B (κ, tt) .own r (u ∷ [])) ∷ (‵ (flft κ q) ⊛ ‵ ftrue) ∷ []) ∵ nothing ! $ move ! (1 ∷ 0 ∷ []) $ fjoin ! $ move ! (1 ∷ 0 ∷ []) $ join ! $ frame ! $ done !
 
   abbrev IsNext : Reader → Reader → Type 0
-  IsNext r p = (p .words ≡ r .words) × (p .at ≡ Chain.next (now (r .words)) (r .at))
+  IsNext r p = (p .words ≡ r .words) × (p .at ≡ Definitions.next (now (r .words)) (r .at))
 
   moved-said : (r p : Reader) → ent 𝓤 (ensured 𝓤 H A mover.ended (mover.clauses 𝓤 H A mem run) (κ, tt) (r, tt) tt p) (fact 𝓤 (IsNext r p))
   moved-said r p = exE 𝓤 _ (λ ws. snd∗ 𝓤 (sem 𝓤 H A (lasts mover.ended (κ, tt) (r, tt) ws)) (fact 𝓤 (IsNext r p)))
@@ -189,7 +189,7 @@ module _ {M : Type 1} (𝓤 : URA M) (H : Heap 𝓤) (A : Atoms 𝓤) (W : Given
   -- what the four contracts say together
   is-step : (r p : Reader) (x : Record) (y : Step) → IsMade r → IsFound r x → IsNext r p → IsJoined x (p .at) y → y ≡ found
   is-step r p x y made here after both =
-      ap₂ (λ (a : Record) (k : ℕ). record { reached = a; next = k }) (both .0 ∙ here ∙ at-words (λ (w : List ℕ) (i : ℕ). recordAt w i)) (both .1 ∙ after .1 ∙ at-words Chain.next)
+      ap₂ (λ (a : Record) (k : ℕ). record { reached = a; next = k }) (both .0 ∙ here ∙ at-words (λ (w : List ℕ) (i : ℕ). recordAt w i)) (both .1 ∙ after .1 ∙ at-words Definitions.next)
     where
       at-words : {X : Type 0} (f : List ℕ → ℕ → X) → f (now (r .words)) (r .at) ≡ f (now s) n
       at-words f = ap₂ (λ (w : RefT (List ℕ)) (i : ℕ). f (now w) i) (made .0) (made .1)

@@ -2,9 +2,8 @@
 use mathlib.Core.Path.{sym}
 use borrow.Author.Tests.{lt-ltb, le-ltb, le-leb, lt-leb, not-true, not-false}
 use borrow.Author.Needs.{needs}
-use Rattle.base_ids.specs.Refusals.{unless}
-use Rattle.message_format.specs.Rows.{row6}
-use Rattle.message_format.specs.Messages.{headRefusal}
+use Rattle.base_ids.specs.Definitions.{unless}
+use Rattle.message_format.specs.Definitions.{row6, headRefusal}
 use Rattle.message_contents.proofs.head_refusal.Statement.{statement}
 use Rattle.message_contents.proofs.head_refusal.Tie as tie
 

@@ -6,11 +6,10 @@ use Prim.Native.Nat.{ℕ}
 use lib.ListN.{getD}
 use borrow.Author.Tests.{not-true, not-false}
 use borrow.Author.Needs.{needs}
-use Rattle.settings_values.specs.Settings.{shards, Settings}
-use Rattle.message_format.specs.Records.{membersOf}
-use Rattle.message_format.specs.Rows.{row10, row11At}
-use Rattle.message_records.specs.Gathered.{shardMasks}
-use Rattle.message_records.specs.Laws.{masks-row10}
+use Rattle.settings_values.specs.Definitions.{shards, Settings}
+use Rattle.message_format.specs.Definitions.{membersOf, row10, row11At}
+use Rattle.message_contents.specs.Gathered.{shardMasks}
+use Rattle.message_contents.specs.Laws.{masks-row10}
 use Rattle.base_laws.specs.Loops.{bad-fails, bad-holds}
 use Rattle.message_contents.specs.Structure.{records-structure, records-10, records-11, records-pass}
 use Rattle.message_contents.proofs.records_refusal.Statement.{statement}

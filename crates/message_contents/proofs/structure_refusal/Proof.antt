@@ -2,8 +2,8 @@
 use mathlib.Core.Path.{sym, _∙_}
 use borrow.Author.Needs.{needs}
 use borrow.Author.Tests.{not-true, not-false}
-use Rattle.message_format.specs.Rows.{shardAt}
-use Rattle.message_records.specs.Laws.{shards-small}
+use Rattle.message_format.specs.Definitions.{shardAt}
+use Rattle.message_contents.specs.Laws.{shards-small}
 use Rattle.base_laws.specs.Loops.{bad-holds}
 use Rattle.message_contents.specs.Structure.{kind-told, shard-told, sequence-told, missing-told, nothing-told}
 use Rattle.message_contents.proofs.structure_refusal.Statement.{statement}

@@ -4,14 +4,14 @@ use Prim.Native.Nat.{_-_}
 use mathlib.Core.Path.{refl, ap, _∙_}
 use mathlib.Core.Logic.{inl, inr}
 use native.Mathlib.Omega.{arith}
-use Rattle.message_format.specs.Chain.{records}
+use Rattle.message_format.specs.Shorthands.{records}
 use Rattle.message_chain.specs.declared.Step.{Step}
-use Rattle.message_reader.specs.Walks.{Walk, walk-start, walk-on, walk-few, walk-end, walk-broken}
+use Rattle.message_reader.specs.Walks.{CameTo, walk-start, walk-on, walk-few, walk-end, walk-broken}
 use Rattle.message_reader.proofs.chain_refusal.Statement.{statement}
 use Rattle.message_reader.proofs.chain_refusal.Tie as tie
 
 abbrev Inv-loop : tie.InvT-loop
-Inv-loop words at₀ at = Walk words at
+Inv-loop words at₀ at = CameTo words at
 
 abbrev μ-loop : tie.MeasureT-loop
 μ-loop words at₀ at = records words - at

@@ -3,7 +3,9 @@
 use Prim.Native.Nat.{_-_, _<_}
 use native.Mathlib.Omega.{arith}
 use borrow.Author.Needs.{needs}
-use Rattle.message_format.specs.Chain.{following, records, following-le}
+use Rattle.message_format.specs.Definitions.{following}
+use Rattle.message_format.specs.Shorthands.{records}
+use Rattle.message_format.specs.Chain.{following-le}
 use Rattle.message_reader.specs.Bodies.{Gathering, gathering-start, gathering-room, gathering-more, gathering-contents}
 use Rattle.message_reader.proofs.contents_of.Statement.{statement}
 use Rattle.message_reader.proofs.contents_of.Tie as tie

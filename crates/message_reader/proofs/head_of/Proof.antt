@@ -1,7 +1,7 @@
 -- `message_reader::head_of` meets its contract: the head's words are those that the reader reaches. Assumes nothing.
 use mathlib.Core.Path.{ap, _∙_}
 use borrow.Author.Needs.{needs}
-use Rattle.message_format.specs.Messages.{headRefusal}
+use Rattle.message_format.specs.Definitions.{headRefusal}
 use Rattle.message_chain.specs.declared.Record.{Record}
 use Rattle.message_reader.specs.Bodies.{head-words}
 use Rattle.message_reader.proofs.head_of.Statement.{statement}

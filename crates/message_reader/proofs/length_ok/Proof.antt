@@ -1,6 +1,6 @@
 -- Each answer follows from the tests on the way to it.
 use borrow.Author.Tests.{le-leb, lt-leb}
-use Rattle.message_format.specs.Chain.{row5}
+use Rattle.message_format.specs.Definitions.{row5}
 use Rattle.message_reader.proofs.length_ok.Statement.{statement}
 use Rattle.message_reader.proofs.length_ok.Tie as tie
 

@@ -3,7 +3,7 @@ use Prim.Native.Nat.{_-_, _≤_}
 use mathlib.Core.Path.{_≡_, sym, ap, _∙_}
 use native.Mathlib.Nat.{le-antisymm}
 use native.Mathlib.Omega.{arith}
-use Rattle.message_format.specs.Chain.{place, next}
+use Rattle.message_format.specs.Definitions.{place, next}
 use Rattle.message_chain.specs.declared.Step.{Step}
 use Rattle.message_reader.specs.Walks.{place-none, place-next}
 use Rattle.message_reader.proofs.place_of.Statement.{statement}

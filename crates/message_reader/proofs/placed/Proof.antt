@@ -3,7 +3,7 @@ use mathlib.Core.Path.{_≡_, ap, _∙_}
 use Prim.Native.Nat.{_/_}
 use native.Mathlib.Omega.{arith}
 use borrow.Author.Needs.{needs}
-use Rattle.message_format.specs.Chain.{place}
+use Rattle.message_format.specs.Definitions.{place}
 use Rattle.message_reader.specs.Walks.{place-inside}
 use Rattle.message_reader.specs.Readings.{placed-none, placed-told}
 use Rattle.message_reader.proofs.placed.Statement.{statement}

@@ -3,7 +3,7 @@ use mathlib.Core.Bool.{true}
 use mathlib.Core.Path.{_≡_, sym, _∙_}
 use borrow.Author.Needs.{needs}
 use borrow.Author.Tests.{not-true, not-false}
-use Rattle.settings_values.specs.Settings.{settingsOk}
+use Rattle.settings_values.specs.Definitions.{settingsOk}
 use Rattle.settings_values.specs.Laws.{settings-give}
 use Rattle.message_reader.specs.Readings.{reading-settings, reading-message}
 use Rattle.message_reader.proofs.read.Statement.{statement}

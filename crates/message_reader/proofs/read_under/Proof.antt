@@ -3,8 +3,8 @@ use mathlib.Core.Bool.{true}
 use mathlib.Core.Path.{_≡_, sym, ap, _∙_}
 use borrow.Author.Needs.{needs}
 use borrow.Author.Tests.{not-true, not-false}
-use Rattle.base_ids.specs.Refusals.{none}
-use Rattle.message_format.specs.Chain.{place, row5, row8}
+use Rattle.base_ids.specs.Definitions.{none}
+use Rattle.message_format.specs.Definitions.{place, row5, row8}
 use Rattle.message_format.specs.Placing.{placedBy}
 use Rattle.message_reader.specs.Walks.{row5-gives}
 use Rattle.message_reader.specs.Readings.{headOf, number-zero, chain-linked, records-few, reading-length, reading-head, reading-chain, reading-records, contents-few}

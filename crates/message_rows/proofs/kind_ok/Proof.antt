@@ -1,7 +1,7 @@
 -- `message_rows::kind_ok` meets its contract: the arm tells the form, and `from_to` the range.
 use mathlib.Core.Path.{sym}
 use borrow.Author.Needs.{needs}
-use Rattle.message_format.specs.Rows.{kindOk}
+use Rattle.message_format.specs.Definitions.{kindOk}
 use Rattle.message_rows.proofs.kind_ok.Statement.{statement}
 use Rattle.message_rows.proofs.kind_ok.Tie as tie
 

@@ -7,8 +7,9 @@ use lib.Dec.{ltb}
 use borrow.Author.Tests.{lt-ltb, eq-eqb, ne-eqb, not-true, not-false}
 use borrow.Author.Needs.{needs}
 use Rattle.base_laws.specs.Bools.{lt-or-le, and-fails-right}
-use Rattle.base_laws.specs.Masks.{has, has-past}
-use Rattle.message_format.specs.Rows.{legal}
+use Rattle.base_laws.specs.Definitions.{has}
+use Rattle.base_laws.specs.Masks.{has-past}
+use Rattle.message_format.specs.Definitions.{legal}
 use Rattle.message_rows.proofs.legal.Statement.{statement}
 use Rattle.message_rows.proofs.legal.Tie as tie
 

@@ -1,6 +1,6 @@
 -- `message_rows::plain` meets its contract: each way out has the tests that led there.
 use borrow.Author.Tests.{eq-eqb, ne-eqb}
-use Rattle.message_format.specs.Rows.{plain}
+use Rattle.message_format.specs.Definitions.{plain}
 use Rattle.message_rows.proofs.plain.Statement.{statement}
 use Rattle.message_rows.proofs.plain.Tie as tie
 

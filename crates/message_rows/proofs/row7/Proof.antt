@@ -2,7 +2,7 @@
 use mathlib.Core.Path.{sym}
 use borrow.Author.Tests.{not-true, not-false}
 use borrow.Author.Needs.{needs}
-use Rattle.message_format.specs.Rows.{row7}
+use Rattle.message_format.specs.Definitions.{row7}
 use Rattle.message_rows.proofs.row7.Statement.{statement}
 use Rattle.message_rows.proofs.row7.Tie as tie
 

@@ -2,7 +2,7 @@
 use mathlib.Core.Path.{sym}
 use borrow.Author.Tests.{lt-ltb, le-ltb, le-leb, lt-leb}
 use borrow.Author.Needs.{needs}
-use Rattle.message_format.specs.Rows.{legal}
+use Rattle.message_format.specs.Definitions.{legal}
 use Rattle.message_rows.proofs.run.Statement.{statement}
 use Rattle.message_rows.proofs.run.Tie as tie
 

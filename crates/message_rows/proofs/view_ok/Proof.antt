@@ -1,7 +1,7 @@
 -- `message_rows::view_ok` meets its contract: the arm tells the form, and `from_to` the range.
 use mathlib.Core.Path.{sym}
 use borrow.Author.Needs.{needs}
-use Rattle.message_format.specs.Rows.{viewOk}
+use Rattle.message_format.specs.Definitions.{viewOk}
 use Rattle.message_rows.proofs.view_ok.Statement.{statement}
 use Rattle.message_rows.proofs.view_ok.Tie as tie
 

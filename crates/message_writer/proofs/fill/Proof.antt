@@ -6,8 +6,9 @@ use mathlib.Core.List.{List}
 use mathlib.Core.Path.{_≡_, refl, sym, ap, _∙_}
 use lib.ListN.{length, set}
 use borrow.Author.Needs.{needs}
-use Rattle.base_laws.specs.Tables.{tabulate, filled, filled-none, filled-more, filled-all, length-filled}
-use Rattle.message_format.specs.Messages.{messageWord, messageOf}
+use Rattle.base_laws.specs.Definitions.{tabulate}
+use Rattle.base_laws.specs.Tables.{filled, filled-none, filled-more, filled-all, length-filled}
+use Rattle.message_format.specs.Definitions.{messageWord, messageOf}
 use Rattle.message_writer.proofs.fill.Statement.{statement}
 use Rattle.message_writer.proofs.fill.Tie as tie
 

@@ -1,6 +1,6 @@
 -- `message_writer::record_word` meets its contract: each return is the case of the definition that the tests on the way there pick.
 -- Assumes nothing.
-use Rattle.message_format.specs.Messages.{headWord, recordWord}
+use Rattle.message_format.specs.Definitions.{headWord, recordWord}
 use borrow.Author.Tests.{eq-eqb, ne-eqb}
 use borrow.Author.Needs.{needs}
 use Rattle.message_writer.proofs.record_word.Statement.{statement}

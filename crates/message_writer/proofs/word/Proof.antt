@@ -1,6 +1,6 @@
 -- `message_writer::word` meets its contract: each return is the case of the definition that the tests on the way there pick.
 -- Assumes nothing.
-use Rattle.message_format.specs.Messages.{headWord, recordWord, messageWord}
+use Rattle.message_format.specs.Definitions.{headWord, recordWord, messageWord}
 use mathlib.Core.Path.{sym}
 use borrow.Author.Tests.{lt-ltb, le-ltb}
 use borrow.Author.Needs.{needs}

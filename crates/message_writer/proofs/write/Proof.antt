@@ -8,11 +8,12 @@ use lib.ListN.{length}
 use borrow.Author.Needs.{needs}
 use borrow.Author.Tests.{eqb-true, ne-eqb}
 use Rattle.base_ids.specs.declared.Refusal.{Refusal}
-use Rattle.base_ids.specs.Refusals.{none, refused}
+use Rattle.base_ids.specs.Definitions.{none, refused}
 use Rattle.message_format.specs.declared.Form.{Form}
 use Rattle.message_format.specs.declared.Contents.{Contents}
 use Rattle.message_format.specs.declared.Writing.{Writing}
-use Rattle.message_format.specs.Messages.{writeRefusal, writingOf, bufferAfter, messageLength, messageOf}
+use Rattle.message_format.specs.Definitions.{messageLength, messageOf}
+use Rattle.message_format.specs.Messages.{writeRefusal, writingOf, bufferAfter}
 use Rattle.message_format.specs.Passed.{contents-few, write-given}
 use Rattle.message_writer.proofs.write.Statement.{statement}
 use Rattle.message_writer.proofs.write.Tie as tie

@@ -4,12 +4,12 @@ use native.Mathlib.Omega.{arith}
 use borrow.Author.Needs.{needs}
 use Rattle.program_input.specs.Inputs.{readsLeft}
 use Rattle.program_input.specs.Filling.{fills-fall}
-use Rattle.mondays.specs.Program.{Stands, stands-none, stands-turn, stands-all, goes-open}
+use Rattle.mondays.specs.Program.{StandsBefore, stands-none, stands-turn, stands-all, goes-open}
 use Rattle.mondays.proofs.print_all.Statement.{statement}
 use Rattle.mondays.proofs.print_all.Tie as tie
 
 abbrev Inv-loop : tie.InvT-loop
-Inv-loop block₀ out₀ tallied₀ block out tallied = Stands tallied
+Inv-loop block₀ out₀ tallied₀ block out tallied = StandsBefore tallied
 
 abbrev μ-loop : tie.MeasureT-loop
 μ-loop block₀ out₀ tallied₀ block out tallied = readsLeft (tallied .input)

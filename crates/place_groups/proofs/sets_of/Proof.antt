@@ -3,7 +3,7 @@ use Prim.Native.Nat.{ℕ, _≤_, _-_}
 use mathlib.Core.Path.{_≡_, ap, _∙_}
 use native.Mathlib.Omega.{arith}
 use borrow.Author.Needs.{needs}
-use Rattle.settings_values.specs.Settings.{nodes}
+use Rattle.settings_values.specs.Definitions.{nodes}
 use Rattle.place_groups.specs.Sets.{setsBelow, seenWith, sets-none, sets-more, sets-all}
 use Rattle.place_groups.proofs.sets_of.Statement.{statement}
 use Rattle.place_groups.proofs.sets_of.Tie as tie

@@ -4,8 +4,9 @@ use mathlib.Core.Path.{_≡_, sym, ap, _∙_}
 use mathlib.Core.Bool.{false}
 use native.Mathlib.Omega.{arith}
 use borrow.Author.Needs.{needs}
-use Rattle.base_laws.specs.Below.{anyBelow, any-none, any-more, any-at}
-use Rattle.place_owners.specs.Cases.{ofGroup}
+use Rattle.base_laws.specs.Definitions.{anyBelow}
+use Rattle.base_laws.specs.Below.{any-none, any-more, any-at}
+use Rattle.place_groups.specs.Definitions.{ofGroup}
 use Rattle.place_layout.proofs.has_shards.Statement.{statement}
 use Rattle.place_layout.proofs.has_shards.Tie as tie
 

@@ -3,7 +3,7 @@ use mathlib.Core.Path.{sym, ap, _∙_}
 use mathlib.Core.Bool.{Bool, cond}
 use borrow.Author.Tests.{not-true, not-false}
 use borrow.Author.Needs.{needs}
-use Rattle.place_owners.specs.Adding.{ownedBy, maskWith}
+use Rattle.place_laws.specs.Adding.{ownedBy, maskWith}
 use Rattle.place_layout.proofs.mask_with.Statement.{statement}
 use Rattle.place_layout.proofs.mask_with.Tie as tie
 

@@ -6,7 +6,7 @@ use native.Mathlib.Omega.{arith}
 use lib.ListN.{getD, replicate}
 use borrow.Author.Needs.{needs}
 use Rattle.base_laws.specs.Tables.{filled, fill-start, fill-turn, fill-end}
-use Rattle.place_owners.specs.Adding.{maskWith, masksWith}
+use Rattle.place_laws.specs.Adding.{maskWith, masksWith}
 use Rattle.place_layout.proofs.masks_with.Statement.{statement}
 use Rattle.place_layout.proofs.masks_with.Tie as tie
 

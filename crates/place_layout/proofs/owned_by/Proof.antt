@@ -7,9 +7,10 @@ use native.Mathlib.Nat.{le-antisymm}
 use native.Mathlib.Omega.{arith}
 use lib.Dec.{eqb}
 use borrow.Author.Needs.{needs}
-use Rattle.search_theory.specs.Tables.{ownersOf}
-use Rattle.base_laws.specs.Picked.{maskBelow, mask-none, mask-turn}
-use Rattle.place_owners.specs.Adding.{ownedBy}
+use Rattle.search_laws.specs.Tables.{ownersOf}
+use Rattle.base_sum_laws.specs.Definitions.{maskBelow}
+use Rattle.base_sum_laws.specs.Picked.{mask-none, mask-turn}
+use Rattle.place_laws.specs.Adding.{ownedBy}
 use Rattle.place_layout.proofs.owned_by.Statement.{statement}
 use Rattle.place_layout.proofs.owned_by.Tie as tie
 

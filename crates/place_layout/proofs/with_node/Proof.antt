@@ -3,7 +3,7 @@ use mathlib.Core.Path.{sym, ap, _∙_}
 use mathlib.Core.Bool.{Bool, cond}
 use borrow.Author.Tests.{eq-eqb, ne-eqb}
 use borrow.Author.Needs.{needs}
-use Rattle.base_laws.specs.Masks.{with}
+use Rattle.base_laws.specs.Definitions.{with}
 use Rattle.place_layout.proofs.with_node.Statement.{statement}
 use Rattle.place_layout.proofs.with_node.Tie as tie
 

@@ -4,8 +4,8 @@ use mathlib.Core.Path.{ap, _∙_}
 use Prim.Native.Nat.{ℕ}
 use lib.ListN.{getD}
 use borrow.Author.Needs.{needs}
-use Rattle.place_groups.specs.Placements.{groupMoves}
-use Rattle.place_owners.specs.Adding.{masksOf}
+use Rattle.place_groups.specs.Definitions.{groupMoves}
+use Rattle.place_laws.specs.Definitions.{masksOf}
 use Rattle.place_rounds.proofs.moves_of.Statement.{statement}
 use Rattle.place_rounds.proofs.moves_of.Tie as tie
 

@@ -5,7 +5,7 @@ use mathlib.Core.List.{List}
 use mathlib.Core.Path.{sym, subst}
 use Prim.Native.Nat.{ℕ}
 use borrow.Author.Needs.{needs}
-use Rattle.search_theory.specs.Tables.{caseOf}
+use Rattle.search_laws.specs.Tables.{caseOf}
 use Rattle.search_rounds.specs.Post.{Low, Weighed, Improved, start, way-start, way-low}
 use Rattle.place_rounds.proofs.onward.Statement.{statement}
 use Rattle.place_rounds.proofs.onward.Tie as tie

@@ -7,7 +7,7 @@ use lib.ListN.{getD}
 use borrow.Author.Tests.{not-true, not-false}
 use borrow.Author.Needs.{needs}
 use Rattle.base_laws.specs.Bools.{clash}
-use Rattle.search_theory.specs.Case.{Case}
+use Rattle.search_laws.specs.Case.{Case}
 use Rattle.search_total.specs.Post.{WithinAnswer}
 use Rattle.search_rounds.specs.Post.{Low, Weighed, Improved}
 use Rattle.place_rounds.specs.Tables.{roundCase, floor-told}

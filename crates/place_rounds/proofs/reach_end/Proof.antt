@@ -7,11 +7,11 @@ use lib.ListN.{getD}
 use borrow.Author.Tests.{not-true, not-false}
 use borrow.Author.Needs.{needs}
 use Rattle.base_laws.specs.Bools.{clash}
-use Rattle.search_theory.specs.Case.{Case}
-use Rattle.search_theory.specs.Tables.{caseOf}
-use Rattle.search_theory.specs.Floor.{SheetFor}
+use Rattle.search_laws.specs.Case.{Case}
+use Rattle.search_laws.specs.Tables.{caseOf}
+use Rattle.search_laws.specs.Floor.{SheetFor}
 use Rattle.search_total.specs.Post.{LeastAnswer}
-use Rattle.place_sheet.specs.Sheet.{sheetOf}
+use Rattle.place_groups.specs.Sheet.{sheetOf}
 use Rattle.place_rounds.specs.Tables.{floor-told}
 use Rattle.place_rounds.specs.Turns.{round-tables}
 use Rattle.place_rounds.specs.Ends.{sheet-round, never-least, ended-least, ended-none}

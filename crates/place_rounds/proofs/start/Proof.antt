@@ -3,7 +3,7 @@ use mathlib.Core.List.{List}
 use mathlib.Core.Path.{subst}
 use Prim.Native.Nat.{ℕ}
 use borrow.Author.Needs.{needs}
-use Rattle.search_theory.specs.Tables.{caseOf}
+use Rattle.search_laws.specs.Tables.{caseOf}
 use Rattle.search_total.specs.Post.{WithinAnswer}
 use Rattle.place_rounds.proofs.start.Statement.{statement}
 use Rattle.place_rounds.proofs.start.Tie as tie

@@ -3,7 +3,7 @@ use mathlib.Core.Path.{sym, _∙_}
 use native.Mathlib.Omega.{arith}
 use borrow.Author.Tests.{not-true, not-false}
 use borrow.Author.Needs.{needs}
-use Rattle.place_owners.specs.Cases.{group-shard, cap-of, cap-none}
+use Rattle.place_laws.specs.Cases.{group-shard, cap-of, cap-none}
 use Rattle.place_tables.proofs.cap_at.Statement.{statement}
 use Rattle.place_tables.proofs.cap_at.Tie as tie
 

@@ -6,9 +6,9 @@ use lib.ListN.{getD}
 use borrow.Author.Tests.{not-true, not-false}
 use borrow.Author.Needs.{needs}
 use Rattle.base_laws.specs.Masks.{has-past}
-use Rattle.settings_values.specs.Settings.{nodes}
-use Rattle.place_sheet.specs.Laws.{entry-none, entry-moves}
-use Rattle.place_owners.specs.Cases.{group-shard, shard-below, cost-away, cost-told}
+use Rattle.settings_values.specs.Definitions.{nodes}
+use Rattle.place_groups.specs.Laws.{entry-none, entry-moves}
+use Rattle.place_laws.specs.Cases.{group-shard, shard-below, cost-away, cost-told}
 use Rattle.place_tables.proofs.cost_at.Statement.{statement}
 use Rattle.place_tables.proofs.cost_at.Tie as tie
 

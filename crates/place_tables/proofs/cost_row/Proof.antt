@@ -4,8 +4,8 @@ use mathlib.Core.Path.{_≡_, ap, _∙_}
 use native.Mathlib.Omega.{arith}
 use lib.ListN.{getD}
 use borrow.Author.Needs.{needs}
-use Rattle.place_owners.specs.Cases.{shard-below}
-use Rattle.place_owners.specs.Tables.{costsBelow, costs-turn}
+use Rattle.place_laws.specs.Cases.{shard-below}
+use Rattle.place_laws.specs.Tables.{costsBelow, costs-turn}
 use Rattle.place_tables.proofs.cost_row.Statement.{statement}
 use Rattle.place_tables.proofs.cost_row.Tie as tie
 

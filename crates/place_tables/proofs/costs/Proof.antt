@@ -7,8 +7,8 @@ use native.Mathlib.Omega.{arith}
 use lib.ListN.{getD}
 use borrow.Author.Needs.{needs}
 use Rattle.base_laws.specs.Tables.{fill-start, fill-end}
-use Rattle.place_owners.specs.Cases.{costIn}
-use Rattle.place_owners.specs.Tables.{costsBelow, costs-skip}
+use Rattle.place_laws.specs.Cases.{costIn}
+use Rattle.place_laws.specs.Tables.{costsBelow, costs-skip}
 use Rattle.place_tables.proofs.costs.Statement.{statement}
 use Rattle.place_tables.proofs.costs.Tie as tie
 

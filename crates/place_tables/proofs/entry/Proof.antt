@@ -5,8 +5,8 @@ use Prim.Native.Nat.{ℕ, _<_}
 use native.Mathlib.Omega.{arith}
 use lib.ListN.{getD}
 use borrow.Author.Needs.{needs}
-use Rattle.settings_values.specs.Settings.{setOf}
-use Rattle.place_sheet.specs.Laws.{sheet-entry}
+use Rattle.settings_values.specs.Definitions.{setOf}
+use Rattle.place_groups.specs.Laws.{sheet-entry}
 use Rattle.place_tables.proofs.entry.Statement.{statement}
 use Rattle.place_tables.proofs.entry.Tie as tie
 

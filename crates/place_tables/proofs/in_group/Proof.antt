@@ -4,7 +4,7 @@ use Prim.Native.Nat.{ℕ}
 use native.Mathlib.Omega.{arith}
 use lib.Dec.{eqb}
 use borrow.Author.Needs.{needs}
-use Rattle.place_owners.specs.Cases.{group-past, group-is}
+use Rattle.place_laws.specs.Cases.{group-past, group-is}
 use Rattle.place_tables.proofs.in_group.Statement.{statement}
 use Rattle.place_tables.proofs.in_group.Tie as tie
 

@@ -5,8 +5,9 @@ use mathlib.Core.Path.{_≡_, ap, _∙_}
 use mathlib.Core.List.{List}
 use native.Mathlib.Omega.{arith}
 use borrow.Author.Needs.{needs}
-use Rattle.base_sums.specs.Sums.{sumBelow, sum-zero, sum-next}
-use Rattle.place_owners.specs.Cases.{needIn, capIn, moveCost}
+use Rattle.base_sum_laws.specs.Definitions.{sumBelow}
+use Rattle.base_sum_laws.specs.Sums.{sum-zero, sum-next}
+use Rattle.place_laws.specs.Cases.{needIn, capIn, moveCost}
 use Rattle.place_tables.proofs.move_cost.Statement.{statement}
 use Rattle.place_tables.proofs.move_cost.Tie as tie
 

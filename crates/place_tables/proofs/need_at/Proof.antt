@@ -2,7 +2,7 @@
 use mathlib.Core.Path.{sym, _∙_}
 use borrow.Author.Tests.{not-true, not-false}
 use borrow.Author.Needs.{needs}
-use Rattle.place_owners.specs.Cases.{group-shard, need-of, need-none}
+use Rattle.place_laws.specs.Cases.{group-shard, need-of, need-none}
 use Rattle.place_tables.proofs.need_at.Statement.{statement}
 use Rattle.place_tables.proofs.need_at.Tie as tie
 

@@ -2,7 +2,7 @@
 use mathlib.Core.Path.{sym, _∙_}
 use native.Mathlib.Omega.{arith}
 use borrow.Author.Needs.{needs}
-use Rattle.place_owners.specs.Cases.{set-past, set-in}
+use Rattle.place_laws.specs.Cases.{set-past, set-in}
 use Rattle.place_tables.proofs.set_at.Statement.{statement}
 use Rattle.place_tables.proofs.set_at.Tie as tie
 

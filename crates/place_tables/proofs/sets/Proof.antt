@@ -5,7 +5,7 @@ use native.Mathlib.Omega.{arith}
 use lib.ListN.{replicate}
 use borrow.Author.Needs.{needs}
 use Rattle.base_laws.specs.Tables.{filled, fill-start, fill-turn, fill-end}
-use Rattle.place_owners.specs.Cases.{setIn}
+use Rattle.place_laws.specs.Cases.{setIn}
 use Rattle.place_tables.proofs.sets.Statement.{statement}
 use Rattle.place_tables.proofs.sets.Tie as tie
 

@@ -3,7 +3,7 @@ use Prim.Native.Nat.{ℕ, _-_}
 use mathlib.Core.Path.{ap₂}
 use native.Mathlib.Omega.{arith}
 use borrow.Author.Needs.{needs}
-use Rattle.place_owners.specs.Cases.{need-cap, spare-most}
+use Rattle.place_laws.specs.Cases.{need-cap, spare-most}
 use Rattle.place_tables.proofs.spare_at.Statement.{statement}
 use Rattle.place_tables.proofs.spare_at.Tie as tie
 

@@ -3,8 +3,9 @@
 use Prim.Native.Nat.{ℕ, _≤_, _-_, _*_}
 use mathlib.Core.Path.{_≡_, sym, ap, _∙_}
 use native.Mathlib.Omega.{arith}
-use Rattle.base_sums.specs.Sums.{sumBelow, sum-zero, sum-next}
-use Rattle.settings_values.specs.Settings.{shards}
+use Rattle.base_sum_laws.specs.Definitions.{sumBelow}
+use Rattle.base_sum_laws.specs.Sums.{sum-zero, sum-next}
+use Rattle.settings_values.specs.Definitions.{shards}
 use Rattle.plan_losses.specs.Needs.{needOf, groupNeeds}
 use borrow.Author.Needs.{needs}
 use Rattle.plan_losses.proofs.group_needs.Statement.{statement}

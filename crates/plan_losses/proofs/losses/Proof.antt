@@ -2,7 +2,7 @@
 use Prim.Native.Nat.{ℕ, _≤_, _-_}
 use mathlib.Core.Path.{_≡_, subst}
 use native.Mathlib.Omega.{arith}
-use Rattle.settings_values.specs.Settings.{nodes}
+use Rattle.settings_values.specs.Definitions.{nodes}
 use Rattle.plan_losses.specs.Losses.{quorumsIn, LostBelow, lost-none, lost-all}
 use borrow.Author.Needs.{needs}
 use Rattle.plan_losses.proofs.losses.Statement.{statement}

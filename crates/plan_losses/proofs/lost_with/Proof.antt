@@ -4,10 +4,11 @@ use mathlib.Core.Bool.{true}
 use mathlib.Core.Path.{_≡_, sym, _∙_, subst}
 use borrow.Author.Tests.{not-true, not-false}
 use Rattle.base_laws.specs.Bools.{clash}
-use Rattle.base_laws.specs.Masks.{has, has-below, without-lt}
-use Rattle.settings_values.specs.Settings.{nodes, setOf}
+use Rattle.base_laws.specs.Definitions.{has}
+use Rattle.base_laws.specs.Masks.{has-below, without-lt}
+use Rattle.settings_values.specs.Definitions.{nodes, setOf}
 use Rattle.plan_masks.specs.Masks.{quorumIn}
-use Rattle.plan_masks.specs.Numbered.{Allowed}
+use Rattle.plan_masks.specs.Definitions.{Allowed}
 use Rattle.plan_losses.specs.Losses.{quorumsIn, LostBelow, lost-not, lost-with}
 use borrow.Author.Needs.{needs}
 use Rattle.plan_losses.proofs.lost_with.Statement.{statement}

@@ -3,9 +3,10 @@ use Prim.Native.Nat.{_≤_, _-_}
 use mathlib.Core.Bool.{Bool, cond}
 use mathlib.Core.Path.{_≡_, sym, ap, _∙_}
 use native.Mathlib.Omega.{arith}
-use Rattle.base_laws.specs.Below.{countBelow, count-zero}
+use Rattle.base_laws.specs.Definitions.{countBelow}
+use Rattle.base_laws.specs.Below.{count-zero}
 use Rattle.base_laws.specs.Loops.{count-turn, count-done}
-use Rattle.settings_values.specs.Settings.{shards}
+use Rattle.settings_values.specs.Definitions.{shards}
 use Rattle.plan_losses.specs.Needs.{needsAt, needyShards}
 use borrow.Author.Needs.{needs}
 use Rattle.plan_losses.proofs.needy.Statement.{statement}

@@ -3,7 +3,8 @@ use Prim.Native.Nat.{_≤_, _-_, _*_, min}
 use mathlib.Core.Path.{_≡_, sym}
 use native.Mathlib.Omega.{arith}
 use lib.ListN.{getD}
-use Rattle.base_sums.specs.Sums.{sumBelow, sum-zero, sum-turn, sum-done}
+use Rattle.base_sum_laws.specs.Definitions.{sumBelow}
+use Rattle.base_sum_laws.specs.Sums.{sum-zero, sum-turn, sum-done}
 use Rattle.plan_losses.specs.Needs.{servedBy}
 use borrow.Author.Needs.{needs}
 use Rattle.plan_losses.proofs.served.Statement.{statement}

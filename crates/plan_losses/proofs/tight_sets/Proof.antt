@@ -1,7 +1,7 @@
 -- `plan_losses::tight_sets` meets its contract. The invariant: the sets are tight ones. Assumes nothing.
 use Prim.Native.Nat.{_≤_, _-_}
 use native.Mathlib.Omega.{arith}
-use Rattle.settings_values.specs.Settings.{shards}
+use Rattle.settings_values.specs.Definitions.{shards}
 use Rattle.plan_losses.specs.Needs.{Tight, tight-none}
 use borrow.Author.Needs.{needs}
 use Rattle.plan_losses.proofs.tight_sets.Statement.{statement}

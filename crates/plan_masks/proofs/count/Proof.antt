@@ -7,10 +7,10 @@ use native.Mathlib.Omega.{arith}
 use borrow.Author.Tests.{not-true, not-false}
 use Rattle.base_laws.specs.Below.{all-fails}
 use Rattle.base_laws.specs.Tables.{filled}
-use Rattle.base_lent.specs.Lent.{wordsIn}
+use Rattle.base_lent.specs.Definitions.{wordsIn}
 use Rattle.report_desk.specs.Bytes.{desk-length}
-use Rattle.report_views.specs.Slots.{slotsOk}
-use Rattle.report_slots.specs.Desk.{nodeOk, held-ok}
+use Rattle.report_views.specs.Definitions.{slotsOk}
+use Rattle.report_desk.specs.SlotsOf.{nodeOk, held-ok}
 use Rattle.plan_seen.specs.Sight.{seenOf}
 use Rattle.plan_masks.specs.Counting.{countedAt, alone}
 use Rattle.plan_masks.specs.Turns.{CountedTo, counted-none, counted-unheld, counted-held, counted-sound, counted-failed, seen-own}

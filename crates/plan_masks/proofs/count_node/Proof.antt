@@ -5,7 +5,7 @@ use mathlib.Core.Path.{_≡_, sym, ap, _∙_, subst}
 use native.Mathlib.Omega.{arith}
 use lib.ListN.{length, getD, length-set}
 use Rattle.base_laws.specs.Tables.{filled, filled-none, filled-turn, getD-filled-rest}
-use Rattle.report_views.specs.Reports.{nodeAt}
+use Rattle.report_views.specs.Definitions.{nodeAt}
 use Rattle.plan_masks.specs.Counting.{countedWith, countedAt}
 use borrow.Author.Needs.{needs}
 use Rattle.plan_masks.proofs.count_node.Statement.{statement}

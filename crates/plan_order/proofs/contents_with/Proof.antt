@@ -1,7 +1,7 @@
 -- `plan_order::contents_with` meets its contract: the four loops, one after another, make the order's body.
 use native.Mathlib.Omega.{arith}
 use Rattle.base_laws.specs.Below.{count-le}
-use Rattle.plan_order.specs.Orders.{carries}
+use Rattle.plan_order.specs.Definitions.{carries}
 use Rattle.plan_order.specs.Stores.{order-made}
 use borrow.Author.Needs.{needs}
 use Rattle.plan_order.proofs.contents_with.Statement.{statement}

@@ -3,8 +3,8 @@ use Prim.Native.Nat.{_≤_, _<_, _-_}
 use native.Mathlib.Omega.{arith}
 use mathlib.Core.Path.{_≡_}
 use borrow.Author.Needs.{needs}
-use Rattle.base_lent.specs.Lent.{wordsIn}
-use Rattle.settings_values.specs.Settings.{shards}
+use Rattle.base_lent.specs.Definitions.{wordsIn}
+use Rattle.settings_values.specs.Definitions.{shards}
 use Rattle.report_desk.specs.Bytes.{desk-bytes}
 use Rattle.plan_order.specs.CutTables.{cutsBelow, cuts-none, cuts-turn, cuts-all, cut-carried}
 use Rattle.plan_order.specs.Readable.{read-few}

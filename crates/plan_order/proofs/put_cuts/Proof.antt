@@ -4,7 +4,7 @@ use native.Mathlib.Omega.{arith}
 use mathlib.Core.Logic.{⊎-elim}
 use mathlib.Core.Path.{sym, _∙_}
 use borrow.Author.Needs.{needs}
-use Rattle.plan_order.specs.Orders.{isMember}
+use Rattle.plan_order.specs.Definitions.{isMember}
 use Rattle.plan_order.specs.Stores.{storeTabled, Storing, storing-start, storing-room, storing-end, storing-hit, storing-miss, record-hit, record-miss}
 use Rattle.plan_order.proofs.put_cuts.Statement.{statement}
 use Rattle.plan_order.proofs.put_cuts.Tie as tie

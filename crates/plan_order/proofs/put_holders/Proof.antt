@@ -4,8 +4,8 @@ use native.Mathlib.Omega.{arith}
 use mathlib.Core.Logic.{⊎-elim}
 use mathlib.Core.Path.{sym, _∙_}
 use borrow.Author.Needs.{needs}
-use Rattle.report_views.specs.Reports.{holderAt}
-use Rattle.plan_order.specs.Orders.{carries}
+use Rattle.report_views.specs.Definitions.{holderAt}
+use Rattle.plan_order.specs.Definitions.{carries}
 use Rattle.plan_order.specs.Stores.{storeHolder, Storing, storing-start, storing-room, storing-end, storing-hit, storing-miss, record-hit, record-miss}
 use Rattle.plan_order.proofs.put_holders.Statement.{statement}
 use Rattle.plan_order.proofs.put_holders.Tie as tie

@@ -2,7 +2,7 @@
 use borrow.Author.Needs.{needs}
 use mathlib.Core.Path.{sym, ap, _∙_}
 use mathlib.Core.Bool.{Bool, cond}
-use Rattle.base_laws.specs.Masks.{with}
+use Rattle.base_laws.specs.Definitions.{with}
 use Rattle.plan_page.proofs.added.Statement.{statement}
 use Rattle.plan_page.proofs.added.Tie as tie
 

@@ -1,6 +1,6 @@
 -- `plan_page::blank_page` meets its contract: field by field. Assumes nothing.
 use borrow.Author.Needs.{needs}
-use Rattle.plan_page.specs.Pages.{blankPage}
+use Rattle.plan_page.specs.Definitions.{blankPage}
 use Rattle.plan_page.proofs.blank_page.Statement.{statement}
 use Rattle.plan_page.proofs.blank_page.Tie as tie
 

@@ -6,8 +6,8 @@ use lib.ListN.{replicate}
 use borrow.Author.Needs.{needs}
 use Rattle.base_laws.specs.Tables.{filled, fill-start, fill-turn, fill-end}
 use Rattle.base_ids.specs.declared.Node.{Node}
-use Rattle.report_views.specs.Reports.{nodeAt}
-use Rattle.plan_page.specs.Pages.{shown, holderShown}
+use Rattle.report_views.specs.Definitions.{nodeAt}
+use Rattle.plan_page.specs.Definitions.{shown, holderShown}
 use Rattle.plan_page.proofs.holders_of.Statement.{statement}
 use Rattle.plan_page.proofs.holders_of.Tie as tie
 

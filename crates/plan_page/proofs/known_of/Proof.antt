@@ -4,9 +4,10 @@ use mathlib.Core.Path.{_≡_, sym, ap, _∙_}
 use native.Mathlib.Nat.{le-antisymm}
 use native.Mathlib.Omega.{arith}
 use borrow.Author.Needs.{needs}
-use Rattle.base_laws.specs.Picked.{maskBelow, mask-none}
-use Rattle.report_views.specs.Reports.{nodeAt}
-use Rattle.plan_page.specs.Pages.{shown}
+use Rattle.base_sum_laws.specs.Definitions.{maskBelow}
+use Rattle.base_sum_laws.specs.Picked.{mask-none}
+use Rattle.report_views.specs.Definitions.{nodeAt}
+use Rattle.plan_page.specs.Definitions.{shown}
 use Rattle.plan_page.specs.Turns.{mask-grown}
 use Rattle.plan_page.proofs.known_of.Statement.{statement}
 use Rattle.plan_page.proofs.known_of.Tie as tie

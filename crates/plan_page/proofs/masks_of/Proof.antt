@@ -5,7 +5,7 @@ use native.Mathlib.Omega.{arith}
 use lib.ListN.{replicate, getD}
 use borrow.Author.Needs.{needs}
 use Rattle.base_laws.specs.Tables.{filled, fill-start, fill-turn, fill-end}
-use Rattle.plan_page.specs.Pages.{maskShown}
+use Rattle.plan_page.specs.Definitions.{maskShown}
 use Rattle.plan_page.proofs.masks_of.Statement.{statement}
 use Rattle.plan_page.proofs.masks_of.Tie as tie
 

@@ -4,8 +4,9 @@ use mathlib.Core.Path.{_≡_, sym, ap, _∙_}
 use native.Mathlib.Nat.{le-antisymm}
 use native.Mathlib.Omega.{arith}
 use borrow.Author.Needs.{needs}
-use Rattle.base_laws.specs.Picked.{maskBelow, mask-none}
-use Rattle.place_groups.specs.Chosen.{ofGroup}
+use Rattle.base_sum_laws.specs.Definitions.{maskBelow}
+use Rattle.base_sum_laws.specs.Picked.{mask-none}
+use Rattle.place_groups.specs.Definitions.{ofGroup}
 use Rattle.plan_page.specs.Turns.{mask-grown}
 use Rattle.plan_page.proofs.shards_of.Statement.{statement}
 use Rattle.plan_page.proofs.shards_of.Tie as tie

@@ -5,9 +5,8 @@ use native.Mathlib.Omega.{arith}
 use lib.ListN.{replicate, getD}
 use borrow.Author.Needs.{needs}
 use Rattle.base_laws.specs.Tables.{filled, fill-start, fill-turn, fill-end}
-use Rattle.report_views.specs.Logs.{start}
-use Rattle.report_views.specs.Reports.{nodeAt}
-use Rattle.plan_page.specs.Pages.{shown, targetShown}
+use Rattle.report_views.specs.Definitions.{start, nodeAt}
+use Rattle.plan_page.specs.Definitions.{shown, targetShown}
 use Rattle.plan_page.proofs.targets_of.Statement.{statement}
 use Rattle.plan_page.proofs.targets_of.Tie as tie
 

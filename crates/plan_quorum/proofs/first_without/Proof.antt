@@ -7,9 +7,10 @@ use native.Mathlib.Omega.{arith}
 use lib.Dec.{eqb}
 use borrow.Author.Needs.{needs}
 use borrow.Author.Tests.{eq-eqb, ne-eqb}
-use Rattle.base_laws.specs.Below.{anyBelow, any-none, any-more, lowest-at, lowest-none}
+use Rattle.base_laws.specs.Definitions.{anyBelow}
+use Rattle.base_laws.specs.Below.{any-none, any-more, lowest-at, lowest-none}
 use Rattle.base_ids.specs.declared.Node.{Node}
-use Rattle.report_views.specs.Reports.{nodeAt}
+use Rattle.report_views.specs.Definitions.{nodeAt}
 use Rattle.plan_quorum.specs.Quorum.{firstWithout}
 use Rattle.plan_quorum.proofs.first_without.Statement.{statement}
 use Rattle.plan_quorum.proofs.first_without.Tie as tie

@@ -4,8 +4,8 @@ use mathlib.Core.Path.{sym, _∙_}
 use native.Mathlib.Omega.{arith}
 use borrow.Author.Needs.{needs}
 use borrow.Author.Tests.{not-true, not-false}
-use Rattle.base_laws.specs.Masks.{count}
-use Rattle.settings_values.specs.Settings.{least}
+use Rattle.base_laws.specs.Definitions.{count}
+use Rattle.settings_values.specs.Definitions.{least}
 use Rattle.plan_quorum.specs.Quorum.{quorum-view, quorum-most, quorum-few, quorum-holder, quorum-met}
 use Rattle.plan_quorum.proofs.quorum.Statement.{statement}
 use Rattle.plan_quorum.proofs.quorum.Tie as tie

@@ -2,7 +2,7 @@
 use mathlib.Core.Path.{refl, ap, _∙_}
 use native.Mathlib.Omega.{arith}
 use Rattle.message_format.specs.declared.Contents.{Contents}
-use Rattle.settings_values.specs.Settings.{shards}
+use Rattle.settings_values.specs.Definitions.{shards}
 use Rattle.plan_seen.specs.Nodes.{renewed-other}
 use Rattle.plan_seen.specs.Steps.{ends-told}
 use borrow.Author.Needs.{needs}

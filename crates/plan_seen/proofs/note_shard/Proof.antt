@@ -6,9 +6,9 @@ use mathlib.Core.Bool.{true}
 use mathlib.Core.List.{List}
 use lib.ListN.{getD}
 use Rattle.base_laws.specs.Bools.{and-fails-left}
-use Rattle.base_laws.specs.Masks.{has}
+use Rattle.base_laws.specs.Definitions.{has}
 use Rattle.report_views.specs.Numbers.{asNumber}
-use Rattle.report_views.specs.Reports.{endAt, maskAt}
+use Rattle.report_views.specs.Definitions.{endAt, maskAt}
 use Rattle.plan_seen.specs.Nodes.{eligible, renewed-not}
 use Rattle.plan_seen.specs.Steps.{shard-miss, shard-told, renewed-same}
 use borrow.Author.Needs.{needs}

@@ -3,7 +3,7 @@ use Prim.Native.Nat.{ℕ, _≤_, _-_, _<_, _+_, _*_, _/_, _%_}
 use mathlib.Core.Path.{_≡_, _∙_, subst}
 use native.Mathlib.Omega.{arith}
 use lib.ListN.{length, set, length-set, length-replicate}
-use Rattle.message_format.specs.Records.{tag, word1, word2}
+use Rattle.message_format.specs.Definitions.{tag, word1, word2}
 use Rattle.report_walk.specs.Updates.{RecordsAre}
 use Rattle.plan_seen.specs.Steps.{pairs-more}
 use borrow.Author.Needs.{needs}

@@ -5,7 +5,7 @@ use borrow.Author.Tests.{not-true, not-false}
 use Rattle.report_walk.specs.Pairs.{FitWords}
 use Rattle.plan_seen.specs.Fold.{holdersFrom, targetsFrom, holders-last, targets-last}
 use Rattle.plan_seen.specs.Sight.{seen-none, seen-all}
-use Rattle.base_lent.specs.Lent.{wordsIn}
+use Rattle.base_lent.specs.Definitions.{wordsIn}
 use Rattle.report_desk.specs.Bytes.{desk-length}
 use Rattle.plan_seen.specs.Bytes.{desk-words}
 use borrow.Author.Needs.{needs}

@@ -6,8 +6,7 @@ use mathlib.Core.List.{List}
 use lib.ListN.{replicate, getD}
 use Rattle.base_laws.specs.Tables.{filled, fill-start, fill-turn, filled-else}
 use Rattle.base_ids.specs.declared.Position.{Position}
-use Rattle.report_views.specs.Logs.{start}
-use Rattle.report_views.specs.Reports.{positionAt}
+use Rattle.report_views.specs.Definitions.{start, positionAt}
 use Rattle.report_views.specs.declared.Termination.{Termination}
 use Rattle.plan_seen.specs.Fold.{targetFrom, targetsFrom}
 use borrow.Author.Needs.{needs}

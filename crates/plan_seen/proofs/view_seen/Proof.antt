@@ -1,12 +1,12 @@
 -- `plan_seen::view_seen` meets its contract: the view that a node reported is word 1 of its slot.
 use mathlib.Core.Path.{sym, _∙_}
-use Rattle.base_lent.specs.Lent.{wordsIn}
+use Rattle.base_lent.specs.Definitions.{wordsIn}
 use Rattle.report_desk.specs.Bytes.{desk-length, desk-word}
 use native.Mathlib.Omega.{arith}
 use Prim.Native.Nat.{_+_, _*_}
 use borrow.Author.Needs.{needs}
 use borrow.Author.Tests.{not-true, not-false}
-use Rattle.report_ends.specs.Ends.{view-at}
+use Rattle.report_desk.specs.Ends.{view-at}
 use Rattle.plan_seen.specs.Sight.{view-unheld, view-held}
 use Rattle.plan_seen.proofs.view_seen.Statement.{statement}
 use Rattle.plan_seen.proofs.view_seen.Tie as tie

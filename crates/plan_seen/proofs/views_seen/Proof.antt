@@ -4,7 +4,7 @@ use mathlib.Core.Path.{_≡_, sym, ap, _∙_}
 use native.Mathlib.Omega.{arith}
 use Rattle.base_ids.specs.declared.View.{View}
 use lib.ListN.{replicate, length-replicate}
-use Rattle.base_lent.specs.Lent.{wordsIn}
+use Rattle.base_lent.specs.Definitions.{wordsIn}
 use borrow.Author.Needs.{needs}
 use Rattle.base_laws.specs.Tables.{filled, filled-none, filled-turn, filled-all}
 use Rattle.plan_seen.specs.Sight.{viewSeen, viewsSeen}

@@ -9,11 +9,11 @@ use mathlib.Core.Logic.{⊎-elim}
 use lib.ListN.{length-replicate}
 use Rattle.base_laws.specs.Below.{all-fails}
 use Rattle.base_laws.specs.Bools.{clash}
-use Rattle.settings_values.specs.Settings.{Settings, shards}
+use Rattle.settings_values.specs.Definitions.{Settings, shards}
 use Rattle.report_views.specs.declared.Layout.{Layout}
 use Rattle.report_views.specs.declared.Termination.{Termination}
-use Rattle.report_views.specs.Slots.{slotsOk}
-use Rattle.report_slots.specs.Desk.{nodeOk, held-ok}
+use Rattle.report_views.specs.Definitions.{slotsOk}
+use Rattle.report_desk.specs.SlotsOf.{nodeOk, held-ok}
 use Rattle.report_walk.specs.Pairs.{FitWords}
 use Rattle.report_walk.specs.Kept.{TablesOf}
 use Rattle.report_walk.specs.declared.Tables.{Tables}
@@ -22,7 +22,7 @@ use Rattle.plan_seen.specs.Fold.{SoFar}
 use Rattle.plan_seen.specs.Quick.{KeptAs, stepped-both}
 use Rattle.plan_seen.specs.Turns.{WalkedTo, pairs-long, walked-none, walked-unheld, walked-held, walked-as}
 use Rattle.base_laws.specs.Tables.{length-part}
-use Rattle.base_lent.specs.Lent.{wordsIn}
+use Rattle.base_lent.specs.Definitions.{wordsIn}
 use Rattle.report_desk.specs.Bytes.{desk-length}
 use Rattle.plan_seen.specs.Bytes.{desk-words, slot-pairs}
 use borrow.Author.Needs.{needs}

@@ -3,7 +3,8 @@ use Prim.Native.Nat.{ℕ, _+_, _*_, _≤_, _<_}
 use mathlib.Core.Path.{sym, ap, _∙_}
 use native.Mathlib.Omega.{arith}
 use borrow.Author.Needs.{needs}
-use Rattle.program_blocks.specs.Blocks.{blockCount, needed-few, needed-short, needed-long}
+use Rattle.program_blocks.specs.Definitions.{blockCount}
+use Rattle.program_blocks.specs.Blocks.{needed-few, needed-short, needed-long}
 use Rattle.program_blocks.proofs.needed.Statement.{statement}
 use Rattle.program_blocks.proofs.needed.Tie as tie
 

@@ -1,6 +1,6 @@
 -- `program_input::after_bytes` meets its contract. Assumes nothing.
 use borrow.Author.Tests.{ne-eqb}
-use Rattle.program_input.specs.Inputs.{afterBytes}
+use Rattle.program_input.specs.Definitions.{afterBytes}
 use Rattle.program_input.proofs.after_bytes.Statement.{statement}
 use Rattle.program_input.proofs.after_bytes.Tie as tie
 

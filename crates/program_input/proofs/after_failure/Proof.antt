@@ -1,5 +1,5 @@
 -- `program_input::after_failure` meets its contract. Assumes nothing.
-use Rattle.program_input.specs.Inputs.{afterFailure}
+use Rattle.program_input.specs.Definitions.{afterFailure}
 use Rattle.program_input.proofs.after_failure.Statement.{statement}
 use Rattle.program_input.proofs.after_failure.Tie as tie
 

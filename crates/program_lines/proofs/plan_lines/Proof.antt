@@ -2,7 +2,7 @@
 use Prim.Native.Nat.{zero-le}
 use borrow.Author.Needs.{needs}
 use Rattle.program_text.specs.Puts.{then-puts}
-use Rattle.program_lines.specs.Lines.{planLines}
+use Rattle.program_lines.specs.Definitions.{planLines}
 use Rattle.program_lines.proofs.plan_lines.Statement.{statement}
 use Rattle.program_lines.proofs.plan_lines.Tie as tie
 

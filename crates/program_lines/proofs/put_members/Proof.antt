@@ -3,8 +3,10 @@ use Prim.Native.Nat.{ℕ, _≤_, _-_}
 use mathlib.Core.Path.{ap}
 use native.Mathlib.Omega.{arith}
 use borrow.Author.Needs.{needs}
-use Rattle.program_text.specs.Puts.{Puts, puts-as, puts-none, then-puts}
-use Rattle.program_lines.specs.Members.{membersBelow, members-step}
+use Rattle.program_text.specs.Definitions.{Puts}
+use Rattle.program_text.specs.Puts.{puts-as, puts-none, then-puts}
+use Rattle.program_lines.specs.Definitions.{membersBelow}
+use Rattle.program_lines.specs.Members.{members-step}
 use Rattle.program_lines.proofs.put_members.Statement.{statement}
 use Rattle.program_lines.proofs.put_members.Tie as tie
 

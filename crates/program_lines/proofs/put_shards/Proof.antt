@@ -3,8 +3,10 @@ use Prim.Native.Nat.{_≤_, _-_}
 use mathlib.Core.Path.{ap}
 use native.Mathlib.Omega.{arith}
 use borrow.Author.Needs.{needs}
-use Rattle.program_text.specs.Puts.{Puts, puts-as, puts-none, then-puts}
-use Rattle.program_lines.specs.Lines.{shardLines, shards-step}
+use Rattle.program_text.specs.Definitions.{Puts}
+use Rattle.program_text.specs.Puts.{puts-as, puts-none, then-puts}
+use Rattle.program_lines.specs.Definitions.{shardLines}
+use Rattle.program_lines.specs.Lines.{shards-step}
 use Rattle.program_lines.proofs.put_shards.Statement.{statement}
 use Rattle.program_lines.proofs.put_shards.Tie as tie
 

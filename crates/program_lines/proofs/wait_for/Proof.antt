@@ -2,7 +2,7 @@
 use Prim.Native.Nat.{zero-le}
 use borrow.Author.Needs.{needs}
 use Rattle.program_text.specs.Puts.{then-puts}
-use Rattle.program_lines.specs.Lines.{waitFor}
+use Rattle.program_lines.specs.Definitions.{waitFor}
 use Rattle.program_lines.proofs.wait_for.Statement.{statement}
 use Rattle.program_lines.proofs.wait_for.Tie as tie
 

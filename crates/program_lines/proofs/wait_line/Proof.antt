@@ -2,8 +2,8 @@
 use mathlib.Core.Path.{ap}
 use borrow.Author.Needs.{needs}
 use Rattle.program_text.specs.Puts.{puts-as}
-use Rattle.report_views.specs.Quorums.{numberOf, valueOf}
-use Rattle.program_lines.specs.Lines.{waitLine}
+use Rattle.report_views.specs.Definitions.{numberOf, valueOf}
+use Rattle.program_lines.specs.Definitions.{waitLine}
 use Rattle.program_lines.proofs.wait_line.Statement.{statement}
 use Rattle.program_lines.proofs.wait_line.Tie as tie
 

@@ -2,7 +2,7 @@
 use mathlib.Core.Bool.{Bool, false, cond}
 use mathlib.Core.Path.{sym, ap, _∙_}
 use borrow.Author.Needs.{needs}
-use Rattle.program_input.specs.Inputs.{mayCome}
+use Rattle.program_input.specs.Definitions.{mayCome}
 use Rattle.program_reading.proofs.is_going_on.Statement.{statement}
 use Rattle.program_reading.proofs.is_going_on.Tie as tie
 

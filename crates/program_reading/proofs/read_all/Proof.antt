@@ -2,10 +2,11 @@
 use mathlib.Core.Path.{_≡_, refl, sym, _∙_}
 use lib.ListN.{length}
 use borrow.Author.Needs.{needs}
-use Rattle.base_lent.specs.Lent.{wordsIn}
-use Rattle.program_input.specs.Inputs.{mayCome, readsLeft, reads-fall}
-use Rattle.program_run.specs.Machine.{closedAt}
-use Rattle.program_reading.specs.Reading.{FedSoFar}
+use Rattle.base_lent.specs.Definitions.{wordsIn}
+use Rattle.program_input.specs.Definitions.{mayCome}
+use Rattle.program_input.specs.Inputs.{readsLeft, reads-fall}
+use Rattle.program_run.specs.Definitions.{closedAt}
+use Rattle.program_reading.specs.Definitions.{FedSoFar}
 use Rattle.program_reading.specs.Laws.{fed-first, fed-then, going-open}
 use Rattle.program_reading.proofs.read_all.Statement.{statement}
 use Rattle.program_reading.proofs.read_all.Tie as tie

@@ -1,6 +1,6 @@
 -- `program_sheet_text::put_count` meets its contract. Assumes nothing.
 use mathlib.Core.Path.{sym, ap}
-use Rattle.program_text.specs.Text.{field, space}
+use Rattle.program_text.specs.Definitions.{field, space}
 use Rattle.program_text.specs.Puts.{puts-as}
 use borrow.Author.Needs.{needs}
 use Rattle.program_sheet_text.proofs.put_count.Statement.{statement}

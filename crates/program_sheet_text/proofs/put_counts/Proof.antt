@@ -1,8 +1,8 @@
 -- `program_sheet_text::put_counts` meets its contract: one count after another, and a newline. Assumes nothing.
 use mathlib.Core.Path.{sym, ap}
-use Rattle.program_text.specs.Text.{decimal}
+use Rattle.program_text.specs.Definitions.{decimal}
 use Rattle.program_text.specs.Puts.{then-puts, puts-as}
-use Rattle.program_sheet_text.specs.Sheets.{countsLine}
+use Rattle.program_sheet_text.specs.Definitions.{countsLine}
 use borrow.Author.Needs.{needs}
 use Rattle.program_sheet_text.proofs.put_counts.Statement.{statement}
 use Rattle.program_sheet_text.proofs.put_counts.Tie as tie

@@ -1,6 +1,6 @@
 -- `program_sheet_text::put_row` meets its contract: the mask, and after it the number. Assumes nothing.
 use Rattle.program_text.specs.Puts.{then-puts}
-use Rattle.program_sheet_text.specs.Sheets.{maskLine}
+use Rattle.program_sheet_text.specs.Definitions.{maskLine}
 use borrow.Author.Needs.{needs}
 use Rattle.program_sheet_text.proofs.put_row.Statement.{statement}
 use Rattle.program_sheet_text.proofs.put_row.Tie as tie

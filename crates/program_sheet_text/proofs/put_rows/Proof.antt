@@ -3,8 +3,10 @@ use Prim.Native.Nat.{ℕ, _≤_, _-_, zero-le}
 use mathlib.Core.Path.{sym, ap}
 use native.Mathlib.Omega.{arith}
 use lib.ListN.{getD}
-use Rattle.program_text.specs.Puts.{Puts, puts-as, puts-none, then-puts}
-use Rattle.program_sheet_text.specs.Sheets.{maskLine, linesBelow}
+use Rattle.program_text.specs.Definitions.{Puts}
+use Rattle.program_text.specs.Puts.{puts-as, puts-none, then-puts}
+use Rattle.program_sheet_text.specs.Definitions.{maskLine}
+use Rattle.program_sheet_text.specs.Sheets.{linesBelow}
 use Rattle.program_sheet_text.specs.Laws.{lines-step}
 use borrow.Author.Needs.{needs}
 use Rattle.program_sheet_text.proofs.put_rows.Statement.{statement}

@@ -2,7 +2,7 @@
 use Prim.Native.Nat.{ℕ, _≤_, _-_}
 use mathlib.Core.Path.{_≡_, ap, _∙_}
 use native.Mathlib.Omega.{arith}
-use Rattle.program_sheet_text.specs.Sheets.{rowsWith}
+use Rattle.program_sheet_text.specs.Definitions.{rowsWith}
 use Rattle.program_sheet_text.specs.Laws.{rows-turn, rows-none, rows-le}
 use borrow.Author.Needs.{needs}
 use Rattle.program_sheet_text.proofs.rows_with.Statement.{statement}

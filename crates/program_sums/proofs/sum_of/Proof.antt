@@ -5,7 +5,8 @@ use native.Mathlib.Omega.{arith}
 use lib.ListN.{length, take, drop, length-take}
 use lib.Seq.{take-all}
 use borrow.Author.Needs.{needs}
-use Rattle.program_sums.specs.Sums.{sumOf, sum-part}
+use Rattle.program_sums.specs.Definitions.{sumOf}
+use Rattle.program_sums.specs.Sums.{sum-part}
 use Rattle.program_sums.proofs.sum_of.Statement.{statement}
 use Rattle.program_sums.proofs.sum_of.Tie as tie
 

@@ -5,7 +5,8 @@ use native.Mathlib.Omega.{arith}
 use lib.ListN.{length, take}
 use lib.Seq.{take-all}
 use borrow.Author.Needs.{needs}
-use Rattle.program_sums.specs.Sums.{sumOf, sum-turn}
+use Rattle.program_sums.specs.Definitions.{sumOf}
+use Rattle.program_sums.specs.Sums.{sum-turn}
 use Rattle.program_sums.proofs.sum_of_few.Statement.{statement}
 use Rattle.program_sums.proofs.sum_of_few.Tie as tie
 

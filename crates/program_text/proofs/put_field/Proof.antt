@@ -1,7 +1,7 @@
 -- `program_text::put_field` meets its contract: the label, and after it the number. Assumes nothing.
 use borrow.Author.Needs.{needs}
 use Rattle.program_text.specs.Puts.{then-puts}
-use Rattle.program_text.specs.Text.{field}
+use Rattle.program_text.specs.Definitions.{field}
 use Rattle.program_text.proofs.put_field.Statement.{statement}
 use Rattle.program_text.proofs.put_field.Tie as tie
 

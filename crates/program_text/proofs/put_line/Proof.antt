@@ -1,7 +1,7 @@
 -- `program_text::put_line` meets its contract: the field, and after it a newline. Assumes nothing.
 use borrow.Author.Needs.{needs}
 use Rattle.program_text.specs.Puts.{then-puts}
-use Rattle.program_text.specs.Text.{line}
+use Rattle.program_text.specs.Definitions.{line}
 use Rattle.program_text.proofs.put_line.Statement.{statement}
 use Rattle.program_text.proofs.put_line.Tie as tie
 

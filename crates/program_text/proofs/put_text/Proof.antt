@@ -2,7 +2,8 @@
 use Prim.Native.Nat.{_≤_, _-_}
 use lib.ListN.{length, take}
 use borrow.Author.Needs.{needs}
-use Rattle.program_text.specs.Puts.{Puts, puts-none, puts-more, puts-all}
+use Rattle.program_text.specs.Definitions.{Puts}
+use Rattle.program_text.specs.Puts.{puts-none, puts-more, puts-all}
 use Rattle.program_text.proofs.put_text.Statement.{statement}
 use Rattle.program_text.proofs.put_text.Tie as tie
 

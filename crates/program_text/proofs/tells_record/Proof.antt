@@ -1,6 +1,6 @@
 -- `program_text::tells_record` meets its contract: one number after another. Assumes nothing.
 use borrow.Author.Tests.{eq-eqb, ne-eqb}
-use Rattle.base_ids.specs.Refusals.{located}
+use Rattle.base_ids.specs.Definitions.{located}
 use Rattle.program_text.proofs.tells_record.Statement.{statement}
 use Rattle.program_text.proofs.tells_record.Tie as tie
 

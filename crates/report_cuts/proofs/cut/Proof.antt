@@ -6,15 +6,14 @@ use mathlib.Core.Path.{_≡_, sym, _∙_}
 use native.Mathlib.Omega.{arith}
 use borrow.Author.Needs.{needs}
 use borrow.Author.Tests.{not-true, not-false}
-use Rattle.report_views.specs.Logs.{run}
-use Rattle.report_views.specs.Cuts.{cutFrom}
+use Rattle.report_views.specs.Definitions.{isRun, cutFrom}
 use Rattle.report_cuts.specs.Walks.{cutAfter, walk-starts, walk-ends, walk-holder-ends, walk-stops, walk-goes}
 use Rattle.report_cuts.proofs.cut.Statement.{statement}
 use Rattle.report_cuts.proofs.cut.Tie as tie
 
 abbrev Inv-loop : tie.InvT-loop
-Inv-loop body len holder hlen s t a₀ i₀ j₀ a i j = (i ≤ len) × (j ≤ hlen) × (i < len → run body (s .0) i ≡ true)
-    × (j < hlen → run holder (s .0) j ≡ true) × (cutFrom body len holder hlen (s .0) t ≡ cutAfter body len holder hlen (s .0) t a i j)
+Inv-loop body len holder hlen s t a₀ i₀ j₀ a i j = (i ≤ len) × (j ≤ hlen) × (i < len → isRun body (s .0) i ≡ true)
+    × (j < hlen → isRun holder (s .0) j ≡ true) × (cutFrom body len holder hlen (s .0) t ≡ cutAfter body len holder hlen (s .0) t a i j)
 
 abbrev μ-loop : tie.MeasureT-loop
 μ-loop body len holder hlen s t a₀ i₀ j₀ a i j = len - i

@@ -3,7 +3,7 @@ use Prim.Native.Nat.{ℕ, _≤_, _-_}
 use mathlib.Core.Path.{_≡_, refl, sym, _∙_, subst}
 use native.Mathlib.Omega.{arith}
 use borrow.Author.Needs.{needs}
-use Rattle.report_views.specs.Logs.{runsFrom}
+use Rattle.report_views.specs.Definitions.{runsFrom}
 use Rattle.report_cuts.specs.Walks.{pass-over}
 use Rattle.report_cuts.proofs.next_run.Statement.{statement}
 use Rattle.report_cuts.proofs.next_run.Tie as tie

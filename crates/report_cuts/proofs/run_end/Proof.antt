@@ -2,7 +2,7 @@
 use Prim.Native.Nat.{ℕ}
 use mathlib.Core.Path.{ap₂}
 use borrow.Author.Needs.{needs}
-use Rattle.report_views.specs.Logs.{pos}
+use Rattle.report_views.specs.Definitions.{pos}
 use Rattle.report_cuts.proofs.run_end.Statement.{statement}
 use Rattle.report_cuts.proofs.run_end.Tie as tie
 

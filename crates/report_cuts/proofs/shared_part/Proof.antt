@@ -2,7 +2,7 @@
 use Prim.Native.Nat.{ℕ, min}
 use mathlib.Core.Path.{ap, _∙_}
 use borrow.Author.Needs.{needs}
-use Rattle.report_views.specs.Logs.{pos}
+use Rattle.report_views.specs.Definitions.{pos}
 use Rattle.report_cuts.specs.Walks.{part-apart, part-earlier, part-later, part-none, part-target}
 use Rattle.report_cuts.proofs.shared_part.Statement.{statement}
 use Rattle.report_cuts.proofs.shared_part.Tie as tie

@@ -4,13 +4,14 @@ use native.Mathlib.Omega.{arith}
 use mathlib.Core.Path.{sym, _∙_}
 use lib.ListN.{length, length-take}
 use borrow.Author.Needs.{needs}
-use Rattle.base_bytes.specs.Words.{bytesOf, length-bytes}
-use Rattle.report_desk.specs.Bytes.{Copied, copied-front, copied-zero, copied-all}
+use Rattle.base_bytes.specs.Definitions.{bytesOf}
+use Rattle.base_bytes.specs.Words.{length-bytes}
+use Rattle.report_desk.specs.Bytes.{CopiedSoFar, copied-front, copied-zero, copied-all}
 use Rattle.report_desk.proofs.copy.Statement.{statement}
 use Rattle.report_desk.proofs.copy.Tie as tie
 
 abbrev Inv-loop : tie.InvT-loop
-Inv-loop slot₀ message k₀ slot k = (4 * length message ≤ k) × (k ≤ 2048) × Copied (bytesOf message) slot k
+Inv-loop slot₀ message k₀ slot k = (4 * length message ≤ k) × (k ≤ 2048) × CopiedSoFar (bytesOf message) slot k
 
 abbrev μ-loop : tie.MeasureT-loop
 μ-loop slot₀ message k₀ slot k = 2048 - k

@@ -2,9 +2,9 @@
 use mathlib.Core.Path.{sym}
 use borrow.Author.Needs.{needs}
 use borrow.Author.Tests.{not-true, not-false}
-use Rattle.base_ids.specs.Refusals.{unless}
-use Rattle.report_latest.specs.Remembered.{row18}
-use Rattle.report_kept.specs.Reports.{keptRefusal}
+use Rattle.base_ids.specs.Definitions.{unless}
+use Rattle.report_rows.specs.Definitions.{row18}
+use Rattle.report_kept.specs.Definitions.{keptRefusal}
 use Rattle.report_kept.proofs.kept_refusal.Statement.{statement}
 use Rattle.report_kept.proofs.kept_refusal.Tie as tie
 

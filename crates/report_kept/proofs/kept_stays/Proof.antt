@@ -4,7 +4,7 @@ use mathlib.Core.List.{List}
 use mathlib.Core.Path.{ap, _∙_}
 use borrow.Author.Needs.{needs}
 use Rattle.base_ids.specs.declared.Position.{Position}
-use Rattle.base_ids.specs.Refusals.{none}
+use Rattle.base_ids.specs.Definitions.{none}
 use Rattle.report_views.specs.declared.Termination.{Termination}
 use Rattle.report_kept.specs.Words.{madeFirst}
 use Rattle.report_kept.proofs.kept_stays.Statement.{statement}

@@ -5,7 +5,7 @@ use native.Mathlib.Omega.{arith}
 use lib.ListN.{replicate}
 use borrow.Author.Needs.{needs}
 use Rattle.base_laws.specs.Tables.{filled, fill-start, fill-turn, fill-end}
-use Rattle.report_views.specs.Logs.{start}
+use Rattle.report_views.specs.Definitions.{start}
 use Rattle.report_kept.specs.Words.{positionIn, positionsIn}
 use Rattle.report_kept.proofs.positions_in.Statement.{statement}
 use Rattle.report_kept.proofs.positions_in.Tie as tie

@@ -1,7 +1,7 @@
 -- `report_kept::renew` meets its contract: a greater view, an equal one, and a smaller one. Assumes nothing.
 use mathlib.Core.Path.{ap, ap₂, _∙_}
 use borrow.Author.Needs.{needs}
-use Rattle.report_kept.specs.Reports.{keeps}
+use Rattle.report_kept.specs.Definitions.{keeps}
 use Rattle.report_kept.specs.Words.{madeFirst}
 use Rattle.report_kept.specs.Laws.{renewed-greater, renewed-equal, renewed-smaller}
 use Rattle.report_kept.proofs.renew.Statement.{statement}

@@ -7,7 +7,7 @@ use lib.ListN.{getD}
 use borrow.Author.Needs.{needs}
 use Rattle.base_laws.specs.Bools.{of-not-false}
 use Rattle.base_ids.specs.declared.View.{View}
-use Rattle.report_latest.specs.Remembered.{latestAt}
+use Rattle.report_rows.specs.Definitions.{latestAt}
 use Rattle.report_kept.specs.AtOnce.{taken-at-once}
 use Rattle.report_kept.proofs.taken_at_once.Statement.{statement}
 use Rattle.report_kept.proofs.taken_at_once.Tie as tie

@@ -4,8 +4,8 @@ use native.Mathlib.Omega.{arith}
 use mathlib.Core.Path.{sym, _∙_}
 use borrow.Author.Tests.{lt-ltb}
 use lib.ListN.{getD}
-use Rattle.settings_values.specs.Settings.{nodes}
-use Rattle.message_format.specs.Rows.{row6}
+use Rattle.settings_values.specs.Definitions.{nodes}
+use Rattle.message_format.specs.Definitions.{row6}
 use borrow.Author.Needs.{needs}
 use Rattle.report_quick.proofs.head_told.Statement.{statement}
 use Rattle.report_quick.proofs.head_told.Tie as tie

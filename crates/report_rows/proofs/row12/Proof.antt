@@ -2,7 +2,7 @@
 use mathlib.Core.Path.{sym, _∙_}
 use borrow.Author.Needs.{needs}
 use borrow.Author.Tests.{not-true, not-false}
-use Rattle.report_views.specs.Slots.{row12}
+use Rattle.report_views.specs.Definitions.{row12}
 use Rattle.base_laws.specs.Bools.{unasked, asked}
 use Rattle.report_rows.proofs.row12.Statement.{statement}
 use Rattle.report_rows.proofs.row12.Tie as tie

@@ -3,7 +3,7 @@ use mathlib.Core.Path.{sym, _∙_}
 use borrow.Author.Needs.{needs}
 use borrow.Author.Tests.{not-true, not-false}
 use Rattle.base_laws.specs.Bools.{and-both, and-fails-left, unasked, asked}
-use Rattle.report_views.specs.Slots.{row13}
+use Rattle.report_views.specs.Definitions.{row13}
 use Rattle.report_rows.specs.Comparisons.{row13-unmade}
 use Rattle.report_rows.proofs.row13.Statement.{statement}
 use Rattle.report_rows.proofs.row13.Tie as tie

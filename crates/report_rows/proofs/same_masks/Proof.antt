@@ -8,8 +8,9 @@ use lib.Dec.{eqb}
 use lib.ListN.{getD}
 use borrow.Author.Needs.{needs}
 use borrow.Author.Tests.{eq-eqb, ne-eqb}
-use Rattle.base_laws.specs.Below.{allBelow, all-none, all-more, all-fails}
-use Rattle.message_format.specs.Records.{membersOf}
+use Rattle.base_laws.specs.Definitions.{allBelow}
+use Rattle.base_laws.specs.Below.{all-none, all-more, all-fails}
+use Rattle.message_format.specs.Definitions.{membersOf}
 use Rattle.report_rows.specs.Comparisons.{masksSame}
 use Rattle.report_rows.proofs.same_masks.Statement.{statement}
 use Rattle.report_rows.proofs.same_masks.Tie as tie

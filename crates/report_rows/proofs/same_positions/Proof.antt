@@ -7,9 +7,10 @@ use native.Mathlib.Omega.{arith}
 use lib.ListN.{getD}
 use borrow.Author.Needs.{needs}
 use borrow.Author.Tests.{not-true, not-false}
-use Rattle.base_laws.specs.Below.{allBelow, all-none, all-more, all-fails}
+use Rattle.base_laws.specs.Definitions.{allBelow}
+use Rattle.base_laws.specs.Below.{all-none, all-more, all-fails}
 use Rattle.base_ids.specs.declared.Position.{Position}
-use Rattle.report_views.specs.Logs.{start}
+use Rattle.report_views.specs.Definitions.{start}
 use Rattle.report_rows.specs.Comparisons.{recordSame, positionsSame}
 use Rattle.report_rows.proofs.same_positions.Statement.{statement}
 use Rattle.report_rows.proofs.same_positions.Tie as tie

@@ -2,7 +2,7 @@
 use mathlib.Core.Path.{sym, _∙_}
 use borrow.Author.Needs.{needs}
 use borrow.Author.Tests.{not-true, not-false}
-use Rattle.report_views.specs.Slots.{termKept}
+use Rattle.report_views.specs.Definitions.{termKept}
 use Rattle.base_laws.specs.Bools.{unasked, asked}
 use Rattle.report_rows.proofs.term_kept.Statement.{statement}
 use Rattle.report_rows.proofs.term_kept.Tie as tie

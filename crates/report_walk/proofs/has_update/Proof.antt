@@ -3,7 +3,8 @@ use Prim.Native.Nat.{ℕ, _≤_, _-_, _+_, _*_, _%_}
 use mathlib.Core.Bool.{true, false}
 use mathlib.Core.Path.{_≡_, sym, ap, _∙_}
 use native.Mathlib.Omega.{arith}
-use Rattle.base_laws.specs.Below.{anyBelow, any-none, any-more, any-at}
+use Rattle.base_laws.specs.Definitions.{anyBelow}
+use Rattle.base_laws.specs.Below.{any-none, any-more, any-at}
 use Rattle.report_walk.specs.Updates.{runHas, update-start, update-no-place, update-found}
 use borrow.Author.Needs.{needs}
 use Rattle.report_walk.proofs.has_update.Statement.{statement}

@@ -1,5 +1,5 @@
 -- `report_walk::position_legal` meets its contract.
-use Rattle.report_views.specs.Soundness.{positionSound}
+use Rattle.report_views.specs.Definitions.{positionSound}
 use mathlib.Core.Path.{sym}
 use borrow.Author.Tests.{not-true, not-false}
 use borrow.Author.Needs.{needs}

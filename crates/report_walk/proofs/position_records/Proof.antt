@@ -5,7 +5,7 @@ use mathlib.Core.Path.{_≡_, sym, _∙_, subst}
 use native.Mathlib.Omega.{arith}
 use lib.ListN.{length, getD, set, length-set}
 use Rattle.base_laws.specs.Bools.{eq-or-ne}
-use Rattle.report_views.specs.Logs.{start}
+use Rattle.report_views.specs.Definitions.{start}
 use Rattle.report_walk.specs.Seen.{records-turn}
 use borrow.Author.Needs.{needs}
 use Rattle.report_walk.proofs.position_records.Statement.{statement}

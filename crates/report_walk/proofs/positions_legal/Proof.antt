@@ -6,10 +6,10 @@ use mathlib.Core.Path.{_≡_, sym, _∙_}
 use native.Mathlib.Omega.{arith}
 use lib.ListN.{getD}
 use borrow.Author.Tests.{not-true, not-false}
-use Rattle.base_laws.specs.Below.{allBelow, all-none, all-more, all-fails, all-fewer}
+use Rattle.base_laws.specs.Definitions.{allBelow}
+use Rattle.base_laws.specs.Below.{all-none, all-more, all-fails, all-fewer}
 use Rattle.base_ids.specs.declared.Position.{Position}
-use Rattle.report_views.specs.Logs.{start}
-use Rattle.report_views.specs.Soundness.{positionSound}
+use Rattle.report_views.specs.Definitions.{start, positionSound}
 use borrow.Author.Needs.{needs}
 use Rattle.report_walk.proofs.positions_legal.Statement.{statement}
 use Rattle.report_walk.proofs.positions_legal.Tie as tie

@@ -3,7 +3,7 @@ use Prim.Native.Nat.{ℕ}
 use mathlib.Core.Bool.{true}
 use mathlib.Core.Path.{_≡_, sym, _∙_, subst}
 use borrow.Author.Tests.{not-true, not-false}
-use Rattle.base_laws.specs.Masks.{within}
+use Rattle.base_laws.specs.Definitions.{within}
 use Rattle.report_walk.specs.Kept.{readyOf, ready-by}
 use borrow.Author.Needs.{needs}
 use Rattle.report_walk.proofs.ready.Statement.{statement}

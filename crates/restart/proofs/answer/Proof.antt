@@ -5,7 +5,7 @@ use mathlib.Core.Path.{_≡_, sym, _∙_}
 use native.Mathlib.Omega.{arith}
 use lib.ListN.{length}
 use borrow.Author.Needs.{needs}
-use Rattle.program_run.specs.Runs.{Printed}
+use Rattle.program_run.specs.Definitions.{Printed}
 use Rattle.program_run.specs.Whole.{writes-printed}
 use Rattle.program_reading.specs.Laws.{answers-none, answers-by, empty-desk}
 use Rattle.restart.proofs.answer.Statement.{statement}

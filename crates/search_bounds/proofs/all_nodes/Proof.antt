@@ -4,7 +4,8 @@ use Prim.Native.Nat.{_≤_, _-_, _*_}
 use mathlib.Core.Path.{_≡_, sym}
 use native.Mathlib.Omega.{arith}
 use lib.ListN.{getD}
-use Rattle.base_sums.specs.Sums.{sumBelow, sum-zero, sum-turn, sum-done}
+use Rattle.base_sum_laws.specs.Definitions.{sumBelow}
+use Rattle.base_sum_laws.specs.Sums.{sum-zero, sum-turn, sum-done}
 use Rattle.search_bounds.proofs.all_nodes.Statement.{statement}
 use Rattle.search_bounds.proofs.all_nodes.Tie as tie
 

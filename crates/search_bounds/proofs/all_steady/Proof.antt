@@ -6,9 +6,10 @@ use mathlib.Core.Bool.{true}
 use mathlib.Core.List.{[]}
 use native.Mathlib.Omega.{arith}
 use borrow.Author.Tests.{not-true, not-false}
-use Rattle.base_laws.specs.Below.{allBelow, all-none, all-more, all-fails}
+use Rattle.base_laws.specs.Definitions.{allBelow}
+use Rattle.base_laws.specs.Below.{all-none, all-more, all-fails}
 use Rattle.base_laws.specs.Loops.{all-done}
-use Rattle.search_theory.specs.Tables.{caseOf, ownersOf}
+use Rattle.search_laws.specs.Tables.{caseOf, ownersOf}
 use Rattle.search_bounds.specs.Post.{steady, weightsOf}
 use Rattle.search_bounds.proofs.all_steady.Statement.{statement}
 use Rattle.search_bounds.proofs.all_steady.Tie as tie

@@ -6,8 +6,8 @@ use native.Mathlib.Nat.{le-antisymm}
 use native.Mathlib.Omega.{arith}
 use borrow.Author.Tests.{not-false}
 use Rattle.base_laws.specs.Bools.{clash}
-use Rattle.search_theory.specs.Tables.{caseOf, ownersOf}
-use Rattle.search_theory.specs.Duality.{gain, toll}
+use Rattle.search_laws.specs.Tables.{caseOf, ownersOf}
+use Rattle.search_laws.specs.Duality.{gain, toll}
 use Rattle.search_bounds.specs.Post.{weightsOf}
 use Rattle.search_bounds.specs.Rows.{RowsPassed, rows-none, rows-more, modest-of, sound-by}
 use Rattle.search_bounds.proofs.cut.Statement.{statement}

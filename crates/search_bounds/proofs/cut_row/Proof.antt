@@ -1,7 +1,7 @@
 -- The row is sifted by the limits that the weights give. Assumes nothing.
 use borrow.Author.Needs.{needs}
 use mathlib.Core.List.{[]}
-use Rattle.search_theory.specs.Tables.{caseOf}
+use Rattle.search_laws.specs.Tables.{caseOf}
 use Rattle.search_bounds.specs.Post.{weightsOf}
 use Rattle.search_bounds.specs.Rows.{row-cut}
 use Rattle.search_bounds.proofs.cut_row.Statement.{statement}

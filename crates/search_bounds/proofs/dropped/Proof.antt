@@ -2,7 +2,7 @@
 use borrow.Author.Needs.{needs}
 use mathlib.Core.Path.{sym, ap, _∙_}
 use mathlib.Core.Bool.{Bool, cond}
-use Rattle.base_laws.specs.Masks.{without}
+use Rattle.base_laws.specs.Definitions.{without}
 use Rattle.search_bounds.proofs.dropped.Statement.{statement}
 use Rattle.search_bounds.proofs.dropped.Tie as tie
 

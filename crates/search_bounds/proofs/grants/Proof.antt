@@ -1,10 +1,10 @@
 -- The base of 32 nodes is 524288. Assumes nothing.
 use borrow.Author.Needs.{needs}
 use native.Mathlib.Omega.{arith}
-use Rattle.base_sums.specs.Sums.{sum-const}
+use Rattle.base_sum_laws.specs.Sums.{sum-const}
 use Rattle.search_bounds.proofs.grants.Statement.{statement}
 use Rattle.search_bounds.proofs.grants.Tie as tie
-use Rattle.search_theory.specs.Duality.{gain}
+use Rattle.search_laws.specs.Duality.{gain}
 
 returns : tie.Need-returns
 unfolding gain

@@ -8,8 +8,9 @@ use native.Mathlib.Nat.{le-antisymm}
 use native.Mathlib.Omega.{arith}
 use lib.Dec.{ltb}
 use lib.ListN.{getD}
-use Rattle.base_laws.specs.Masks.{with}
-use Rattle.base_laws.specs.Picked.{maskBelow, mask-none, mask-turn}
+use Rattle.base_laws.specs.Definitions.{with}
+use Rattle.base_sum_laws.specs.Definitions.{maskBelow}
+use Rattle.base_sum_laws.specs.Picked.{mask-none, mask-turn}
 use Rattle.search_bounds.proofs.must.Statement.{statement}
 use Rattle.search_bounds.proofs.must.Tie as tie
 

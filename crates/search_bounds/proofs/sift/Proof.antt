@@ -7,7 +7,8 @@ use mathlib.Core.List.{List}
 use native.Mathlib.Omega.{arith}
 use borrow.Author.Tests.{ltb-true}
 use lib.ListN.{getD}
-use Rattle.base_laws.specs.Masks.{count, count-cleared}
+use Rattle.base_laws.specs.Definitions.{count}
+use Rattle.base_laws.specs.Masks.{count-cleared}
 use Rattle.search_bounds.specs.Rows.{Sifting, sift-start, sift-turn, sift-end}
 use Rattle.search_bounds.proofs.sift.Statement.{statement}
 use Rattle.search_bounds.proofs.sift.Tie as tie

@@ -3,7 +3,7 @@ use borrow.Author.Needs.{needs}
 use mathlib.Core.List.{[]}
 use Prim.Native.Nat.{_+_}
 use native.Mathlib.Omega.{arith}
-use Rattle.search_theory.specs.Tables.{caseOf, ownersOf}
+use Rattle.search_laws.specs.Tables.{caseOf, ownersOf}
 use Rattle.search_bounds.specs.Post.{weightsOf, steady-there, steady-nowhere}
 use Rattle.search_bounds.proofs.steady.Statement.{statement}
 use Rattle.search_bounds.proofs.steady.Tie as tie

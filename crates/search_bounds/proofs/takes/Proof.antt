@@ -3,7 +3,7 @@ use borrow.Author.Needs.{needs}
 use native.Mathlib.Omega.{arith}
 use Rattle.search_bounds.proofs.takes.Statement.{statement}
 use Rattle.search_bounds.proofs.takes.Tie as tie
-use Rattle.search_theory.specs.Duality.{toll}
+use Rattle.search_laws.specs.Duality.{toll}
 
 returns : tie.Need-returns
 unfolding toll

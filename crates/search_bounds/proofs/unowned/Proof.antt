@@ -8,7 +8,8 @@ use native.Mathlib.Nat.{le-antisymm}
 use native.Mathlib.Omega.{arith}
 use lib.Dec.{leb}
 use lib.ListN.{getD}
-use Rattle.base_laws.specs.Picked.{maskBelow, mask-none, mask-turn}
+use Rattle.base_sum_laws.specs.Definitions.{maskBelow}
+use Rattle.base_sum_laws.specs.Picked.{mask-none, mask-turn}
 use Rattle.search_bounds.proofs.unowned.Statement.{statement}
 use Rattle.search_bounds.proofs.unowned.Tie as tie
 

@@ -4,8 +4,8 @@ use mathlib.Core.Path.{subst}
 use native.Mathlib.Omega.{arith}
 use borrow.Author.Tests.{not-false}
 use Rattle.base_laws.specs.Bools.{clash}
-use Rattle.search_theory.specs.Least.{AtLeast, none-above}
-use Rattle.search_theory.specs.Tables.{caseOf}
+use Rattle.search_laws.specs.Least.{AtLeast, none-above}
+use Rattle.search_laws.specs.Tables.{caseOf}
 use Rattle.search_total.specs.Answers.{ready-blank, least-found, least-none}
 use Rattle.search_hinted.specs.Stage.{stage-cut}
 use Rattle.search_hinted.specs.Post.{stage-start, at-least}

@@ -5,7 +5,7 @@ use mathlib.Core.Path.{refl, sym, _∙_, subst₂}
 use mathlib.Core.List.{List}
 use native.Mathlib.Omega.{arith}
 use borrow.Author.Tests.{not-true}
-use Rattle.search_theory.specs.Tables.{caseOf}
+use Rattle.search_laws.specs.Tables.{caseOf}
 use Rattle.search_hinted.specs.Stage.{Moved, stage-shut, stage-owned, advance-leave, advance-take, moved-next, moved-passed}
 use Rattle.search_hinted.proofs.decided.Statement.{statement}
 use Rattle.search_hinted.proofs.decided.Tie as tie

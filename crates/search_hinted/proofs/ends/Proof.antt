@@ -3,9 +3,9 @@ use borrow.Author.Needs.{needs}
 use Prim.Native.Nat.{ℕ, _/_}
 use mathlib.Core.Path.{subst}
 use native.Mathlib.Omega.{arith}
-use Rattle.search_theory.specs.Case.{spread, meets}
-use Rattle.search_theory.specs.Tests.{none-thin}
-use Rattle.search_theory.specs.Tables.{caseOf, ownersOf}
+use Rattle.search_laws.specs.Case.{spread, meets}
+use Rattle.search_laws.specs.Tests.{none-thin}
+use Rattle.search_laws.specs.Tables.{caseOf, ownersOf}
 use Rattle.search_hinted.specs.Stage.{Exceeded, stage-close, stage-none, stage-only-here, begun-at}
 use Rattle.search_hinted.proofs.ends.Statement.{statement}
 use Rattle.search_hinted.proofs.ends.Tie as tie

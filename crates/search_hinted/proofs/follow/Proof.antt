@@ -3,8 +3,8 @@ use borrow.Author.Needs.{needs}
 use Prim.Native.Nat.{_≤_, _-_}
 use native.Mathlib.Omega.{arith}
 use Rattle.base_laws.specs.Bools.{clash}
-use Rattle.search_theory.specs.Case.{weight}
-use Rattle.search_theory.specs.Tables.{caseOf}
+use Rattle.search_laws.specs.Case.{weight}
+use Rattle.search_laws.specs.Tables.{caseOf}
 use Rattle.search_hinted.specs.Post.{Sure, sure-start, sure-next, found-end}
 use Rattle.search_hinted.proofs.follow.Statement.{statement}
 use Rattle.search_hinted.proofs.follow.Tie as tie

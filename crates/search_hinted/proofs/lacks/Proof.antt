@@ -5,8 +5,8 @@ use mathlib.Core.Bool.{false≢true}
 use mathlib.Core.List.{[]}
 use native.Mathlib.Omega.{arith}
 use borrow.Author.Tests.{ltb-true}
-use Rattle.search_theory.specs.Tables.{caseOf, ownersOf}
-use Rattle.search_theory.specs.Ranks.{spread-size}
+use Rattle.search_laws.specs.Tables.{caseOf, ownersOf}
+use Rattle.search_laws.specs.Ranks.{spread-size}
 use Rattle.search_hinted.specs.Stage.{few-nodes}
 use Rattle.search_hinted.proofs.lacks.Statement.{statement}
 use Rattle.search_hinted.proofs.lacks.Tie as tie

@@ -4,7 +4,7 @@ use Prim.Native.Nat.{_+_, _/_}
 use mathlib.Core.Path.{refl, sym, _∙_}
 use mathlib.Core.Logic.{inl, inr}
 use borrow.Author.Tests.{eqb-true}
-use Rattle.search_theory.specs.Order.{shardEnd}
+use Rattle.search_laws.specs.Order.{shardEnd}
 use Rattle.search_hinted.proofs.passed.Statement.{statement}
 use Rattle.search_hinted.proofs.passed.Tie as tie
 

@@ -3,7 +3,7 @@ use borrow.Author.Needs.{needs}
 use mathlib.Core.Path.{sym, _∙_}
 use borrow.Author.Tests.{not-false}
 use Rattle.base_laws.specs.Bools.{clash}
-use Rattle.search_theory.specs.Floor.{shortAt, tooFew, sheet-none}
+use Rattle.search_laws.specs.Floor.{shortAt, tooFew, sheet-none}
 use Rattle.search_total.specs.Answers.{least-none}
 use Rattle.search_hinted.proofs.quick_least.Statement.{statement}
 use Rattle.search_hinted.proofs.quick_least.Tie as tie

@@ -6,12 +6,13 @@ use mathlib.Core.Bool.{true}
 use mathlib.Core.List.{[]}
 use native.Mathlib.Omega.{arith}
 use borrow.Author.Tests.{not-true, not-false}
-use Rattle.search_theory.specs.Tables.{caseOf, ownersOf}
+use Rattle.search_laws.specs.Tables.{caseOf, ownersOf}
 use Rattle.search_judge.proofs.filled.Statement.{statement}
 use Rattle.search_judge.proofs.filled.Tie as tie
-use Rattle.base_laws.specs.Below.{allBelow, all-none, all-more, all-fails}
+use Rattle.base_laws.specs.Definitions.{allBelow}
+use Rattle.base_laws.specs.Below.{all-none, all-more, all-fails}
 use Rattle.base_laws.specs.Loops.{all-done}
-use Rattle.search_theory.specs.Tests.{needsMet}
+use Rattle.search_laws.specs.Tests.{needsMet}
 use Rattle.search_judge.specs.Owners.{OwnersHeld}
 
 abbrev Inv-loop : tie.InvT-loop

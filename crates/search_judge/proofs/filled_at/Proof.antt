@@ -2,9 +2,9 @@
 use borrow.Author.Needs.{needs}
 use mathlib.Core.List.{[]}
 use lib.ListN.{getD}
-use Rattle.search_theory.specs.Tables.{caseOf, ownersOf}
-use Rattle.search_theory.specs.Case.{spread, meets}
-use Rattle.search_theory.specs.Tests.{met-yes, met-no}
+use Rattle.search_laws.specs.Tables.{caseOf, ownersOf}
+use Rattle.search_laws.specs.Case.{spread, meets}
+use Rattle.search_laws.specs.Tests.{met-yes, met-no}
 use Rattle.search_judge.specs.Owners.{no-nodes, met-bare}
 use Rattle.search_judge.proofs.filled_at.Statement.{statement}
 use Rattle.search_judge.proofs.filled_at.Tie as tie

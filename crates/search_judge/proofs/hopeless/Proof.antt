@@ -7,9 +7,9 @@ use native.Mathlib.Omega.{arith}
 use lib.Dec.{ltb}
 use borrow.Author.Tests.{lt-ltb, le-ltb}
 use Rattle.base_laws.specs.Bools.{or-left}
-use Rattle.base_laws.specs.Below.{anyBelow}
-use Rattle.search_theory.specs.Case.{Case, spread, meets, moves, weight}
-use Rattle.search_theory.specs.Tables.{caseOf, ownersOf}
+use Rattle.base_laws.specs.Definitions.{anyBelow}
+use Rattle.search_laws.specs.Case.{Case, spread, meets, moves, weight}
+use Rattle.search_laws.specs.Tables.{caseOf, ownersOf}
 use Rattle.search_judge.specs.Post.{hopelessFrom}
 use Rattle.search_judge.proofs.hopeless.Statement.{statement}
 use Rattle.search_judge.proofs.hopeless.Tie as tie

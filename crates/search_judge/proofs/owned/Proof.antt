@@ -4,9 +4,10 @@ use mathlib.Core.Path.{_≡_, sym}
 use native.Mathlib.Omega.{arith}
 use borrow.Author.Needs.{needs}
 use lib.Dec.{eqb}
-use Rattle.base_laws.specs.Below.{countBelow, count-zero}
+use Rattle.base_laws.specs.Definitions.{countBelow}
+use Rattle.base_laws.specs.Below.{count-zero}
 use Rattle.base_laws.specs.Loops.{count-turn, count-done}
-use Rattle.search_theory.specs.Tables.{ownersOf}
+use Rattle.search_laws.specs.Tables.{ownersOf}
 use Rattle.search_judge.proofs.owned.Statement.{statement}
 use Rattle.search_judge.proofs.owned.Tie as tie
 

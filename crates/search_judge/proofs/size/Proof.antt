@@ -2,8 +2,8 @@
 use Prim.Native.Nat.{ℕ}
 use mathlib.Core.Path.{ap, _∙_}
 use borrow.Author.Needs.{needs}
-use Rattle.search_theory.specs.Case.{size}
-use Rattle.search_theory.specs.Tables.{ownersOf}
+use Rattle.search_laws.specs.Case.{size}
+use Rattle.search_laws.specs.Tables.{ownersOf}
 use Rattle.search_judge.proofs.size.Statement.{statement}
 use Rattle.search_judge.proofs.size.Tie as tie
 

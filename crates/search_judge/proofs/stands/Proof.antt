@@ -8,10 +8,11 @@ use native.Mathlib.Omega.{arith}
 use borrow.Author.Tests.{not-true, not-false}
 use lib.Dec.{ltb}
 use lib.ListN.{getD}
-use Rattle.base_laws.specs.Below.{allBelow, all-none, all-more, all-fails}
+use Rattle.base_laws.specs.Definitions.{allBelow}
+use Rattle.base_laws.specs.Below.{all-none, all-more, all-fails}
 use Rattle.base_laws.specs.Loops.{all-done}
-use Rattle.search_theory.specs.Tables.{caseOf, ownersOf}
-use Rattle.search_theory.specs.Tests.{stands}
+use Rattle.search_laws.specs.Tables.{caseOf, ownersOf}
+use Rattle.search_laws.specs.Tests.{stands}
 use Rattle.search_judge.proofs.stands.Statement.{statement}
 use Rattle.search_judge.proofs.stands.Tie as tie
 

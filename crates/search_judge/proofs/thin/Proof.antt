@@ -8,12 +8,13 @@ use native.Mathlib.Omega.{arith}
 use borrow.Author.Tests.{lt-ltb, le-ltb}
 use lib.Dec.{ltb}
 use lib.ListN.{getD}
-use Rattle.search_theory.specs.Tables.{caseOf, ownersOf}
+use Rattle.search_laws.specs.Tables.{caseOf, ownersOf}
 use Rattle.search_judge.proofs.thin.Statement.{statement}
 use Rattle.search_judge.proofs.thin.Tie as tie
-use Rattle.base_laws.specs.Below.{anyBelow, any-none, any-more, any-at}
+use Rattle.base_laws.specs.Definitions.{anyBelow}
+use Rattle.base_laws.specs.Below.{any-none, any-more, any-at}
 use Rattle.base_laws.specs.Loops.{any-done}
-use Rattle.search_theory.specs.Case.{spread}
+use Rattle.search_laws.specs.Case.{spread}
 
 abbrev Inv-loop : tie.InvT-loop
 Inv-loop sets needs owner t e i₀ i =

@@ -6,9 +6,10 @@ use native.Mathlib.Omega.{arith}
 use borrow.Author.Needs.{needs}
 use lib.Dec.{ltb}
 use lib.ListN.{getD}
-use Rattle.base_sums.specs.Sums.{sumBelow, sum-zero, sum-turn, sum-done}
-use Rattle.search_theory.specs.Case.{weight}
-use Rattle.search_theory.specs.Tables.{ownersOf}
+use Rattle.base_sum_laws.specs.Definitions.{sumBelow}
+use Rattle.base_sum_laws.specs.Sums.{sum-zero, sum-turn, sum-done}
+use Rattle.search_laws.specs.Case.{weight}
+use Rattle.search_laws.specs.Tables.{ownersOf}
 use Rattle.search_judge.proofs.weight.Statement.{statement}
 use Rattle.search_judge.proofs.weight.Tie as tie
 

@@ -6,8 +6,8 @@ use borrow.Author.Tests.{not-true, not-false}
 use Rattle.search_judge.proofs.within.Statement.{statement}
 use Rattle.search_judge.proofs.within.Tie as tie
 use Rattle.base_laws.specs.Bools.{clash}
-use Rattle.search_theory.specs.Case.{weight, spread, meets}
-use Rattle.search_theory.specs.Tests.{valid-of, valid-stands, valid-met}
+use Rattle.search_laws.specs.Case.{weight, spread, meets}
+use Rattle.search_laws.specs.Tests.{valid-of, valid-stands, valid-met}
 use Rattle.search_judge.specs.Post.{judged, rejected}
 
 returns : tie.Need-returns

@@ -4,7 +4,7 @@ use mathlib.Core.Path.{refl}
 use mathlib.Core.Bool.{true≢false, false≢true}
 use native.Mathlib.Omega.{arith}
 use borrow.Author.Tests.{not-true, not-false}
-use Rattle.search_theory.specs.Tables.{caseOf}
+use Rattle.search_laws.specs.Tables.{caseOf}
 use Rattle.search_rounds.specs.Post.{last, Way, way-start, way-low, way-none, way-more}
 use Rattle.search_rounds.proofs.better.Statement.{statement}
 use Rattle.search_rounds.proofs.better.Tie as tie

@@ -3,8 +3,8 @@
 use borrow.Author.Needs.{needs}
 use borrow.Author.Tests.{not-true, not-false}
 use native.Mathlib.Omega.{arith}
-use Rattle.search_theory.specs.Tables.{caseOf}
-use Rattle.search_theory.specs.Least.{at-least-zero, at-least-next}
+use Rattle.search_laws.specs.Tables.{caseOf}
+use Rattle.search_laws.specs.Least.{at-least-zero, at-least-next}
 use Rattle.search_total.specs.Answers.{WeightReached, least-reached, least-missing, found-reached, found-below}
 use Rattle.search_total.proofs.plain_least.Statement.{statement}
 use Rattle.search_total.proofs.plain_least.Tie as tie

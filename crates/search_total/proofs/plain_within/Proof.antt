@@ -2,8 +2,8 @@
 use borrow.Author.Needs.{needs}
 use mathlib.Core.Bool.{false≢true}
 use native.Mathlib.Omega.{arith}
-use Rattle.search_theory.specs.Case.{weight}
-use Rattle.search_theory.specs.Order.{first-start, none-start}
+use Rattle.search_laws.specs.Case.{weight}
+use Rattle.search_laws.specs.Order.{first-start, none-start}
 use Rattle.search_total.specs.Answers.{ready-blank, within-found, within-none}
 use Rattle.search_total.proofs.plain_within.Statement.{statement}
 use Rattle.search_total.proofs.plain_within.Tie as tie

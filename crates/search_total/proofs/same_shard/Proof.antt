@@ -5,7 +5,7 @@ use native.Mathlib.Omega.{arith}
 use mathlib.Core.Logic.{⊎-elim}
 use borrow.Author.Tests.{eq-eqb, ne-eqb, lt-ltb, le-ltb}
 use Rattle.base_laws.specs.Bools.{lt-or-le}
-use Rattle.search_theory.specs.Order.{shardEnd}
+use Rattle.search_laws.specs.Order.{shardEnd}
 use Rattle.search_total.proofs.same_shard.Statement.{statement}
 use Rattle.search_total.proofs.same_shard.Tie as tie
 

@@ -3,7 +3,7 @@ use mathlib.Core.Path.{sym, _∙_}
 use borrow.Author.Tests.{not-true, not-false}
 use borrow.Author.Needs.{needs}
 use Rattle.settings_values.specs.Laws.{sizes-give}
-use Rattle.settings_values.specs.Settings.{settingsOk}
+use Rattle.settings_values.specs.Definitions.{settingsOk}
 use Rattle.settings_check.proofs.check.Statement.{statement}
 use Rattle.settings_check.proofs.check.Tie as tie
 

@@ -7,8 +7,9 @@ use native.Mathlib.Omega.{arith}
 use lib.Dec.{ltb}
 use borrow.Author.Tests.{le-ltb, lt-ltb}
 use borrow.Author.Needs.{needs}
-use Rattle.base_laws.specs.Below.{allBelow, all-none, all-more, all-fails, all-fewer}
-use Rattle.settings_values.specs.Settings.{nodes, sets, setOf, nodesOk}
+use Rattle.base_laws.specs.Definitions.{allBelow}
+use Rattle.base_laws.specs.Below.{all-none, all-more, all-fails, all-fewer}
+use Rattle.settings_values.specs.Definitions.{nodes, sets, setOf, nodesOk}
 use Rattle.settings_check.proofs.nodes_ok.Statement.{statement}
 use Rattle.settings_check.proofs.nodes_ok.Tie as tie
 

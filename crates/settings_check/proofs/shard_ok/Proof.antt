@@ -1,7 +1,7 @@
 -- `settings_check::shard_ok` meets its contract: the word is the shard's, and each way out has the tests that led there.
 use borrow.Author.Tests.{le-leb, lt-leb, not-true, not-false}
 use borrow.Author.Needs.{needs}
-use Rattle.settings_values.specs.Settings.{shardOk}
+use Rattle.settings_values.specs.Definitions.{shardOk}
 use Rattle.settings_check.proofs.shard_ok.Statement.{statement}
 use Rattle.settings_check.proofs.shard_ok.Tie as tie
 

@@ -5,8 +5,9 @@ use Prim.Native.Nat.{_≤_, _-_}
 use native.Mathlib.Omega.{arith}
 use borrow.Author.Tests.{not-true, not-false}
 use borrow.Author.Needs.{needs}
-use Rattle.base_laws.specs.Below.{allBelow, all-none, all-more, all-fails, all-fewer}
-use Rattle.settings_values.specs.Settings.{shards, shardOk, shardsOk}
+use Rattle.base_laws.specs.Definitions.{allBelow}
+use Rattle.base_laws.specs.Below.{all-none, all-more, all-fails, all-fewer}
+use Rattle.settings_values.specs.Definitions.{shards, shardOk, shardsOk}
 use Rattle.settings_check.proofs.shards_ok.Statement.{statement}
 use Rattle.settings_check.proofs.shards_ok.Tie as tie
 

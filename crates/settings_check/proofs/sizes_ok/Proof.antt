@@ -8,7 +8,7 @@ use lib.Dec.{eqb, leb}
 use lib.ListN.{length}
 use borrow.Author.Tests.{le-leb, lt-leb, not-true, not-false}
 use borrow.Author.Needs.{needs}
-use Rattle.settings_values.specs.Settings.{nodes, shards, rangesOk, sizesOk}
+use Rattle.settings_values.specs.Definitions.{nodes, shards, rangesOk, sizesOk}
 use Rattle.settings_values.specs.Laws.{ranges-give, range-high}
 use Rattle.settings_check.proofs.sizes_ok.Statement.{statement}
 use Rattle.settings_check.proofs.sizes_ok.Tie as tie

@@ -6,7 +6,7 @@ use mathlib.Core.Path.{_≡_, ap}
 use lib.Dec.{eqb}
 use borrow.Author.Tests.{eq-eqb, ne-eqb}
 use borrow.Author.Needs.{needs}
-use Rattle.settings_values.specs.Settings.{shardWord, cap}
+use Rattle.settings_values.specs.Definitions.{shardWord, cap}
 use Rattle.settings_values.proofs.cap.Statement.{statement}
 use Rattle.settings_values.proofs.cap.Tie as tie
 

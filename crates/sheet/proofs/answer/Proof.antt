@@ -5,7 +5,7 @@ use mathlib.Core.Path.{_≡_, sym, _∙_}
 use native.Mathlib.Omega.{arith}
 use lib.ListN.{length}
 use borrow.Author.Needs.{needs}
-use Rattle.program_sheet.specs.Printing.{Sheeted}
+use Rattle.program_sheet.specs.Definitions.{Sheeted}
 use Rattle.program_sheet.specs.Whole.{writes-sheeted}
 use Rattle.program_reading.specs.Laws.{answers-none, answers-by, empty-desk}
 use Rattle.sheet.proofs.answer.Statement.{statement}

@@ -2,7 +2,8 @@
 use mathlib.Core.Path.{sym, _∙_}
 use borrow.Author.Needs.{needs}
 use borrow.Author.Tests.{eq-eqb, ne-eqb, not-true, not-false}
-use Rattle.base_lent.specs.Lent.{wordsIn, length-test}
+use Rattle.base_lent.specs.Definitions.{wordsIn}
+use Rattle.base_lent.specs.Lent.{length-test}
 use Rattle.settings_values.specs.Laws.{settings-give}
 use Rattle.state_game.specs.Steps.{game-length, game-settings}
 use Rattle.state_game.proofs.game.Statement.{statement}

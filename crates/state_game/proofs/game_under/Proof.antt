@@ -2,7 +2,7 @@
 use Prim.Native.Nat.{ℕ, _^_, _<_, _≤_}
 use mathlib.Core.Path.{ap, _∙_, subst⁻¹}
 use borrow.Author.Needs.{needs}
-use Rattle.base_lent.specs.Lent.{wordsIn}
+use Rattle.base_lent.specs.Definitions.{wordsIn}
 use Rattle.game_rules.specs.Turns.{winnerOf}
 use Rattle.game_turns.specs.Table.{planAt}
 use Rattle.state_game.specs.Steps.{game-not-ready, game-few, game-rounds, game-held, game-won}

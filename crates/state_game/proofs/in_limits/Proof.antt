@@ -3,7 +3,7 @@ use Prim.Native.Nat.{ℕ}
 use mathlib.Core.Path.{ap, _∙_}
 use native.Mathlib.Omega.{arith}
 use borrow.Author.Needs.{needs}
-use Rattle.base_laws.specs.Masks.{within}
+use Rattle.base_laws.specs.Definitions.{within}
 use Rattle.state_game.specs.Steps.{limits-passed, limits-left}
 use Rattle.state_game.proofs.in_limits.Statement.{statement}
 use Rattle.state_game.proofs.in_limits.Tie as tie

@@ -1,6 +1,6 @@
 -- `state_order::order` meets its contract: rows 1 and 2, then the rest. Assumes nothing.
 use borrow.Author.Needs.{needs}
-use Rattle.base_lent.specs.Lent.{wordsIn}
+use Rattle.base_lent.specs.Definitions.{wordsIn}
 use Rattle.report_desk.specs.Bytes.{desk-bytes}
 use Rattle.state_order.specs.Taken.{called-refuses, called-buffer, called-words, called-right, refused-answer, refused-words}
 use Rattle.state_order.proofs.order.Statement.{statement}

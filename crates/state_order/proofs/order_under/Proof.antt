@@ -2,7 +2,7 @@
 -- a node: a refusal leaves the words as they were, and where there is none no row refuses the order's contents. Assumes nothing.
 use borrow.Author.Needs.{needs}
 use borrow.Author.Tests.{eq-eqb}
-use Rattle.base_lent.specs.Lent.{wordsIn}
+use Rattle.base_lent.specs.Definitions.{wordsIn}
 use Rattle.state_order.specs.Taken.{found-refusal, taken-node, taken-holders, refused-answer, refused-words, not-refused, made-few, made-answer, made-words}
 use Rattle.state_order.proofs.order_under.Statement.{statement}
 use Rattle.state_order.proofs.order_under.Tie as tie

@@ -1,6 +1,6 @@
 -- `state_page::page` meets its contract: rows 1, 2 and 15, then the rest. Assumes nothing.
 use borrow.Author.Needs.{needs}
-use Rattle.base_lent.specs.Lent.{wordsIn}
+use Rattle.base_lent.specs.Definitions.{wordsIn}
 use Rattle.report_desk.specs.Bytes.{desk-bytes}
 use Rattle.state_page.specs.Steps.{asked-refuses, passed-settings, passed-desk, passed-under, paged-refused}
 use Rattle.state_page.proofs.page.Statement.{statement}

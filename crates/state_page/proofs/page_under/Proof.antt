@@ -2,8 +2,8 @@
 use mathlib.Core.Path.{sym, ap, _∙_}
 use borrow.Author.Needs.{needs}
 use borrow.Author.Tests.{eq-eqb}
-use Rattle.base_lent.specs.Lent.{wordsIn}
-use Rattle.base_ids.specs.Refusals.{accepted}
+use Rattle.base_lent.specs.Definitions.{wordsIn}
+use Rattle.base_ids.specs.Definitions.{accepted}
 use Rattle.report_desk.specs.Bytes.{desk-length}
 use Rattle.plan_restart.specs.Kept.{held-below}
 use Rattle.state_page.specs.Steps.{sound-entry, sound-passed, paged-refused, paged-shown}

@@ -1,7 +1,6 @@
 -- `state_planner::after_drop` meets its contract: phase by phase. Assumes nothing.
 use mathlib.Core.Path.{sym}
-use Rattle.state_planner.specs.States.{holding}
-use Rattle.state_planner.specs.Events.{droppedIn}
+use Rattle.state_planner.specs.Definitions.{holding, droppedIn}
 use borrow.Author.Needs.{needs}
 use Rattle.state_planner.proofs.after_drop.Statement.{statement}
 use Rattle.state_planner.proofs.after_drop.Tie as tie

@@ -4,11 +4,10 @@ use mathlib.Core.Bool.{Bool, cond}
 use mathlib.Core.Path.{refl, ap, _∙_}
 use lib.Dec.{eqb}
 use borrow.Author.Tests.{lt-ltb}
-use Rattle.base_laws.specs.Masks.{with}
+use Rattle.base_laws.specs.Definitions.{with}
 use Rattle.report_views.specs.declared.Phase.{Phase}
 use Rattle.report_views.specs.declared.Phase.the-variants.{Ordered, Preparing}
-use Rattle.state_planner.specs.States.{marked}
-use Rattle.state_planner.specs.Events.{afterFetched}
+use Rattle.state_planner.specs.Definitions.{marked, afterFetched}
 use Rattle.state_planner.specs.EventLaws.{marks-step}
 use borrow.Author.Needs.{needs}
 use Rattle.state_planner.proofs.after_fetched.Statement.{statement}

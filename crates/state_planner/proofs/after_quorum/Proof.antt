@@ -1,5 +1,5 @@
 -- `state_planner::after_quorum` meets its contract: by whether there is a plan. Assumes nothing.
-use Rattle.state_planner.specs.States.{planned}
+use Rattle.state_planner.specs.Definitions.{planned}
 use Rattle.state_planner.specs.Decide.{stateBy}
 use borrow.Author.Needs.{needs}
 use Rattle.state_planner.proofs.after_quorum.Statement.{statement}

@@ -1,8 +1,8 @@
 -- `state_planner::after_report` meets its contract: the node is held and its view remembered. Assumes nothing.
 use Prim.Native.Nat.{ℕ}
 use mathlib.Core.Path.{ap₂}
-use Rattle.report_latest.specs.declared.Latest.{Latest}
-use Rattle.state_planner.specs.States.{keeping}
+use Rattle.report_rows.specs.declared.latest.Latest.{Latest}
+use Rattle.state_planner.specs.Definitions.{keeping}
 use borrow.Author.Needs.{needs}
 use Rattle.state_planner.proofs.after_report.Statement.{statement}
 use Rattle.state_planner.proofs.after_report.Tie as tie

@@ -1,6 +1,6 @@
 -- `state_planner::after_verdict` meets its contract: state and decision each follow from the quorum. Assumes nothing.
 use mathlib.Core.Path.{ap₂}
-use Rattle.state_planner.specs.Decide.{still}
+use Rattle.state_planner.specs.Definitions.{still}
 use borrow.Author.Needs.{needs}
 use Rattle.state_planner.proofs.after_verdict.Statement.{statement}
 use Rattle.state_planner.proofs.after_verdict.Tie as tie

@@ -2,11 +2,10 @@
 use mathlib.Core.Path.{sym, _∙_}
 use lib.ListN.{length}
 use borrow.Author.Tests.{eq-eqb, not-true, not-false}
-use Rattle.base_lent.specs.Lent.{wordsIn}
+use Rattle.base_lent.specs.Definitions.{wordsIn}
 use Rattle.report_desk.specs.Bytes.{desk-length}
 use Rattle.state_rows.specs.Laws.{row-3, row-4, no-row, rows-passed}
-use Rattle.state_planner.specs.States.{sound}
-use Rattle.state_planner.specs.Refusing.{deskOk, entryRefusal}
+use Rattle.state_planner.specs.Definitions.{sound, deskOk, entryRefusal}
 use borrow.Author.Needs.{needs}
 use Rattle.state_planner.proofs.enter.Statement.{statement}
 use Rattle.state_planner.proofs.enter.Tie as tie

@@ -1,7 +1,7 @@
 -- `state_planner::event_refusal` meets its contract: rows 3 and 4, then those of the node. Assumes nothing.
 use borrow.Author.Tests.{eq-eqb, ne-eqb}
 use Rattle.base_ids.specs.Refusals.{rows-refused, rows-followed}
-use Rattle.state_planner.specs.Refusing.{eventRefusal}
+use Rattle.state_planner.specs.Definitions.{eventRefusal}
 use borrow.Author.Needs.{needs}
 use Rattle.state_planner.proofs.event_refusal.Statement.{statement}
 use Rattle.state_planner.proofs.event_refusal.Tie as tie

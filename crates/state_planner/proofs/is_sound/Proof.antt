@@ -1,11 +1,11 @@
 -- `state_planner::is_sound` meets its contract: part by part, as the definition has them. Assumes nothing.
 use mathlib.Core.Path.{sym, _∙_}
 use borrow.Author.Tests.{not-true, not-false}
-use Rattle.report_latest.specs.Laws.{latest-told}
+use Rattle.report_rows.specs.Laws.{latest-told}
 use Rattle.plan_restart.specs.Kept.{held-below}
 use Rattle.plan_seen.specs.Sight.{seen-ok, seen-view}
-use Rattle.state_sound_plan.specs.Matches.{fits-told}
-use Rattle.state_planner.specs.States.{sound}
+use Rattle.state_rows.specs.Matches.{fits-told}
+use Rattle.state_planner.specs.Definitions.{sound}
 use borrow.Author.Needs.{needs}
 use Rattle.state_planner.proofs.is_sound.Statement.{statement}
 use Rattle.state_planner.proofs.is_sound.Tie as tie

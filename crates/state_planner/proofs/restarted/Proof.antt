@@ -2,7 +2,7 @@
 use mathlib.Core.Path.{ap}
 use Rattle.report_views.specs.declared.Plan.{Plan}
 use Rattle.report_views.specs.declared.Phase.the-variants.{Gathering}
-use Rattle.state_planner.specs.States.{ofParts, restarted}
+use Rattle.state_planner.specs.Definitions.{ofParts, restarted}
 use borrow.Author.Needs.{needs}
 use Rattle.state_planner.proofs.restarted.Statement.{statement}
 use Rattle.state_planner.proofs.restarted.Tie as tie

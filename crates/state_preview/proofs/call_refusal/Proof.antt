@@ -2,7 +2,8 @@
 use mathlib.Core.Path.{sym, _∙_}
 use borrow.Author.Tests.{not-true, not-false, eq-eqb, ne-eqb}
 use Rattle.state_planner.specs.CallLaws.{call-length, call-settings, call-none}
-use Rattle.base_lent.specs.Lent.{wordsIn, length-test}
+use Rattle.base_lent.specs.Definitions.{wordsIn}
+use Rattle.base_lent.specs.Lent.{length-test}
 use borrow.Author.Needs.{needs}
 use Rattle.state_preview.proofs.call_refusal.Statement.{statement}
 use Rattle.state_preview.proofs.call_refusal.Tie as tie

@@ -2,11 +2,10 @@
 use mathlib.Core.Logic.{inl, inr}
 use mathlib.Core.Path.{sym, ap, _∙_}
 use borrow.Author.Tests.{not-true, not-false}
-use Rattle.base_lent.specs.Lent.{wordsIn}
+use Rattle.base_lent.specs.Definitions.{wordsIn}
 use Rattle.report_desk.specs.Bytes.{desk-length}
 use Rattle.state_planner.specs.declared.State.{State}
-use Rattle.state_planner.specs.States.{holding}
-use Rattle.state_planner.specs.Refusing.{checkRefusal}
+use Rattle.state_planner.specs.Definitions.{holding, checkRefusal}
 use Rattle.state_preview.specs.Steps.{found-event, found-check}
 use borrow.Author.Needs.{needs}
 use Rattle.state_preview.proofs.first_refusal.Statement.{statement}

@@ -1,10 +1,10 @@
 -- `state_preview::preview` meets its contract: rows 1 and 2, then the rest. Assumes nothing.
-use Rattle.base_laws.specs.Masks.{has}
-use Rattle.base_lent.specs.Lent.{wordsIn}
+use Rattle.base_laws.specs.Definitions.{has}
+use Rattle.base_lent.specs.Definitions.{wordsIn}
 use Rattle.report_desk.specs.Bytes.{desk-bytes}
-use Rattle.state_planner.specs.Refusing.{isGathering}
+use Rattle.report_views.specs.Definitions.{isGathering}
 use Rattle.state_planner.specs.CallLaws.{called-settings, called-desk, call-event}
-use Rattle.state_preview.specs.Previews.{previewRefusal}
+use Rattle.state_preview.specs.Definitions.{previewRefusal}
 use Rattle.state_preview.specs.Steps.{previews-refused}
 use borrow.Author.Needs.{needs}
 use Rattle.state_preview.proofs.preview.Statement.{statement}

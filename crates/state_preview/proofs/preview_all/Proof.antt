@@ -1,7 +1,8 @@
 -- `state_preview::preview_all` meets its contract: rows 1 and 2, then the rest. Assumes nothing.
-use Rattle.base_lent.specs.Lent.{wordsIn}
+use Rattle.base_lent.specs.Definitions.{wordsIn}
 use Rattle.report_desk.specs.Bytes.{desk-bytes}
-use Rattle.state_planner.specs.Refusing.{isGathering, decideRefusal}
+use Rattle.report_views.specs.Definitions.{isGathering}
+use Rattle.state_planner.specs.Definitions.{decideRefusal}
 use Rattle.state_planner.specs.CallLaws.{called-settings, called-desk, call-entry}
 use Rattle.state_preview.specs.Steps.{warns-refused}
 use borrow.Author.Needs.{needs}

@@ -2,10 +2,10 @@
 use mathlib.Core.Bool.{Bool, true}
 use mathlib.Core.Path.{_≡_, sym, ap, _∙_}
 use borrow.Author.Tests.{eq-eqb}
-use Rattle.base_lent.specs.Lent.{wordsIn}
-use Rattle.base_ids.specs.Refusals.{accepted}
+use Rattle.base_lent.specs.Definitions.{wordsIn}
+use Rattle.base_ids.specs.Definitions.{accepted}
 use Rattle.plan_restart.specs.Kept.{held-below}
-use Rattle.state_planner.specs.Refusing.{entryRefusal, deskOk, decideRefusal}
+use Rattle.state_planner.specs.Definitions.{entryRefusal, deskOk, decideRefusal}
 use Rattle.state_planner.specs.DecideLaws.{decide-kept}
 use Rattle.state_preview.specs.Steps.{warns-refused, warns-told}
 use borrow.Author.Needs.{needs}

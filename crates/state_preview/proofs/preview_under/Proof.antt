@@ -1,9 +1,9 @@
 -- `state_preview::preview_under` meets its contract: what is found first, or what the copy decides. Assumes nothing.
 use mathlib.Core.Path.{subst}
-use Rattle.base_lent.specs.Lent.{wordsIn}
+use Rattle.base_lent.specs.Definitions.{wordsIn}
 use Rattle.report_desk.specs.Bytes.{desk-length}
 use Rattle.state_planner.specs.declared.State.{State}
-use Rattle.state_planner.specs.Decide.{Decides}
+use Rattle.state_planner.specs.Definitions.{Decides}
 use Rattle.state_preview.specs.Steps.{previews-refused, previews-copy}
 use borrow.Author.Needs.{needs}
 use Rattle.state_preview.proofs.preview_under.Statement.{statement}

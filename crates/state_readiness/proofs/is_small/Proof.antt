@@ -4,7 +4,7 @@ use mathlib.Core.Path.{sym, ap}
 use native.Mathlib.Omega.{arith}
 use borrow.Author.Needs.{needs}
 use borrow.Author.Tests.{le-leb, lt-leb}
-use Rattle.settings_values.specs.Settings.{nodes}
+use Rattle.settings_values.specs.Definitions.{nodes}
 use Rattle.state_readiness.proofs.is_small.Statement.{statement}
 use Rattle.state_readiness.proofs.is_small.Tie as tie
 

@@ -3,9 +3,10 @@ use mathlib.Core.Path.{sym, _∙_}
 use native.Mathlib.Omega.{arith}
 use borrow.Author.Needs.{needs}
 use borrow.Author.Tests.{eq-eqb, ne-eqb, not-true, not-false}
-use Rattle.base_lent.specs.Lent.{wordsIn, length-test}
+use Rattle.base_lent.specs.Definitions.{wordsIn}
+use Rattle.base_lent.specs.Lent.{length-test}
 use Rattle.settings_values.specs.Laws.{settings-give}
-use Rattle.state_readiness.specs.Readying.{deskSays}
+use Rattle.state_readiness.specs.Definitions.{deskSays}
 use Rattle.state_readiness.specs.Steps.{length-refused, settings-refused, readies-refused}
 use Rattle.state_readiness.proofs.readiness.Statement.{statement}
 use Rattle.state_readiness.proofs.readiness.Tie as tie

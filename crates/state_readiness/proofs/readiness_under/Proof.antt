@@ -4,10 +4,10 @@ use native.Mathlib.Omega.{arith}
 use borrow.Author.Needs.{needs}
 use borrow.Author.Tests.{not-true, not-false, leb-true}
 use lib.Dec.{leb}
-use Rattle.base_lent.specs.Lent.{wordsIn}
+use Rattle.base_lent.specs.Definitions.{wordsIn}
 use Rattle.base_laws.specs.Bools.{and-left}
-use Rattle.settings_values.specs.Settings.{nodes}
-use Rattle.state_readiness.specs.Readying.{deskSays}
+use Rattle.settings_values.specs.Definitions.{nodes}
+use Rattle.state_readiness.specs.Definitions.{deskSays}
 use Rattle.state_readiness.specs.Steps.{entered, entry-refused, size-refused, size-passed, readies-refused, readies-by}
 use Rattle.state_readiness.proofs.readiness_under.Statement.{statement}
 use Rattle.state_readiness.proofs.readiness_under.Tie as tie

@@ -5,11 +5,11 @@ use mathlib.Core.Path.{sym, _∙_}
 use native.Mathlib.Omega.{arith}
 use borrow.Author.Needs.{needs}
 use borrow.Author.Tests.{not-true, not-false}
-use Rattle.base_lent.specs.Lent.{wordsIn}
-use Rattle.settings_values.specs.Settings.{nodes}
+use Rattle.base_lent.specs.Definitions.{wordsIn}
+use Rattle.settings_values.specs.Definitions.{nodes}
 use Rattle.report_desk.specs.Bytes.{desk-length}
 use Rattle.plan_masks.specs.Counting.{counted-ok}
-use Rattle.state_readiness.specs.Readying.{deskSays}
+use Rattle.state_readiness.specs.Definitions.{deskSays}
 use Rattle.state_readiness.specs.Steps.{all-counted, view-refused, slot-refused, readies-refused, readies-told}
 use Rattle.state_readiness.proofs.rows_ready.Statement.{statement}
 use Rattle.state_readiness.proofs.rows_ready.Tie as tie

@@ -1,8 +1,8 @@
 -- `state_rows::node_refusal` meets its contract: row by row. Assumes nothing.
 use mathlib.Core.Path.{sym}
 use borrow.Author.Tests.{not-true, not-false, lt-ltb, le-ltb}
-use Rattle.base_ids.specs.Refusals.{unless}
-use Rattle.state_rows.specs.Rows.{nodeRefusal}
+use Rattle.base_ids.specs.Definitions.{unless}
+use Rattle.state_rows.specs.Definitions.{nodeRefusal}
 use borrow.Author.Needs.{needs}
 use Rattle.state_rows.proofs.node_refusal.Statement.{statement}
 use Rattle.state_rows.proofs.node_refusal.Tie as tie

@@ -5,7 +5,8 @@ use native.Mathlib.Omega.{arith}
 use lib.ListN.{length-take}
 use borrow.Author.Needs.{needs}
 use Rattle.base_laws.specs.Tables.{part-front}
-use Rattle.program_input.specs.Inputs.{readTo, read-uncounted, read-failed, read-gave}
+use Rattle.program_input.specs.Definitions.{readTo}
+use Rattle.program_input.specs.Inputs.{read-uncounted, read-failed, read-gave}
 use Rattle.program_input.proofs.Input.read.Statement.{statement}
 use Rattle.program_input.proofs.Input.read.Tie as tie
 

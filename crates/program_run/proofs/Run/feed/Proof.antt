@@ -4,9 +4,9 @@ use mathlib.Core.Path.{_≡_, refl, sym, _∙_}
 use native.Mathlib.Omega.{arith}
 use lib.ListN.{length, take, drop}
 use borrow.Author.Needs.{needs}
-use Rattle.base_lent.specs.Lent.{wordsIn}
-use Rattle.program_intake.specs.Intake.{bytesLaid}
-use Rattle.program_run.specs.Machine.{Feeds}
+use Rattle.base_lent.specs.Definitions.{wordsIn}
+use Rattle.program_blocks.specs.Definitions.{bytesLaid}
+use Rattle.program_run.specs.Definitions.{Feeds}
 use Rattle.program_run.specs.Steps.{ready-lacks, gathers-gathered, gathers-on, gathers-feed, gathers-laid, laid-all, feeds-none, feeds-more, feeds-all}
 use Rattle.program_run.proofs.Run.feed.Statement.{statement}
 use Rattle.program_run.proofs.Run.feed.Tie as tie

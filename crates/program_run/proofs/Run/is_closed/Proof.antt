@@ -1,7 +1,7 @@
 -- `program_run::Run::is_closed` meets its contract, stage by stage. Assumes nothing.
 use mathlib.Core.Path.{sym, ap}
 use borrow.Author.Needs.{needs}
-use Rattle.program_run.specs.Machine.{closedAt}
+use Rattle.program_run.specs.Definitions.{closedAt}
 use Rattle.program_run.proofs.Run.is_closed.Statement.{statement}
 use Rattle.program_run.proofs.Run.is_closed.Tie as tie
 

@@ -1,8 +1,8 @@
 -- `state_planner::State::check` meets its contract: rows 1 and 2, then the rest. Assumes nothing.
 use mathlib.Core.Bool.{true}
-use Rattle.state_planner.specs.Refusing.{checkRefusal}
+use Rattle.state_planner.specs.Definitions.{checkRefusal}
 use Rattle.state_planner.specs.CallLaws.{called-settings, called-desk, call-entry}
-use Rattle.base_lent.specs.Lent.{wordsIn}
+use Rattle.base_lent.specs.Definitions.{wordsIn}
 use Rattle.report_desk.specs.Bytes.{desk-bytes}
 use borrow.Author.Needs.{needs}
 use Rattle.state_planner.proofs.State.check.Statement.{statement}

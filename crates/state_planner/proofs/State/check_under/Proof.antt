@@ -1,5 +1,5 @@
 -- `state_planner::State::check_under` meets its contract: rows 3 and 4 of an event that any phase takes. Assumes nothing.
-use Rattle.state_planner.specs.Refusing.{checkRefusal}
+use Rattle.state_planner.specs.Definitions.{checkRefusal}
 use borrow.Author.Needs.{needs}
 use Rattle.state_planner.proofs.State.check_under.Statement.{statement}
 use Rattle.state_planner.proofs.State.check_under.Tie as tie

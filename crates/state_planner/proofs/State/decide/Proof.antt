@@ -2,13 +2,13 @@
 use mathlib.Core.Path.{_≡_, sym, ap, _∙_}
 use borrow.Author.Tests.{ne-eqb}
 use Rattle.base_ids.specs.declared.Refusal.{Refusal}
-use Rattle.base_ids.specs.Refusals.{accepted}
+use Rattle.base_ids.specs.Definitions.{accepted}
 use Rattle.state_planner.specs.declared.Decision.{Decision}
-use Rattle.state_planner.specs.Refusing.{isGathering, decideRefusal}
-use Rattle.state_planner.specs.Decide.{still}
+use Rattle.report_views.specs.Definitions.{isGathering}
+use Rattle.state_planner.specs.Definitions.{decideRefusal, still}
 use Rattle.state_planner.specs.CallLaws.{called-settings, called-desk, call-entry}
 use Rattle.state_planner.specs.DecideLaws.{decides-refused}
-use Rattle.base_lent.specs.Lent.{wordsIn}
+use Rattle.base_lent.specs.Definitions.{wordsIn}
 use Rattle.report_desk.specs.Bytes.{desk-bytes}
 use borrow.Author.Needs.{needs}
 use Rattle.state_planner.proofs.State.decide.Statement.{statement}

@@ -3,15 +3,14 @@ use mathlib.Core.Bool.{Bool, true}
 use mathlib.Core.Path.{_≡_, sym, ap, _∙_, subst⁻¹}
 use borrow.Author.Tests.{eq-eqb, ne-eqb}
 use Rattle.base_ids.specs.declared.Refusal.{Refusal}
-use Rattle.base_ids.specs.Refusals.{accepted}
+use Rattle.base_ids.specs.Definitions.{accepted}
 use Rattle.plan_restart.specs.Kept.{held-below, number-to}
 use Rattle.plan_restart.specs.Planning.{restarts-told}
 use Rattle.state_planner.specs.declared.Decision.{Decision}
 use Rattle.state_planner.specs.declared.Decided.{Decided}
-use Rattle.state_planner.specs.Refusing.{entryRefusal, deskOk, decideRefusal}
-use Rattle.state_planner.specs.Decide.{still, Decides}
+use Rattle.state_planner.specs.Definitions.{entryRefusal, deskOk, decideRefusal, still, Decides}
 use Rattle.state_planner.specs.DecideLaws.{decides-refused, decide-kept, decide-slots, decides-by}
-use Rattle.base_lent.specs.Lent.{wordsIn}
+use Rattle.base_lent.specs.Definitions.{wordsIn}
 use borrow.Author.Needs.{needs}
 use Rattle.state_planner.proofs.State.decide_under.Statement.{statement}
 use Rattle.state_planner.proofs.State.decide_under.Tie as tie

@@ -1,12 +1,12 @@
 -- `state_planner::State::drop` meets its contract: rows 1 and 2, then the rest. Assumes nothing.
 use mathlib.Core.Bool.{not}
-use Rattle.base_laws.specs.Masks.{has}
+use Rattle.base_laws.specs.Definitions.{has}
 use mathlib.Core.Path.{_∙_}
-use Rattle.state_planner.specs.Refusing.{isCommitted, dropRefusal}
-use Rattle.state_planner.specs.Events.{afterDrop, dropped}
+use Rattle.report_views.specs.Definitions.{isCommitted}
+use Rattle.state_planner.specs.Definitions.{dropRefusal, afterDrop, dropped}
 use Rattle.state_planner.specs.CallLaws.{called-settings, called-desk, call-event}
 use Rattle.state_planner.specs.EventLaws.{settles-refused}
-use Rattle.base_lent.specs.Lent.{wordsIn}
+use Rattle.base_lent.specs.Definitions.{wordsIn}
 use Rattle.report_desk.specs.Bytes.{desk-bytes}
 use borrow.Author.Needs.{needs}
 use Rattle.state_planner.proofs.State.drop.Statement.{statement}

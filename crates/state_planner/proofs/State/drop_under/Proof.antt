@@ -1,10 +1,9 @@
 -- `state_planner::State::drop_under` meets its contract: the refusal is the definition's, and the state follows. Assumes nothing.
 use mathlib.Core.Bool.{not}
 use mathlib.Core.Path.{refl, ap, _∙_}
-use Rattle.state_planner.specs.Refusing.{dropRefusal}
-use Rattle.state_planner.specs.Events.{afterDrop, dropped}
+use Rattle.state_planner.specs.Definitions.{dropRefusal, afterDrop, dropped}
 use Rattle.state_planner.specs.EventLaws.{settles-refused, settles-accepted, event-settles}
-use Rattle.base_lent.specs.Lent.{wordsIn}
+use Rattle.base_lent.specs.Definitions.{wordsIn}
 use borrow.Author.Needs.{needs}
 use Rattle.state_planner.proofs.State.drop_under.Statement.{statement}
 use Rattle.state_planner.proofs.State.drop_under.Tie as tie

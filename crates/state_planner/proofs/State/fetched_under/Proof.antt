@@ -1,9 +1,8 @@
 -- `state_planner::State::fetched_under` meets its contract: the refusal is the definition's, and the state follows. Assumes nothing.
 use mathlib.Core.Path.{refl, _∙_}
-use Rattle.state_planner.specs.Refusing.{fetchedRefusal}
-use Rattle.state_planner.specs.Events.{afterFetched, fetchedOf}
+use Rattle.state_planner.specs.Definitions.{fetchedRefusal, afterFetched, fetchedOf}
 use Rattle.state_planner.specs.EventLaws.{settles-refused, settles-accepted, event-settles}
-use Rattle.base_lent.specs.Lent.{wordsIn}
+use Rattle.base_lent.specs.Definitions.{wordsIn}
 use borrow.Author.Needs.{needs}
 use Rattle.state_planner.proofs.State.fetched_under.Statement.{statement}
 use Rattle.state_planner.proofs.State.fetched_under.Tie as tie

@@ -1,5 +1,5 @@
 -- `state_planner::State::fresh` meets its contract: field by field. Assumes nothing.
-use Rattle.state_planner.specs.States.{fresh}
+use Rattle.state_planner.specs.Definitions.{fresh}
 use borrow.Author.Needs.{needs}
 use Rattle.state_planner.proofs.State.fresh.Statement.{statement}
 use Rattle.state_planner.proofs.State.fresh.Tie as tie

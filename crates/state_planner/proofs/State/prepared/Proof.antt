@@ -1,12 +1,12 @@
 -- `state_planner::State::prepared` meets its contract: rows 1 and 2, then the rest. Assumes nothing.
 use mathlib.Core.Bool.{not, _&&_}
-use Rattle.base_laws.specs.Masks.{has}
+use Rattle.base_laws.specs.Definitions.{has}
 use mathlib.Core.Path.{_∙_}
-use Rattle.state_planner.specs.Refusing.{isPreparing, preparedRefusal}
-use Rattle.state_planner.specs.Events.{afterPrepared, preparedOf}
+use Rattle.report_views.specs.Definitions.{isPreparing}
+use Rattle.state_planner.specs.Definitions.{preparedRefusal, afterPrepared, preparedOf}
 use Rattle.state_planner.specs.CallLaws.{called-settings, called-desk, call-event}
 use Rattle.state_planner.specs.EventLaws.{settles-refused}
-use Rattle.base_lent.specs.Lent.{wordsIn}
+use Rattle.base_lent.specs.Definitions.{wordsIn}
 use Rattle.report_desk.specs.Bytes.{desk-bytes}
 use borrow.Author.Needs.{needs}
 use Rattle.state_planner.proofs.State.prepared.Statement.{statement}

@@ -1,8 +1,8 @@
 -- `state_planner::State::report` meets its contract: rows 1 and 2, then the rest. Assumes nothing.
 use mathlib.Core.Path.{refl, _∙_}
-use Rattle.base_lent.specs.Lent.{wordsIn}
+use Rattle.base_lent.specs.Definitions.{wordsIn}
 use Rattle.report_desk.specs.Bytes.{desk-bytes}
-use Rattle.state_planner.specs.Refusing.{isGathering}
+use Rattle.report_views.specs.Definitions.{isGathering}
 use Rattle.state_planner.specs.CallLaws.{called-settings, called-desk, call-entry}
 use Rattle.state_planner.specs.ReportLaws.{entry-refuses, refusal-leaves}
 use borrow.Author.Needs.{needs}

@@ -1,7 +1,7 @@
 -- `state_planner::State::report_by` meets its contract: each way out is one of the laws of a report, from what the calls before it ensure. Assumes nothing.
 use mathlib.Core.Path.{_∙_}
 use Rattle.state_planner.specs.ReportLaws.{entry-refuses, beside-refuses, reporter-below, taken-reports}
-use Rattle.base_lent.specs.Lent.{wordsIn}
+use Rattle.base_lent.specs.Definitions.{wordsIn}
 use borrow.Author.Needs.{needs}
 use Rattle.state_planner.proofs.State.report_by.Statement.{statement}
 use Rattle.state_planner.proofs.State.report_by.Tie as tie

@@ -1,0 +1,2 @@
+-- base_masks
+pub mod Majority

@@ -1,7 +1,0 @@
--- `hint_owners::unused` meets its contract: each mask is the element that `nodes` reads. Assumes nothing.
-use borrow.Author.Needs.{needs}
-use Rattle.hint_owners.proofs.unused.Statement.{statement}
-use Rattle.hint_owners.proofs.unused.Tie as tie
-
-pub unused-spec : {M : Type 1} → statement M
-unused-spec = tie.close (tie.spec (λ c κs. search needs) (λ c κs. search needs) (λ c κs. search needs) (λ c κs. search needs) (λ c. cc))

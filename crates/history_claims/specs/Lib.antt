@@ -1,3 +1,0 @@
--- Histories, and the two claims on them.
-pub mod History
-pub mod Claims

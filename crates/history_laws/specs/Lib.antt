@@ -1,0 +1,3 @@
+-- Histories, and the two claims on them.
+pub mod Definitions
+pub mod Claims

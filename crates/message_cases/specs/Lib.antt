@@ -1,0 +1,4 @@
+-- The worked examples.
+pub mod Examples
+pub mod Clauses
+pub mod Rows

@@ -1,3 +1,0 @@
--- The worked examples.
-pub mod Examples
-pub mod Clauses

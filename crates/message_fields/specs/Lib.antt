@@ -1,1 +1,0 @@
--- A record's fields are defined with the format.

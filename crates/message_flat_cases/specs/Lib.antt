@@ -1,2 +1,0 @@
--- Worked rows of flat reports: a row for each clause of their definitions.
-pub mod Rows

@@ -1,1 +1,0 @@
-// Worked rows of flat reports, computed from the definitions. No code.

@@ -1,2 +1,0 @@
--- The parts of the third pass.
-pub mod Sequence

@@ -1,3 +1,0 @@
--- What passes over the records gather, and its laws.
-pub mod Gathered
-pub mod Laws

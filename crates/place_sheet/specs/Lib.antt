@@ -1,3 +1,0 @@
--- The placement sheet.
-pub mod Sheet
-pub mod Laws

@@ -1,2 +1,0 @@
--- What a decision prints.
-pub mod Decisions

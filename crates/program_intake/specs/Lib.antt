@@ -1,2 +1,0 @@
--- What is kept of the bytes and words of a block.
-pub mod Intake

@@ -1,4 +1,0 @@
--- The moves file: its lines, what is printed for it, and how blocks of it are taken.
-pub mod MovesFile
-pub mod Tallies
-pub mod Walking

@@ -1,2 +1,0 @@
--- Theorems of the moves file: its windows by their places, and blocks of it one after another.
-pub mod Pieces

@@ -1,3 +1,0 @@
--- Windows of 64 consecutive moves, and what is printed of them.
-pub mod Windows
-pub mod Sliding

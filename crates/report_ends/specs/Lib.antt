@@ -1,2 +1,0 @@
--- The ends of logs by node and shard.
-pub mod Ends

@@ -1,0 +1,1 @@
+// Laws of updates, stretches of logs and cuts.

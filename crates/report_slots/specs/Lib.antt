@@ -1,2 +1,0 @@
--- What a slot of the desk is.
-pub mod Desk

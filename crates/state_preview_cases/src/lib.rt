@@ -1,1 +1,0 @@
-// Previews worked: theorems, in specs/. No code.

@@ -1,2 +1,0 @@
--- A plan held against what the desk tells.
-pub mod Matches
