@@ -4,15 +4,16 @@
 # make test              proves every crate, tries the wrong programs of the gate and runs every test
 # make wrong-programs    tries the other wrong programs, of all crates or of CRATE=NAME
 # make lib               target/librestart.a and target/librestart.so.1, the proved library for C
-# make example           target/c/service, the example service over it
+# make example           target/c/restart-cluster, the example over it: machine, leader and client
 # make test-c            the tests in C: plainly, under valgrind, with sanitizers and as an installed library
 # make fuzz SECONDS=60   compares library and program with the reference on fresh seeds for that time
 # make performance       measures times, instructions and stack, and writes docs/PERFORMANCE.md
 # make install           header, library, programs and manual pages under $(DESTDIR)$(PREFIX)
 # make uninstall         removes them
 # make dist              two archives in target/: the sources as last committed, and the installed tree, which can be unpacked anywhere
+# make deb               Debian packages in target/: librestart1, librestart-dev and restart-tools
 # make clean             removes target/, all proofs among it
-.PHONY: help try case-a test wrong-programs lib example test-c fuzz performance install uninstall dist clean
+.PHONY: help try case-a test wrong-programs lib example test-c fuzz performance install uninstall dist deb clean
 
 .DEFAULT_GOAL := try
 
@@ -55,7 +56,7 @@ uninstall: uninstall-tool
 install-tool:
 	install -d $(TO)$(BINDIR) $(TO)$(MANDIR)/man1 $(sort $(dir $(TOOL_FILES:%=$(TO)$(TOOLDIR)/%)))
 	for file in $(TOOL_FILES); do install -m 644 tools/$$file $(TO)$(TOOLDIR)/$$file || exit; done
-	sed 's|@TOOLDIR@|$(TOOLDIR)|' tools/restart-text > $(TO)$(BINDIR)/restart-text
+	sed 's|@TOOLDIR@|$(TOOLDIR)|; s|@VERSION@|$(VERSION)|' tools/restart-text > $(TO)$(BINDIR)/restart-text
 	chmod 755 $(TO)$(BINDIR)/restart-text
 	install -m 644 man/restart-text.1 $(TO)$(MANDIR)/man1
 	install -m 644 $(SCHEMAS:%=docs/%) $(TO)$(TOOLDIR)
@@ -81,7 +82,7 @@ CFLAGS ?= -O2
 CHECKED := -std=c11 -Wall -Wextra -Werror -pedantic
 
 lib: target/librestart.a target/librestart.so.$(SONUMBER)
-example: target/c/service
+example: target/c/restart-cluster
 
 target/staticlib/libc_planner.a: $(SOURCES)
 	@[ -f target/stamp/c_planner ] || python3 tests/prove.py c_planner
@@ -111,9 +112,10 @@ target/librestart.so.$(SONUMBER): target/$(SHARED)
 	ln -sf $(SHARED) $@
 	ln -sf $(SHARED) target/librestart.so
 
-target/c/service: examples/service.c include/restart.h target/librestart.a
+CLUSTER := $(wildcard examples/cluster/*)
+target/c/restart-cluster: $(CLUSTER) include/restart.h target/librestart.a
 	mkdir -p $(@D)
-	$(CC) $(CHECKED) $(CFLAGS) -Iinclude $(LDFLAGS) -o $@ examples/service.c target/librestart.a
+	$(CC) $(CHECKED) $(CFLAGS) -Iinclude $(LDFLAGS) -o $@ $(filter %.c,$(CLUSTER)) target/librestart.a
 
 test-c: lib $(PROGRAM) $(MONDAYS) $(SHEET)
 	@sh tests/c/run.sh
@@ -130,31 +132,35 @@ PKGCONFIGDIR := $(LIBDIR)/pkgconfig
 CMAKEDIR := $(LIBDIR)/cmake/restart
 # The functions that the header declares: each has a manual page of its own name.
 CALLS := $(shell sh c/names.sh)
-EXAMPLES := service.c settings.bin events.txt publishers.txt output.txt moves.bin moves.txt seven.bin seven.sheet
+EXAMPLES := settings.bin moves.bin moves.txt seven.bin seven.sheet $(CLUSTER:examples/%=%)
 REPORTS := $(notdir $(wildcard examples/reports/*.bin))
-PAGES_1 := restart.1 restart-service.1 mondays.1 sheet.1
+PAGES_1 := restart.1 restart-cluster.1 mondays.1 sheet.1
 PAGES_7 := restart.7 restart-model.7
 CONFIGS := restart-config.cmake restart-config-version.cmake
 TO := $(DESTDIR)
 
 # Paths in the files for pkg-config and CMake are relative to where these files are installed.
 from = $(shell realpath -m --relative-to=$(1) $(2))
+# Where programs find shared libraries by themselves. From any other place pkg-config tells the runpath.
+MULTIARCH := x86_64-linux-gnu
+SEARCHED := $(foreach folder,/lib /usr/lib /usr/local/lib,$(folder) $(folder)64 $(folder)/$(MULTIARCH))
+RUNPATH := $(if $(filter $(SEARCHED),$(LIBDIR)),,-Wl\,-rpath\,$${libdir} )
 MADE := target/restart.pc $(CONFIGS:%=target/%)
 target/restart.pc: HERE = $(PKGCONFIGDIR)
 $(CONFIGS:%=target/%): HERE = $(CMAKEDIR)
 $(MADE): target/%: c/%.in
 	mkdir -p $(@D)
 	sed -e 's|@PREFIX@|$(call from,$(HERE),$(PREFIX))|; s|@INCLUDEDIR@|$(call from,$(HERE),$(INCLUDEDIR))|' \
-	    -e 's|@VERSION@|$(VERSION)|; s|@SONUMBER@|$(SONUMBER)|; s|@SINCE@|$(SINCE)|' $< > $@
+	    -e 's|@VERSION@|$(VERSION)|; s|@SONUMBER@|$(SONUMBER)|; s|@SINCE@|$(SINCE)|; s|@RUNPATH@|$(RUNPATH)|' $< > $@
 
 .PHONY: $(MADE)
-install: lib target/c/service $(MADE) $(PROGRAM) $(MONDAYS) $(SHEET)
-	install -d $(TO)$(BINDIR) $(TO)$(INCLUDEDIR) $(TO)$(PKGCONFIGDIR) $(TO)$(CMAKEDIR) $(TO)$(EXAMPLEDIR)/reports
+install: lib target/c/restart-cluster $(MADE) $(PROGRAM) $(MONDAYS) $(SHEET)
+	install -d $(TO)$(BINDIR) $(TO)$(INCLUDEDIR) $(TO)$(PKGCONFIGDIR) $(TO)$(CMAKEDIR) $(TO)$(EXAMPLEDIR)/reports $(TO)$(EXAMPLEDIR)/cluster
 	install -d $(TO)$(MANDIR)/man1 $(TO)$(MANDIR)/man3 $(TO)$(MANDIR)/man7
 	install -m 755 $(PROGRAM) $(TO)$(BINDIR)/restart
 	install -m 755 $(MONDAYS) $(TO)$(BINDIR)/mondays
 	install -m 755 $(SHEET) $(TO)$(BINDIR)/sheet
-	install -m 755 target/c/service $(TO)$(BINDIR)/restart-service
+	install -m 755 target/c/restart-cluster $(TO)$(BINDIR)/restart-cluster
 	install -m 644 include/restart.h $(TO)$(INCLUDEDIR)
 	install -m 644 target/librestart.a $(TO)$(LIBDIR)
 	install -m 755 target/$(SHARED) $(TO)$(LIBDIR)
@@ -166,18 +172,18 @@ install: lib target/c/service $(MADE) $(PROGRAM) $(MONDAYS) $(SHEET)
 	install -m 644 man/restart.3 $(TO)$(MANDIR)/man3
 	install -m 644 $(PAGES_7:%=man/%) $(TO)$(MANDIR)/man7
 	for call in $(CALLS); do ln -sf restart.3 $(TO)$(MANDIR)/man3/$$call.3 || exit; done
-	install -m 644 $(EXAMPLES:%=examples/%) $(TO)$(EXAMPLEDIR)
+	for file in $(EXAMPLES); do install -m 644 examples/$$file $(TO)$(EXAMPLEDIR)/$$file || exit; done
 	install -m 644 $(REPORTS:%=examples/reports/%) $(TO)$(EXAMPLEDIR)/reports
 
 uninstall:
-	rm -f $(TO)$(BINDIR)/restart $(TO)$(BINDIR)/mondays $(TO)$(BINDIR)/sheet $(TO)$(BINDIR)/restart-service $(TO)$(INCLUDEDIR)/restart.h
+	rm -f $(TO)$(BINDIR)/restart $(TO)$(BINDIR)/mondays $(TO)$(BINDIR)/sheet $(TO)$(BINDIR)/restart-cluster $(TO)$(INCLUDEDIR)/restart.h
 	rm -f $(TO)$(LIBDIR)/librestart.a $(TO)$(LIBDIR)/$(SHARED) $(TO)$(LIBDIR)/librestart.so.$(SONUMBER) $(TO)$(LIBDIR)/librestart.so
 	rm -f $(TO)$(PKGCONFIGDIR)/restart.pc $(CONFIGS:%=$(TO)$(CMAKEDIR)/%)
 	rm -f $(PAGES_1:%=$(TO)$(MANDIR)/man1/%) $(TO)$(MANDIR)/man3/restart.3 $(PAGES_7:%=$(TO)$(MANDIR)/man7/%)
 	rm -f $(CALLS:%=$(TO)$(MANDIR)/man3/%.3)
 	rm -f $(REPORTS:%=$(TO)$(EXAMPLEDIR)/reports/%)
 	rm -f $(EXAMPLES:%=$(TO)$(EXAMPLEDIR)/%)
-	-rmdir $(TO)$(CMAKEDIR) $(TO)$(EXAMPLEDIR)/reports $(TO)$(EXAMPLEDIR) $(dir $(TO)$(EXAMPLEDIR))
+	-rmdir $(TO)$(CMAKEDIR) $(TO)$(EXAMPLEDIR)/reports $(TO)$(EXAMPLEDIR)/cluster $(TO)$(EXAMPLEDIR) $(dir $(TO)$(EXAMPLEDIR))
 
 # ---- Archives
 
@@ -193,6 +199,12 @@ dist:
 	if [ -e .git ]; then git archive --prefix=$(NAME)/ -o target/$(NAME).tar.gz HEAD; \
 	else $(PACK) target/$(NAME).tar.gz --exclude=./target --exclude=__pycache__ --transform='s|^\.|$(NAME)|' .; fi
 	rm -rf target/dist
+
+deb:
+	rm -rf target/deb
+	$(MAKE) --no-print-directory install DESTDIR=$(CURDIR)/target/deb/tree PREFIX=/usr LIBDIR=/usr/lib/$(MULTIARCH)
+	sh packaging/deb.sh target/deb/tree target $(VERSION) $(SONUMBER)
+	rm -rf target/deb
 
 clean:
 	rm -rf target

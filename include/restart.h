@@ -24,8 +24,9 @@
  * What is proved: the calls under "Settings and messages", "Open views", "Events", "Previews", "Pages"
  * and "Shifts" are proved functions. For any bytes whatever they end, touch nothing but what was lent,
  * and answer and leave what their definitions say. The functions under "Roles", "Answers", "Words in
- * lent bytes" and "Versions and texts" are plain C beside them (c/restart_extra.c): tested, not
- * proved, and never called by a proved one.
+ * lent bytes", "Versions and texts", "Reports shard by shard", "Orders shard by shard" and "What a
+ * leader keeps" are plain C beside them (c/restart_extra.c): tested, not proved, and never called by
+ * a proved one.
  *
  * Stack: a call needs up to RESTART_STACK_BYTES of it. No call allocates memory.
  *
@@ -50,10 +51,10 @@ extern "C" {
 /* ---- Version ---- */
 
 #define RESTART_VERSION_MAJOR 0
-#define RESTART_VERSION_MINOR 5
-#define RESTART_VERSION_PATCH 5
-#define RESTART_VERSION "0.5.5"
-#define RESTART_VERSION_NUMBER 505 /* major * 10000 + minor * 100 + patch */
+#define RESTART_VERSION_MINOR 6
+#define RESTART_VERSION_PATCH 0
+#define RESTART_VERSION "0.6.0"
+#define RESTART_VERSION_NUMBER 600 /* major * 10000 + minor * 100 + patch */
 
 /* Of the settings, the messages and the state. It is raised when any of their words changes its
  * meaning; save it beside a state, and start fresh where it differs. */
@@ -104,6 +105,8 @@ extern "C" {
 #define RESTART_BUFFER_BYTES 2048
 #define RESTART_CONTENTS_BYTES 2048
 #define RESTART_MESSAGE_BYTES 2048 /* longest message */
+#define RESTART_FILE_BYTES 66416   /* longest leader's file, without the caller's own words */
+#define RESTART_OWN_BYTES 1048576  /* most that these may have */
 
 #define RESTART_STACK_BYTES 65536 /* stack that is enough for any call */
 
@@ -187,7 +190,19 @@ enum restart_number {
     /* another termination of the kept view */
     RESTART_OTHER_TERMINATION = 13,
     /* the node is not held; in fetched and prepared also: it is marked already */
-    RESTART_NOT_HELD = 14
+    RESTART_NOT_HELD = 14,
+
+    /* From 32 on, of restart_leader_take alone, and looked at before all others. Bytes that begin as
+     * no leader's file does */
+    RESTART_FILE_FOREIGN = 32,
+    /* a leader's file that was cut off, or is longer than it says */
+    RESTART_FILE_TORN = 33,
+    /* bytes have changed since it was saved: the sum is wrong */
+    RESTART_FILE_CHANGED = 34,
+    /* its state is of another RESTART_FORMAT */
+    RESTART_FILE_FORMAT = 35,
+    /* it was saved under other settings */
+    RESTART_FILE_SETTINGS = 36
 };
 
 /* ---- Reasons to wait, the first that applies ---- */
@@ -773,6 +788,256 @@ uint32_t restart_page(uint32_t role, const uint8_t *settings, size_t settings_le
 uint32_t restart_game(uint32_t role, const uint8_t *settings, size_t settings_len,
                       const uint8_t *state, size_t state_len, const uint8_t *desk, size_t desk_len,
                       uint32_t held, uint32_t rounds) RESTART_NONNULL RESTART_CHECKED;
+
+/* ---- Reports shard by shard ----
+ * A report is drafted from its head on: begin; for each shard in turn its members, its runs by
+ * ascending view and, if the view has a termination, the position where it ended; then write. A step
+ * is refused at once, with the draft as it was, for what restart_write_report would refuse later.
+ */
+
+/* A report in the making. It may be read; the calls alone change it. */
+struct restart_draft {
+    uint8_t settings[RESTART_SETTINGS_BYTES];
+    uint32_t settings_len;
+    uint32_t node, view, members;
+    uint32_t shards; /* how many are begun; the last of them is at hand */
+    uint32_t ended;  /* how many of them have a position of the termination */
+    uint32_t runs;   /* how many are there */
+    uint32_t first;  /* of them, the number of the first of the shard at hand */
+    uint32_t masks[RESTART_SHARDS];
+    uint32_t positions[2 * RESTART_SHARDS]; /* view and k */
+    uint32_t triples[3 * RESTART_RECORDS];  /* of each run: shard, view, count */
+};
+
+/*
+ * Begins a report of this node: its latest view that counts, with the view's members.
+ * Answers 0, or one of the numbers 2, 6, 7.
+ */
+extern uint32_t restart_draft_begin(struct restart_draft *draft, const uint8_t *settings,
+                                    size_t settings_len, uint32_t node, uint32_t view,
+                                    uint32_t members) RESTART_NONNULL RESTART_CHECKED;
+
+/*
+ * Goes on to the next shard, the first time to shard 0: its members in the view.
+ * Answers 0, or one of the numbers 16 (the settings have no more), 17 (the shard before lacks its
+ * position), 10.
+ */
+extern uint32_t restart_draft_shard(struct restart_draft *draft,
+                                    uint32_t members) RESTART_NONNULL RESTART_CHECKED;
+
+/*
+ * Where the view's termination ends the shard at hand. Every shard has a position, or none has.
+ * Answers 0, or one of the numbers 5 (no room), 17, 11.
+ */
+extern uint32_t restart_draft_ended(struct restart_draft *draft, uint32_t view,
+                                    uint32_t k) RESTART_NONNULL RESTART_CHECKED;
+
+/*
+ * Adds a run to the shard at hand: its log has the updates (view, 1) to (view, count).
+ * Answers 0, or one of the numbers 5 (no room), 17 (no shard is at hand, or its run before is not of
+ * an earlier view), 11.
+ */
+extern uint32_t restart_draft_run(struct restart_draft *draft, uint32_t view,
+                                  uint32_t count) RESTART_NONNULL RESTART_CHECKED;
+
+/* How many runs still fit. With the first position it falls by the number of shards. */
+extern uint32_t restart_draft_room(const struct restart_draft *draft) RESTART_NONNULL;
+
+/*
+ * Writes the report into the buffer, as restart_write_report, which has the last word. The draft
+ * stays, and can go on.
+ * Answers class 1 with the report's length in words; or one of the numbers of restart_write_report:
+ * 1 (buffer not 2048 bytes), 17 (a shard or a position is missing).
+ * Changes the buffer.
+ */
+extern uint32_t restart_draft_write(const struct restart_draft *draft, uint8_t *buffer,
+                                    size_t buffer_len) RESTART_NONNULL RESTART_CHECKED;
+
+/* ---- Orders shard by shard ---- */
+
+/* The end of some log: (0, 0) or view and k. */
+struct restart_position {
+    uint32_t view, k;
+};
+
+/* What an order says of a shard. Holder and cut are there where the order's machine carries it, else
+ * zeros. */
+struct restart_shard {
+    uint32_t members; /* mask in the new view */
+    uint32_t carried; /* 1 if the machine is one of them, else 0 */
+    uint32_t holder;  /* the node whose log is taken */
+    struct restart_position cut, target;
+};
+
+/* An order: whose it is, the new view and its shards. */
+struct restart_task {
+    uint32_t node, view, members;
+    uint32_t shards;
+    struct restart_shard shard[RESTART_SHARDS]; /* zeros from `shards` on */
+};
+
+/*
+ * Reads an order.
+ * Answers 0, or one of the numbers of restart_read_order: 2, 5 to 9, 16, 17, 10, 11.
+ * Changes the task.
+ */
+extern uint32_t restart_read_task(const uint8_t *settings, size_t settings_len,
+                                  const uint8_t *message, size_t message_len,
+                                  struct restart_task *task) RESTART_NONNULL RESTART_CHECKED;
+
+/* ---- What a leader keeps ----
+ * Settings, state, desk and the attempt's tag in one struct, which lends itself to the calls, goes
+ * into a file and comes out of it. All bytes are in the struct: it may be copied and thrown away.
+ */
+
+struct restart_leader {
+    uint64_t tag;        /* of the attempt: duty 2 */
+    size_t settings_len; /* in bytes */
+    uint8_t settings[RESTART_SETTINGS_BYTES];
+    uint8_t state[RESTART_STATE_BYTES];
+    uint8_t desk[RESTART_DESK_BYTES];
+};
+
+/*
+ * Begins under these settings and this tag: the fresh state, and a desk of zeros.
+ * Answers 0, or number 2.
+ */
+extern uint32_t restart_leader_begin(struct restart_leader *leader, const uint8_t *settings,
+                                     size_t settings_len,
+                                     uint64_t tag) RESTART_NONNULL RESTART_CHECKED;
+
+/* The held machines that still owe a mark: while ordered those that have not fetched, while preparing
+ * those that are not prepared; else none. The state has 640 bytes. */
+RESTART_NONNULL RESTART_INLINE uint32_t restart_owing(const uint8_t *state)
+{
+    uint32_t phase = restart_get_word(state, RESTART_PHASE);
+    uint32_t marked = phase == RESTART_ORDERED     ? restart_get_word(state, RESTART_FETCHED)
+                      : phase == RESTART_PREPARING ? restart_get_word(state, RESTART_PREPARED)
+                                                   : UINT32_MAX;
+    return restart_get_word(state, RESTART_HELD) & ~marked;
+}
+
+/*
+ * The leader's file, restart(7): what the leader keeps, and words of the caller's own behind it (the
+ * kept view's list, say), all under a sum. The bytes are for a file that is replaced as a whole:
+ * restart(3), PERSISTENCE. `own_len` is a multiple of 4, at most RESTART_OWN_BYTES, and may be 0.
+ * Answers class 1 with the file's length in words; or one of the numbers 1 (own words of another
+ * length, or fewer bytes than the file needs: RESTART_FILE_BYTES + own_len are enough), 2.
+ * Changes the bytes, up to that length.
+ */
+extern uint32_t restart_leader_save(const struct restart_leader *leader, const uint8_t *own,
+                                    size_t own_len, uint8_t *bytes,
+                                    size_t bytes_len) RESTART_NONNULL RESTART_CHECKED;
+
+/*
+ * Takes up what was saved. Where the leader has settings (settings_len is not 0), the file must have
+ * the same. `own_len` says how many bytes of the caller's own words there is room for.
+ * Answers class 1 with how many of these words there are; or one of the numbers, in this order: 32,
+ * 33, 34, 35, 36, 1 (more own words than there is room for), 2, 3 (restart_check_state). With any
+ * number nothing has changed, and starting fresh, under a new tag, is safe.
+ * Changes leader and own words.
+ */
+extern uint32_t restart_leader_take(struct restart_leader *leader, uint8_t *own, size_t own_len,
+                                    const uint8_t *bytes,
+                                    size_t bytes_len) RESTART_NONNULL RESTART_CHECKED;
+
+/* The calls over what a leader keeps, in the planner's role. Each is that of the same name, above,
+ * and answers so. They are inline and in no library. */
+
+#define RESTART_LENT(leader)                                                                       \
+    RESTART_PLANNER, (leader)->settings, (leader)->settings_len, (leader)->state,                  \
+        sizeof(leader)->state, (leader)->desk, sizeof(leader)->desk
+
+/* Word `index` of the state, enum restart_state_word. */
+RESTART_NONNULL static inline uint32_t restart_leader_word(const struct restart_leader *leader,
+                                                           size_t index)
+{
+    return restart_get_word(leader->state, index);
+}
+
+/* The fresh state under another tag. */
+RESTART_NONNULL static inline void restart_leader_fresh(struct restart_leader *leader, uint64_t tag)
+{
+    leader->tag = tag;
+    (void)restart_fresh(RESTART_PLANNER, leader->state, sizeof leader->state);
+}
+
+RESTART_NONNULL static inline uint32_t restart_leader_check(const struct restart_leader *leader)
+{
+    return restart_check_state(RESTART_LENT(leader));
+}
+
+RESTART_NONNULL static inline uint32_t restart_leader_report(struct restart_leader *leader,
+                                                             const uint8_t *message,
+                                                             size_t message_len)
+{
+    return restart_report(RESTART_LENT(leader), message, message_len);
+}
+
+/* A drop while ordered or preparing gives the plan up: take a new tag (duty 2). */
+RESTART_NONNULL static inline uint32_t restart_leader_drop(struct restart_leader *leader,
+                                                           uint32_t node)
+{
+    return restart_drop(RESTART_LENT(leader), node);
+}
+
+RESTART_NONNULL static inline uint32_t restart_leader_decide(struct restart_leader *leader)
+{
+    return restart_decide(RESTART_LENT(leader));
+}
+
+RESTART_NONNULL static inline uint32_t restart_leader_decide_within(struct restart_leader *leader,
+                                                                    uint32_t rounds)
+{
+    return restart_decide_within(RESTART_LENT(leader), rounds);
+}
+
+/* The buffers below have RESTART_BUFFER_BYTES. */
+RESTART_NONNULL static inline uint32_t restart_leader_order(const struct restart_leader *leader,
+                                                            uint32_t node, uint8_t *buffer)
+{
+    return restart_order(RESTART_LENT(leader), node, buffer, RESTART_BUFFER_BYTES);
+}
+
+RESTART_NONNULL static inline uint32_t restart_leader_fetched(struct restart_leader *leader,
+                                                              uint32_t node)
+{
+    return restart_fetched(RESTART_LENT(leader), node);
+}
+
+RESTART_NONNULL static inline uint32_t restart_leader_prepared(struct restart_leader *leader,
+                                                               uint32_t node)
+{
+    return restart_prepared(RESTART_LENT(leader), node);
+}
+
+RESTART_NONNULL static inline uint32_t restart_leader_preview(const struct restart_leader *leader,
+                                                              uint32_t node, uint8_t *buffer)
+{
+    return restart_preview(RESTART_LENT(leader), node, buffer, RESTART_BUFFER_BYTES);
+}
+
+RESTART_NONNULL static inline uint32_t restart_leader_preview_all(
+    const struct restart_leader *leader, uint8_t *buffer)
+{
+    return restart_preview_all(RESTART_LENT(leader), buffer, RESTART_BUFFER_BYTES);
+}
+
+/* In the role of whoever asks (duty 18). */
+RESTART_NONNULL static inline uint32_t restart_leader_page(const struct restart_leader *leader,
+                                                           uint32_t role, uint32_t subgroup,
+                                                           uint8_t *buffer)
+{
+    return restart_page(role, leader->settings, leader->settings_len, leader->state,
+                        sizeof leader->state, leader->desk, sizeof leader->desk, subgroup, buffer,
+                        RESTART_BUFFER_BYTES);
+}
+
+RESTART_NONNULL static inline uint32_t restart_leader_game(const struct restart_leader *leader,
+                                                           uint32_t held, uint32_t rounds)
+{
+    return restart_game(RESTART_LENT(leader), held, rounds);
+}
 
 #ifdef __cplusplus
 }

@@ -22,7 +22,7 @@ import sys
 
 # The delivered functions of a crate, by how their heads start: the calls for C, the planner's, the runs of restart and sheet, and every
 # program's.
-ROOTS = {"c_planner": 'pub extern "C" fn ', "state_planner": "pub fn ", "state_order": "pub fn ", "state_page": "pub fn ", "state_readiness": "pub fn ", "program_run": "pub fn ", "program_sheet": "pub fn ", "program_reading": "fn "}
+ROOTS = {"c_planner": 'pub extern "C" fn ', "state_planner": "pub fn ", "state_order": "pub fn ", "state_page": "pub fn ", "state_readiness": "pub fn ", "program_run": "pub fn ", "program_sheet": "pub fn ", "program_reading": "fn ", "program_arguments": "fn "}
 ROOTS.update({path.split("/")[1]: "fn " for path in sorted(glob.glob("crates/*/src/main.rt"))})
 # Not delivered: public for the page call alone, which has a promise of its own.
 INNER = {"state_planner::enter"}

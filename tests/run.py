@@ -68,7 +68,10 @@ THEN = [
     ("events against the peer in C and the reference", cargo("bench/events", "run", "--release", "--", "compare", "20000", "1"), LIBRARY),
     ("placements against the reference", cargo("tests/placement", "run", "--release"), PLACEMENT),
     ("cases and numbers of the programs restart and sheet", ["python3", "tests/cases.py"], None),
+    ("arguments of the programs", ["python3", "tests/arguments.py"], None),
     ("the library from C", ["make", "--no-print-directory", "test-c"], LIBRARY),
+    ("Debian packages", ["sh", "tests/deb.sh"], "the library from C"),
+    ("a store of real processes, killed at every step", ["sh", "tests/cluster/run.sh"], LIBRARY),
     ("the total search is never entered", ["make", "--no-print-directory", "-C", "bench", "fallback"], PLACEMENT),
 ]
 PROCESSORS = len(os.sched_getaffinity(0))

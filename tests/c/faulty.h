@@ -634,4 +634,86 @@ static inline uint32_t faulty(EVENT, uint32_t rounds)
     return restart_decide_within(PASSED_ON, rounds);
 }
 #define restart_decide_within faulty
+
+#elif FAULT == 60 /* a run of the same or an earlier view is taken */
+static inline uint32_t faulty(struct restart_draft *draft, uint32_t view, uint32_t count)
+{
+    uint32_t first = draft->first;
+    draft->first = draft->runs;
+    uint32_t answer = restart_draft_run(draft, view, count);
+    draft->first = first;
+    return answer;
+}
+#define restart_draft_run faulty
+
+#elif FAULT == 61 /* the room does not count a termination */
+static inline uint32_t faulty(const struct restart_draft *draft)
+{
+    return restart_draft_room(draft) +
+           (draft->ended != 0 ? restart_get_word(draft->settings, 3) : 0);
+}
+#define restart_draft_room faulty
+
+#elif FAULT == 62 /* a shard that is refused is begun all the same */
+static inline uint32_t faulty(struct restart_draft *draft, uint32_t members)
+{
+    uint32_t answer = restart_draft_shard(draft, members);
+    draft->shards += restart_is_refusal(answer) ? 1 : 0;
+    return answer;
+}
+#define restart_draft_shard faulty
+
+#elif FAULT == 63 /* the cut of the holder itself is left out */
+static inline uint32_t faulty(SETTINGS, const uint8_t *message, size_t message_len,
+                              struct restart_task *task)
+{
+    uint32_t answer = restart_read_task(settings, settings_len, message, message_len, task);
+    for (uint32_t s = 0; answer == RESTART_ACCEPTED && s < task->shards; s++)
+        if (task->shard[s].holder == task->node)
+            task->shard[s].cut.view = task->shard[s].cut.k = 0;
+    return answer;
+}
+#define restart_read_task faulty
+
+#elif FAULT == 64 /* machines owe something while gathering */
+static inline uint32_t faulty(const uint8_t *state)
+{
+    return restart_get_word(state, RESTART_PHASE) == RESTART_GATHERING
+               ? restart_get_word(state, RESTART_HELD)
+               : restart_owing(state);
+}
+#define restart_owing faulty
+
+#elif FAULT == 65 /* a file of other settings is taken */
+static inline uint32_t faulty(struct restart_leader *leader, uint8_t *own, size_t own_len,
+                              const uint8_t *bytes, size_t bytes_len)
+{
+    size_t length = leader->settings_len;
+    leader->settings_len = 0;
+    uint32_t answer = restart_leader_take(leader, own, own_len, bytes, bytes_len);
+    leader->settings_len = restart_is_refusal(answer) ? length : leader->settings_len;
+    return answer;
+}
+#define restart_leader_take faulty
+
+#elif FAULT == 66 /* a file that was cut off is told as one that has changed */
+static inline uint32_t faulty(struct restart_leader *leader, uint8_t *own, size_t own_len,
+                              const uint8_t *bytes, size_t bytes_len)
+{
+    uint32_t answer = restart_leader_take(leader, own, own_len, bytes, bytes_len);
+    return answer == RESTART_FILE_TORN ? (uint32_t)RESTART_FILE_CHANGED : answer;
+}
+#define restart_leader_take faulty
+
+#elif FAULT == 67 /* half of the tag is saved */
+static inline uint32_t faulty(const struct restart_leader *leader, const uint8_t *own,
+                              size_t own_len, uint8_t *bytes, size_t bytes_len)
+{
+    static struct restart_leader half;
+    half = *leader;
+    half.tag &= UINT32_MAX;
+    return restart_leader_save(&half, own, own_len, bytes, bytes_len);
+}
+#define restart_leader_save faulty
+
 #endif

@@ -22,14 +22,15 @@ check() { # WHAT COMMAND ..
 
 # What must stand under the prefix.
 names() {
-    echo bin/restart bin/mondays bin/sheet bin/restart-service include/restart.h lib/librestart.a lib/pkgconfig/restart.pc
+    echo bin/restart bin/mondays bin/sheet bin/restart-cluster include/restart.h lib/librestart.a lib/pkgconfig/restart.pc
     echo "lib/librestart.so lib/librestart.so.1 lib/librestart.so.$version"
     echo lib/cmake/restart/restart-config.cmake lib/cmake/restart/restart-config-version.cmake
-    echo share/man/man1/restart.1 share/man/man1/restart-service.1 share/man/man1/mondays.1 share/man/man1/sheet.1 share/man/man3/restart.3
+    echo share/man/man1/restart.1 share/man/man1/restart-cluster.1 share/man/man1/mondays.1 share/man/man1/sheet.1 share/man/man3/restart.3
     echo share/man/man7/restart.7 share/man/man7/restart-model.7
     sh c/names.sh | sed 's|.*|share/man/man3/&.3|'
     for report in examples/reports/*.bin; do echo "share/restart/example/reports/${report##*/}"; done
-    for name in service.c settings.bin events.txt publishers.txt output.txt moves.bin moves.txt seven.bin seven.sheet; do echo "share/restart/example/$name"; done
+    for name in settings.bin moves.bin moves.txt seven.bin seven.sheet; do echo "share/restart/example/$name"; done
+    for file in examples/cluster/*; do echo "share/restart/example/cluster/${file##*/}"; done
 }
 
 all_there() { # FOLDER
@@ -48,22 +49,34 @@ expected_output() {
     printf 'report 0, 1 word, must stay 1, reason 2, gap 0, wait 2\nreport 0, 1 word, must stay 3, reason 2, gap 0, plan 4\npage of 72 words, placed 1\n' | diff - "$1"
 }
 
-# Builds the program in a folder of its own, with the flags of pkg-config under this sysroot, and runs it over the shared library; then
-# over the archive.
+# Builds the program in a folder of its own, with the flags of pkg-config under this sysroot, and runs it, without any other path: over the
+# shared library, over the archive, and linked statically.
 outside() { # COMPILER STANDARD LIBRARY-FOLDER SYSROOT
     mkdir -p "$room/outside" && cp "$root/tests/c/outside.c" "$room/outside/program.$1" && cd "$room/outside" || return
-    flags=$(PKG_CONFIG_PATH=$3/pkgconfig PKG_CONFIG_SYSROOT_DIR=$4 pkg-config --cflags --libs restart) || return
     language=c
     [ "$1" = g++ ] && language=c++
-    for way in -lrestart -l:librestart.a; do
+    for way in -lrestart -l:librestart.a --static; do
+        kind=
+        [ $way = --static ] && kind=--static
+        # shellcheck disable=SC2086
+        flags=$(PKG_CONFIG_PATH=$3/pkgconfig PKG_CONFIG_SYSROOT_DIR=$4 pkg-config $kind --cflags --libs restart) || return
+        [ $way = -l:librestart.a ] && flags=$(echo "$flags" | sed "s|-lrestart|$way|")
         # shellcheck disable=SC2046,SC2086
-        "$1" "-std=$2" -Wall -Wextra -Werror -pedantic -x $language "program.$1" -x none $(echo "$flags" | sed "s|-lrestart|$way|") -o program || return
-        LD_LIBRARY_PATH=$3 ./program >printed && expected_output printed || return
+        "$1" "-std=$2" -Wall -Wextra -Werror -pedantic -x $language "program.$1" -x none $flags -o program || return
+        ./program >printed && expected_output printed || return
         readelf -dW program >needed
         case $way in
         -lrestart) grep -q 'NEEDED.*\[librestart.so.1\]' needed || return ;;
-        *) ! grep -q 'NEEDED.*librestart' needed || return ;;
+        -l:librestart.a) ! grep -q 'NEEDED.*librestart' needed || return ;;
+        --static) ! grep -q NEEDED needed || return ;;
         esac
+    done
+}
+
+# A library that programs find by themselves has no runpath.
+searched() {
+    for folder in /usr/lib /usr/local/lib /usr/lib/x86_64-linux-gnu; do
+        make --no-print-directory target/restart.pc LIBDIR=$folder && ! PKG_CONFIG_PATH=target pkg-config --libs restart | grep rpath || return
     done
 }
 
@@ -116,12 +129,18 @@ moved() { # PREFIX-FOLDER
     mv "$room/moved" "$1" && return $status
 }
 
-# The example as installed, and built from its installed source.
+# The example as installed, and built from its installed source, prints its version and puts a first view on a disk, once.
 installed_example() { # PREFIX-FOLDER
-    cd / && "$1/bin/restart-service" "$1/share/restart/example" >"$room/printed" && diff "$1/share/restart/example/output.txt" "$room/printed" || return
+    cd / || return
     # shellcheck disable=SC2046
-    gcc -std=c11 -o "$room/program" "$1/share/restart/example/service.c" $(PKG_CONFIG_PATH=$1/lib/pkgconfig pkg-config --cflags --libs restart) &&
-        LD_LIBRARY_PATH=$1/lib "$room/program" "$1/share/restart/example" | diff "$1/share/restart/example/output.txt" -
+    gcc -std=c11 -o "$room/program" "$1"/share/restart/example/cluster/*.c $(PKG_CONFIG_PATH=$1/lib/pkgconfig pkg-config --cflags --libs restart) || return
+    for program in "$1/bin/restart-cluster" "$room/program"; do
+        rm -rf "$room/disk" && mkdir "$room/disk" || return
+        LD_LIBRARY_PATH=$1/lib "$program" --version | grep -qx "restart-cluster $version" || return
+        LD_LIBRARY_PATH=$1/lib "$program" format --settings "$1/share/restart/example/settings.bin" --folder "$room/disk" || return
+        LD_LIBRARY_PATH=$1/lib "$program" format --settings "$1/share/restart/example/settings.bin" --folder "$room/disk" 2>/dev/null && return 1
+        LD_LIBRARY_PATH=$1/lib "$program" show --folder "$room/disk" | grep -q '^sure view 1, members 7f' || return
+    done
 }
 
 # The example's settings and first six reports, each block preceded by its word count.
@@ -200,5 +219,6 @@ version=$(sed -n 's/^#define RESTART_VERSION "\(.*\)"/\1/p' include/restart.h)
 try "$room/staged" /opt/planner other_languages
 try "" "$room/direct" other_places
 check "archives" archives
+check "no runpath where none is needed" searched
 echo "$passed passed, $failed failed"
 [ "$failed" = 0 ]

@@ -1,6 +1,6 @@
 #!/bin/sh
-# Builds and runs the tests in C over target/librestart.a and the example: plainly, as C++, under valgrind, with sanitizers, with
-# faults put in, killed at every step, and as an installed library. The last line is `N passed, M failed`. `make test-c` builds the
+# Builds and runs the tests in C over target/librestart.a, and builds the example: plainly, as C++, under valgrind, with sanitizers,
+# with faults put in, and as an installed library. The last line is `N passed, M failed`. `make test-c` builds the
 # library first.
 set -u
 cd "$(dirname "$0")/../.." || exit 1
@@ -15,7 +15,7 @@ strict="-D_DEFAULT_SOURCE -Iinclude -Wall -Wextra -Werror -pedantic -Wconversion
 sanitizers="-fsanitize=address,undefined -fno-sanitize-recover=all"
 memcheck="valgrind -q --error-exitcode=9 --leak-check=full --show-leak-kinds=all"
 shared="tests/c/harness.c tests/c/calls.c tests/c/world.c tests/c/room.c"
-tests="entry_points rows lengths guards roles preview rounds page game cuts remembered caps views flat"
+tests="entry_points rows lengths guards roles preview rounds page game cuts remembered caps views flat draft leader"
 passed=0 failed=0
 mkdir -p $out
 
@@ -48,68 +48,20 @@ compile() { # NAME FLAG ..
 # shellcheck disable=SC2086
 compile_as_cxx() {
     g++ -std=c++11 -x c++ $strict -o $out/entry_points-cxx tests/c/entry_points.c $shared -x none $library &&
-        g++ -std=c++11 -x c++ $strict -c -o $out/extra-cxx.o c/restart_extra.c &&
-        g++ -std=c++11 -x c++ -Iinclude -Wall -Wextra -Werror -pedantic -Wconversion -o $out/service-cxx examples/service.c -x none $library
+        g++ -std=c++11 -x c++ $strict -c -o $out/extra-cxx.o c/restart_extra.c
 }
 
+# The example, as people build it and with the switches of its tests.
 # shellcheck disable=SC2086
-compile_service() { # NAME FLAG ..
+compile_cluster() { # NAME COMPILER FLAG ..
     name=$1
     shift
-    gcc -std=c11 -Iinclude -Wall -Wextra -Werror -pedantic -Wconversion -g "$@" -o "$out/$name" examples/service.c $library
+    "$@" -std=c11 -Iinclude -Wall -Wextra -Werror -pedantic -Wconversion -g -o "$out/$name" examples/cluster/*.c $library
 }
 
 # shellcheck disable=SC2086
 compile_shared() {
     gcc -std=c11 $strict -o $out/entry_points-shared tests/c/entry_points.c $shared $shared_library
-}
-
-compile_kill_at() {
-    gcc -std=c11 -Wall -Wextra -Werror -pedantic -fPIC -shared -o $out/kill_at.so tests/c/kill_at.c -ldl
-}
-
-# The example prints what is stored.
-service() { # COMMAND ..
-    "$@" examples >$out/printed && diff examples/output.txt $out/printed
-}
-
-# So it does when it saves, and when it is started once more it has no event left to take.
-saving_service() { # COMMAND ..
-    rm -rf $out/saved && mkdir $out/saved && "$@" examples $out/saved >$out/printed && diff examples/output.txt $out/printed || return
-    "$@" examples $out/saved >$out/printed && printf 'resume: committed, attempt 2, events taken: 36\nend: committed\n' | diff - $out/printed
-}
-
-# The example with a fault put in by sed: a kill must show it.
-kill_finds() { # EDIT
-    sed -e "$1" examples/service.c >$out/service-faulty.c && ! cmp -s examples/service.c $out/service-faulty.c || return
-    gcc -std=c11 -Iinclude -o $out/service-faulty $out/service-faulty.c $library || return
-    ! python3 tests/c/killed.py $out/service-faulty $out/kill_at.so faulty >/dev/null
-}
-
-# The example with a fault put in by sed: what it prints must show it.
-output_finds() { # EDIT
-    sed -e "$1" examples/service.c >$out/service-faulty.c && ! cmp -s examples/service.c $out/service-faulty.c || return
-    gcc -std=c11 -Iinclude -o $out/service-faulty $out/service-faulty.c $library || return
-    ! service $out/service-faulty >/dev/null
-}
-
-# The example ends with this status on this folder.
-service_ends() { # STATUS FOLDER
-    $out/service "$2" >/dev/null
-    test $? = "$1"
-}
-
-# A folder in which the restart is not carried out to its end, and one with settings that are too long.
-other_folders() {
-    rm -rf $out/short $out/long && cp -R examples $out/short && cp -R examples $out/long || return
-    sed '$d' examples/events.txt >$out/short/events.txt && cat examples/settings.bin examples/settings.bin >$out/long/settings.bin
-}
-
-# Of a report that was cut off after two records the example tells the second.
-cut_report() {
-    rm -rf $out/cut && cp -R examples $out/cut && head -c 32 examples/reports/1-machine-0.bin >$out/cut/reports/1-machine-0.bin || return
-    $out/service $out/cut >$out/printed
-    grep -qx '  refused: number 8 at record 1, a next index is wrong' $out/printed
 }
 
 # The example's files are those that its text makes.
@@ -126,9 +78,10 @@ symbols() {
     test "$(wc -l <$out/proved)" -ge 21 && diff $out/declared $out/defined && diff $out/proved $out/defined-proved
 }
 
-# The shared library exports the same, under its version and by its soname.
+# The shared library exports the same, under its versions and by its soname; the proved calls are of the first.
 exports() {
-    nm -D --defined-only $shared_library | sed -n 's/^[0-9a-f]* T \(.*\)@@RESTART_1$/\1/p' | sort >$out/exported
+    nm -D --defined-only $shared_library | sed -n 's/^[0-9a-f]* T \(.*\)@@RESTART_1\(\.1\)\{0,1\}$/\1/p' | sort >$out/exported
+    nm -D --defined-only $shared_library | sed -n 's/^[0-9a-f]* T \(.*\)@@RESTART_1$/\1/p' | sort | comm -13 - $out/proved | grep . && return 1
     diff $out/declared $out/exported && readelf -dW $shared_library | grep -q 'SONAME.*\[librestart.so.1\]'
 }
 
@@ -214,30 +167,13 @@ check "a stack of 16 KB is too small" too_small
 check "a bound on the stack" python3 tests/c/stack.py $library include/restart.h
 
 check "the example's files" files_made
-check "build the example" compile_service service
-check "the example" service $out/service
-check "the example as C++" service $out/service-cxx
+check "build the example" compile_cluster restart-cluster gcc -O2
+check "build the example with switches" compile_cluster restart-cluster-switched gcc -DCLUSTER_SWITCHES
 # shellcheck disable=SC2086
-check "the example under valgrind" saving_service $memcheck $out/service
-# shellcheck disable=SC2086
-check "build the example with sanitizers" compile_service service-sanitized $sanitizers
-check "the example with sanitizers" saving_service $out/service-sanitized
-check "build what kills" compile_kill_at
-check "the example killed at every step" python3 tests/c/killed.py $out/service $out/kill_at.so
-check "orders that leave before they are saved" kill_finds '/^    save(leader);$/d; s/^        send_orders(leader);$/&\n    fflush(stdout);\n    save(leader);/'
-check "a file that is written in its place" kill_finds 's/write_file(fresh, bytes/write_file(path, bytes/; s/rename(fresh, path) != 0/fresh[0] == 0/'
-check "acknowledgements of any attempt" kill_finds 's/number_in(tag) != leader->attempt/number_in(tag) == 0/'
-check "a desk that is not saved" kill_finds '/memcpy(bytes + DESK_AT/d'
-check "publishers in the leader's role" output_finds 's/restart_page(LENT_AS(role, leader)/restart_page(LENT(leader)/'
-check "strangers in a publisher's role" output_finds '/^static uint32_t role_of/,/^}/s/return 0;/return restart_watcher(0);/'
-check "other folders" other_folders
-check "the example cut short" service_ends 1 $out/short
-check "the example with wrong settings" service_ends 2 $out/long
-check "the example with a report that was cut off" cut_report
-check "the example without files" service_ends 2 $out/none
+check "build the example with sanitizers" compile_cluster restart-cluster-sanitized gcc $sanitizers
 
 fault=0
-for name in lengths entry_points entry_points entry_points guards rows guards rows entry_points guards rows lengths rows cuts rows remembered remembered caps caps views views views flat flat flat rows roles roles roles rows page page page preview preview rows preview preview rows entry_points roles preview preview rows game game game game rounds rounds entry_points rounds rounds rows rounds lengths roles rows guards; do
+for name in lengths entry_points entry_points entry_points guards rows guards rows entry_points guards rows lengths rows cuts rows remembered remembered caps caps views views views flat flat flat rows roles roles roles rows page page page preview preview rows preview preview rows entry_points roles preview preview rows game game game game rounds rounds entry_points rounds rounds rows rounds lengths roles rows guards draft draft draft draft leader leader leader leader; do
     fault=$((fault + 1))
     check "fault $fault is found by $name" found $fault $name
 done

@@ -26,6 +26,12 @@ class Instruction:
         self.at, self.name, self.operands, self.callee = at, name, operands, None
 
     @property
+    def to(self):
+        """The function at whose beginning a jump or call goes on, or None."""
+        found = re.match(r"[0-9a-f]+ <([^+>]*)>$", self.operands)
+        return found.group(1) if found and self.name in ("call", "jmp") else None
+
+    @property
     def target(self):
         """Where a jump or call inside the function goes, or None."""
         found = re.match(r"([0-9a-f]+) <", self.operands)
@@ -47,6 +53,8 @@ def functions(archive):
             found[name].append(Instruction(int(item.group(1), 16), item.group(2), item.group(3)))
     for name, code in found.items():
         for item in code:
+            if item.callee is None and item.to in found and item.to != name:  # a function of the same object
+                item.callee = item.to
             if item.name == "call" and item.callee is None:
                 item.callee = name if item.target == 0 else sys.exit("a call that is not known in " + name)
     return found

@@ -1,8 +1,11 @@
 """The command restart-text."""
 import argparse
+import os
+import re
 import sys
 
 from .answers import BadAnswer
+from .asking import HERE
 from .commands import convert, diff, draw, explain, join, page, publisher, readiness, rounds, shift, split, text, watch, windows, words
 from .files import Trouble, Unfit
 from .lines import BadText
@@ -36,8 +39,20 @@ class Parser(argparse.ArgumentParser):
         self.exit(OTHER, "%s: %s\n" % (self.prog, message))
 
 
-def main(arguments=None):
-    chosen = parser().parse_args(arguments)
+class Version(argparse.Action):
+    """Prints the version as which the tool was installed; in a checkout, where none stands in its place, that of include/restart.h."""
+
+    def __call__(self, top, *_):
+        version = self.const
+        if version.startswith("@"):
+            with open(os.path.join(HERE, "..", "include", "restart.h"), encoding="ascii") as header:
+                version = re.search('#define RESTART_VERSION "(.*)"', header.read()).group(1)
+        print("%s %s" % (top.prog, version))
+        top.exit()
+
+
+def main(arguments=None, installed="@"):
+    chosen = parser(installed).parse_args(arguments)
     try:
         return chosen.work(chosen) or 0
     except (BadText, Refused, Unfit) as refusal:
@@ -48,9 +63,10 @@ def main(arguments=None):
         return OTHER
 
 
-def parser():
+def parser(installed):
     purpose = "Texts, explanations and drawings for operators of the restart planner."
     top = Parser(prog="restart-text", description=purpose, epilog=STATUSES)
+    top.add_argument("--version", action=Version, nargs=0, const=installed, help="print the version and exit")
     commands = top.add_subparsers(required=True, metavar="COMMAND", parser_class=Parser)
     for name, module, help_text in COMMANDS:
         made = commands.add_parser(name, help=help_text, description=help_text, epilog=STATUSES)

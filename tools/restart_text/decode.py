@@ -229,18 +229,18 @@ def shards_members(records, words, settings):
 
 
 def positions(records, words, is_order):
-    """Row 11."""
+    """Row 11. The number tells no record; this tool does."""
     limit = words[1] - 1 if is_order else words[1]
     for record in records:
         at = (record.first, record.second)
-        name = "record %d, the %s of shard %d," % (record.index, KIND_NAMES[record.kind], record.shard)
+        name = "%s, the %s of shard %d," % (shown(words, record.index), KIND_NAMES[record.kind], record.shard)
         if record.kind in (TERMINATION, RUN, CUT):
             if 0 in at and (record.kind == RUN or at != START):
-                raise Refused(11, "%s is (%d, %d), both should be from 1" % (name, *at))
+                raise Refused(11, "%s is (%d, %d), both should be from 1" % (name, *at), record=record.index)
             if record.first > limit:
-                raise Refused(11, "%s is of view %d, at most %d is allowed" % (name, record.first, limit))
+                raise Refused(11, "%s is of view %d, at most %d is allowed" % (name, record.first, limit), record=record.index)
         if record.kind == HOLDER and (record.first > 31 or record.first not in nodes_of(words[2])):
-            raise Refused(11, "%s names node %d, which is not among the members" % (name, record.first))
+            raise Refused(11, "%s names node %d, which is not among the members" % (name, record.first), record=record.index)
 
 
 def value_of(records, words, settings, is_order):

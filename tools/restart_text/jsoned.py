@@ -110,7 +110,7 @@ def without_value(without):
 
 def refusal_value(given, told):
     refused, fault = told.gathered.refused, told.fault
-    record = None if refused.index is None else given.blocks[fault][4 * refused.index : 4 * refused.index + 4]
+    record = None if refused.record is None else given.blocks[fault][4 * refused.record : 4 * refused.record + 4]
     return {"block": fault, "words": record, "file": given.files[fault] if fault is not None and fault < len(given.files) else None,
             "line": given.lines[fault] if fault is not None and fault < len(given.lines) else None, "why": refused.why,
             "without": [without_value(one) for one in told.advice.without]}
@@ -132,7 +132,7 @@ def outcome_value(folder, outcome):
 def reading_value(reading):
     refused = reading.refused
     return {"as": reading.form, "words": len(reading.words) if reading.words else None, "refusal": {
-        "number": refused.number, "record": refused.index, "places": [place_value(place) for place in getattr(refused, "places", ())],
+        "number": refused.number, "record": refused.record, "places": [place_value(place) for place in getattr(refused, "places", ())],
         "why": refused.why} if refused else None}
 
 

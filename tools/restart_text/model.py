@@ -94,12 +94,13 @@ class Order:
 
 class Refused(Exception):
     """Words that the planner refuses: the number as in restart(7), for some numbers the index of the record looked at, and what is
-    wrong, in words."""
+    wrong, in words. `record` is the index of the record at fault where this tool knows it and the number does not tell it."""
 
-    def __init__(self, number, why, index=None):
+    def __init__(self, number, why, index=None, record=None):
         super().__init__("%s: %s" % (number_line(number, index), why))
         self.number = number
         self.index = index
+        self.record = index if record is None else record
         self.why = why
 
 

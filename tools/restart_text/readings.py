@@ -95,7 +95,7 @@ def refusal_line(readings):
 
 
 def reason(refused):
-    record = "" if refused.index is None else " at record %d" % refused.index
+    record = "" if refused.record is None else " at record %d" % refused.record
     return "number %d%s: %s" % (refused.number, record, refused.why)
 
 

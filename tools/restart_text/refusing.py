@@ -64,11 +64,13 @@ def refusal_lines(answer, fault, given, gathered):
     if number not in ADVICE:
         table = "is given when: %s" % TABLE[number] if number in TABLE else "is not among those of restart(7)"
         return ["Number %d %s. The program restart never gives it." % (number, table)]
-    record = " at record %d" % answer.index if answer.index is not None else ""
+    same = refused and (Number(refused.number, refused.index), gathered.fault) == (answer, fault)
+    index = refused.record if same else answer.index
+    record = " at record %d" % index if index is not None else ""
     lines = ["Refused with number %d%s, given when: %s." % (number, record, TABLE[number])]
     if fault is not None:
         lines.append("At fault: %s." % block_name(fault, given))
-    if refused and (Number(refused.number, refused.index), gathered.fault) == (answer, fault):
+    if same:
         lines.append("What is wrong: %s." % refused.why)
     return lines
 

@@ -133,6 +133,14 @@ class Programs(unittest.TestCase):
         self.put("bin", "restart")
         self.assertEqual(self.explained(tool), answer)
 
+    def test_version(self):
+        """The header's, installed and in a checkout."""
+        with open(os.path.join(support.ROOT, "include", "restart.h"), encoding="ascii") as header:
+            version = header.read().split('#define RESTART_VERSION "')[1].split('"')[0]
+        for tool in (self.installed(), os.path.join(support.ROOT, "tools", "restart-text")):
+            done = subprocess.run([sys.executable, tool, "--version"], capture_output=True, text=True, check=False, cwd="/")
+            self.assertEqual((done.returncode, done.stdout, done.stderr), (0, "restart-text %s\n" % version, ""))
+
     def test_in_a_checkout(self):
         for name in ("tools/restart-text", "tools/restart_text", "crates.txt"):
             os.makedirs(os.path.join(self.folder, os.path.dirname(name)), exist_ok=True)

@@ -281,7 +281,7 @@ class Convert(Converting):
         ]))
         self.assertTrue(lines[3].startswith("d.bin: refused, neither a flat report (number 19: its termination word (word 5) is 5"), lines[3])
         self.assertIn("nor one of ours (number 8 at record 2: record 2 (words 257 82 0 3) names 3 as the next record", lines[3])
-        self.assertEqual(lines[4], "e.bin: refused as one of ours with number 11: record 4, the run of shard 2, is of view 8, at most 7 is allowed.")
+        self.assertEqual(lines[4], "e.bin: refused as one of ours with number 11 at record 4: record 4 (words 770 8 5 0), the run of shard 2, is of view 8, at most 7 is allowed.")
         self.assertTrue(lines[5].startswith("To do about number 8 (1 file): The report's end is missing"))
         self.assertEqual([self.words_in("out", name) for name in ("a.bin", "b.bin", "c.bin")], [GOOD] * 3)
 

@@ -2,7 +2,7 @@
 import unittest
 
 import support
-from restart_text import answers, inputs
+from restart_text import answers, inputs, jsoned
 from restart_text.asking import Program
 from restart_text.explaining import asked, explain
 
@@ -234,11 +234,19 @@ class Refusals(unittest.TestCase):
             (10, None, [2, 7, 127, 1, 256, 0, 0, 2] + rest[4:], "shard 0 has no members"),
             (10, None, [2, 7, 63, 1] + rest, "node 6 of shard 1 is not among the view's members"),
             (10, None, [2, 7, 127, 1, 256, 7, 0, 2] + rest[4:], "node 1 is in shards 0 and 1 of one subgroup"),
-            (11, None, [2, 7, 127, 1] + rest[:-1] + [4, 768, 7, 0, 0],
-             "record 4, the run of shard 0, is (7, 0), both should be from 1"),
-            (11, None, [2, 7, 127, 1] + rest[:-1] + [4, 768, 8, 1, 0],
-             "record 4, the run of shard 0, is of view 8, at most 7 is allowed"),
         )
+
+    def test_number_11_with_its_record(self):
+        """The number tells none; the tool does, in text and in JSON."""
+        for record, why in (([768, 7, 0, 0], "is (7, 0), both should be from 1"), ([768, 8, 1, 0], "is of view 8, at most 7 is allowed")):
+            given = support.with_block(3, [2, 7, 127, 1] + self.REST[:-1] + [4] + record)
+            pieces = ("Refused with number 11 at record 4, given when: ",
+                      "What is wrong: record 4 (words %s), the run of shard 0, %s.\n" % (" ".join(map(str, record)), why))
+            self.recorded(given, answers.Number(11), *pieces)
+            self.says(given, 11, *pieces)
+            told = explain(given, answers.Number(11))
+            self.assertEqual(jsoned.refusal_value(given, told)["words"], record)
+            self.assertIsNone(jsoned.answer_value(told.answer)["record"])
 
     def test_a_next_index(self):
         """A cut file and a wrong word are told apart."""

@@ -112,8 +112,8 @@ class Orders(unittest.TestCase):
             (31, 0, 17, 7, "the cut (kind 5) of shard 1 is missing; record 7 (words 1025 1 0 0) is the last on the chain"),
             (19, 6, 17, 8, "the termination (kind 2) of shard 1 is missing; record 8 (words 1281 7 4 0) is the last on the chain"),
             (5, 64, 10, None, "node 6 of shard 0 is not among the view's members"),
-            (21, 8, 11, None, "record 5, the termination of shard 1, is of view 8"),
-            (29, 6, 11, None, "record 7, the holder of shard 1, names node 6"),
+            (21, 8, 11, None, "number 11: record 5 (words 513 8 5 6), the termination of shard 1, is of view 8"),
+            (29, 6, 11, None, "number 11: record 7 (words 1025 6 0 8), the holder of shard 1, names node 6"),
         ):
             order = list(support.ORDER_A)
             order[place] = word

@@ -94,7 +94,27 @@ fn print_all(block: &mut [u8; 32768], out: &mut [u8; 98304]) -> Tallied
     tallied
 }
 
+// Answers an argument.
+fn tell() {
+    let help = b"\
+        Usage: mondays < MOVES\n\
+        \n\
+        Reads a moves file from standard input and prints for every 64 consecutive\n\
+        restarts how many moves they have together and how many the greatest of\n\
+        them has, or the number of a refusal.\n\
+        \n\
+        --help     print this text\n\
+        --version  print the version\n\
+        \n\
+        See mondays(1).\n";
+    program_arguments::tell(b"mondays", help);
+}
+
 fn main() {
+    if os::arg_count() > 1 {
+        tell();
+        return;
+    }
     let mut block = [0u8; 32768];
     let mut out = [0u8; 98304];
     let tallied = print_all(&mut block, &mut out);

@@ -20,7 +20,27 @@ fn answer(out: &mut [u8; 8192]) -> Reply
     Reply { len, input }
 }
 
+// Answers an argument.
+fn tell() {
+    let help = b"\
+        Usage: restart < INPUT\n\
+        \n\
+        Reads settings and the reports of the machines that are back from standard\n\
+        input, decides how the replicated store restarts, and prints the plan, the\n\
+        reason to wait or the number of a refusal.\n\
+        \n\
+        --help     print this text\n\
+        --version  print the version\n\
+        \n\
+        See restart(1).\n";
+    program_arguments::tell(b"restart", help);
+}
+
 fn main() {
+    if os::arg_count() > 1 {
+        tell();
+        return;
+    }
     let mut out = [0u8; 8192];
     let reply = answer(&mut out);
     let input = reply.input;

@@ -21,7 +21,27 @@ fn answer(out: &mut [u8; 32768]) -> Reply
     Reply { len, input }
 }
 
+// Answers an argument.
+fn tell() {
+    let help = b"\
+        Usage: sheet < INPUT\n\
+        \n\
+        Reads settings of up to 10 machines and a report of each of them from\n\
+        standard input, and prints for every set of these machines whether the\n\
+        replicated store could restart with it, or the number of a refusal.\n\
+        \n\
+        --help     print this text\n\
+        --version  print the version\n\
+        \n\
+        See sheet(1).\n";
+    program_arguments::tell(b"sheet", help);
+}
+
 fn main() {
+    if os::arg_count() > 1 {
+        tell();
+        return;
+    }
     let mut out = [0u8; 32768];
     let reply = answer(&mut out);
     let input = reply.input;
