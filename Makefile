@@ -46,25 +46,36 @@ performance:
 # ---- The operators' tool: its program, its package and its page
 
 TOOLDIR ?= $(PREFIX)/share/restart
-SCHEMAS := explain.schema.json convert.schema.json publisher.schema.json readiness.schema.json shift.schema.json rounds.schema.json
+SCHEMAS := $(notdir $(wildcard docs/*.schema.json))
 TOOL_FILES := $(patsubst tools/%,%,$(wildcard tools/restart_text/*.py tools/restart_text/*/*.py))
+DOCDIR ?= $(PREFIX)/share/doc/restart
+DOCUMENTS := ASSUMPTIONS.md PROMISES.md
+CASES := case-a.txt case-b.txt case-f.txt case-i.txt night.txt caps.txt seven.txt eight.txt shift.txt
+COMPLETIONDIR ?= $(PREFIX)/share/bash-completion/completions
+PYTHON ?= python3
 
 .PHONY: install-tool uninstall-tool
 install: install-tool
 uninstall: uninstall-tool
 
 install-tool:
-	install -d $(TO)$(BINDIR) $(TO)$(MANDIR)/man1 $(sort $(dir $(TOOL_FILES:%=$(TO)$(TOOLDIR)/%)))
-	for file in $(TOOL_FILES); do install -m 644 tools/$$file $(TO)$(TOOLDIR)/$$file || exit; done
-	sed 's|@TOOLDIR@|$(TOOLDIR)|; s|@VERSION@|$(VERSION)|' tools/restart-text > $(TO)$(BINDIR)/restart-text
+	install -d $(TO)$(BINDIR) $(TO)$(MANDIR)/man1 $(TO)$(DOCDIR) $(TO)$(EXAMPLEDIR) $(TO)$(COMPLETIONDIR) $(sort $(dir $(TOOL_FILES:%=$(TO)$(TOOLDIR)/%)))
+	for file in $(TOOL_FILES); do sed 's|@VERSION@|$(VERSION)|; s|@DOCDIR@|$(DOCDIR)|' tools/$$file > $(TO)$(TOOLDIR)/$$file && \
+	    chmod 644 $(TO)$(TOOLDIR)/$$file || exit; done
+	sed 's|@TOOLDIR@|$(TOOLDIR)|' tools/restart-text > $(TO)$(BINDIR)/restart-text
 	chmod 755 $(TO)$(BINDIR)/restart-text
+	PYTHONPATH=tools $(PYTHON) -B -m restart_text.completing > $(TO)$(COMPLETIONDIR)/restart-text
+	chmod 644 $(TO)$(COMPLETIONDIR)/restart-text
 	install -m 644 man/restart-text.1 $(TO)$(MANDIR)/man1
 	install -m 644 $(SCHEMAS:%=docs/%) $(TO)$(TOOLDIR)
+	install -m 644 $(DOCUMENTS:%=docs/%) $(TO)$(DOCDIR)
+	install -m 644 $(CASES:%=examples/%) $(TO)$(EXAMPLEDIR)
 
 uninstall-tool:
-	rm -f $(TO)$(BINDIR)/restart-text $(TO)$(MANDIR)/man1/restart-text.1
+	rm -f $(TO)$(BINDIR)/restart-text $(TO)$(MANDIR)/man1/restart-text.1 $(TO)$(COMPLETIONDIR)/restart-text
+	rm -f $(DOCUMENTS:%=$(TO)$(DOCDIR)/%) $(CASES:%=$(TO)$(EXAMPLEDIR)/%)
 	rm -rf $(TO)$(TOOLDIR)/restart_text $(SCHEMAS:%=$(TO)$(TOOLDIR)/%)
-	rmdir $(TO)$(TOOLDIR) 2>/dev/null || true
+	rmdir $(TO)$(DOCDIR) $(TO)$(EXAMPLEDIR) $(TO)$(TOOLDIR) 2>/dev/null || true
 
 # ---- The library for C and what is built over it
 

@@ -92,7 +92,7 @@ Description: restart planner of a replicated store (development files)
  its machines have stopped. The package restart-tools has examples.
 EOF
 
-take restart-tools "usr/bin/*" "usr/share/man/*" "usr/share/restart/*"
+take restart-tools "usr/bin/*" "usr/share/man/*" "usr/share/restart/*" "usr/share/doc/restart/*" "usr/share/bash-completion/*"
 mkdir -p "$output/deb/restart-tools/usr/share/doc/restart-tools"
 ln -s ../../restart/example "$output/deb/restart-tools/usr/share/doc/restart-tools/examples"
 cp "$here/postinst" "$here/prerm" "$output/deb/restart-tools/DEBIAN"

@@ -42,7 +42,7 @@ has() { # PACKAGE FILE
 contents() {
     make --no-print-directory install DESTDIR="$room/tree" PREFIX=/usr LIBDIR="/$lib" >/dev/null || return
     (cd "$room/tree" && find . ! -type d) | sed 's|^\./||; s|^\(usr/share/man/.*\)|\1.gz|' | sort >"$room/installed"
-    (cd "$room" && cat librestart1 librestart-dev restart-tools) | grep -v '^usr/share/doc/' | sort | diff "$room/installed" - || return
+    (cd "$room" && cat librestart1 librestart-dev restart-tools) | grep -Ev '^usr/share/doc/(librestart1|librestart-dev|restart-tools)(/|$)' | sort | diff "$room/installed" - || return
     has librestart1 "$lib/librestart.so.1" && has librestart1 "$lib/librestart.so.$version" && has librestart-dev "$lib/librestart.so" &&
         has librestart-dev "$lib/pkgconfig/restart.pc" && has librestart-dev usr/share/man/man3/restart_decide.3.gz || return
     for name in restart sheet mondays restart-text; do

@@ -41,7 +41,10 @@ all_there() { # FOLDER
 
 # The operators' tool.
 tool_names() {
-    echo bin/restart-text share/man/man1/restart-text.1 share/restart/explain.schema.json share/restart/convert.schema.json share/restart/publisher.schema.json share/restart/readiness.schema.json share/restart/shift.schema.json share/restart/rounds.schema.json
+    echo bin/restart-text share/man/man1/restart-text.1 share/bash-completion/completions/restart-text
+    echo share/doc/restart/ASSUMPTIONS.md share/doc/restart/PROMISES.md
+    for name in case-a case-b case-f case-i night caps seven eight shift; do echo "share/restart/example/$name.txt"; done
+    for name in check convert diff explain publisher readiness rounds shift status; do echo "share/restart/$name.schema.json"; done
     (cd tools && find restart_text -name '*.py' | sed 's|^|share/restart/|')
 }
 
@@ -166,7 +169,10 @@ installed_tool() { # PREFIX-FOLDER
     cd / && "$1/bin/restart-text" explain "$root/examples/case-a.txt" >"$room/printed" &&
         grep -q '^Plan: new view 8 after view 7, 2 moves' "$room/printed" || return
     "$1/bin/restart-text" explain "$root/examples/night.txt" >"$room/printed"
-    test $? = 1 && grep -q '^Switch on machines rack1-a, rack1-c and rack3-a' "$room/printed" || return
+    test $? = 1 && grep -q '^Switch on machines rack1-c, rack3-a and rack3-b' "$room/printed" || return
+    "$1/bin/restart-text" explain "$1/share/restart/example/night.txt" --gone rack1-c >"$room/printed"
+    test $? = 1 && grep -q "by its duties ($1/share/doc/restart/ASSUMPTIONS.md" "$room/printed" || return
+    test "$("$1/bin/restart-text" --version)" = "restart-text $version" && grep -q "restart-text $version" "$1/share/bash-completion/completions/restart-text" || return
     rm -rf "$room/ours" && "$1/bin/restart-text" convert "$root/examples/flat" -o "$room/ours" >"$room/printed"
     test $? = 2 && grep -q '^1-machine-1.bin: converted, machine 1 in view 7' "$room/printed" && cmp "$root/examples/flat/1-machine-0.bin" "$room/ours/1-machine-0.bin"
 }

@@ -3,10 +3,12 @@ what the others would give without a report that is refused or stands alone with
 from dataclasses import dataclass, field
 
 from . import decode
-from .answers import Number, Plan, Wait
+from .answers import Number, Wait
 from .asking import Clock, OutOfTime
+from .evidence import stories_of
 from .gathering import gather
 from .model import Refused
+from .saving import Cheaper, cheaper
 from .searching import Found, least_sets
 from .supposing import Supposed
 
@@ -25,16 +27,18 @@ class Without:
 class Advice:
     supposed: Supposed | None = None
     found: Found | None = None  # for a wait
-    savings: dict = field(default_factory=dict)  # for a plan: the moves with one machine more, where these are fewer
-    compared: bool = False  # for a plan with moves: whether each absent machine was asked about
+    cheaper: Cheaper | None = None  # for a plan: which machines more would save moves
     lone: Without | None = None  # for a wait: without the only report of the kept view
     without: list = field(default_factory=list)  # for a refusal: without the reports of one story and of the other
+    stories: list = field(default_factory=list)  # for number 12: the views of one number, a Story each
 
 
 def advise(given, gathered, answer, fault, program, gone=frozenset()):
     """Without a program only what this tool can count itself, within the usual time."""
     advice, clock = Advice(), program or Clock()
     if isinstance(answer, Number):
+        if answer.number == 12 and gathered.refused and gathered.fault == fault:
+            advice.stories = stories_of(gathered.kept.number, reports(given, gathered.settings).values())
         if program and fault:
             advice.without = others(given, gathered, fault, program, gone)
         return advice
@@ -45,20 +49,8 @@ def advise(given, gathered, answer, fault, program, gone=frozenset()):
         advice.found = least_sets(advice.supposed, program, clock)
         advice.lone = lone(given, gathered, program, gone) if program else None
     elif program:
-        savings(advice, answer, program)
+        advice.cheaper = cheaper(advice.supposed, answer, program)
     return advice
-
-
-def savings(advice, plan, program):
-    """Asks about each absent machine by itself."""
-    try:
-        for node in advice.supposed.pool if plan.moves else ():
-            other = program.ask_in_time(advice.supposed.blocks_with([node]))
-            if isinstance(other, Plan) and other.moves < plan.moves:
-                advice.savings[node] = other.moves
-        advice.compared = True
-    except OutOfTime:
-        pass
 
 
 def lone(given, gathered, program, gone):
@@ -91,9 +83,12 @@ def others(given, gathered, fault, program, gone):
         told = reports(given, gathered.settings)
         return [without(given, blocks, program, gone) for blocks in stories(gathered, told, fault)]
     refused = [fault]
-    while isinstance(program.ask(left_out(given, refused)), Number):
-        left = [number for number in range(len(given.blocks)) if number not in refused]
-        refused.append(left[program.fault(left_out(given, refused))])
+    try:
+        while isinstance(program.ask_in_time(left_out(given, refused)), Number):
+            left, rest = [number for number in range(len(given.blocks)) if number not in refused], left_out(given, refused)
+            refused.append(left[program.fault(rest, gather(rest).fault)])
+    except OutOfTime:
+        return []
     return [without(given, sorted(refused), program, gone)]
 
 

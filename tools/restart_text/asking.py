@@ -69,10 +69,12 @@ class Program(Clock):
         self.in_time()
         return self.ask(blocks)
 
-    def fault(self, blocks):
+    def fault(self, blocks, guess=0):
         """The number of the first block that the program refuses: it refuses the input cut off after this block, and no shorter
-        one. Refusals end the run, so longer ones are refused as well and halving finds it."""
+        one. Refusals end the run, so longer ones are refused as well and halving finds it, where it is not the guess."""
         low, high = 0, max(len(blocks) - 1, 0)
+        if guess <= high and isinstance(self.ask(blocks[: guess + 1]), Number):
+            low, high = (guess if guess and not isinstance(self.ask(blocks[:guess]), Number) else 0), guess
         while low < high:
             middle = (low + high) // 2
             if isinstance(self.ask(blocks[: middle + 1]), Number):

@@ -1,36 +1,49 @@
 """The command restart-text."""
 import argparse
-import os
-import re
+import difflib
 import sys
+import textwrap
 
 from .answers import BadAnswer
-from .asking import HERE
-from .commands import convert, diff, draw, explain, join, page, publisher, readiness, rounds, shift, split, text, watch, windows, words
+from .commands import check, convert, diff, draw, explain, join, page, publisher, readiness, rounds, shift, split, status, text, watch, windows, words
 from .files import Trouble, Unfit
 from .lines import BadText
 from .model import Refused
+from .stamping import version
 from .statuses import OTHER, REFUSAL
 
-# One line for each subcommand: its name, its module, and what it does.
-COMMANDS = [
-    ("words", words, "turn a text (settings and reports, an order, or a state) into words"),
-    ("text", text, "turn words into text"),
-    ("join", join, "make one input from a file with settings and files with reports"),
-    ("split", split, "take an input apart into a file with settings and files with reports, as watch reads them"),
-    ("convert", convert, "turn a folder of flat reports of the former seller into ours, or back"),
-    ("explain", explain, "explain what restart answers to an input, and say which machines to switch on"),
-    ("draw", draw, "draw what restart answers to an input, a plan or a wait, as SVG"),
-    ("page", page, "write drawing, table and explanation as one file of HTML"),
-    ("publisher", publisher, "say what a subgroup's publisher may see of a restart, as text or as one file of HTML"),
-    ("readiness", readiness, "say and draw how often a layout could restart, or two layouts side by side"),
-    ("shift", shift, "say who wins outage against crew, and what to bring back for each machine that is lost"),
-    ("rounds", rounds, "say, and draw as SVG, what a plan costs after each improving round, and how far it may be from the fewest moves"),
-    ("watch", watch, "explain anew whenever a report appears in a folder"),
-    ("diff", diff, "compare two answers"),
-    ("windows", windows, "draw the windows that mondays prints for a moves file, as SVG"),
+# By task, one line for each subcommand: its name, its module, and what it does.
+TASKS = [
+    ("Before the night", [
+        ("check", check, "say and draw whether settings can be met, also with a machine or a failure set away"),
+        ("readiness", readiness, "say and draw how often a layout could restart, or two layouts side by side"),
+        ("shift", shift, "plan repairs: which machines to keep on, and what to bring back for each one that is lost"),
+    ]),
+    ("In the night", [
+        ("watch", watch, "explain a folder, or the status of a leader's file, anew whenever something changes"),
+        ("explain", explain, "say what the answer is and what to do: which machines to switch on, what a plan costs"),
+        ("draw", draw, "the same as a picture, SVG"),
+        ("page", page, "the same as one file of HTML: picture, table and explanation"),
+        ("rounds", rounds, "say and draw what a plan costs after each improving round"),
+        ("status", status, "say how far a running restart is, by its leader's file or by state and desk"),
+        ("publisher", publisher, "say what a subgroup's publisher may see, as text or as one file of HTML"),
+    ]),
+    ("After it", [
+        ("diff", diff, "compare two answers, and their settings and reports"),
+        ("windows", windows, "draw the moves of many restarts, as mondays prints them, SVG"),
+    ]),
+    ("Files", [
+        ("words", words, "turn a text (settings and reports, an order, or a state) into words"),
+        ("text", text, "turn words into text"),
+        ("join", join, "make one input from a file with settings and files with reports"),
+        ("split", split, "take an input apart into files, as watch reads them"),
+        ("convert", convert, "turn a folder of flat reports of the former seller into ours, or back"),
+    ]),
 ]
-STATUSES = "Exit status: 0 a plan, or done; 1 a wait (diff: the answers differ; shift: the outage wins); 2 a refusal; 3 anything else."
+COMMANDS = [one for _, commands in TASKS for one in commands]
+STATUSES = ("Exit status: 0 a plan, or done; 1 a wait (diff: the answers differ; shift: the outage wins; check: a single point of failure); 2 a"
+            " refusal; 3 anything else.")
+WIDTH = 79
 
 
 class Parser(argparse.ArgumentParser):
@@ -39,20 +52,34 @@ class Parser(argparse.ArgumentParser):
         self.exit(OTHER, "%s: %s\n" % (self.prog, message))
 
 
-class Version(argparse.Action):
-    """Prints the version as which the tool was installed; in a checkout, where none stands in its place, that of include/restart.h."""
+class Top(Parser):
+    """The commands are listed by task, and one that is misspelt is told which one is like it."""
 
-    def __call__(self, top, *_):
-        version = self.const
-        if version.startswith("@"):
-            with open(os.path.join(HERE, "..", "include", "restart.h"), encoding="ascii") as header:
-                version = re.search('#define RESTART_VERSION "(.*)"', header.read()).group(1)
-        print("%s %s" % (top.prog, version))
-        top.exit()
+    def format_help(self):
+        lines = [self.format_usage(), "Texts, explanations and drawings for operators of the restart planner."]
+        for task, commands in TASKS:
+            lines += ["", task + ":"]
+            for name, _, about in commands:
+                lines += textwrap.wrap(about, WIDTH, initial_indent="    %-11s" % name, subsequent_indent=" " * 15)
+        lines += ["", "restart-text COMMAND --help says what a command takes; restart-text(1) says all."]
+        return "\n".join(lines + textwrap.wrap(STATUSES, WIDTH)) + "\n"
+
+    def error(self, message):
+        names = [name for name, *_ in COMMANDS]
+        wrong = next((word for word in self.given if not word.startswith("-")), None)
+        like = difflib.get_close_matches(wrong, names, 1) if wrong and wrong not in names else []
+        self.print_usage(sys.stderr)
+        if wrong and wrong not in names:
+            message = "there is no command '%s'%s" % (wrong, "; is it %s?" % like[0] if like else "")
+        self.exit(OTHER, "%s: %s; restart-text --help lists the commands\n" % (self.prog, message))
+
+    def parse_args(self, args=None, namespace=None):
+        self.given = sys.argv[1:] if args is None else args
+        return super().parse_args(args, namespace)
 
 
-def main(arguments=None, installed="@"):
-    chosen = parser(installed).parse_args(arguments)
+def main(arguments=None):
+    chosen = parser().parse_args(arguments)
     try:
         return chosen.work(chosen) or 0
     except (BadText, Refused, Unfit) as refusal:
@@ -63,13 +90,12 @@ def main(arguments=None, installed="@"):
         return OTHER
 
 
-def parser(installed):
-    purpose = "Texts, explanations and drawings for operators of the restart planner."
-    top = Parser(prog="restart-text", description=purpose, epilog=STATUSES)
-    top.add_argument("--version", action=Version, nargs=0, const=installed, help="print the version and exit")
+def parser():
+    top = Top(prog="restart-text")
+    top.add_argument("--version", action="version", version="restart-text %s" % version())
     commands = top.add_subparsers(required=True, metavar="COMMAND", parser_class=Parser)
     for name, module, help_text in COMMANDS:
-        made = commands.add_parser(name, help=help_text, description=help_text, epilog=STATUSES)
+        made = commands.add_parser(name, description=help_text, epilog=STATUSES)
         module.arguments(made)
         made.set_defaults(work=module.work)
     return top

@@ -5,7 +5,7 @@ from collections import Counter
 from dataclasses import dataclass, field
 
 from . import decode, encode, words
-from .files import Trouble, read, read_settings, write_new
+from .files import Trouble, Unfit, read, read_settings, write_new
 from .flat import told
 from .inputs import is_text
 from .model import Settings
@@ -13,7 +13,7 @@ from .printing import settings_text
 from .readings import as_flat, as_ours, fitting, refusal_line, to_do
 from .sentences import counted, machine
 from .statuses import OTHER, REFUSAL
-from .watching import SETTINGS, place_of, settings_paths
+from .folders import SETTINGS, place_of, settings_paths
 
 # Settings as files, in either form: the name, and the bytes with no report after them.
 SETTINGS_TEXT = SETTINGS[0], lambda settings: ("\n".join(settings_text(settings)) + "\n").encode()
@@ -69,7 +69,7 @@ class Folder:
                 outcome.output = os.path.join(self.output, self.new_name(name))
                 write_new(outcome.output, made, like=path)
             return outcome
-        except Trouble as trouble:
+        except (Trouble, Unfit) as trouble:
             return Outcome(name, "failed", str(trouble))
 
     def new_name(self, name):

@@ -5,12 +5,13 @@ from collections import namedtuple
 from .encode import CUT, HOLDER, MEMBERS, RUN, TERMINATION
 from .model import GREATEST, MOST_CAP, MOST_NODES, MOST_RECORDS, MOST_SETS, MOST_SHARDS, START, SUBGROUPS
 from .model import Order, Refused, Report, Settings, Shard, View
-from .sentences import listed
+from .sentences import counted, listed
 from .words import nodes_of
 
 Record = namedtuple("Record", "index kind shard first second")
 KIND_NAMES = {MEMBERS: "members", TERMINATION: "termination", RUN: "run", HOLDER: "holder", CUT: "cut"}
 WHAT = {MEMBERS: "the members", TERMINATION: "the termination", RUN: "a run", HOLDER: "the holder", CUT: "the cut"}
+MOST_SETTINGS = 4 + MOST_NODES + MOST_SHARDS  # words
 REPORT_KINDS, ORDER_KINDS = (MEMBERS, TERMINATION, RUN), (MEMBERS, TERMINATION, HOLDER, CUT)
 
 
@@ -22,15 +23,15 @@ def settings_from(words):
             raise Refused(2, "%s is %d, allowed are %d to %d" % (what, value, low, high))
 
     if len(words) < 4:
-        raise Refused(2, "the settings have %d words, at least 4 are needed" % len(words))
+        raise Refused(2, "the settings have %s, at least 4 are needed" % counted(len(words), "word"))
     nodes, sets, least, shards = words[:4]
     within("the number of nodes", nodes, 1, MOST_NODES)
     within("the number of failure sets", sets, 1, MOST_SETS)
     within("the least group size", least, 1, nodes)
     within("the number of shards", shards, 1, MOST_SHARDS)
     if len(words) != 4 + nodes + shards:
-        raise Refused(2, "the settings have %d words, %d nodes and %d shards need %d"
-                      % (len(words), nodes, shards, 4 + nodes + shards))
+        raise Refused(2, "the settings have %d words, %s and %s need %d"
+                      % (len(words), counted(nodes, "node"), counted(shards, "shard"), 4 + nodes + shards))
     for node, failure_set in enumerate(words[4 : 4 + nodes]):
         within("the failure set of node %d" % node, failure_set, 0, sets - 1)
     for shard, word in enumerate(words[4 + nodes :]):
@@ -84,7 +85,7 @@ def message_from(words, settings, is_order):
 def length(words):
     """Row 5."""
     if len(words) % 4 or not 4 <= len(words) <= 4 * MOST_RECORDS:
-        raise Refused(5, "the message has %d words, allowed are 4 to 512 in steps of 4" % len(words))
+        raise Refused(5, "the message has %s, allowed are 4 to 512 in steps of 4" % counted(len(words), "word"))
 
 
 def head(words, settings, is_order):

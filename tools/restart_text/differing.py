@@ -1,4 +1,6 @@
 """Two answers compared, in words, and what of their inputs differs: the same settings and reports give the same plan."""
+from dataclasses import dataclass
+
 from .answers import Plan, Wait, printed
 from .sentences import counted, listed, machine, machines, pair
 from .telling import reason
@@ -46,7 +48,7 @@ def cause_lines(one, other, gathered, settings):
     """What the two answers come from, as far as that can be known; `gathered` is what each input adds up to, or None where there is
     only the answer."""
     if None not in gathered:
-        return ["The inputs differ: %s." % part for part in input_parts(*gathered, settings)] or [
+        return settings_lines(*gathered) + ["The inputs differ: %s." % part for part in input_parts(*gathered, settings)] or [
             "The inputs say the same, and the same inputs give the same answer: keep both files and call the developers."]
     if not isinstance(one, Plan) or not isinstance(other, Plan):
         return []
@@ -66,14 +68,54 @@ def known(one, other):
     return "other machines were held, or the settings or the kept view's members were others; the inputs would show it"
 
 
+@dataclass(frozen=True)
+class Change:
+    """A value of the settings that differs: of the whole (part ""), of a machine or of a shard."""
+
+    part: str
+    number: int | None
+    name: str
+    was: int
+    now: int
+
+
+def settings_changes(one, other):
+    """Where the second settings differ from the first; of machines and shards that only one has, their number tells."""
+    found = [Change("", None, name, was, now) for name, was, now in (
+        ("machines", len(one.set_of), len(other.set_of)), ("failure sets", one.failure_sets, other.failure_sets),
+        ("shards", len(one.shards), len(other.shards)), ("least group size", one.least, other.least))]
+    found += [Change("machine", node, "failure set", *both) for node, both in enumerate(zip(one.set_of, other.set_of))]
+    for shard, both in enumerate(zip(one.shards, other.shards)):
+        found += [Change("shard", shard, name, *(getattr(place, given) for place in both))
+                  for name, given in (("subgroup", "subgroup"), ("needs", "needs"), ("cap", "given_cap"))]
+    return [change for change in found if change.was != change.now]
+
+
+def settings_lines(one, other):
+    """The settings' changes in one line, those of several machines or shards together."""
+    if None in (one.settings, other.settings):
+        return []
+    told, groups = [], {}
+    for change in settings_changes(one.settings, other.settings):
+        value = "%s %s, was %s" % (change.name, *("none" if change.name == "cap" and not one else one for one in (change.now, change.was)))
+        if change.part:
+            groups.setdefault((change.part, value), []).append(change.number)
+        else:
+            told.append(value)
+    for (part, value), numbers in groups.items():
+        named = machines(other.settings, numbers) if part == "machine" else "shard%s %s" % ("s" * (len(numbers) > 1), listed(numbers))
+        told.append("%s: %s" % (named, value))
+    return ["The settings differ: %s." % "; ".join(told)] if told else []
+
+
 def input_parts(one, other, settings):
     """Where the second input differs from the first, one thing after another."""
     if one.refused or other.refused:
         told = ["%s is refused with number %d" % (name, gathered.refused.number)
                 for name, gathered in (("the first", one), ("the second", other)) if gathered.refused]
         return [listed(told)]
-    if one.settings != other.settings:
-        return ["other settings"]
+    if len(one.settings.shards) != len(other.settings.shards):
+        return []
     parts = ["only the %s has a report of %s" % (name, machines(settings, more))
              for name, more in (("first", one.held - other.held), ("second", other.held - one.held)) if more]
     found = {}

@@ -5,29 +5,36 @@ a red frame. In a wait a line leads from each machine to the shards
 that it carried in the kept view, and a list says which conditions are met. Each shard has a colour, and its number stands wherever
 the colour does, so that the picture can be read in black and white."""
 from .answers import Plan
+from .evidence import NEVER, STOP, kept_story
 from .explaining import stale
 from .gathering import holding, shortage
-from .layout import BETWEEN, GAP, LEAST, LINE, MARGIN, PAD, machine_row, paragraph, shard_row, wrapped
+from .going import saving_line
+from .layout import BETWEEN, GAP, LEAST, LINE, MARGIN, PAD, PHONE, SMALL, Stack, machine_row, paragraph, shard_row, wrapped
 from .sentences import counted, pair
 from .shapes import AMBER, BLUE, GREEN, GREY, RED, TAG
 from .shapes import arrow, dark, disc, finished, group, label, light, line, shape, sheet, square, width_of
 from .telling import reason
 
 
-def draw(told):
-    """The picture as text."""
-    return Picture(told).drawn()
+def draw(told, narrow=False):
+    """The picture as text, or one that is as wide as a phone."""
+    return (Narrow if narrow else Picture)(told).drawn()
 
 
 class Picture:
+    letters = 22  # in a line of a shard's box
+
     def __init__(self, told):
         self.gathered, self.answer, self.settings = told.gathered, told.answer, told.gathered.settings
         self.plan = told.answer if isinstance(told.answer, Plan) else None
         self.kept = told.gathered.kept
-        self.first = told.lines[0].partition(". ")[2] if self.plan else told.lines[0]
+        first = saving_line(told.gathered, told.answer, told.advice) if self.plan else told.lines[told.before]
+        self.stop = bool(self.plan) and kept_story(self.gathered).finding == NEVER
+        self.first = STOP if self.stop else " ".join(told.lines[: min(told.before, 1)] + [first] * bool(first))
         found = told.advice.found
         self.wanted = frozenset(found.sets[0]) if found and found.sets else frozenset()
         self.instead = frozenset().union(*found.sets) - self.wanted if found else frozenset()
+        self.left_out = told.what_if.nodes if told.what_if else frozenset()
         self.stale = dict(stale(self.gathered)) if self.kept else {}
         self.needed = frozenset(told.repair.must) if told.repair else frozenset()
         shards = range(len(self.settings.shards))
@@ -44,7 +51,7 @@ class Picture:
         inner = max(machines.full, shards.full, LEAST)
         back = "held %s; absent %s" % (settings.those(self.gathered.held), settings.those(self.gathered.absent))
         told = [(text, "normal") for text in paragraph(back, inner, 14)]
-        told += [(text, "normal" if self.plan else "bold") for text in paragraph(self.first, inner, 15)]
+        told += [(text, "bold" if self.stop or not self.plan else "normal") for text in paragraph(self.first, inner, 15)]
         conditions = [] if self.plan or not self.kept else self.conditions()
         machine_top = 74 + 18 * len(told) + 20 * len(conditions) + 2 * LINE + PAD
         shard_top = machine_top + machines.height + 2 * PAD + BETWEEN + LINE
@@ -73,7 +80,7 @@ class Picture:
     def head(self, picture, told, conditions):
         label(picture, MARGIN, 36, self.headline(), 20, "bold", fill=None if self.plan else RED)
         for number, (text, weight) in enumerate(told):
-            label(picture, MARGIN, 60 + number * 18, text, 14, weight)
+            label(picture, MARGIN, 60 + number * 18, text, 14, weight, fill=RED if self.stop and weight == "bold" else None)
         top = 58 + 18 * len(told)
         for number, (met, text) in enumerate(conditions):
             row = group(picture, "condition-%d" % number)
@@ -118,7 +125,7 @@ class Picture:
         if node in self.instead:
             return "or this", BLUE, BLUE, 1, "6 3"
         if node not in self.gathered.held:
-            return "absent", GREY, GREY, 1, "4 3"
+            return "left out" if node in self.left_out else "absent", GREY, GREY, 1, "4 3"
         if node in self.needed:
             return ("must stay, view %d" % self.stale[node] if node in self.stale else "must stay"), RED, RED, 2.5, None
         if node in self.stale:
@@ -159,17 +166,17 @@ class Picture:
         lines = ["needs %d" % own.needs + ", cap %d" % own.cap * settings.capped]
         if self.plan:
             placed = self.plan.shards[shard]
-            lines += wrapped("log from", [placed.holder], settings) + ["up to %s" % pair(placed.target)]
-            lines += wrapped("stay", placed.members & old, settings) + wrapped("move in", placed.members - old, settings)
+            lines += wrapped("log from", [placed.holder], settings, self.letters) + ["up to %s" % pair(placed.target)]
+            lines += wrapped("stay", placed.members & old, settings, self.letters) + wrapped("move in", placed.members - old, settings, self.letters)
             beyond = len(placed.members) - own.needs
             return lines + ["%d beyond the need" % beyond] * (beyond > 0)
         if not self.kept:
             return lines
         log = self.logs[shard]
-        lines += wrapped("log from", [log[0]], settings) + ["up to %s" % pair(log[1])] if log else ["NO LOG"]
+        lines += wrapped("log from", [log[0]], settings, self.letters) + ["up to %s" % pair(log[1])] if log else ["NO LOG"]
         for name, nodes in (("back", old & self.gathered.held - set(self.stale)), ("older view", old & set(self.stale)),
                             ("absent", old - self.gathered.held)):
-            lines += wrapped(name, nodes, settings) if nodes else []
+            lines += wrapped(name, nodes, settings, self.letters) if nodes else []
         return lines
 
     def shard(self, picture, shard, box):
@@ -226,21 +233,95 @@ class Picture:
         else:
             signs = [(42, "back", stroke("#000000", None)), (42, "older view", stroke(AMBER, "1.5 3")),
                      (42, "absent", stroke(GREY, "6 4")), (42, "to switch on", stroke(BLUE, "6 4"))] + signs
-        placed, left, row = [], 0, 0
-        for width, text, draw_one in signs:
-            full = width + width_of(text, 13) + 22
-            if left and left + full > inner:
-                left, row = 0, row + 1
-            placed.append((left, row, width, text, draw_one))
-            left += full
-        return placed
+        return in_rows(signs, inner)
 
 
-def legend(picture, signs, top):
+class Narrow(Picture):
+    """The same for a phone: failure sets and subgroups one below another, and no lines between them, for squares, discs and the words in the
+    boxes say the same."""
+
+    letters = 19
+
+    def drawn(self):
+        inner, settings = PHONE - 2 * SMALL, self.settings
+        texts = [(line, 17, "bold", None if self.plan else RED) for line in paragraph(self.headline(), inner, 17)]
+        for name, nodes in (("held", self.gathered.held), ("absent", self.gathered.absent)):
+            texts += [(line, 13, "normal", None) for line in paragraph("%s %s" % (name, settings.those(nodes)), inner, 13)]
+        loud = self.stop or not self.plan
+        texts += [(line, 14, "bold" if loud else "normal", RED if self.stop else None) for line in paragraph(self.first, inner, 15.5 if loud else 14)]
+        conditions = [] if self.plan or not self.kept else [(met, paragraph(text, inner - 24, 13 if met else 14.5)) for met, text in self.conditions()]
+        machines, shards = machine_row(settings, 64 if self.plan else 78, self.machine_height(), Stack), shard_row(settings, self.texts, Stack)
+        condition_top = 20 + sum(size + 5 for _, size, *_ in texts)
+        machine_top = condition_top + sum(18 * len(lines) + 2 for _, lines in conditions) + PAD
+        shard_top = machine_top + machines.full(inner) + PAD
+        bottom = shard_top + shards.full(inner) + GAP
+        signs = self.signs(inner)
+        picture = sheet(PHONE, bottom + (1 + signs[-1][1]) * 2 * GAP - GAP, self.headline())
+        self.words(picture, texts)
+        self.met(picture, conditions, condition_top)
+        machines.frames(picture, inner, machine_top, "set", {number: "failure set %d" % number for number in machines.groups})
+        names = {number: "subgroup %d%s" % (number, ": no placement" * (number in self.short)) for number in shards.groups}
+        shards.frames(picture, inner, shard_top, "subgroup", names, dict.fromkeys(self.short, RED))
+        for node, box in machines.boxes(inner, machine_top).items():
+            self.machine(picture, node, box)
+        for shard, box in shards.boxes(inner, shard_top).items():
+            self.shard(picture, shard, box)
+        legend(picture, signs, bottom, SMALL)
+        return finished(picture)
+
+    @staticmethod
+    def words(picture, texts):
+        top = 4
+        for text, size, weight, fill in texts:
+            top += size + 5
+            label(picture, SMALL, top, text, size, weight, fill=fill)
+
+    @staticmethod
+    def met(picture, conditions, top):
+        for number, (met, lines) in enumerate(conditions):
+            row = group(picture, "condition-%d" % number)
+            mark(row, SMALL, top, met)
+            for text in lines:
+                label(row, SMALL + 24, top + 12, text, 13, "normal" if met else "bold", fill=None if met else RED)
+                top += 18
+            top += 2
+
+    def signs(self, inner):
+        """Those of frames, squares and discs."""
+        def frame(colour, width, dashes):
+            return lambda part, left, top: shape(part, "rect", x=left, y=top - 9, width=20, height=18, rx=4, fill="#ffffff", stroke=colour,
+                                                 stroke_width=width, **({"stroke_dasharray": dashes} if dashes else {}))
+
+        def tag(draw_one, *more):
+            return lambda part, left, top: draw_one(part, left, top - 10, "n", "#eeeeee", *more)
+
+        signs = [(28, "carries shard n" if self.plan else "carried shard n", tag(square, False)), (28, "gives the log of shard n", tag(disc))]
+        if self.plan:
+            signs = [(28, "moves to shard n", tag(square, True))] + signs
+            signs += [(28, "must stay: it would wait without", frame(RED, 2.5, None))] * bool(self.needed)
+        else:
+            signs = [(28, "to switch on", frame(BLUE, 3, "6 3")), (28, "absent", frame(GREY, 1, "4 3"))] + signs
+        signs += [(28, "older view", frame(AMBER, 2, None))] * bool(self.stale)
+        return in_rows(signs, inner)
+
+
+def in_rows(signs, inner):
+    """Each sign with its place: from the left, and in which row."""
+    placed, left, row = [], 0, 0
+    for width, text, draw_one in signs:
+        full = width + width_of(text, 13) + 22
+        if left and left + full > inner:
+            left, row = 0, row + 1
+        placed.append((left, row, width, text, draw_one))
+        left += full
+    return placed
+
+
+def legend(picture, signs, top, margin=MARGIN):
     part = group(picture, "legend")
     for left, row, width, text, draw_one in signs:
-        draw_one(part, MARGIN + left, top + 2 * GAP * row)
-        label(part, MARGIN + left + width, top + 2 * GAP * row + 4, text, 13)
+        draw_one(part, margin + left, top + 2 * GAP * row)
+        label(part, margin + left + width, top + 2 * GAP * row + 4, text, 13)
 
 
 def pairs_of(shards, middle):

@@ -3,14 +3,16 @@ from dataclasses import dataclass, field
 
 from .advising import Advice, advise
 from .answers import Number, Plan, Wait, printed
+from .filling import filling_lines
 from .gathering import Gathered, gather, waits
 from .ordering import First, first_placement
 from .planning import faults, plan_lines
 from .refusing import ADVICE, block_name, refusal_lines, to_do
 from .repairing import Repair, repair, repair_differences, repair_lines
-from .sentences import machines
+from .running import order_differences
+from .sentences import counted, machines
 from .telling import plan_advice, refusal_advice, wait_advice
-from .waiting import wait_lines
+from .waiting import wait_block
 
 
 @dataclass
@@ -24,6 +26,8 @@ class Explanation:
     asked: int = 0  # how often the program was started
     first: First | None = None  # for a plan: the placement that it must have
     repair: Repair | None = None  # for a plan: who may be taken out, where that was asked for
+    what_if: object = None  # what changes where machines that are back are left out, a WhatIf
+    before: int = 0  # how many lines say so, before the others
 
     @property
     def agrees(self):
@@ -40,18 +44,20 @@ def explain(given, answer, fault=None, program=None, gone=frozenset(), library=N
         told.fault = gathered.fault
     if told.agrees:
         told.advice = advise(given, gathered, answer, told.fault, program, gone)
-        told.differing = supposed_differences(gathered.settings, told.advice.found)
+        told.differing = supposed_differences(gathered.settings, told.advice.found or told.advice.cheaper)
     if told.agrees and library and isinstance(answer, Plan):
         told.repair = repair(given, gathered, library)
         told.differing = repair_differences(gathered.settings, told.repair)
+        told.differing += order_differences(library.path, given.blocks, gathered, answer) if not told.repair.trouble else []
     if isinstance(answer, Number):
         told.lines = refusal_lines(answer, told.fault, given, gathered)
         told.lines += refusal_advice(given, gathered, told.advice, block_name)
-        told.lines += ["To do: %s" % to_do(answer, told.fault, given)] if answer.number in ADVICE else []
+        told.lines += ["To do: %s" % to_do(answer, told.fault, given, told.advice.stories)] if answer.number in ADVICE else []
     elif told.agrees and isinstance(answer, Wait):
-        told.lines = parts(wait_advice(gathered, answer, told.advice, program), summary(gathered), waiting(gathered, answer))
+        first = wait_advice(gathered, answer, told.advice, program) + filling_lines(gathered)
+        told.lines = parts(first, summary(gathered), waiting(gathered, answer))
     elif told.agrees:
-        first = plan_advice(gathered, answer, told.advice) + (repair_lines(gathered, told.repair) if told.repair else [])
+        first = plan_advice(gathered, answer, told.advice) + (repair_lines(gathered, told.repair) if told.repair else []) + filling_lines(gathered)
         told.lines = parts(first, summary(gathered), plan_lines(gathered, answer, told.first))
     told.lines += warning(told.differing)
     told.asked = program.asked if program else 0
@@ -66,14 +72,15 @@ def parts(first, second, third):
 def asked(given, program, gone=frozenset(), library=None):
     """What the program answers to this input, explained."""
     answer = program.ask(given.blocks)
-    return explain(given, answer, program.fault(given.blocks) if isinstance(answer, Number) else None, program, gone, library)
+    fault = program.fault(given.blocks, gather(given.blocks).fault) if isinstance(answer, Number) else None
+    return explain(given, answer, fault, program, gone, library)
 
 
 def summary(gathered):
     """What is there: the settings, who is back, and what is kept."""
     settings, kept = gathered.settings, gathered.kept
-    lines = ["Settings: %d machines in %d failure sets, %d shards, least group size %d."
-             % (len(settings.nodes), settings.failure_sets, len(settings.shards), settings.least)]
+    lines = ["Settings: %s in %s, %s, least group size %d." % (
+        counted(len(settings.nodes), "machine"), counted(settings.failure_sets, "failure set"), counted(len(settings.shards), "shard"), settings.least)]
     if settings.names:
         lines.append("Names: %s." % ", ".join("%d %s" % (node, name) for node, name in enumerate(settings.names) if name))
     lines.append("Held: %s. Absent: %s." % (settings.those(gathered.held), settings.those(gathered.absent)))
@@ -92,13 +99,15 @@ def stale(gathered):
 
 def waiting(gathered, answer):
     """The wait, then the further conditions that fail as things stand."""
-    lines = ["Waiting, reason %d." % answer.reason] + wait_lines(gathered, answer.reason, answer.value)
-    further = [wait for wait in waits(gathered) if wait != (answer.reason, answer.value)]
-    if further:
+    failing = {}
+    for reason, value in waits(gathered):
+        failing.setdefault(reason, []).append(value)
+    lines = ["Waiting, reason %d." % answer.reason] + wait_block(gathered, answer.reason, failing.pop(answer.reason))
+    if failing:
         lines += ["", "Not met either, as things stand:"]
-    for reason, value in further:
+    for reason, values in failing.items():
         lines.append("Reason %d." % reason)
-        lines += wait_lines(gathered, reason, value)
+        lines += wait_block(gathered, reason, values)
     return lines
 
 

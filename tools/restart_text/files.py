@@ -1,35 +1,47 @@
 """Files that the commands read and write."""
 import os
 import sys
-from dataclasses import replace
 
 from . import decode, words
-from .inputs import is_text, load
+from .folders import settings_paths
+from .inputs import is_text
 from .lines import BadText, sections
-from .model import Refused
+from .model import Refused, Trouble, Unfit
+from .terminal import headed
 from .texts import settings_of
 
-
-class Trouble(Exception):
-    """What keeps the command from doing its work, in one line."""
-
-
-class Unfit(Exception):
-    """Something that is refused: what it is, and why it does not fit."""
+MOST_BYTES = 1 << 20  # of a file that is read whole
 
 
 def name_of(path):
     return "standard input" if path == "-" else path
 
 
-def read(path):
+def read(path, most=MOST_BYTES):
+    """The file's bytes. One that is larger than what may be is refused, and no more of it is read; with None there is no limit."""
+    size = -1 if most is None else most + 1
     try:
         if path == "-":
-            return sys.stdin.buffer.read()
-        with open(path, "rb") as file:
-            return file.read()
+            data = sys.stdin.buffer.read(size)
+        else:
+            with open(path, "rb") as file:
+                data = file.read(size)
     except OSError as error:
         raise Trouble("cannot read %s: %s" % (path, error.strerror)) from None
+    if len(data) == size:
+        raise Unfit("%s has more than %d bytes, the most that is read: 500 whole reports take less" % (name_of(path), most))
+    return data
+
+
+def something(path, data):
+    """The bytes, if anything came. What comes before a failure in a pipe may be a remark that says why."""
+    if not data.strip():
+        raise Unfit("nothing came: %s is empty" % name_of(path))
+    if is_text(data):
+        lines = [line.strip() for line in data.decode("utf-8-sig").splitlines() if line.strip()]
+        if all(line.startswith("#") for line in lines):
+            raise Unfit("nothing came from %s but a remark: %s" % (name_of(path), lines[-1].lstrip("# ")))
+    return data
 
 
 def write(path, data):
@@ -71,12 +83,13 @@ def make_folder(path):
         raise Trouble("cannot make %s: %s" % (path, error.strerror)) from None
 
 
+def write_told(path, lines):
+    """Lines for people: on a terminal the first one is bold."""
+    write_lines(path, headed(lines, sys.stdout) if path in (None, "-") else lines)
+
+
 def write_lines(path, lines):
     write(path, ("\n".join(lines) + "\n").encode())
-
-
-def read_text(path):
-    return read(path).decode("utf-8-sig")
 
 
 def placed(path, work):
@@ -85,12 +98,6 @@ def placed(path, work):
         return work()
     except BadText as bad:
         raise Unfit("%s, %s" % (name_of(path), bad)) from None
-
-
-def read_input(path, names=None):
-    """The input, text or words, with the machines' names of the text or of a file that has them."""
-    given = placed(path, lambda: load(read(path)))
-    return replace(given, names=read_names(names) if names else given.names)
 
 
 def read_names(path):
@@ -114,7 +121,12 @@ def settings_in_text(path, data):
 
 
 def read_settings(path):
-    """Settings from a text, from their own words, or from an input of words that begins with them."""
+    """Settings from a text, from their own words, from an input of words that begins with them, or from a folder that has them."""
+    if os.path.isdir(path):
+        found = [one for one in settings_paths(path) if os.path.exists(one)]
+        if not found:
+            raise Trouble("there is no settings.txt or settings.bin in %s" % path)
+        path = found[0]
     data = read(path)
     if is_text(data):
         return settings_in_text(path, data)

@@ -108,7 +108,7 @@ def looks_flat(found):
 def flat_in(data):
     """The flat report that these bytes are, or row 19."""
     if len(data) % 4:
-        raise FlatRefused(19, "%d bytes are no whole words" % len(data))
+        raise FlatRefused(19, words.no_words(data))
     return flat_from(words.from_bytes(data))
 
 
@@ -198,9 +198,10 @@ def sequence(flat, settings):
             raise FlatRefused(17, "%s comes after %s, but %s must rise" % (after, before, rising), index, [before, after])
     missing = range(len(flat.masks), len(settings.shards))
     if missing:
-        raise FlatRefused(17, "it has %s, and there are %d shards: the mask%s of shard%s %s %s missing" % (
-            counted(len(flat.masks), "mask"), len(settings.shards), *["s" * (len(missing) > 1)] * 2, listed(missing),
-            "are" if len(missing) > 1 else "is"), len(flat.places))
+        there = "is 1 shard" if len(settings.shards) == 1 else "are %d shards" % len(settings.shards)
+        raise FlatRefused(17, "it has %s, and there %s: the mask%s of shard%s %s %s missing" % (
+            counted(len(flat.masks), "mask"), there, *["s" * (len(missing) > 1)] * 2, listed(missing), "are" if len(missing) > 1 else "is"),
+            len(flat.places))
 
 
 def masks(flat, settings):

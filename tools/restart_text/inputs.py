@@ -2,9 +2,9 @@
 from dataclasses import dataclass, field
 
 from . import decode, encode, printing, words
-from .flat import looks_flat
 from .lines import BadText, sections
 from .model import Refused
+from .sentences import counted
 from .texts import report_of, settings_of
 
 
@@ -14,7 +14,6 @@ class Input:
     lines: list  # where the input was a text, the line at which each block begins
     names: tuple = ()  # each machine's name or None, where a text gave names
     files: list = field(default_factory=list)  # where each block has a file of its own, its path
-    flat: bool = False  # whether the whole looks like a flat report of the former seller
 
     @property
     def data(self):
@@ -33,7 +32,7 @@ def load(data):
     """The input that these bytes are, text or words."""
     if is_text(data):
         return from_text(data.decode("utf-8-sig"))
-    return Input(words.split(data), [], flat=len(data) % 4 == 0 and looks_flat(words.from_bytes(data)))
+    return Input(words.split(data), [])
 
 
 def from_text(text):
@@ -70,7 +69,7 @@ def raw_words(section):
     """The words of a block that is given word by word."""
     found = [word for item in section.entries for word in item.values]
     if len(found) != section.head.values[0]:
-        raise BadText(section.line, "expected %d words after this line, found %d" % (section.head.values[0], len(found)))
+        raise BadText(section.line, "expected %s after this line, found %d" % (counted(section.head.values[0], "word"), len(found)))
     return found
 
 
@@ -96,4 +95,4 @@ def message_text(block, settings):
     report = decode.report_from(block, settings)
     lines = printing.report_text(report)
     surplus = len(block) - len(encode.report_words(report))
-    return lines if not surplus else ["# %d words off the chain, which carry nothing, are left out" % surplus] + lines
+    return lines if not surplus else ["# %s off the chain, which carry nothing, are left out" % counted(surplus, "word")] + lines

@@ -21,14 +21,26 @@ def join(paths, anyway=False):
 
 
 def first_of(path, data):
-    """The settings, with the reports that a text may have after them."""
-    given = placed(path, lambda: from_text(data.decode("utf-8-sig"))) if is_text(data) else Input([whole(path, data)], [])
+    """The settings, with the reports that a text, or an input of words, may have after them."""
+    if is_text(data):
+        given = placed(path, lambda: from_text(data.decode("utf-8-sig")))
+    else:
+        given = Input([whole(path, data)], [])
+        blocks = words.split(data)
+        given = Input(blocks, []) if is_settings(blocks[:1]) and words.joined(blocks) == data else given
     try:
         decode.settings_from(given.blocks[0])
     except Refused as refused:
         hint = "; it " + LOOKS_FLAT if looks_flat(given.blocks[0]) else ""
         raise Unfit("%s is not settings: %s%s" % (name_of(path), refused.why, hint)) from None
     return Input(given.blocks, [], given.names, [path] * len(given.blocks))
+
+
+def is_settings(blocks):
+    try:
+        return bool(blocks) and bool(decode.settings_from(blocks[0]))
+    except Refused:
+        return False
 
 
 def reports_in(path, data, settings, anyway=False):
@@ -53,5 +65,5 @@ def report_block(path, section, settings):
 
 def whole(path, data):
     if len(data) % 4:
-        raise Unfit("%s: %d bytes are no whole words" % (name_of(path), len(data)))
+        raise Unfit("%s: %s" % (name_of(path), words.no_words(data)))
     return words.from_bytes(data)

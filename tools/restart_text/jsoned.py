@@ -1,25 +1,34 @@
-"""An explanation, a conversion, a page, a shift and a course of rounds as values for JSON; docs/explain.schema.json, docs/convert.schema.json,
-docs/publisher.schema.json, docs/shift.schema.json and docs/rounds.schema.json say what they have."""
+"""An explanation, a conversion, a page, a shift, a course of rounds and a comparison as values for JSON; docs/NAME.schema.json says what each
+has, NAME being the command."""
 from .answers import Plan, Wait
 from .converting import last_lines
+from .differing import input_parts, settings_changes
+from .evidence import NEVER, SURE, UNDECIDED, kept_story
 from .explaining import stale
+from .filling import nearly_full
 from .gathering import holding, waits
+from .going import DUTIES, claims
 from .library import PASSING
 from .planning import log_of, moves, not_kept
 from .publishing import lines as page_lines
 from .repairing import why
 from .rounding import lines as course_lines
+from .saving import fetched
 from .shifting import lines as shift_lines
+from .stamping import head
 from .waiting import wait_lines
 from .words import nodes_of
 
-SCHEMA = CONVERT_SCHEMA = PUBLISHER_SCHEMA = SHIFT_SCHEMA = ROUNDS_SCHEMA = 1
+SCHEMA = CONVERT_SCHEMA = PUBLISHER_SCHEMA = SHIFT_SCHEMA = ROUNDS_SCHEMA = DIFF_SCHEMA = 1
+FINDINGS = {SURE: "sure", NEVER: "never", UNDECIDED: "undecided"}
 
 
 def json_of(given, told):
     gathered, answer = told.gathered, told.answer
-    value = {"schema": SCHEMA, "answer": answer_value(answer), "agrees": told.agrees, "differences": told.differing,
+    value = {**head(SCHEMA), "answer": answer_value(answer), "agrees": told.agrees, "differences": told.differing,
              "asked": told.asked, "settings": settings_value(gathered.settings)}
+    if told.what_if:
+        value["without"] = what_if_value(told.what_if)
     if not gathered.refused:
         value["reports"] = reports_value(gathered)
     if told.agrees and isinstance(answer, Plan):
@@ -53,9 +62,15 @@ def settings_value(settings):
 def reports_value(gathered):
     kept = gathered.kept
     view = {"view": kept.number, "members": sorted(kept.members), "shards": [sorted(nodes) for nodes in kept.shards],
-            "termination": [position(at) for at in gathered.termination] if gathered.termination else None} if kept else None
+            "termination": [position(at) for at in gathered.termination] if gathered.termination else None,
+            "evidence": story_value(kept_story(gathered))} if kept else None
     return {"held": sorted(gathered.held), "absent": sorted(gathered.absent), "kept": view,
-            "stale": [{"node": node, "view": number} for node, number in (stale(gathered) if kept else ())]}
+            "stale": [{"node": node, "view": number} for node, number in (stale(gathered) if kept else ())],
+            "nearly_full": [{"node": node, "records": count} for node, count in nearly_full(gathered).items()]}
+
+
+def story_value(one):
+    return {"reported_by": sorted(one.have), "not_logged_by": sorted(one.lack), "not_known_of": sorted(one.away), "finding": FINDINGS[one.finding]}
 
 
 def position(at):
@@ -74,8 +89,32 @@ def plan_value(gathered, plan, told):
             "moves": [{"node": node, "from": before, "to": shard} for node, before, shard in moves(gathered, plan)],
             "not_kept": [{"node": node, "shard": shard, "to": other} for node, shard, other in not_kept(gathered, plan)],
             "as_few_moves": told.first.others,
-            "with_one_more": [{"node": node, "moves": count} for node, count in sorted(told.advice.savings.items())],
+            "stored": {"lost": None if kept_story(gathered).finding == NEVER else False, "claims": list(claims(gathered)), "duties": list(DUTIES)},
+            "fetches": [{"node": node, "updates": count} for node, count in sorted(fetched(gathered, plan).items())],
+            "with_one_more": [{"node": node, "moves": count} for node, count in sorted(told.advice.cheaper.single.items())]
+            if told.advice.cheaper else [],
+            "with_more": more_value(told.advice.cheaper) if told.advice.cheaper else None,
             "repair": repair_value(gathered, told.repair) if told.repair else None}
+
+
+def what_if_value(found):
+    return {"machines": sorted(found.nodes), "with": answer_value(found.answer) if found.answer is not None else None,
+            "kept_view": found.rest.kept.number if found.rest.kept else None,
+            "lost": [{"shard": one.shard, "after": position(one.after), "end": position(one.end), "updates": one.updates} for one in found.behind],
+            "no_log": found.no_log, "keeping": keeping_value(found)}
+
+
+def keeping_value(found):
+    """What a leader would say that keeps the view and the termination; None where they do not hang on the machines."""
+    if not found.hanging:
+        return None
+    wait = found.running if isinstance(found.running, Wait) else None
+    return {"asked": not found.counted, "wait": {"reason": wait.reason, "value": wait.value} if wait else None}
+
+
+def more_value(found):
+    return {"fewest_moves": found.fewest, "complete": not found.cut_short and found.compared and not found.more,
+            "sets": [{"machines": list(offer.nodes), "moves": offer.moves, "fetches": offer.fetches} for step in found.steps for offer in step]}
 
 
 def repair_value(gathered, found):
@@ -98,8 +137,8 @@ def wait_value(gathered, advice):
 
 
 def found_value(found):
-    return {"sets": [list(nodes) for nodes in found.sets], "more": len(found.others), "complete": found.complete,
-            "by_size": found.by_size, "least": found.least, "helpless": found.helpless, "needed": sorted(found.without),
+    return {"sets": [list(nodes) for nodes in found.sets], "moves": [found.moves[nodes] for nodes in found.sets], "more": len(found.others),
+            "complete": found.complete, "by_size": found.by_size, "least": found.least, "helpless": found.helpless, "needed": sorted(found.without),
             "cut_short": found.cut_short}
 
 
@@ -113,11 +152,12 @@ def refusal_value(given, told):
     record = None if refused.record is None else given.blocks[fault][4 * refused.record : 4 * refused.record + 4]
     return {"block": fault, "words": record, "file": given.files[fault] if fault is not None and fault < len(given.files) else None,
             "line": given.lines[fault] if fault is not None and fault < len(given.lines) else None, "why": refused.why,
-            "without": [without_value(one) for one in told.advice.without]}
+            "without": [without_value(one) for one in told.advice.without],
+            "stories": [{"view": one.view.number, "members": sorted(one.view.members), **story_value(one)} for one in told.advice.stories]}
 
 
 def conversion_value(folder, outcomes):
-    return {"schema": CONVERT_SCHEMA, "target": folder.target, "files": [outcome_value(folder, outcome) for outcome in outcomes],
+    return {**head(CONVERT_SCHEMA), "target": folder.target, "files": [outcome_value(folder, outcome) for outcome in outcomes],
             "text": last_lines(folder, outcomes)}
 
 
@@ -141,7 +181,7 @@ def place_value(place):
 
 
 def published_value(page):
-    return {"schema": PUBLISHER_SCHEMA, "subgroup": page.subgroup, "phase": page.phase, "view": page.view or None, "ready": page.ready,
+    return {**head(PUBLISHER_SCHEMA), "subgroup": page.subgroup, "phase": page.phase, "view": page.view or None, "ready": page.ready,
             "moves": page.moves, "shards": [shown_value(shard) for shard in page.shards],
             "machines": [{"node": node, "name": page.machines.named(node)} for node in page.spoken_of], "text": page_lines(page)}
 
@@ -153,7 +193,7 @@ def shown_value(shard):
 
 
 def shift_value(found):
-    return {"schema": SHIFT_SCHEMA, "rounds": found.rounds, "on": list(found.on), "winner": "crew" if found.first is None else "outage",
+    return {**head(SHIFT_SCHEMA), "rounds": found.rounds, "on": list(found.on), "winner": "crew" if found.first is None else "outage",
             "first": None if found.first in (None, PASSING) else found.first, "blows": [blow_value(blow) for blow in found.blows],
             "keep": found.keep, "needed": found.needed,
             "machines": [{"node": node, "name": found.settings.names[node] if found.settings.names else None}
@@ -170,7 +210,7 @@ def blow_value(blow):
 def rounds_value(course, settings):
     """What is reached round by round, or the wait."""
     wait = course.wait
-    return {"schema": ROUNDS_SCHEMA, "wait": {"reason": wait.reason, "value": wait.value} if wait else None,
+    return {**head(ROUNDS_SCHEMA), "wait": {"reason": wait.reason, "value": wait.value} if wait else None,
             "fewest": course.fewest, "unavoidable": course.floor, "enough": course.enough,
             "rounds": [step_value(number, course) for number in range(len(course.steps))],
             "machines": [{"node": node, "name": settings.names[node] if node < len(settings.names) else None} for node in sorted(settings.nodes)],
@@ -181,3 +221,36 @@ def step_value(number, course):
     step = course.steps[number]
     return {"rounds": number, "moves": step.moves, "gap": step.gap, "subgroup": course.subgroups[number],
             "shards": [{"shard": shard, "machines": sorted(nodes_of(mask))} for shard, mask in enumerate(step.masks)]}
+
+
+def difference_value(paths, answers, gathered, settings, lines):
+    """Two answers, what differs between them, and what of their inputs does."""
+    one, other = answers
+    plans = isinstance(one, Plan) and isinstance(other, Plan)
+    compared = None not in gathered and None not in [source.settings for source in gathered]
+    changes = settings_changes(*(source.settings for source in gathered)) if compared else []
+    return {**head(DIFF_SCHEMA), "same": one == other,
+            "answers": [{"file": path, **answer_value(answer)} for path, answer in zip(paths, answers)],
+            "view": both_value(one.view, other.view) if plans else None, "moves": both_value(one.moves, other.moves) if plans else None,
+            "shards": [value for value in map(placed_value, range(min(len(one.shards), len(other.shards))), one.shards, other.shards)
+                       if len(value) > 1] if plans else [],
+            "inputs_compared": compared,
+            "settings": [{"part": change.part or "whole", "number": change.number, "value": change.name.replace(" ", "_"), "was": change.was,
+                          "now": change.now} for change in changes],
+            "inputs": input_parts(*gathered, settings) if compared else [], "text": lines}
+
+
+def both_value(was, now):
+    return {"was": was, "now": now} if was != now else None
+
+
+def placed_value(shard, one, other):
+    """What differs of a shard, the shard alone where nothing does."""
+    value = {"shard": shard}
+    if one.members != other.members:
+        value["come"], value["leave"] = sorted(other.members - one.members), sorted(one.members - other.members)
+    if one.holder != other.holder:
+        value["holder"] = both_value(one.holder, other.holder)
+    if one.target != other.target:
+        value["target"] = both_value(position(one.target), position(other.target))
+    return value

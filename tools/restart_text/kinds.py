@@ -1,13 +1,14 @@
-"""What bytes are: an input, settings, a report, a desk, an order or a state. Each is read strictly; what does not fit is
+"""What bytes are: an input, settings, a report, a desk, an order, a state or a leader's file. Each is read strictly; what does not fit is
 refused."""
-from . import decode, encode, inputs, printing, state, words
-from .files import Unfit
+from . import decode, encode, inputs, leading, printing, state, words
 from .flat import LOOKS_FLAT, looks_flat
-from .model import MOST_NODES, MOST_RECORDS, Refused
+from .model import MOST_NODES, MOST_RECORDS, Refused, Unfit
 
 SLOT = 4 * MOST_RECORDS
 NAMES = {"input": "an input", "settings": "settings", "report": "a report", "desk": "a desk", "order": "an order",
-         "state": "a state"}
+         "state": "a state", "leader": "a leader's file"}
+WHAT_THEN = {"settings": "give its reports after it, or the folder that has them", "report": "give the settings before it",
+             "leader": "restart-text status says how far its restart is"}
 
 
 def text_of(kind, data, settings=None):
@@ -18,6 +19,14 @@ def text_of(kind, data, settings=None):
         other = [name for name in READERS if name != kind and fits(name, data)]
         hint = "; it looks like %s: --as %s" % (NAMES[other[0]], other[0]) if other else flat_hint(data)
         raise Unfit("this is not %s: %s%s" % (NAMES[kind], refused.why, hint)) from None
+
+
+def looks_like(data):
+    """What these bytes look like if they are no input, and what to do with them; nothing where they are like nothing known."""
+    found = next((name for name in READERS if name != "input" and fits(name, data)), None)
+    if found:
+        return "looks like %s: %s" % (NAMES[found], WHAT_THEN.get(found, "restart-text text --as %s shows it" % found))
+    return LOOKS_FLAT if len(data) % 4 == 0 and looks_flat(words.from_bytes(data)) else ""
 
 
 def flat_hint(data):
@@ -34,7 +43,7 @@ def fits(kind, data):
 
 def whole_words(data):
     if len(data) % 4:
-        raise Refused(5, "%d bytes are no whole words" % len(data))
+        raise Refused(5, words.no_words(data))
     return words.from_bytes(data)
 
 
@@ -101,6 +110,10 @@ def state_text(data, _):
     return state.remarks(found) + printing.state_text(found)
 
 
+def leader_text(data, _):
+    return leading.text_lines(data, desk_text)
+
+
 READERS = {
     "input": input_text,
     "settings": settings_text,
@@ -108,4 +121,5 @@ READERS = {
     "desk": desk_text,
     "order": order_text,
     "state": state_text,
+    "leader": leader_text,
 }

@@ -5,6 +5,7 @@ NAME at the end for a machine's name, and NODES at the end for a list of numbers
 a remark. A bad line is told with its number and with what was expected there."""
 import re
 from dataclasses import dataclass
+from difflib import get_close_matches
 
 from .model import GREATEST
 
@@ -19,6 +20,7 @@ HEADS = [
     "state preparing",
     "state committed",
 ]
+NEXT = ["report node NODE view VIEW", "message of COUNT words"]  # the heads that may follow settings and reports
 HEAD_WORDS = {form.split()[0] for form in HEADS}
 SETTINGS = [
     "failure sets COUNT",
@@ -95,22 +97,31 @@ def sections(text):
         if words[0] in HEAD_WORDS:
             found.append(Section(entry(number, words, HEADS), []))
         elif not found:
-            raise BadText(number, "expected a head line first, %s, found '%s'" % (either(HEADS), " ".join(words)))
+            raise BadText(number, "expected a head line first, %s, found '%s'" % (either(like(words[0], HEADS) or HEADS), " ".join(words)))
         elif found[-1].head.form.endswith("words"):
             found[-1].entries.append(Entry(number, "WORDS", [whole(number, word) for word in words]))
         else:
-            found[-1].entries.append(entry(number, words, FORMS[found[-1].head.form.split()[0]]))
+            kind = found[-1].head.form.split()[0]
+            found[-1].entries.append(entry(number, words, FORMS[kind], NEXT if kind in ("settings", "report") else ()))
     return found
 
 
-def entry(line, words, forms):
-    """The line as an entry in one of these forms."""
+def entry(line, words, forms, after=()):
+    """The line as an entry in one of these forms. A bad one is told what may stand there, a head that may come after them included: the forms
+    that begin with its first word or with one like it, or else all."""
     for form in forms:
         values = matched(line, words, form.split())
         if values is not None:
             return Entry(line, form.removesuffix(" name NAME").removesuffix(" cap COUNT"), values)
-    alike = [form for form in forms if form.split()[0] == words[0]]
-    raise BadText(line, "expected %s, found '%s'" % (either(alike or forms), " ".join(words)))
+    every = [*forms, *after]
+    raise BadText(line, "expected %s, found '%s'" % (either(like(words[0], every) or every), " ".join(words)))
+
+
+def like(word, forms):
+    """The forms that begin with this word, or else with the one that is most like it."""
+    firsts = {form.split()[0] for form in forms}
+    close = [word] if word in firsts else get_close_matches(word.lower(), firsts, 1, 0.6)
+    return [form for form in forms if form.split()[0] in close]
 
 
 def matched(line, words, form):

@@ -92,6 +92,14 @@ class Order:
     cuts: dict  # and the node's cut there
 
 
+class Trouble(Exception):
+    """What keeps the command from doing its work, in one line."""
+
+
+class Unfit(Exception):
+    """Something that is refused: what it is, and why it does not fit."""
+
+
 class Refused(Exception):
     """Words that the planner refuses: the number as in restart(7), for some numbers the index of the record looked at, and what is
     wrong, in words. `record` is the index of the record at fault where this tool knows it and the number does not tell it."""

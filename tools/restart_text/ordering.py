@@ -181,3 +181,12 @@ def first_placement(gathered):
     old = gathered.kept.shards
     moves, stays = (sum(map(len, lists)) for lists in zip(*((nodes - old[shard], nodes & old[shard]) for shard, nodes in members.items())))
     return First(members, moves, stays, sorted(others))
+
+
+def fewest_moves(gathered):
+    """The moves of that placement, where every subgroup has one."""
+    count = 0
+    for number in range(SUBGROUPS):
+        subgroup = Subgroup(gathered, number)
+        count += sum(subgroup.has(shard, node) and node not in gathered.kept.shards[shard] for shard in subgroup.shards for node in subgroup.held)
+    return count

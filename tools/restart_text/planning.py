@@ -61,12 +61,15 @@ def kept_lines(gathered, plan):
             lines.append("  shard %d: %s, %d beyond the need of %d"
                          % (number, machines(settings, placed.members), len(placed.members) - needs, needs))
     lines = ["Kept beyond the need:"] + lines if lines else ["No shard keeps more members than it needs."]
-    gone = not_kept(gathered, plan)
-    lines += ["Not kept:"] if gone else []
-    for node, number, other in gone:
-        why = "goes to shard %d" % other if other is not None else "the cap of %d is reached" % settings.shards[number].cap
-        lines.append("  %s of shard %d: %s" % (machine(settings, node), number, why))
-    return lines
+    gone = {}
+    for node, number, other in not_kept(gathered, plan):
+        gone.setdefault((number, other), []).append(node)
+    for (number, other), nodes in gone.items():
+        why = "the cap of %d is reached" % settings.shards[number].cap if other is None else "%s to shard %d" % (
+            "goes" if len(nodes) == 1 else "go", other)
+        lines.append("  %s of shard %d: %s" % (machines(settings, nodes), number, why))
+    lines.insert(len(lines) - len(gone), "Not kept:")
+    return lines if gone else lines[:-1]
 
 
 def not_kept(gathered, plan):
@@ -93,12 +96,10 @@ def move_lines(gathered, plan):
     found = moves(gathered, plan)
     if not found:
         return ["No machine moves."]
-    lines = ["Moves:"]
-    for node, before, shard in found:
-        come = "comes from shard %d" % before if before is not None else "had no shard of this subgroup"
-        lines.append("  %s (failure set %d) goes to shard %d, %s"
-                     % (machine(gathered.settings, node), gathered.settings.set_of[node], shard, come))
-    return lines
+    rows = [["machine", "failure set", "goes to shard", "comes from shard"]]
+    rows += [[gathered.settings.name(node), str(gathered.settings.set_of[node]), str(shard), "-" if before is None else str(before)]
+             for node, before, shard in found]
+    return ["Moves (-: it had no shard of the subgroup):"] + ["  " + row for row in table(rows)]
 
 
 def cut_lines(gathered, plan):
@@ -183,7 +184,7 @@ def faults(gathered, plan, first):
     if plan.view != gathered.kept.number + 1:
         found.append("the new view is %d, not %d" % (plan.view, gathered.kept.number + 1))
     if len(plan.shards) != len(settings.shards):
-        return found + ["the plan has %d shards, the settings have %d" % (len(plan.shards), len(settings.shards))]
+        return found + ["the plan has %s, the settings have %d" % (counted(len(plan.shards), "shard"), len(settings.shards))]
     for shard, placed in enumerate(plan.shards):
         if (placed.holder, placed.target) != holding(gathered, shard):
             found.append("shard %d has another holder or target" % shard)

@@ -8,7 +8,7 @@ from array import array
 from bisect import bisect_left
 from dataclasses import dataclass
 
-from .shapes import label, shape, sheet
+from .shapes import finished, label, shape, sheet
 
 WIDTH, LEFT, RIGHT = 1080, 84, 112
 PLOT = WIDTH - LEFT - RIGHT
@@ -90,8 +90,7 @@ def plot(moves, windows, size, last=None):
             line(group, panel, view.ends, found, colour, name == "sum")
     peaks(picture, upper, lower, view)
     label(picture, LEFT + PLOT / 2, lower.bottom + 48, "restart number (of a window, its last restart)", 14, "normal", "middle")
-    Tree.indent(picture)
-    return '<?xml version="1.0" encoding="UTF-8"?>\n' + Tree.tostring(picture, encoding="unicode") + "\n"
+    return finished(picture)
 
 
 def heading(picture, view, size):

@@ -3,6 +3,7 @@ from .jsoned import answer_value, settings_value
 from .readiness import Unready
 from .readiness_lines import comparison_lines, lines, unready_lines
 from .sheets import NUMBERS
+from .stamping import head
 
 SCHEMA = 1
 
@@ -10,7 +11,7 @@ SCHEMA = 1
 def readiness_value(found):
     """One layout, or two."""
     both = len(found) == 2 and not any(isinstance(one, Unready) for one in found)
-    return {"schema": SCHEMA, "layouts": [layout_value(one) for one in found],
+    return {**head(SCHEMA), "layouts": [layout_value(one) for one in found],
             "comparison": comparison_lines(*found) if both else None}
 
 

@@ -165,7 +165,7 @@ def tables(ready):
     for number, nodes in ready.failure_sets():
         share, wait = ready.without(nodes)
         lost.append(["set %d" % number, ready.settings.those(nodes), str(share.total), *map(str, share.counts), percent(share), brief(wait)])
-    kept = [["machine", "set", "of %d sets with it down" % (whole.total // 2), "of %d with it up" % (whole.total // 2)]]
+    kept = [["machine", "set", "of %s with it down" % counted(whole.total // 2, "set"), "of %d with it up" % (whole.total // 2)]]
     for node, down, held in ready.by_machine():
         kept.append([ready.settings.name(node), str(ready.settings.set_of[node]), "%d (%s)" % (down.plans, percent(down)),
                      "%d (%s)" % (held.plans, percent(held))])

@@ -1,5 +1,6 @@
 """A refusal in words: when its number is given, what is wrong in the block at fault, and what to do."""
 from .answers import Number
+from .evidence import SETTLE, same_members
 from .flat import LOOKS_FLAT, looks_flat
 
 # In the order in which they are checked.
@@ -37,6 +38,9 @@ TYPED = ("A word was mistyped or damaged; a file that was only cut off does not 
          " its disk, or have the machine write the report again.")
 TWO_STORIES = ("Two machines tell different stories of one view. Find out which report comes from another group or from a damaged"
                " disk, and leave only that one out. Do not guess: a wrong choice can lose stored updates.")
+GIVEN_UP = ("Plan nothing yet: %s. A view that was never served is forgotten with its logs, on disk, before the machine reports, and then the view"
+            " before it is reported. If no restart was given up, a report comes from another group or from a damaged disk: find out which, and leave"
+            " only that one out. Do not guess: a wrong choice can lose stored updates." % SETTLE)
 STEP_BACK = ("The machine's disk went back: another disk is in it, or an older image of its own. Put the newer disk back and have the machine"
              " report again. Only if that disk is lost, or the earlier report was damaged and names a view that never was, leave the earlier"
              " report out; a service starts from a fresh state then, and every machine reports again. Do not go on with the earlier report"
@@ -53,7 +57,7 @@ ADVICE = {
     10: DAMAGED + " " + OTHER_GROUP,
     11: DAMAGED,
     18: STEP_BACK,
-    12: TWO_STORIES,
+    12: TWO_STORIES,  # or GIVEN_UP: see to_do
     13: TWO_STORIES,
 }
 
@@ -75,10 +79,12 @@ def refusal_lines(answer, fault, given, gathered):
     return lines
 
 
-def to_do(answer, fault, given):
-    """What to do about a refusal. A flat report is told as such, alone in a file or as a block."""
+def to_do(answer, fault, given, stories=()):
+    """What to do about a refusal. A flat report is told as such; two stories of a view are a restart that was given up, or damage."""
     block = given.blocks[fault] if fault else []
-    if looks_flat(block) and answer.number not in BETWEEN_REPORTS or given.flat and answer.number == 2:
+    if stories and not same_members(stories):
+        return GIVEN_UP
+    if looks_flat(block) and answer.number not in BETWEEN_REPORTS:
         return "This %s." % LOOKS_FLAT
     return message_to_do(answer, block)
 

@@ -8,6 +8,7 @@ from dataclasses import dataclass, field
 
 from .answers import Plan
 from .asking import OutOfTime
+from .ordering import fewest_moves
 from .supposing import Count
 
 MOST_ASKED = 120  # sets of the least size that are asked of the program
@@ -17,7 +18,8 @@ MOST_SMALLER = 20000  # smaller sets that are gone through
 
 @dataclass
 class Found:
-    sets: list = field(default_factory=list)  # of tuples of machines, all of one size, with each of which there is a plan
+    sets: list = field(default_factory=list)  # of tuples of machines, all of one size, with each of which there is a plan, fewest moves first
+    moves: dict = field(default_factory=dict)  # by set: the moves of that plan
     others: list = field(default_factory=list)  # further ones of this size, by this tool's own count
     complete: bool = False  # whether these are all of this size
     by_size: bool = False  # whether smaller sets were gone through before, by this tool's own count
@@ -52,6 +54,10 @@ class Search:
     def answer_with(self, nodes):
         return self.program.ask(self.supposed.blocks_with(nodes))
 
+    def moves_with(self, nodes):
+        """The moves of the plan with these machines; without a program, by this tool's own count."""
+        return self.answer_with(nodes).moves if self.program else fewest_moves(self.supposed.gathered_with(nodes))
+
     def done(self):
         found, pool = self.found, self.supposed.pool
         found.helpless = not self.plan_with(pool)
@@ -67,6 +73,8 @@ class Search:
         if not found.sets:
             some = self.spared()
             found.sets = [some if self.plan_with(some) else tuple(pool)]
+        found.moves = {nodes: self.moves_with(nodes) for nodes in found.sets}
+        found.sets.sort(key=lambda nodes: (found.moves[nodes], nodes))
         found.without = self.indispensable() if self.program else {}
         return found
 

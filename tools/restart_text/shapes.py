@@ -2,7 +2,9 @@
 import colorsys
 import xml.etree.ElementTree as Tree
 
-TAG = 20
+from .stamping import made_line
+
+TAG, MADE = 20, 20
 RED, BLUE, AMBER, GREEN, GREY = "#b3261e", "#0b57d0", "#b25e00", "#1e7b34", "#6b6b6b"
 
 
@@ -17,7 +19,11 @@ def sheet(width, height, title=None):
 
 
 def finished(picture):
-    """The picture as text."""
+    """The picture as text, with a last line that says when it was made."""
+    width, height = (int(picture.get(name)) for name in ("width", "height"))
+    picture.set("height", str(height + MADE))
+    picture.set("viewBox", "0 0 %d %d" % (width, height + MADE))
+    label(group(picture, "made"), 24, height + MADE - 8, made_line(), 11, fill=GREY)
     Tree.indent(picture)
     return '<?xml version="1.0" encoding="UTF-8"?>\n' + Tree.tostring(picture, encoding="unicode") + "\n"
 

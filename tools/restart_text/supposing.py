@@ -1,7 +1,7 @@
 """Machines that are absent, supposed to be back: the reports that they would give, and a count of what would still be lacking then.
 
 The count is this tool's own. It says which questions are worth asking; the program's answers decide what is told."""
-from dataclasses import dataclass, field
+from dataclasses import dataclass, field, replace
 
 from . import encode
 from .gathering import Gathered, holding, lacking
@@ -34,13 +34,14 @@ class Supposed:
     blocks: list
     gathered: Gathered
     gone: frozenset = frozenset()  # machines that will not come back
-    words: dict = field(default_factory=dict)  # each machine's supposed report
+    reports: dict = field(default_factory=dict)  # each machine's supposed report
+    words: dict = field(default_factory=dict)  # and its words
 
     def __post_init__(self):
         for node in sorted(self.gathered.absent - self.gone):
             report = supposed_report(self.gathered, node)
             if report:
-                self.words[node] = encode.report_words(report)
+                self.reports[node], self.words[node] = report, encode.report_words(report)
 
     @property
     def pool(self):
@@ -49,6 +50,10 @@ class Supposed:
     def blocks_with(self, nodes):
         """The input with the reports of these machines."""
         return self.blocks + [self.words[node] for node in sorted(nodes)]
+
+    def gathered_with(self, nodes):
+        """What the reports add up to with those of these machines."""
+        return replace(self.gathered, reports={**self.gathered.reports, **{node: self.reports[node] for node in nodes}})
 
 
 class Count:

@@ -2,6 +2,9 @@
 import math
 
 from .answers import Number, Wait, printed
+from .documents import document
+from .evidence import STOP, kept_lines, story_lines, undecided_line
+from .going import fetch_lines, offered, saving_line, stored_line
 from .sentences import counted, listed, machine, machines, update
 from .supposing import wanted_update
 
@@ -11,16 +14,14 @@ MOST_TOLD = 60  # machines in all the sets that are told one by one
 
 
 def plan_advice(gathered, plan, advice):
-    """The plan in a line, and what one machine more would save."""
-    first = "Plan: new view %d after view %d, %s." % (plan.view, gathered.kept.number, counted(plan.moves, "move"))
-    for moves in sorted(set(advice.savings.values())):
-        nodes = [node for node, count in advice.savings.items() if count == moves]
-        first += " With %s as well: %s." % (machines(gathered.settings, nodes, "or"), counted(moves, "move"))
-    if advice.savings:
-        return [first, "Assumed: %s" % assumed(gathered, sorted(advice.savings))]
-    if advice.compared and plan.moves and advice.supposed.pool:
-        first += " No single machine more would save a move."
-    return [first]
+    """The plan in a line, then what is asked first."""
+    lines = ["Plan: new view %d after view %d, %s." % (plan.view, gathered.kept.number, counted(plan.moves, "move"))]
+    shown = kept_lines(gathered)
+    lines += ([STOP] + shown if shown else [stored_line(gathered)]) + fetch_lines(gathered, plan)
+    saving = saving_line(gathered, plan, advice)
+    lines += [saving] if saving else []
+    more = offered(advice.cheaper)
+    return lines + ["Assumed: %s; updates to fetch are counted as if its logs were empty." % assumed(gathered, more)[:-1]] * bool(more)
 
 
 def wait_advice(gathered, answer, advice, program):
@@ -29,38 +30,79 @@ def wait_advice(gathered, answer, advice, program):
         return ["Switch on any machine: none has reported, and which are needed shows once the first has. At least %s needed."
                 % (counted(gathered.settings.least, "machine") + (" is" if gathered.settings.least == 1 else " are"))]
     lines = helpless(gathered, advice) if advice.found.helpless else switch_on(gathered, advice, program)
-    return lines[:1] + lone_view(gathered, advice) + lines[1:]
+    if advice.lone:
+        return lines[:1] + lone_view(gathered, advice) + lines[1:]
+    return lines + kept_lines(gathered)
 
 
 def switch_on(gathered, advice, program):
     found, settings = advice.found, gathered.settings
-    fewer = "; with fewer there is none" if found.least else "; that fewer would not do is this tool's own count"
+    fewer = "; with fewer machines there is none" if found.least else "; that fewer machines would not do is this tool's own count"
     if not found.by_size:
-        fewer = "; fewer may do"
-    told, rest = choices(settings, found)
-    lines = ["Switch on %s: then there is a plan%s." % (told, fewer if len(found.sets[0]) > 1 else "")]
-    lines += ["Or instead: %s." % rest] if rest else []
+        fewer = "; fewer machines may do"
+    first, *rest = priced(settings, found)
+    lines = ["Switch on %s: then there is a plan with %s%s."
+             % (first, counted(found.moves[found.sets[0]], "move"), fewer if len(found.sets[0]) > 1 else "")]
+    lines += ["Or instead%s: %s." % one for one in rest]
     lines.append("Assumed: %s" % assumed(gathered, sorted(set().union(*found.sets))))
     if not program:
         lines.append("The program was not asked; all this is this tool's own count.")
     elif found.others:
-        lines.append("The program was asked about %d of these sets; the rest is this tool's own count." % len(found.sets))
+        lines.append("The program was asked about %d of these sets; the rest is this tool's own count, and may have a cheaper one." % len(found.sets))
     if found.cut_short:
         lines.append("The search was cut short after its time; --search SECONDS gives it more.")
+    return lines + needed_lines(settings, found)
+
+
+def needed_lines(settings, found):
+    """The machines without which there is no plan, in one line."""
+    if len(found.without) == 1:
+        return ["There is no plan without %s, whoever else comes back: %s. If it is lost, --gone %s says what is left."
+                % (machine(settings, node), reason(other), settings.name(node)) for node, other in found.without.items()]
+    groups = {}
     for node, other in found.without.items():
-        lines.append("There is no plan without %s, whoever else comes back: %s. If it is lost, --gone %s says what is left."
-                     % (machine(settings, node), reason(other), settings.name(node)))
-    return lines
+        groups.setdefault(reason(other), []).append(node)
+    told = "; ".join("%s, %s" % (machines(settings, nodes, "or"), why) for why, nodes in groups.items())
+    return ["There is no plan, whoever else comes back, without %s. If one of these is lost, --gone says what is left." % told] if groups else []
+
+
+def priced(settings, found):
+    """The sets in words, fewest moves first: the first one, or where that says it so many of a few machines; then for each number of moves
+    what it is, and the sets with it."""
+    rest, first, room = [], None, max(MOST_TOLD // len(found.sets[0]), 3)
+    for moves in sorted(set(found.moves.values())):
+        sets = [nodes for nodes in found.sets if found.moves[nodes] == moves]
+        told = [in_one(settings, sets)] if in_one(settings, sets) else [listed([settings.name(node) for node in nodes]) for nodes in sets]
+        if first is None:
+            first = in_one(settings, sets) or machines(settings, sets[0])
+            told, price = told[1:], ", with as few moves"
+        else:
+            price = ", with %s" % counted(moves, "move")
+        left, told = len(told[room:]), told[:room]
+        room = max(room - len(told), 1)
+        if told:
+            rest.append((price, "; ".join(told + ["%d more" % left] * bool(left))))
+    if found.others:
+        rest.append(("", "%s%d more" % ("" if found.complete else "at least ", len(found.others))))
+    return [first] + rest
+
+
+def in_one(settings, sets):
+    """All the sets in one where they are so many of a few machines; else nothing."""
+    sets = [frozenset(nodes) for nodes in sets]
+    common = frozenset.intersection(*sets)
+    spread, free = frozenset.union(*sets) - common, len(sets[0]) - len(common)
+    if len(sets) == 1 or len(sets) != math.comb(len(spread), free):
+        return ""
+    some = "any %d of %s" % (free, machines(settings, spread)) if free > 1 else machines(settings, spread, "or")
+    return "%s and %s" % (machines(settings, common), some) if common else some
 
 
 def choices(settings, found):
     """The sets in words: the first and the others, or all in one where they are so many of a few machines."""
-    sets = [frozenset(nodes) for nodes in found.sets + found.others]
-    common = frozenset.intersection(*sets)
-    spread, free = frozenset.union(*sets) - common, len(sets[0]) - len(common)
-    if found.complete and len(sets) > 1 and len(sets) == math.comb(len(spread), free):
-        some = "any %d of %s" % (free, machines(settings, spread)) if free > 1 else machines(settings, spread, "or")
-        return ("%s and %s" % (machines(settings, common), some) if common else some), ""
+    sets = found.sets + found.others
+    if found.complete and in_one(settings, sets):
+        return in_one(settings, sets), ""
     most = max(MOST_TOLD // len(sets[0]), 3)
     told = [listed([settings.name(node) for node in nodes]) for nodes in found.sets[1:most]]
     left = len(sets) - 1 - len(told)
@@ -98,15 +140,14 @@ def reason(answer):
 
 def lone_view(gathered, advice):
     """The kept view stands on one report, and what the others would give without it."""
-    if not advice.lone:
-        return []
     kept, settings, answer = gathered.kept, gathered.settings, advice.lone.answer
     below = max(report.view.number for report in gathered.reports.values() if report.view.number < kept.number)
     result = printed(answer) if not isinstance(answer, Wait) else "%s, %s" % (printed(answer), reason(answer))
     result += then(settings, advice.lone)
     lines = ["Only machine %s reports view %d, the next lower is %d; without its report: %s."
              % (settings.name(gathered.kept_from), kept.number, below, result)]
-    return lines + ["Leave it out only if that view is damaged or was never served: what was stored in it is lost with it. The"
+    lines += kept_lines(gathered) or [undecided_line(gathered)]
+    return lines + ["Leave the report out only if that view is damaged or was never served: what was stored in it is lost with it. The"
                     " planner keeps a view until a fresh state (duty 10)."]
 
 
@@ -124,7 +165,7 @@ def helpless(gathered, advice):
     told = reason(found.all_back) if found.all_back else "by this tool's own count"
     who = "every absent machine back" if not gone else "every absent machine back but %s" % machines(gathered.settings, gone)
     lines = ["No machine to switch on helps: with %s there is still no plan (%s)." % (who, told),
-             "What is left is the service's own, by its duties (docs/ASSUMPTIONS.md, restart(3)); the planner will go on waiting:"]
+             "What is left is the service's own, by its duties (%s, restart(3)); the planner will go on waiting:" % document("ASSUMPTIONS.md")]
     if found.all_back and found.all_back.reason == 5:
         return lines + ["  the settings ask for more than these machines can give; to change them, or to bring machines into other"
                         " failure sets, is the service's decision"]
@@ -145,8 +186,8 @@ def duties(gathered):
 
 
 def refusal_advice(given, gathered, advice, name):
-    """What the others would give; `name` tells a block."""
-    lines = []
+    """What two stories most likely mean, and what the others would give; `name` tells a block."""
+    lines = story_lines(gathered.settings, advice.stories) if advice.stories else []
     for place, one in enumerate(advice.without):
         instead = " instead" if place else ""
         answer = printed(one.answer) + (", " + reason(one.answer) if isinstance(one.answer, Wait) else "")

@@ -37,7 +37,7 @@ def numbered(section, form, most):
 def shard_of(item, sets):
     _, subgroup, needs, *caps = item.values
     within(item, "a subgroup", subgroup, 0, SUBGROUPS - 1)
-    within(item, "needed members (there are %d failure sets)" % sets, needs, 1, sets)
+    within(item, "needed members (there %s)" % ("is 1 failure set" if sets == 1 else "are %d failure sets" % sets), needs, 1, sets)
     return Shard(subgroup, needs, *(within(item, "a cap (the shard needs %d)" % needs, cap, needs, MOST_CAP) for cap in caps))
 
 

@@ -133,11 +133,11 @@ def run(program, data):
 
 def options(made):
     """The command's options."""
-    source = made.add_mutually_exclusive_group(required=True)
-    source.add_argument("--program", help="the program mondays, which is run")
-    source.add_argument("--answer", help="a file with what mondays printed")
+    source = made.add_mutually_exclusive_group()
+    source.add_argument("--program", metavar="PATH", help="the program mondays; without it the one built in this checkout, or installed")
+    source.add_argument("--answer", metavar="FILE", help="a file with what mondays printed; then it is not started")
     made.add_argument("--last", type=positive, metavar="N", help="draw the last N restarts only; the windows are still those of the file")
-    made.add_argument("-o", "--output", help="the file to write; standard output without it")
+    made.add_argument("-o", "--output", metavar="FILE", help="the file to write; standard output without it")
 
 
 def positive(text):

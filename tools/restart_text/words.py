@@ -8,6 +8,11 @@ def from_bytes(data):
     return list(struct.unpack("<%dI" % count, data[: 4 * count]))
 
 
+def no_words(data):
+    """What to say of bytes that are not whole words."""
+    return "1 byte is no whole word" if len(data) == 1 else "%d bytes are no whole words" % len(data)
+
+
 def to_bytes(words):
     return struct.pack("<%dI" % len(words), *words)
 

@@ -2,12 +2,14 @@
 import contextlib
 import io
 import os
+import re
 import sys
 from unittest import mock
 
 ROOT = os.path.dirname(os.path.dirname(os.path.dirname(os.path.abspath(__file__))))
 sys.path.insert(0, os.path.join(ROOT, "tools"))
 COMMAND = os.path.join(ROOT, "tools", "restart-text")
+os.environ["SOURCE_DATE_EPOCH"] = "1772337906"  # 2026-03-01 04:05:06 UTC, for whatever is dated
 
 from restart_text import inputs
 from restart_text.command import main
@@ -48,6 +50,11 @@ def command(*arguments, data=b""):
 def text_of(name):
     with open(os.path.join(ROOT, "examples", name), encoding="utf-8") as file:
         return file.read()
+
+
+def undated(picture):
+    """The picture without its date and release, which change."""
+    return re.sub("Made [^<]*", "Made", picture)
 
 
 def example(name):

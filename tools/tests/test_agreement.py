@@ -25,7 +25,7 @@ class Agreement(unittest.TestCase):
             fault = program.fault(given.blocks) if isinstance(answer, answers.Number) else None
             told = explain(given, answer, fault)
             self.assertTrue(told.agrees, "seed %d: %s\n%s" % (seed, answer, "\n".join(told.lines)))
-            self.assertTrue(isinstance(answer, answers.Plan) or any(line.startswith("To do: ") for line in told.lines), told.lines)
+            self.assertTrue(isinstance(answer, answers.Plan) or any(line.startswith("To do") for line in told.lines), told.lines)
             seen[name(answer)] += 1
         self.assertEqual(set(seen), EXPECTED, seen)
 

@@ -101,7 +101,8 @@ class Plans(unittest.TestCase):
         told = asked(given, Program(support.program(), 60))
         self.assertEqual(told.differing, [])
         text = "\n".join(told.lines)
-        self.assertIn("Plan: new view 8 after view 7, 1 move. With machine 7 as well: 0 moves.", text)
+        self.assertIn("Plan: new view 8 after view 7, 1 move.", text)
+        self.assertIn("With machine 7 as well: 0 moves, up to 2 updates to fetch.", text)
         self.assertIn("shard  subgroup  needs  cap  holder  target  members  stay     move in  leave  absent\n"
                       "0      0         2      4    0       (0, 0)  0 1 2 3  0 1 2 3  -        4 5    -\n"
                       "1      0         2      2    6       (7, 2)  4 6      6        4        -      7\n", text)
@@ -117,7 +118,7 @@ class Plans(unittest.TestCase):
         given = asked(with_words(2 * 65536 + 2, 2), Program(support.program(), 60))
         self.assertEqual(given.answer, bare.answer)
         self.assertIn("No shard keeps more members than it needs.", given.lines)
-        self.assertIn("  machine 5 of shard 0: the cap of 2 is reached", given.lines)
+        self.assertIn("  machines 1, 4 and 5 of shard 0: the cap of 2 is reached", given.lines)
 
     def test_no_other_placement(self):
         told = asked(with_words(16 * 65536 + 2, 65536 + 1), Program(support.program(), 60))

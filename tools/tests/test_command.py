@@ -58,7 +58,7 @@ class Command(unittest.TestCase):
             (["explain", "-", "--program", "/bin/echo"], support.bytes_a(), 3,
              "expected a plan, 'wait REASON' or 'number NUMBER' (with a record after 8, 9, 16, 17), found ''"),
             (["explain", "-", "--gone", "3-40", "--program", support.program()], support.bytes_a(), 3,
-             "--gone: expected nodes from 0 to 31 or a range such as 0-6, found '3-40'"),
+             "--gone: there is no machine 3-40; known are machines 0 to 6"),
             (["draw", "-", "--program", support.program()], support.bytes_a()[:-4], 2,
              "the input is refused with number 5, so that there is nothing to draw; explain says why"),
         ):

@@ -18,9 +18,10 @@ from restart_text.asking import Program
 from restart_text.commands.convert import Progress
 from restart_text.converting import Folder as Conversion
 from restart_text.files import read
+from restart_text.folders import files_in
 from restart_text.library import Library
 from restart_text.readings import as_flat, as_ours
-from restart_text.watching import files_in, look
+from restart_text.watching import look
 from support import command
 from test_files import Folder
 from test_json import faults
@@ -259,8 +260,8 @@ class Convert(Converting):
         self.assertEqual(self.convert()[0], 0)
         reports = [self.path("out", "1-machine-%d.bin" % node) for node in range(6)]
         self.assertEqual(command("join", self.path("out", "settings.bin"), *reports), (0, support.bytes_a(), ""))
-        lines, status = look(files_in(self.path("out")), Program(support.program()), lambda names: frozenset(), None)
-        self.assertEqual((status, lines[0]), (0, "Plan: new view 8 after view 7, 2 moves. With machine 6 as well: 0 moves."))
+        lines, status = look(files_in(self.path("out")), Program(support.program()), lambda given: (frozenset(), frozenset(), []), None)
+        self.assertEqual((status, lines[0]), (0, "Plan: new view 8 after view 7, 2 moves."))
 
     def test_times_are_kept(self):
         """watch takes reports in the order in which they were written."""
@@ -604,9 +605,10 @@ class Hints(Folder):
 
     def test_explain(self):
         """As a block of an input, and alone in a file."""
+        self.assertEqual(command("explain", "-", data=words.to_bytes(GOOD)),
+                         (2, b"", "restart-text: standard input is no input; it %s\n" % self.SAID))
         for data, flat_one in (
             (words.joined([support.CASE_A[0], GOOD]), True),
-            (words.to_bytes(GOOD), True),
             (words.joined([support.CASE_A[0], GOOD[:-1]]), False),
             (words.joined([support.CASE_A[0], [1, 7, 127, 0]]), False),
         ):
@@ -616,7 +618,7 @@ class Hints(Folder):
     def test_watch(self):
         self.split()
         self.put("reports/2-machine-1.bin", words.to_bytes(GOOD))
-        lines, status = look(files_in(self.folder), Program(support.program()), lambda names: frozenset(), None)
+        lines, status = look(files_in(self.folder), Program(support.program()), lambda given: (frozenset(), frozenset(), []), None)
         self.assertEqual((status, lines[-1]), (2, "To do: This %s." % self.SAID))
         self.assertTrue(any(line.startswith("At fault: report 7 of 7, which names machine 1 (%s" % self.path("reports")) for line in lines))
 

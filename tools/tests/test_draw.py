@@ -42,7 +42,8 @@ class Waits(unittest.TestCase):
         self.assertEqual(told["condition-3"], ["no placement of subgroup 0: shard 1 needs 3 machines, the failure sets give 2"])
         self.assertEqual(told["machine-0"], ["0", "0", "0"])
         self.assertEqual(told["machine-4"], ["4", "switch on", "1"])
-        self.assertEqual(told["machine-6"], ["6", "or this", "1"])
+        self.assertEqual(told["machine-6"], ["6", "switch on", "1"])
+        self.assertEqual(told["machine-3"], ["3", "or this"])
         self.assertEqual(told["shard-1"], ["shard 1", "needs 3", "log from 1", "up to (7, 5)", "back 1", "absent 4 6"])
         self.assertEqual(told["shard-2"], ["shard 2", "needs 1", "NO LOG", "absent 5"])
         self.assertEqual(told["subgroup-0"], ["subgroup 0: no placement"])
@@ -73,7 +74,7 @@ class Pictures(unittest.TestCase):
     def test_case_a_has_every_machine_shard_set_and_move(self):
         found = identities(drawn(support.given(support.example("a")), support.ANSWER_A))
         wanted = {"machine-%d" % node for node in range(7)} | {"shard-%d" % shard for shard in range(3)}
-        wanted |= {"set-0", "set-1", "set-2", "subgroup-0", "move-5-1", "move-3-2", "legend"}
+        wanted |= {"set-0", "set-1", "set-2", "subgroup-0", "move-5-1", "move-3-2", "legend", "made"}
         self.assertEqual(found, wanted)
 
     def test_case_a_says_in_words_what_the_colours_say(self):

@@ -38,13 +38,15 @@ class Cases(unittest.TestCase):
             A,
             support.ANSWER_A,
             "Held: 0 1 2 3 4 5. Absent: 6.\n",
-            "Plan: new view 8 after view 7, 2 moves. With machine 6 as well: 0 moves.\n",
+            "Plan: new view 8 after view 7, 2 moves.\n",
+            "With machine 6 as well: 0 moves, up to 6 updates to fetch.\n",
             "shard  subgroup  needs  holder  target  members  stay  move in  leave  absent\n"
             "0      0         2      0       (0, 0)  0 2      0 2   -        -      -\n"
             "1      0         3      1       (7, 5)  1 4 5    1 4   5        -      6\n"
             "2      0         1      5       (0, 0)  3        -     3        5      -\n",
-            "  machine 3 (failure set 1) goes to shard 2, had no shard of this subgroup\n"
-            "  machine 5 (failure set 2) goes to shard 1, comes from shard 2\n",
+            "  machine  failure set  goes to shard  comes from shard\n"
+            "  3        1            2              -\n"
+            "  5        2            1              2\n",
             "  shard 1 up to (7, 5), from machine 1\n"
             "    machine 1  log ends at (7, 5)  cut (7, 5)  keeps all    fetches nothing\n"
             "    machine 4  log ends at (7, 4)  cut (7, 4)  keeps all    fetches 1 update\n"
@@ -187,7 +189,7 @@ class Cases(unittest.TestCase):
             "view 8\nmoves 1\nshard 0 holder 0 target 0 0 members 0 2\nshard 1 holder 1 target 7 5 members 1 4 5\n"
             "shard 2 holder 5 target 0 0 members 5\n",
             "Without a shard: machine 3.\n",
-            "Moves:\n  machine 5 (failure set 2) goes to shard 1, had no shard of this subgroup\n",
+            "  machine  failure set  goes to shard  comes from shard\n  5        2            1              -\n",
         )
 
 

@@ -76,8 +76,9 @@ class JoinAndSplit(Folder):
             ([settings, CASE], "%s, line 3: expected a report, found 'settings'" % CASE),
         ):
             status, printed, told = command("join", *files)
-            self.assertEqual((status, printed), (2, b""), files)
+            self.assertEqual(status, 2, files)
             self.assertTrue(told.startswith("restart-text: " + message), told)
+            self.assertEqual(printed.decode(), told.replace("restart-text: ", "# restart-text join: ", 1))
         self.assertEqual(command("join", settings, self.path("none.bin"))[0], 3)
 
     def test_anyway(self):
@@ -131,7 +132,6 @@ class Diff(Folder):
         more = part["report node 5"].replace("node 5", "node 6")
         for other, parts in (
             (case.replace(part["report node 1"], lost), ["another log of shard 1 on machine 1"]),
-            (case.replace("least group size 4", "least group size 7"), ["other settings"]),
             (case.replace(part["report node 2"] + "\n\n", "").rstrip("\n") + "\n\n" + more,
              ["only the first has a report of machine 2", "only the second has a report of machine 6"]),
             (case.replace("view 7", "view 6"), ["view 6, was 7, on machines 0, 1, 2, 3, 4 and 5"]),
@@ -161,7 +161,9 @@ class Diff(Folder):
         status, printed, _ = command("diff", CASE, "examples/night.txt", "--program", support.program())
         self.assertEqual((status, printed.decode()),
                          (1, "First: a plan, new view 8, 2 moves.\nSecond: wait 2, no majority of the kept view.\n"
-                             "The inputs differ: other settings.\n"))
+                             "The settings differ: machines 12, was 7; failure sets 4, was 3; shards 8, was 3; least group size 7, was 4;"
+                             " machine rack1-c: failure set 0, was 1; machine rack2-c: failure set 1, was 2; shard 0: needs 3, was 2;"
+                             " shard 2: needs 3, was 1.\n"))
 
     def test_names(self):
         names = self.put("names.txt", support.example("a").replace("node 6 set 2", "node 6 set 2 name six").encode())
@@ -197,7 +199,7 @@ class Watch(Folder):
         status, answers = self.watch(0.2)
         self.assertLess(time.monotonic() - began, 20)
         self.assertEqual((status, len(answers)), (0, 1))
-        self.assertEqual(answers[0][2], "Plan: new view 8 after view 7, 2 moves. With machine 6 as well: 0 moves.")
+        self.assertEqual(answers[0][2], "Plan: new view 8 after view 7, 2 moves.")
 
     def test_a_report_appears(self):
         """The answer comes anew; what is half written or hidden is not taken."""
@@ -218,7 +220,30 @@ class Watch(Folder):
         answers = answers_in(shown + rest)
         self.assertEqual([lines[2].split(":")[0] for lines in answers], ["Switch on machine 5", "Plan"])
         self.assertEqual((process.returncode, errors), (0, ""))
-        self.assertEqual(answers[1][0].split("  ")[-1], "changed: 1-machine-5.bin")
+        self.assertEqual(answers[1][0].split("  ")[-1], "appeared: 1-machine-5.bin")
+
+    def test_until_there_is_a_plan(self):
+        """It ends by itself, with what appeared, changed and went told apart."""
+        self.split()
+        late = self.path("reports", "1-machine-5.bin")
+        os.rename(late, self.path("late"))
+        process = self.started(60, "--until", "plan")
+        shown = self.read_until(process, "", "To do: bring back machine 5 with")
+        os.remove(self.path("reports", "1-machine-3.bin"))
+        shown = self.read_until(process, shown, "gone: 1-machine-3.bin")
+        os.utime(self.path("reports", "1-machine-0.bin"))
+        shown = self.read_until(process, shown, "changed: 1-machine-0.bin")
+        os.rename(self.path("late"), late)
+        shown = self.read_until(process, shown, "appeared: 1-machine-5.bin")
+        self.assertIsNone(process.poll())
+        self.put("late", words.to_bytes(support.CASE_A[4]))
+        os.rename(self.path("late"), self.path("reports", "1-machine-3.bin"))
+        with process:
+            answers = answers_in(shown + process.stdout.read())
+            self.assertEqual((process.wait(timeout=120), process.stderr.read()), (0, ""))
+        self.assertEqual([lines[0].split("  ")[-1] for lines in answers[1:]],
+                         ["gone: 1-machine-3.bin", "changed: 1-machine-0.bin", "appeared: 1-machine-5.bin", "appeared: 1-machine-3.bin"])
+        self.assertTrue(answers[-1][2].startswith("Plan: "))
 
     def read_until(self, process, text, piece):
         """What the process prints, up to the line with this piece."""
@@ -285,7 +310,7 @@ class Watch(Folder):
         self.addCleanup(os.close, leader)
         process = self.started(60, output=follower, env=dict(os.environ, COLUMNS="60", LINES="12"))
         os.close(follower)
-        text = self.until(leader, "", "lines more: restart-text explain)")
+        text = self.until(leader, "", "lines more: restart-text explain")
         self.put("reports/1-machine-5.bin", words.to_bytes(support.CASE_A[6]))
         text = self.until(leader, text, "Plan: ")
         process.send_signal(signal.SIGINT)
@@ -296,7 +321,7 @@ class Watch(Folder):
         self.assertNotIn("\x1b[2J", text)
         screens = text.split("\x1b[?25h\x1b[?1049l")[0].split("\x1b[H")[1:]
         self.assertEqual(len(screens), 2)
-        lines = re.sub(r"\x1b\[[KJ]", "", screens[0]).split("\r\n")
+        lines = re.sub(r"\x1b\[(?:[KJ]|[01]m)", "", screens[0]).split("\r\n")
         self.assertEqual(len(lines), 12)
         self.assertLessEqual(max(map(len, lines)), 60)
 

@@ -93,7 +93,7 @@ class Command(unittest.TestCase):
              "this is not a report: the message has 21 words, allowed are 4 to 512 in steps of 4"),
             (["--as", "state"], b"\0" * 641, "this is not a state: 641 bytes are no whole words"),
             (["--as", "state"], b"\0" * 644, "this is not a state: the state has 161 words, it should have 160"),
-            ([], b"", "this is not an input: the settings have 0 words, at least 4 are needed"),
+            ([], b"", "nothing came: standard input is empty"),
         ):
             self.assertEqual(command("text", *arguments, "-", data=data), (2, b"", "restart-text: %s\n" % message))
 

@@ -68,7 +68,8 @@ class Pages(unittest.TestCase):
         told, data = made(support.example("a"))
         read = self.read(data)
         self.assertIn("Restart plan: new view 8, 2 moves", read.text)
-        self.assertIn("With machine 6 as well: 0 moves.", read.text)
+        self.assertIn("With machine 6 as well: 0 moves, up to 6 updates to fetch.", read.text)
+        self.assertIn("Nothing stored is lost if you go now", read.text)
         self.assertEqual(read.cells[:10],
                          ["shard", "subgroup", "needs", "holder", "target", "members", "stay", "move in", "leave", "absent"])
         self.assertEqual(read.cells[20:30], ["1", "0", "3", "1", "(7, 5)", "1 4 5", "1 4", "5", "-", "6"])
@@ -77,7 +78,7 @@ class Pages(unittest.TestCase):
 
     def test_a_wait(self):
         read = self.read(made(support.text_of("night.txt"))[1])
-        self.assertIn("Switch on machines rack1-a, rack1-c and rack3-a: then there is a plan", read.text)
+        self.assertIn("Switch on machines rack1-c, rack3-a and rack3-b: then there is a plan with 5 moves", read.text)
         self.assertEqual(read.cells[:6], ["shard", "subgroup", "needs", "members", "back", "absent"])
         self.assertEqual(read.cells[-6:], ["7", "2", "1", "rack1-c", "-", "rack1-c"])
         self.assertIn("condition-4", read.identities)
@@ -123,14 +124,14 @@ class InTheBrowser(unittest.TestCase):
 
     def test_a_wait(self):
         read, seen = self.shown(support.text_of("night.txt"), 1100, 700)
-        self.assertIn("Switch on machines rack1-a, rack1-c and rack3-a: then there is a plan", read.text)
+        self.assertIn("Switch on machines rack1-c, rack3-a and rack3-b: then there is a plan with 5 moves", read.text)
         self.assertIn("machine-11", read.identities)
         for wanted, least in ((BLUE, 100), (RED, 200), (AMBER, 500)):
             self.assertGreater(seen.count(colour(wanted)), least, wanted)
         self.assertGreater(seen.count((255, 255, 255)), len(seen) // 2)
 
     def test_a_plan(self):
-        read, seen = self.shown(support.example("a"), 800, 760)
+        read, seen = self.shown(support.example("a"), 800, 960)
         self.assertIn("Restart plan: new view 8, 2 moves", read.text)
         for shard in range(3):
             self.assertGreater(seen.count(colour(light(shard))), 500, "shard %d" % shard)

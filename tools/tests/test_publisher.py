@@ -222,7 +222,7 @@ class WrongInputs(unittest.TestCase):
     def test_the_file(self):
         self.ends(3, "cannot read /no-such-file: No such file or directory", 0, "/no-such-file")
         self.ends(2, "line 1: expected", 0, "-", data=b"hello\n")
-        self.ends(2, "number 2: the settings, which are missing", 0, "-")
+        self.ends(2, "nothing came: standard input is empty", 0, "-")
         self.ends(2, "number 2: the settings is refused", 0, "-", data=words.joined([[0, 0, 0, 0]]))
         bad = words.joined([support.CASE_A[0], support.CASE_A[1], [2, 0, 127, 0]])
         self.ends(2, "number 7: report 2 of 2, which names machine 2 is refused, given when: view outside its limits", 0, "-", data=bad)

@@ -137,7 +137,7 @@ class Examples(unittest.TestCase):
         with open(os.path.join(support.ROOT, "examples", "seven.bin"), "rb") as file:
             self.assertEqual(file.read(), given.data)
         self.assertEqual(support.text_of("seven.sheet"), sheet_text(SEVEN))
-        self.assertEqual(support.text_of("readiness.svg"), picture([of_file(SEVEN), of_file(EIGHT)]))
+        self.assertEqual(support.undated(support.text_of("readiness.svg")), support.undated(picture([of_file(SEVEN), of_file(EIGHT)])))
 
 
 class Numbers(unittest.TestCase):

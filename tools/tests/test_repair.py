@@ -107,7 +107,7 @@ class Restarts(unittest.TestCase):
 
     def test_names(self):
         told = told_of(of_a(range(7)), ["rack%d" % node for node in range(7)])
-        self.assertIn("Without machine rack5 it would wait: shard 2 has no other copy.", told.lines[1])
+        self.assertTrue(any("Without machine rack5 it would wait: shard 2 has no other copy." in line for line in told.lines))
 
 
 class OwnCount(unittest.TestCase):
@@ -171,9 +171,9 @@ class NoLibrary(unittest.TestCase):
         for path, said in (("/no-such-library.so", "cannot load the library: /no-such-library.so"),
                            ("libc.so.6", "the library libc.so.6 has no restart_preview, so it is of a release that does not have previews")):
             lines = self.explained("--program", support.program(), "--library", path)
-            self.assertEqual(lines[2], RESTARTS[1][2])
-            self.assertTrue(lines[3].startswith("The library was not asked about this (%s" % said), lines[3])
-            self.assertTrue(lines[3].endswith("); it is this tool's own count."), lines[3])
+            after = lines[lines.index(RESTARTS[1][2]) + 1]
+            self.assertTrue(after.startswith("The library was not asked about this (%s" % said), after)
+            self.assertTrue(after.endswith("); it is this tool's own count."), after)
 
     def test_an_answer_from_a_file(self):
         with tempfile.TemporaryDirectory() as folder:
@@ -265,7 +265,7 @@ class Shown(unittest.TestCase):
                 done = command(name, "examples/case-a.txt", "--program", support.program(), "--library", support.library(), *more)
                 self.assertEqual(done, (0, b"", ""))
                 with open(os.path.join(folder, "out"), encoding="utf-8") as file:
-                    self.assertEqual(file.read().count(">must stay<"), 6, name)
+                    self.assertEqual(file.read().count(">must stay<"), {"draw": 6, "page": 12}[name], name)
             done = command("split", "examples/case-a.txt", os.path.join(folder, "night"))
             self.assertEqual(done[0], 0)
             status, text, told = command("watch", os.path.join(folder, "night"), "--seconds", "0", "--program", support.program(), "--library",

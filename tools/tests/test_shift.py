@@ -171,7 +171,7 @@ class Telling(unittest.TestCase):
             (("examples/case-a.txt",), 2, "number 23: machine 6 has not reported; a shift is planned over a report of every machine"),
             (("examples/night.txt",), 2, "number 22"),
             (("examples/shift.txt", "--held", "nobody"), 3, "--held: "),
-            (("examples/shift.txt", "--rounds", "-1"), 3, "--rounds: "),
+            (("examples/shift.txt", "--rounds", "-1"), 3, "--losses: "),
             (("examples/nothing.txt",), 3, "cannot read examples/nothing.txt"),
         ):
             found, printed, told = command("shift", *arguments, "--library", support.library())

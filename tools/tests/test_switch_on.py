@@ -12,6 +12,7 @@ from restart_text.answers import Plan, Wait
 from restart_text.asking import Program
 from restart_text.explaining import asked, explain
 from restart_text.gathering import gather
+from restart_text.jsoned import json_of
 from restart_text.model import Report, Settings, Shard, View
 from restart_text.searching import least_sets
 from restart_text.supposing import Count, Supposed
@@ -47,13 +48,13 @@ class Night(unittest.TestCase):
     def test_the_first_lines(self):
         lines = told(NIGHT).lines
         self.assertEqual(lines[0],
-                         "Switch on machines rack1-a, rack1-c and rack3-a: then there is a plan; with fewer there is none.")
-        self.assertEqual(lines[1],
-                         "Or instead: rack1-a, rack1-c and rack4-c; rack1-c, rack3-a and rack3-b; rack1-c, rack3-a and rack4-b;"
-                         " rack1-c, rack3-a and rack4-c; rack1-c, rack3-b and rack4-c; rack1-c, rack4-b and rack4-c.")
-        self.assertEqual(lines[2],
+                         "Switch on machines rack1-c, rack3-a and rack3-b: then there is a plan with 5 moves; with fewer machines there is none.")
+        self.assertEqual(lines[1:4], [
+            "Or instead, with 6 moves: rack1-c, rack3-a and rack4-b; rack1-c, rack3-a and rack4-c; rack1-c, rack3-b and rack4-c; rack1-c, rack4-b"
+            " and rack4-c.", "Or instead, with 7 moves: rack1-a, rack1-c and rack3-a.", "Or instead, with 8 moves: rack1-a, rack1-c and rack4-c."])
+        self.assertEqual(lines[4],
                          "Assumed: a machine that comes back reports view 9 and no termination; its log may end anywhere.")
-        self.assertEqual(lines[3],
+        self.assertEqual(lines[5],
                          "There is no plan without machine rack1-c, whoever else comes back: no log of shard 7. If it is lost,"
                          " --gone rack1-c says what is left.")
 
@@ -62,7 +63,7 @@ class Night(unittest.TestCase):
         found = asked(given, program).advice.found
         self.assertTrue(found.complete and found.least and not found.cut_short and not found.others)
         self.assertEqual(len(found.sets), 7)
-        self.assertEqual(found.sets, by_asking(Supposed(given.blocks, gather(given.blocks)), Program(support.program())))
+        self.assertEqual(sorted(found.sets), by_asking(Supposed(given.blocks, gather(given.blocks)), Program(support.program())))
 
     def test_no_smaller_set_was_passed_over(self):
         """Every pair of machines is in a set about which the program was asked and gave no plan."""
@@ -76,6 +77,15 @@ class Night(unittest.TestCase):
     def test_few_questions(self):
         """Each set that is told, and few of the 22 smaller ones."""
         self.assertLessEqual(told(NIGHT).asked, 15)
+
+    def test_the_cheapest_come_first(self):
+        """Each with its moves, as the program gives them."""
+        given, program = support.given(NIGHT), Program(support.program(), 60)
+        advice = asked(given, program).advice
+        moves = [program.ask(advice.supposed.blocks_with(nodes)).moves for nodes in advice.found.sets]
+        self.assertEqual((moves, moves), ([5, 6, 6, 6, 6, 7, 8], [advice.found.moves[nodes] for nodes in advice.found.sets]))
+        value = json_of(given, asked(given, program))["wait"]["switch_on"]
+        self.assertEqual((value["moves"], value["sets"][0]), (moves, [2, 6, 7]))
 
     def test_one_is_lost(self):
         lines = told(NIGHT, gone=frozenset([2])).lines
@@ -105,7 +115,9 @@ class RandomWaits(unittest.TestCase):
             found, every = least_sets(supposed, program, program), by_asking(supposed, Program(support.program()))
             self.assertEqual(found.helpless, not every, "seed %d" % seed)
             if every:
-                self.assertEqual((found.sets, found.least, found.complete), (every, True, True), "seed %d" % seed)
+                self.assertEqual((sorted(found.sets), found.least, found.complete), (every, True, True), "seed %d" % seed)
+                moves = [program.ask(supposed.blocks_with(nodes)).moves for nodes in found.sets]
+                self.assertEqual((moves, moves), (sorted(moves), [found.moves[nodes] for nodes in found.sets]), "seed %d" % seed)
             looked, helpless, several = looked + 1, helpless + found.helpless, several + (len(found.sets) > 1)
             sizes = max(sizes, len(found.sets[0]) if found.sets else 0)
             if looked == 90:
@@ -138,19 +150,21 @@ class RandomWaits(unittest.TestCase):
 class Sentences(unittest.TestCase):
     def test_so_many_of_some(self):
         self.assertEqual(told(support.example("b")).lines[0],
-                         "Switch on machine 5 and any 2 of machines 3, 4 and 6: then there is a plan; with fewer there is none.")
+                         "Switch on machines 4, 5 and 6: then there is a plan with 0 moves; with fewer machines there is none.")
+        self.assertEqual(told(support.example("b")).lines[1:3], ["Or instead, with 1 move: 3, 5 and 6.", "Or instead, with 2 moves: 3, 4 and 5."])
         lines = told(A.replace("least group size 4", "least group size 7")).lines
-        self.assertEqual(lines[0], "Switch on machine 6: then there is a plan.")
+        self.assertEqual(lines[0], "Switch on machine 6: then there is a plan with 0 moves.")
         self.assertIn("There is no plan without machine 6, whoever else comes back: fewer machines than the least group size."
                       " If it is lost, --gone 6 says what is left.", lines)
 
     def test_one_of_some(self):
         six = A.replace("members 0-6", "members 0-5").replace("shard 1 members 1 4 6", "shard 1 members 1 4")
-        self.assertEqual(told(without(six, 0, 2)).lines[0],
-                         "Switch on any 2 of machines 0, 2 and 6: then there is a plan; with fewer there is none.")
+        self.assertEqual(told(without(six, 0, 2)).lines[:2],
+                         ["Switch on machine 0 and machine 2 or 6: then there is a plan with 2 moves; with fewer machines there is none.",
+                          "Or instead, with 3 moves: 2 and 6."])
         six = six.replace("shard 2 subgroup 0", "shard 2 subgroup 1")
         six = six.replace("shard 1 subgroup 0 needs 3", "shard 1 subgroup 0 needs 2")
-        self.assertEqual(told(without(six, 0, 2)).lines[0], "Switch on machine 0 or 2: then there is a plan.")
+        self.assertEqual(told(without(six, 0, 2)).lines[0], "Switch on machine 0 or 2: then there is a plan with 1 move.")
 
     def test_no_report(self):
         self.assertEqual(told(without(A, *range(6))).lines[0],
@@ -159,7 +173,7 @@ class Sentences(unittest.TestCase):
 
     def test_a_kept_termination(self):
         lines = told(A + ENDING).lines
-        self.assertEqual(lines[0], "Switch on machine 6: then there is a plan.")
+        self.assertEqual(lines[0], "Switch on machine 6: then there is a plan with 0 moves.")
         self.assertEqual(lines[1],
                          "Assumed: a machine that comes back reports view 7, and no other termination; the log of shard 1 on"
                          " machine 6 has update 6 of view 7.")
@@ -168,8 +182,9 @@ class Sentences(unittest.TestCase):
         """Nothing is assumed of logs that are not needed: shard 1 has its log already."""
         ending = ENDING.replace("update 6", "update 5")
         lines = told(without(A + ending, 0, 2)).lines
-        self.assertEqual(lines[:2], [
-            "Switch on any 2 of machines 0, 2 and 6: then there is a plan; with fewer there is none.",
+        self.assertEqual(lines[:3], [
+            "Switch on machines 0 and 6: then there is a plan with 1 move; with fewer machines there is none.",
+            "Or instead, with 2 moves: machine 2 and machine 0 or 6.",
             "Assumed: a machine that comes back reports view 7, and no other termination.",
         ])
 
@@ -177,7 +192,7 @@ class Sentences(unittest.TestCase):
         text = A.replace("members 0-6", "members 0-5").replace("shard 1 members 1 4 6", "shard 1 members 1 4")
         text = text.replace("shard 0 subgroup 0 needs 2", "shard 0 subgroup 0 needs 3")
         lines = told(text).lines
-        self.assertEqual(lines[:2], ["Switch on machine 6: then there is a plan.",
+        self.assertEqual(lines[:2], ["Switch on machine 6: then there is a plan with 3 moves.",
                                      "Assumed: machine 6, no member of view 7, an older view."])
 
     def test_nobody_outside_the_first_view(self):
@@ -205,22 +220,26 @@ class Sentences(unittest.TestCase):
         given = support.given(support.example("b"))
         lines = explain(given, Wait(2, None)).lines
         self.assertEqual(lines[0],
-                         "Switch on machine 5 and any 2 of machines 3, 4 and 6: then there is a plan; that fewer would not do is"
+                         "Switch on machines 4, 5 and 6: then there is a plan with 0 moves; that fewer machines would not do is"
                          " this tool's own count.")
         self.assertIn("The program was not asked; all this is this tool's own count.", lines)
 
 
 class Plans(unittest.TestCase):
     def test_one_machine_more(self):
-        self.assertEqual(told(A).lines[0], "Plan: new view 8 after view 7, 2 moves. With machine 6 as well: 0 moves.")
-        self.assertEqual(told(A).advice.savings, {6: 0})
+        found = told(A)
+        self.assertEqual(found.lines[0], "Plan: new view 8 after view 7, 2 moves.")
+        self.assertIn("With machine 6 as well: 0 moves, up to 6 updates to fetch.", found.lines)
+        self.assertEqual(found.advice.cheaper.single, {6: 0})
 
     def test_nothing_to_save(self):
         parts = A.split("\n\n")
         whole = A + "\n" + parts[-1].replace("report node 5", "report node 6")
-        self.assertEqual(told(whole).lines[0], "Plan: new view 8 after view 7, 0 moves.")
+        found = told(whole)
+        self.assertEqual(found.lines[0], "Plan: new view 8 after view 7, 0 moves.")
+        self.assertFalse(any("as well" in line or "save a move" in line for line in found.lines))
         other = A.replace("node 6 set 2", "node 6 set 0")
-        self.assertEqual(told(other).lines[0], "Plan: new view 8 after view 7, 2 moves. No single machine more would save a move.")
+        self.assertIn("No machine more would save a move.", told(other).lines)
 
     def test_random_plans(self):
         looked = saved = 0
@@ -233,10 +252,10 @@ class Plans(unittest.TestCase):
             if not isinstance(answer, Plan) or not answer.moves:
                 continue
             advice = explain(given, answer, None, program).advice
-            looked, saved = looked + 1, saved + bool(advice.savings)
+            looked, saved = looked + 1, saved + bool(advice.cheaper.single)
             for node in advice.supposed.pool:
                 moves = program.ask(advice.supposed.blocks_with([node])).moves
-                self.assertEqual(advice.savings.get(node), moves if moves < answer.moves else None, "seed %d" % seed)
+                self.assertEqual(advice.cheaper.single.get(node), moves if moves < answer.moves else None, "seed %d" % seed)
             if looked == 30:
                 break
         self.assertTrue(looked == 30 and saved > 3, (looked, saved))
@@ -244,8 +263,8 @@ class Plans(unittest.TestCase):
     def test_no_time(self):
         given, program = support.given(A), Program(support.program(), 0)
         told_late = asked(given, program)
-        self.assertEqual((told_late.advice.savings, told_late.advice.compared), ({}, False))
-        self.assertEqual(told_late.lines[0], "Plan: new view 8 after view 7, 2 moves.")
+        self.assertEqual((told_late.advice.cheaper.single, told_late.advice.cheaper.compared), ({}, False))
+        self.assertIn("What machines more would save was not asked: the time was over; --search SECONDS gives more.", told_late.lines)
 
 
 class LoneViews(unittest.TestCase):
@@ -257,7 +276,8 @@ class LoneViews(unittest.TestCase):
         self.assertEqual(found.lines[1],
                          "Only machine 3 reports view 4294967294, the next lower is 7; without its report: a plan, new view"
                          " 8, 1 move.")
-        self.assertTrue(found.lines[2].startswith("Leave it out only if that view is damaged or was never served"))
+        self.assertEqual(found.lines[3], "Most likely the report of machine 3 is damaged: a restart that was given up leaves view 8, the next after 7.")
+        self.assertTrue(found.lines[5].startswith("Leave the report out only if that view is damaged or was never served"))
         self.assertEqual((found.advice.lone.blocks, found.advice.lone.answer.moves), ([4], 1))
 
     def test_a_high_view_and_a_wait(self):
@@ -361,7 +381,7 @@ class LargeGroups(unittest.TestCase):
         self.assertTrue(found.advice.found.sets)
         self.assertFalse(found.advice.found.least)
         self.assertIn("The search was cut short after its time; --search SECONDS gives it more.", found.lines)
-        self.assertTrue("this tool's own count" in found.lines[0] or "fewer may do" in found.lines[0], found.lines[0])
+        self.assertTrue("this tool's own count" in found.lines[0] or "fewer machines may do" in found.lines[0], found.lines[0])
 
     def test_an_own_count_ends_as_well(self):
         began = time.monotonic()
@@ -372,7 +392,7 @@ class LargeGroups(unittest.TestCase):
     def test_no_time_at_all(self):
         given, program = self.given(range(1)), Program(support.program(), 0)
         found = asked(given, program)
-        self.assertTrue(found.lines[0].endswith("then there is a plan; fewer may do."), found.lines[0])
+        self.assertTrue(found.lines[0].endswith("then there is a plan with 18 moves; fewer machines may do."), found.lines[0])
         nodes = found.advice.found.sets[0]
         self.assertIsInstance(program.ask(found.advice.supposed.blocks_with(nodes)), Plan)
         for node in nodes:

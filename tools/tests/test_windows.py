@@ -140,7 +140,8 @@ class Plots(unittest.TestCase):
         with open(os.path.join(support.ROOT, "examples", "moves.svg"), encoding="utf-8") as file:
             stored = file.read()
         with open(os.path.join(support.ROOT, "examples", "moves.txt"), "rb") as file:
-            self.assertEqual(windows.draw(example(), file.read()), (stored, ""))
+            drawn, fault = windows.draw(example(), file.read())
+        self.assertEqual((support.undated(drawn), fault), (support.undated(stored), ""))
 
     def test_the_last_restarts_alone(self):
         """Each place of the line is that of the whole file; a window may begin before the restarts that are drawn."""

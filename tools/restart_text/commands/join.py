@@ -2,7 +2,7 @@
 import sys
 
 from .. import words
-from ..files import Trouble, write
+from ..files import Trouble, Unfit, write
 from ..joining import join
 from .shared import output_argument
 
@@ -17,4 +17,10 @@ def arguments(parser):
 def work(chosen):
     if chosen.output is None and sys.stdout.isatty():
         raise Trouble("words are not for a terminal; give -o FILE")
-    write(chosen.output, words.joined(join([chosen.file] + chosen.reports, chosen.anyway).blocks))
+    try:
+        joined = join([chosen.file] + chosen.reports, chosen.anyway)
+    except (Trouble, Unfit) as bad:
+        if chosen.output is None:  # for whoever reads from the pipe
+            write(None, ("# restart-text join: %s\n" % bad).encode())
+        raise
+    write(chosen.output, words.joined(joined.blocks))

@@ -4,12 +4,13 @@ import json
 from .. import words
 from ..answers import BadAnswer
 from ..decode import settings_from
-from ..files import Unfit, name_of, read, read_input, read_named, write, write_lines
+from ..files import Unfit, name_of, read, read_named, write, write_told
 from ..inputs import is_text
 from ..jsoned import published_value
 from ..library import Restart
 from ..model import SUBGROUPS, Refused
 from ..publishing import BadPage, html, lines, published
+from ..taking import read_input
 from .shared import file_argument, library_argument, names_argument, refused
 
 FORMS = ("input", "page")
@@ -35,7 +36,7 @@ def work(chosen):
     elif chosen.output:
         write(chosen.output, html(page).encode())
     else:
-        write_lines(None, lines(page))
+        write_told(None, lines(page))
 
 
 def of_input(chosen):

@@ -1,13 +1,14 @@
 """restart-text readiness: how often a layout could restart, by the sheet of the program sheet."""
 import json
 
-from ..files import Unfit, name_of, read, read_input, write, write_lines
+from ..files import Unfit, name_of, read, write, write_told
 from ..readiness import Unready, ready
 from ..readiness_json import readiness_value
 from ..readiness_lines import comparison_lines, lines, unready_lines
 from ..readiness_page import page
 from ..readiness_picture import picture
 from ..statuses import REFUSAL
+from ..taking import read_input
 from .shared import file_argument, names_argument
 
 
@@ -43,7 +44,7 @@ def work(chosen):
             raise Unfit("of %s there is no sheet, so that there is nothing to draw: %s" % (refused[0].name, " ".join(unready_lines(refused[0]))))
         write(chosen.output, picture(found).encode())
     else:
-        write_lines(None, text(found))
+        write_told(None, text(found))
     return REFUSAL if refused else 0
 
 

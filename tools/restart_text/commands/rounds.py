@@ -3,16 +3,17 @@ import json
 from dataclasses import replace
 
 from ..decode import settings_from
-from ..files import read_input, write, write_lines
+from ..files import write, write_told
 from ..jsoned import rounds_value
 from ..library import Decisions
 from ..rounding import course, draw, lines
 from ..statuses import PLAN, WAIT
-from .shared import file_argument, library_argument, names_argument, refused
+from ..taking import read_input
+from .shared import input_argument, library_argument, names_argument, refused
 
 
 def arguments(parser):
-    file_argument(parser)
+    input_argument(parser)
     parser.add_argument("-o", "--output", metavar="PICTURE.svg", help="also draw moves and gap over the rounds; a wait has no picture")
     names_argument(parser)
     library_argument(parser)
@@ -33,5 +34,5 @@ def work(chosen):
     if chosen.json:
         write(None, (json.dumps(rounds_value(made, settings), indent=1) + "\n").encode())
     else:
-        write_lines(None, lines(made, settings))
+        write_told(None, lines(made, settings))
     return WAIT if made.wait else PLAN

@@ -2,7 +2,7 @@
 import json
 
 from ..decode import settings_from
-from ..files import Trouble, read_input, write, write_lines
+from ..files import Trouble, write, write_told
 from ..gathering import named
 from ..jsoned import shift_value
 from ..library import Games
@@ -12,15 +12,16 @@ from ..refusing import TABLE, block_name
 from ..sentences import machines
 from ..shifting import lines, shift
 from ..statuses import PLAN, WAIT
-from .shared import file_argument, library_argument, names_argument, output_argument
+from ..taking import read_input
+from .shared import input_argument, library_argument, names_argument, output_argument
 
 ROUNDS = 3
 
 
 def arguments(parser):
-    file_argument(parser)
-    parser.add_argument("--rounds", metavar="K", type=int, default=ROUNDS,
-                        help="how many machines are lost one after another, 0 to %d; %d without it" % (ROUNDS, ROUNDS))
+    input_argument(parser)
+    parser.add_argument("--losses", "--rounds", dest="rounds", metavar="K", type=int, default=ROUNDS,
+                        help="how many machines are lost one after another, 0 to %d, each in a round of the game; %d without it" % (ROUNDS, ROUNDS))
     parser.add_argument("--held", metavar="MACHINES", help="the machines that are on, by number or name, such as 3,5-7; all without it")
     output_argument(parser)
     names_argument(parser)
@@ -38,14 +39,14 @@ def work(chosen):
                           % (block_name(number, given), TABLE[answer.number]), answer.index)
     settings = named(settings_from(given.blocks[0] if given.blocks else []), given.names)
     if chosen.rounds < 0:
-        raise Trouble("--rounds: expected a number of rounds, found '%d'" % chosen.rounds)
+        raise Trouble("--losses: expected a number of machines, found '%d'" % chosen.rounds)
     found, refused = shift(settings, games, held_mask(chosen, settings), chosen.rounds)
     if refused:
         raise Refused(refused.number, why(refused.number, given, settings))
     if chosen.json:
         write(chosen.output, (json.dumps(shift_value(found), indent=1) + "\n").encode())
     else:
-        write_lines(chosen.output, lines(found))
+        write_told(chosen.output, lines(found))
     return PLAN if found.first is None else WAIT
 
 

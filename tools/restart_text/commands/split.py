@@ -1,6 +1,6 @@
 """restart-text split: an input as files, one for the settings and one for each report."""
-from ..files import read_input
 from ..splitting import split
+from ..taking import read_input
 from .shared import file_argument
 
 

@@ -1,5 +1,6 @@
 """restart-text text: from words to text."""
-from ..files import Unfit, read, read_settings, write, write_lines
+from .. import leading
+from ..files import MOST_BYTES, Unfit, read, read_settings, something, write, write_lines
 from ..inputs import is_text, load, to_text
 from ..kinds import READERS, text_of
 from .shared import file_argument
@@ -13,8 +14,8 @@ def arguments(parser):
 
 
 def work(chosen):
-    data = read(chosen.file)
-    if data and is_text(data):
+    data = something(chosen.file, read(chosen.file, leading.MOST_BYTES if chosen.form == "leader" else MOST_BYTES))
+    if is_text(data):
         raise Unfit("this is a text already")
     if chosen.damaged and chosen.form == "input":
         write(None, to_text(load(data)).encode())

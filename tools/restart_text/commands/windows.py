@@ -2,6 +2,7 @@
 import sys
 
 from .. import windows
+from ..asking import default_program
 from ..files import read, write
 from ..statuses import REFUSAL
 from .shared import file_argument
@@ -13,8 +14,8 @@ def arguments(parser):
 
 
 def work(chosen):
-    data = read(chosen.file)
-    printed = read(chosen.answer) if chosen.answer else windows.run(chosen.program, data)
+    data = read(chosen.file, most=None)
+    printed = read(chosen.answer, most=None) if chosen.answer else windows.run(chosen.program or default_program("mondays"), data)
     picture, fault = windows.draw(data, printed, chosen.last)
     write(chosen.output, picture.encode())
     if fault:

@@ -2,7 +2,7 @@
 import sys
 
 from .. import encode, state, texts, words
-from ..files import Trouble, Unfit, placed, read, write
+from ..files import Trouble, Unfit, placed, read, something, write
 from ..inputs import from_text, is_text
 from ..lines import BadText, sections
 from ..model import MOST_RECORDS
@@ -16,7 +16,7 @@ def arguments(parser):
 
 
 def work(chosen):
-    blocks, with_counts = placed(chosen.file, lambda: text_blocks(read(chosen.file)))
+    blocks, with_counts = placed(chosen.file, lambda: text_blocks(something(chosen.file, read(chosen.file))))
     if chosen.decimal:
         lines = [" ".join(map(str, [len(block)] * with_counts + block)) for block in blocks]
         write(chosen.output, ("\n".join(lines) + "\n").encode())
