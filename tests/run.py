@@ -65,7 +65,7 @@ THEN = [
     ("rounds against the reference and the library's own decide", cargo("tests", "run", "--release", "--bin", "rounds"), LIBRARY),
     ("reports in any order, and commits by a log", cargo("tests", "run", "--release", "--bin", "arrivals"), LIBRARY),
     ("plans against the reference", cargo("tests", "run", "--release", "--bin", "plans"), LIBRARY),
-    ("events against the peer in C and the reference", cargo("bench/events", "run", "--release", "--", "compare", "20000", "1"), LIBRARY),
+    ("events against the peer in C, in both forms, and the reference", cargo("bench/events", "run", "--release", "--", "compare", "20000", "1"), LIBRARY),
     ("placements against the reference", cargo("tests/placement", "run", "--release"), PLACEMENT),
     ("cases and numbers of the programs restart and sheet", ["python3", "tests/cases.py"], None),
     ("arguments of the programs", ["python3", "tests/arguments.py"], None),

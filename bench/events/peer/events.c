@@ -176,8 +176,11 @@ uint32_t peer_drop(uint32_t role, const uint8_t *settings, size_t settings_len, 
     return 0;
 }
 
-uint32_t peer_decide(uint32_t role, const uint8_t *settings, size_t settings_len, uint8_t *state,
-                     size_t state_len, const uint8_t *desk, size_t desk_len)
+/* A way to place a subgroup. */
+typedef int placing(const struct restart *restart, uint32_t *masks, uint32_t group);
+
+static uint32_t decide(uint32_t role, const uint8_t *settings, size_t settings_len, uint8_t *state,
+                       size_t state_len, const uint8_t *desk, size_t desk_len, placing *placing)
 {
     struct restart restart;
     uint32_t masks[SHARDS], moves = 0, answer;
@@ -189,7 +192,7 @@ uint32_t peer_decide(uint32_t role, const uint8_t *settings, size_t settings_len
     if ((answer = first_wait(&restart)))
         return answer;
     for (uint32_t group = 0; group < GROUPS; ++group) {
-        int own = place(&restart, masks, group);
+        int own = placing(&restart, masks, group);
         if (own < 0)
             return WAIT_FOR(5, group);
         moves += (uint32_t)own;
@@ -206,6 +209,18 @@ uint32_t peer_decide(uint32_t role, const uint8_t *settings, size_t settings_len
         put(state, PLAN_TARGETS + 2 * s + 1, (uint32_t)target);
     }
     return A_PLAN;
+}
+
+uint32_t peer_decide(uint32_t role, const uint8_t *settings, size_t settings_len, uint8_t *state,
+                     size_t state_len, const uint8_t *desk, size_t desk_len)
+{
+    return decide(role, settings, settings_len, state, state_len, desk, desk_len, place);
+}
+
+uint32_t peer_decide_first(uint32_t role, const uint8_t *settings, size_t settings_len,
+                           uint8_t *state, size_t state_len, const uint8_t *desk, size_t desk_len)
+{
+    return decide(role, settings, settings_len, state, state_len, desk, desk_len, place_first);
 }
 
 uint32_t peer_order(uint32_t role, const uint8_t *settings, size_t settings_len,

@@ -161,6 +161,9 @@ int moves_of(const struct restart *restart, const uint8_t *masks);
 int place(const struct restart *restart, uint32_t *masks, uint32_t group);
 int place_capped(const struct restart *restart, uint32_t *masks, uint32_t group);
 
+/* The same for the first of them in order. */
+int place_first(const struct restart *restart, uint32_t *masks, uint32_t group);
+
 /* Writes a node's order; its length in words. */
 uint32_t write_order(const struct restart *restart, uint32_t node, uint8_t *buffer);
 

@@ -4,9 +4,10 @@
  * with, and nothing else. Nothing is proved of it; the comparison in ../src/compare.rs holds it to
  * the library and the reference.
  *
- * It was written from the specification and its requests, not from the library. Where the library
- * gives the first of the placements of least moves and, of those, most stays, the peer gives any of
- * them. It has no pages: roles other than the planner's get number 15 of every event.
+ * It was written from the specification and its requests, not from the library. decide has two forms.
+ * Of the placements of least moves and, of those, most stays, peer_decide gives any, and
+ * peer_decide_first the first in order, as the library does. The peer has no pages: roles other than
+ * the planner's get number 15 of every event.
  */
 #ifndef PEER_H
 #define PEER_H
@@ -25,6 +26,8 @@ uint32_t peer_drop(uint32_t role, const uint8_t *settings, size_t settings_len, 
                    size_t state_len, const uint8_t *desk, size_t desk_len, uint32_t node);
 uint32_t peer_decide(uint32_t role, const uint8_t *settings, size_t settings_len, uint8_t *state,
                      size_t state_len, const uint8_t *desk, size_t desk_len);
+uint32_t peer_decide_first(uint32_t role, const uint8_t *settings, size_t settings_len,
+                           uint8_t *state, size_t state_len, const uint8_t *desk, size_t desk_len);
 uint32_t peer_order(uint32_t role, const uint8_t *settings, size_t settings_len,
                     const uint8_t *state, size_t state_len, const uint8_t *desk, size_t desk_len,
                     uint32_t node, uint8_t *buffer, size_t buffer_len);

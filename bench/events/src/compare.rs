@@ -1,24 +1,32 @@
 //! Compares library, peer and reference, call by call, on restarts with
 //! damaged inputs: answers and all bytes left. Only in a plan the peer may take
-//! another placement, if it is valid and has as few moves and as many stays.
+//! another placement, if it is valid and has as few moves and as many stays; its
+//! other form of decide, which chooses the first, may not.
 
-use crate::{layouts, peer};
-use differential::calls::{self, Asked, Kind, Outcome, Pages};
+use crate::inputs::{self, Input, Size};
+use crate::{layouts, peer, previews};
+use differential::calls::{self, Asked, Kind, Outcome, Pages, Table};
 use differential::events::{self, Step};
 use differential::lent::{self, Place};
 use differential::library::{self, Planner, PLAN};
 use differential::random::Random;
 use reference::placement::Subgroup;
+use reference::roles::PLANNER;
 use reference::settings::{self, Settings, SUBGROUPS};
 use reference::state::{self, Phase, State};
 use reference::words;
 use std::collections::BTreeMap;
 use std::process::ExitCode;
 
+/// Inputs of each kind of layout, and of each size, whose plans are compared.
+const OF_KIND: u64 = 1;
+const OF_SIZE: u64 = 8;
 /// Each event comes at least so often to a state of each phase, and each answer
 /// is given at least so often.
 const LEAST: u64 = 5;
-/// One in so many calls is a decide that is hard to place.
+/// One in so many calls is a decide that is hard to place; one in so many is also
+/// made with faults.
+const CHOICES: u64 = 8;
 const LAYOUTS: u64 = 40;
 const PHASES: [Phase; 4] = [
     Phase::Gathering,
@@ -29,14 +37,25 @@ const PHASES: [Phase; 4] = [
 const NUMBERS: [u32; 17] = [1, 2, 3, 4, 5, 6, 7, 8, 9, 10, 11, 12, 13, 14, 16, 17, 18];
 const WAITS: [u32; 5] = [1, 2, 3, 4, 5];
 
-/// The library and the peer, each with pages of its own.
-struct Two {
+/// The library, the peer and the peer that chooses, each with pages of its own.
+struct Three {
     library: (Planner, Pages),
     peer: (Planner, Pages),
+    choosing: (Planner, Pages),
 }
 
-impl Two {
-    /// Makes a call by both. Gives what the library left, or what differs.
+impl Three {
+    fn new(choosing: Planner) -> Three {
+        let with_pages = |planner| (planner, Pages::new(true));
+        Three {
+            library: with_pages(library::tested_planner()),
+            peer: with_pages(peer::planner()),
+            choosing: with_pages(choosing),
+        }
+    }
+
+    /// Makes a call by all; the two peers differ in decide alone. Gives what the
+    /// library left, or what differs.
     fn compare(&mut self, step: &Step) -> Result<Outcome, String> {
         let asked = &step.asked;
         let expected = calls::expected(asked);
@@ -51,6 +70,12 @@ impl Two {
         }
         if other != own && !(own.answer == PLAN && as_good(asked, &own, &other)) {
             return Err(different("the peer", &other, &own));
+        }
+        if asked.kind == Kind::Decide {
+            let first = made(&mut self.choosing, "the peer that chooses")?;
+            if first != own {
+                return Err(different("the peer that chooses", &first, &own));
+            }
         }
         Ok(own)
     }
@@ -176,7 +201,7 @@ fn with_kind(step: &Step, kind: Kind) -> Step {
 /// Plays sequences until `count` calls were compared, or to the first that
 /// differs. Each call of a sequence is also made as another event, from which
 /// the sequence does not go on.
-fn play(two: &mut Two, seed: u64, count: u64, seen: &mut Seen) -> Result<(), String> {
+fn play(three: &mut Three, seed: u64, count: u64, seen: &mut Seen) -> Result<(), String> {
     let mut kinds = Kind::EVENTS.into_iter().cycle();
     for index in 0.. {
         lent::at_input(index);
@@ -184,7 +209,7 @@ fn play(two: &mut Two, seed: u64, count: u64, seen: &mut Seen) -> Result<(), Str
         while let Some(step) = sequence.step() {
             let other = kinds.next().unwrap_or(Kind::CheckState);
             for (made, goes_on) in [(&with_kind(&step, other), false), (&step, true)] {
-                let outcome = two.compare(made).map_err(|what| {
+                let outcome = three.compare(made).map_err(|what| {
                     let (name, node) = (made.asked.kind.name(), made.asked.node);
                     format!("seed {seed}, sequence {index}, {name} (node {node}): {what}")
                 })?;
@@ -201,13 +226,13 @@ fn play(two: &mut Two, seed: u64, count: u64, seen: &mut Seen) -> Result<(), Str
     Ok(())
 }
 
-/// Compares decide on layouts that are hard to place, and calls with faults in
-/// them.
-fn place(two: &mut Two, seed: u64, count: u64, seen: &mut Seen) -> Result<(), String> {
-    for index in 0..count {
+/// Compares decide on layouts that are hard to place, and for some of them calls
+/// with faults in them.
+fn place(three: &mut Three, seed: u64, count: u64, seen: &mut Seen) -> Result<(), String> {
+    for index in 0..count / CHOICES {
         lent::at_input(index);
         let random = &mut Random::of_input(seed, index);
-        let (planner, pages) = &mut two.library;
+        let (planner, pages) = &mut three.library;
         let asked = layouts::decide(planner, pages, random);
         let mut made = |asked: &Asked| {
             let step = Step {
@@ -215,19 +240,71 @@ fn place(two: &mut Two, seed: u64, count: u64, seen: &mut Seen) -> Result<(), St
                 places: [Place::Last; 5],
                 faults: Vec::new(),
             };
-            let outcome = two.compare(&step);
+            let outcome = three.compare(&step);
             let outcome = outcome.map_err(|what| format!("seed {seed}, layout {index}: {what}"))?;
             seen.count(asked, &outcome);
             Ok::<Outcome, String>(outcome)
         };
+        let decided = made(&asked)?;
+        if index >= count / LAYOUTS {
+            continue;
+        }
         made(&layouts::report_too_short(&asked))?;
         made(&layouts::with_stranger(&asked))?;
-        let decided = made(&asked)?;
         if decided.answer == PLAN {
             made(&layouts::with_other_member(random, &asked, &decided.state))?;
         }
     }
     Ok(())
+}
+
+/// Compares decide on the inputs that are measured: each kind of layout, and
+/// restarts of three sizes.
+fn measured(three: &mut Three, seen: &mut Seen) -> Result<(), String> {
+    let kinds = 0..previews::names().len();
+    let of_kinds = kinds.flat_map(|kind| (0..OF_KIND).map(move |at| previews::input(kind, at)));
+    let of_size = |size: Size| (0..OF_SIZE).map(move |at| inputs::input(size, at));
+    let of_sizes = [inputs::FULL, inputs::SMALL, inputs::SHORT].into_iter();
+    for (index, input) in (0..).zip(of_kinds.chain(of_sizes.flat_map(of_size))) {
+        lent::at_input(index);
+        let step = decide_of(&input);
+        let outcome = three.compare(&step);
+        let outcome = outcome.map_err(|what| format!("measured input {index}: {what}"))?;
+        seen.count(&step.asked, &outcome);
+    }
+    Ok(())
+}
+
+fn decide_of(input: &Input) -> Step {
+    Step {
+        asked: Asked {
+            role: PLANNER,
+            kind: Kind::Decide,
+            table: Table {
+                settings: words::to_bytes(&input.settings),
+                state: words::to_bytes(&input.gathered),
+                desk: words::to_bytes(&input.desk),
+            },
+            message: Vec::new(),
+            node: 0,
+            buffer: Vec::new(),
+        },
+        places: [Place::Last; 5],
+        faults: Vec::new(),
+    }
+}
+
+/// Forms of decide that do not make the choice stand where the peer that chooses
+/// does. Gives those that the comparison does not tell from it.
+fn planted(seed: u64, count: u64) -> Vec<String> {
+    let passes = |(_, wrong): &(&str, Planner)| {
+        let mut three = Three::new(*wrong);
+        place(&mut three, seed, count, &mut Seen::default()).is_ok()
+    };
+    let missed = peer::wrong_choices().into_iter().filter(passes);
+    missed
+        .map(|(name, _)| format!("{name} is taken for the choice"))
+        .collect()
 }
 
 /// Compares so many calls and prints how many passed.
@@ -237,14 +314,12 @@ pub fn run(count: u64, seed: u64) -> ExitCode {
         library::tested_name()
     );
     lent::watch_ends();
-    let mut two = Two {
-        library: (library::tested_planner(), Pages::new(true)),
-        peer: (peer::planner(), Pages::new(true)),
-    };
+    let mut three = Three::new(peer::choosing());
     let mut seen = Seen::default();
-    let mut failed = Vec::new();
-    let done = place(&mut two, seed, count / LAYOUTS, &mut seen)
-        .and_then(|()| play(&mut two, seed, count, &mut seen));
+    let mut failed = planted(seed, count);
+    let done = measured(&mut three, &mut seen)
+        .and_then(|()| place(&mut three, seed, count, &mut seen))
+        .and_then(|()| play(&mut three, seed, count, &mut seen));
     failed.extend(done.err());
     if failed.is_empty() {
         let times = seen.times();

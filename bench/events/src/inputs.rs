@@ -28,6 +28,14 @@ pub const FULL: Size = Size {
     runs: 111,
 };
 
+/// Small, with long reports and with short ones.
+pub const SMALL: Size = Size {
+    nodes: 7,
+    shards: 3,
+    runs: 111,
+};
+pub const SHORT: Size = Size { runs: 4, ..SMALL };
+
 /// A restart with its states in the three phases that take events.
 pub struct Input {
     pub nodes: u32,

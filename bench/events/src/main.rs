@@ -16,6 +16,9 @@
 //!   input, or on one of a kind, whose node INDEX is then previewed, or with
 //!   `without` dropped before, or which is decided by MORE rounds, inside the
 //!   function `measured`, for a program that counts instructions
+//! - `events-bench beside FORM CALL [INDEX [SIZE]]`: makes one call likewise, by the
+//!   `library`, the `peer` or the peer that `chooses`, on a `full`, `small` or
+//!   `short` input
 //! - `events-bench sheet ..`: the program `sheet` beside as many decisions; see
 //!   `sheet.rs`
 
@@ -32,7 +35,7 @@ mod stack;
 mod times;
 
 use calls::{Call, Ready};
-use differential::random;
+use differential::{library, random};
 use std::io::Write;
 use std::process::ExitCode;
 
@@ -89,12 +92,32 @@ fn main() -> ExitCode {
             }
             println!("answer {}", measured(&mut ready));
         }
+        "beside" => {
+            let planner = match second.as_deref() {
+                Some("peer") => peer::planner(),
+                Some("chooses") => peer::choosing(),
+                _ => library::tested_planner(),
+            };
+            let size = match argument(5).as_deref() {
+                Some("small") => inputs::SMALL,
+                Some("short") => inputs::SHORT,
+                _ => inputs::FULL,
+            };
+            let named = |call: &Call| Some(call.name()) == argument(3).as_deref();
+            let Some(call) = Call::EVENTS.into_iter().find(named) else {
+                println!("no such event");
+                return ExitCode::FAILURE;
+            };
+            let index = argument(4).and_then(|a| a.parse().ok()).unwrap_or(0);
+            let mut ready = Ready::of(planner, call, &inputs::input(size, index), 0);
+            println!("answer {}", measured(&mut ready));
+        }
         "previews" => previews::print(number(40)),
         "rounds" => rounds::print(number(40)),
         "kinds" => previews::names().iter().for_each(|name| println!("{name}")),
         "sheet" => return sheet::run(&std::env::args().skip(2).collect::<Vec<String>>()),
         _ => {
-            println!("times, peer, compare, blocks, stack, names, previews, rounds, kinds, once or sheet");
+            println!("times, peer, compare, blocks, stack, names, previews, rounds, kinds, once, beside or sheet");
             return ExitCode::FAILURE;
         }
     }

@@ -1,6 +1,6 @@
 //! The peer in C (../peer) as a table of functions, like the library.
 
-use differential::library::Planner;
+use differential::library::{self, Planner};
 
 mod linked {
     extern "C" {
@@ -36,6 +36,15 @@ mod linked {
             node: u32,
         ) -> u32;
         pub fn peer_decide(
+            role: u32,
+            settings: *const u8,
+            settings_len: usize,
+            state: *mut u8,
+            state_len: usize,
+            desk: *const u8,
+            desk_len: usize,
+        ) -> u32;
+        pub fn peer_decide_first(
             role: u32,
             settings: *const u8,
             settings_len: usize,
@@ -125,6 +134,58 @@ unsafe extern "C" fn no_rounds(
     u32::MAX
 }
 
+/// The first placement of least moves, whatever stays: what the library's rounds
+/// lead to.
+unsafe extern "C" fn whatever_stays(
+    role: u32,
+    settings: *const u8,
+    settings_len: usize,
+    state: *mut u8,
+    state_len: usize,
+    desk: *const u8,
+    desk_len: usize,
+) -> u32 {
+    let rounds = library::tested_planner().decide_within;
+    // SAFETY: the caller's own.
+    let answer = unsafe {
+        rounds(
+            role,
+            settings,
+            settings_len,
+            state,
+            state_len,
+            desk,
+            desk_len,
+            128,
+        )
+    };
+    match answer {
+        library::PLAN..library::WAIT => library::PLAN,
+        other => other,
+    }
+}
+
+/// Forms of decide that do not make the library's choice.
+pub fn wrong_choices() -> [(&'static str, Planner); 2] {
+    let stays = Planner {
+        decide: whatever_stays,
+        ..planner()
+    };
+    [
+        ("any placement of least moves and most stays", planner()),
+        ("the first placement of least moves", stays),
+    ]
+}
+
+/// The peer with the form of decide that gives the first placement.
+pub fn choosing() -> Planner {
+    Planner {
+        decide: linked::peer_decide_first,
+        ..planner()
+    }
+}
+
+/// The peer with the form of decide that gives any placement.
 pub fn planner() -> Planner {
     Planner {
         fresh: linked::peer_fresh,

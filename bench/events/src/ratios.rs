@@ -2,33 +2,35 @@
 //! takes. All are run in turn, in one process, on the same bytes.
 
 use crate::calls::{Call, Ready, CALLS};
-use crate::inputs::{Input, Size};
+use crate::inputs::{Input, SHORT, SMALL};
 use crate::peer;
 use crate::times::{inputs, microseconds, nodes, Times};
-use differential::library;
+use differential::library::{self, Planner};
 use std::hint::black_box;
 
 /// A time is the least of so many runs, each of several calls.
 const RUNS: u32 = 15;
 
-const SMALL: Size = Size {
-    nodes: 7,
-    shards: 3,
-    runs: 111,
-};
-const SHORT: Size = Size { runs: 4, ..SMALL };
-
-/// The events that the peer does too.
-const EVENTS: [Call; 7] = Call::EVENTS;
+/// The events that the peer does too, decide in both forms.
+fn events() -> Vec<(&'static str, Call, Planner)> {
+    let mut all = Vec::new();
+    for call in Call::EVENTS {
+        all.push((call.name(), call, peer::planner()));
+        if call == Call::Decide {
+            all.push(("decide, the first placement", call, peer::choosing()));
+        }
+    }
+    all
+}
 
 /// Least times of one call by each, of one copy of the desk and of one pass
 /// over its words.
 struct Four([f64; 4]);
 
 /// The times of an event on one input.
-fn measured(call: Call, input: &Input, node: u32) -> Four {
+fn measured(call: Call, peer: Planner, input: &Input, node: u32) -> Four {
     let mut own = Ready::of(library::tested_planner(), call, input, node);
-    let mut other = Ready::of(peer::planner(), call, input, node);
+    let mut other = Ready::of(peer, call, input, node);
     let mut copy = own.desk().to_vec();
     let mut joined = 0;
     let mut least = [f64::INFINITY; 4];
@@ -72,11 +74,11 @@ struct Row {
     ratio: Times,
 }
 
-fn row(call: Call, inputs: &[Input]) -> Row {
+fn row(call: Call, peer: Planner, inputs: &[Input]) -> Row {
     let mut row = Row::default();
     for input in inputs {
         for node in nodes(call, input) {
-            let Four(times) = measured(call, input, node);
+            let Four(times) = measured(call, peer, input, node);
             for (median, time) in row.medians.iter_mut().zip(times) {
                 median.add(time);
             }
@@ -87,27 +89,26 @@ fn row(call: Call, inputs: &[Input]) -> Row {
 }
 
 /// A table with a row for each event, and the rows.
-fn table(inputs: &[Input]) -> Vec<(Call, Row)> {
+fn table(inputs: &[Input]) -> Vec<(&'static str, Row)> {
     println!("| event | library | peer | library : peer, median | greatest |");
     println!("|---|---|---|---|---|");
     let mut rows = Vec::new();
-    for call in EVENTS {
-        let mut row = row(call, inputs);
+    for (name, call, peer) in events() {
+        let mut row = row(call, peer, inputs);
         let (own, other) = (row.medians[0].median(), row.medians[1].median());
         let (ratio, greatest) = (row.ratio.median(), row.ratio.worst());
-        let name = call.name();
         println!("| {name} | {own:.2} | {other:.2} | {ratio:.1} | {greatest:.1} |");
-        rows.push((call, row));
+        rows.push((name, row));
     }
     println!();
     rows
 }
 
 /// A table of both beside a copy of the desk and a pass over its words.
-fn memory_table(rows: &mut [(Call, Row)]) {
+fn memory_table(rows: &mut [(&str, Row)]) {
     let medians: Vec<_> = rows
         .iter_mut()
-        .map(|(call, row)| (call.name(), row.medians.each_mut().map(Times::median)))
+        .map(|(name, row)| (*name, row.medians.each_mut().map(Times::median)))
         .collect();
     let least = |index: usize| {
         let of = medians.iter().map(|(_, medians)| medians[index]);
@@ -129,7 +130,8 @@ fn memory_table(rows: &mut [(Call, Row)]) {
 pub fn print(full: &[Input], count: u64) {
     println!("### Beside a peer in C\n");
     println!("The peer (`bench/events/peer`, -O3) does the same events from the same bytes and was written for speed alone;");
-    println!("nothing is proved of it, and of the placements of least moves it gives any. Library and peer are called in turn,");
+    println!("nothing is proved of it. Its decide has two forms: of the placements of least moves and most stays one gives any, the other");
+    println!("the first, which is the library's choice. Library and peer are called in turn,");
     println!("{CALLS} calls at a time, each time is the least of {RUNS}, and ratios are taken input by input; microseconds.\n");
     println!("Full: 32 nodes, 16 shards, 128 records in every slot.\n");
     let mut rows = table(full);
