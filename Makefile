@@ -7,13 +7,15 @@
 # make example           target/c/restart-cluster, the example over it: machine, leader and client
 # make test-c            the tests in C: plainly, under valgrind, with sanitizers and as an installed library
 # make fuzz SECONDS=60   compares library and program with the reference on fresh seeds for that time
+# make fuzz-guided SECONDS=60   libFuzzer over the C calls and over the cluster's messages, for that time each
+# make simulate SECONDS=60 SEED=1   simulated stores that fail again and again, for that time; what it finds is made smaller, told and drawn
 # make performance       measures times, instructions and stack, and writes docs/PERFORMANCE.md
 # make install           header, library, programs and manual pages under $(DESTDIR)$(PREFIX)
 # make uninstall         removes them
 # make dist              two archives in target/: the sources as last committed, and the installed tree, which can be unpacked anywhere
 # make deb               Debian packages in target/: librestart1, librestart-dev and restart-tools
 # make clean             removes target/, all proofs among it
-.PHONY: help try case-a test wrong-programs lib example test-c fuzz performance install uninstall dist deb clean
+.PHONY: help try case-a test wrong-programs lib example test-c fuzz simulate fuzz-guided performance install uninstall dist deb clean
 
 .DEFAULT_GOAL := try
 
@@ -39,6 +41,9 @@ wrong-programs:
 SECONDS ?= 60
 fuzz:
 	@python3 tests/fuzz.py $(SECONDS)
+
+fuzz-guided: lib
+	@sh tests/guided/run.sh $(SECONDS)
 
 performance:
 	@python3 bench/performance.py
@@ -127,6 +132,20 @@ CLUSTER := $(wildcard examples/cluster/*)
 target/c/restart-cluster: $(CLUSTER) include/restart.h target/librestart.a
 	mkdir -p $(@D)
 	$(CC) $(CHECKED) $(CFLAGS) -Iinclude $(LDFLAGS) -o $@ $(filter %.c,$(CLUSTER)) target/librestart.a
+
+# ---- The simulation: the cluster's own code and the library, between which the linker puts tests/simulate/library.c
+
+SEED ?= 1
+SIMULATED := $(addprefix examples/cluster/,disk.c machine.c serve.c keep.c leader.c client.c)
+SIMULATION := $(wildcard tests/simulate/*.[ch])
+WATCHED := report drop decide fetched prepared order open_view
+target/simulate/simulate: $(SIMULATION) $(CLUSTER) include/restart.h target/librestart.a
+	mkdir -p $(@D)
+	$(CC) $(CHECKED) -Wconversion $(CFLAGS) -DCLUSTER_SWITCHES -DCLUSTER_VIEWS=32 -Iinclude -Iexamples/cluster -Itests/simulate $(LDFLAGS) -o $@ \
+	    $(filter %.c,$(SIMULATION)) $(SIMULATED) $(WATCHED:%=-Wl,--wrap=restart_%) target/librestart.a
+
+simulate: target/simulate/simulate
+	@python3 tests/simulate/people.py $(SECONDS) $(SEED) $(OPTIONS)
 
 test-c: lib $(PROGRAM) $(MONDAYS) $(SHEET)
 	@sh tests/c/run.sh

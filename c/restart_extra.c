@@ -307,19 +307,62 @@ enum { HEAD_BYTES = 4 * HEAD_WORDS, SUM_BYTES = 4 };
 /* The file's first four bytes. */
 static const uint8_t mark[4] = {'r', 'l', 'd', 'r'};
 
-/* CRC-32, as in zlib and IEEE 802.3. */
+/* CRC-32, as in zlib and IEEE 802.3, eight bytes at a time. The sum of a byte is that of its bits, put
+ * together by exclusive or: a table has 256 sums, and eight words say them all. AFTER_n is for a byte
+ * with n more behind it. */
+#define BIT(n, bit, word) ((n) >> (bit)&1 ? UINT32_C(word) : 0)
+#define ONE(n, a, b, c, d, e, f, g, h)                                                             \
+    BIT(n, 0, a) ^ BIT(n, 1, b) ^ BIT(n, 2, c) ^ BIT(n, 3, d) ^ BIT(n, 4, e) ^ BIT(n, 5, f) ^      \
+        BIT(n, 6, g) ^ BIT(n, 7, h)
+#define AFTER_0(n)                                                                                 \
+    ONE(n, 0x77073096, 0xEE0E612C, 0x076DC419, 0x0EDB8832, 0x1DB71064, 0x3B6E20C8, 0x76DC4190,     \
+        0xEDB88320)
+#define AFTER_1(n)                                                                                 \
+    ONE(n, 0x191B3141, 0x32366282, 0x646CC504, 0xC8D98A08, 0x4AC21251, 0x958424A2, 0xF0794F05,     \
+        0x3B83984B)
+#define AFTER_2(n)                                                                                 \
+    ONE(n, 0x01C26A37, 0x0384D46E, 0x0709A8DC, 0x0E1351B8, 0x1C26A370, 0x384D46E0, 0x709A8DC0,     \
+        0xE1351B80)
+#define AFTER_3(n)                                                                                 \
+    ONE(n, 0xB8BC6765, 0xAA09C88B, 0x8F629757, 0xC5B428EF, 0x5019579F, 0xA032AF3E, 0x9B14583D,     \
+        0xED59B63B)
+#define AFTER_4(n)                                                                                 \
+    ONE(n, 0x3D6029B0, 0x7AC05360, 0xF580A6C0, 0x30704BC1, 0x60E09782, 0xC1C12F04, 0x58F35849,     \
+        0xB1E6B092)
+#define AFTER_5(n)                                                                                 \
+    ONE(n, 0xCB5CD3A5, 0x4DC8A10B, 0x9B914216, 0xEC53826D, 0x03D6029B, 0x07AC0536, 0x0F580A6C,     \
+        0x1EB014D8)
+#define AFTER_6(n)                                                                                 \
+    ONE(n, 0xA6770BB4, 0x979F1129, 0xF44F2413, 0x33EF4E67, 0x67DE9CCE, 0xCFBD399C, 0x440B7579,     \
+        0x8816EAF2)
+#define AFTER_7(n)                                                                                 \
+    ONE(n, 0xCCAA009E, 0x4225077D, 0x844A0EFA, 0xD3E51BB5, 0x7CBB312B, 0xF9766256, 0x299DC2ED,     \
+        0x533B85DA)
+#define FOUR(of, n) of(n), of((n) + 1), of((n) + 2), of((n) + 3)
+#define SIXTEEN(of, n) FOUR(of, n), FOUR(of, (n) + 4), FOUR(of, (n) + 8), FOUR(of, (n) + 12)
+#define SIXTY_FOUR(of, n)                                                                          \
+    SIXTEEN(of, n), SIXTEEN(of, (n) + 16), SIXTEEN(of, (n) + 32), SIXTEEN(of, (n) + 48)
+#define TABLE(of)                                                                                  \
+    {                                                                                              \
+        SIXTY_FOUR(of, 0), SIXTY_FOUR(of, 64), SIXTY_FOUR(of, 128), SIXTY_FOUR(of, 192)            \
+    }
+
 static uint32_t sum_of(const uint8_t *bytes, size_t length)
 {
-    static const uint32_t steps[16] = {
-        0x00000000, 0x1DB71064, 0x3B6E20C8, 0x26D930AC, 0x76DC4190, 0x6B6B51F4,
-        0x4DB26158, 0x5005713C, 0xEDB88320, 0xF00F9344, 0xD6D6A3E8, 0xCB61B38C,
-        0x9B64C2B0, 0x86D3D2D4, 0xA00AE278, 0xBDBDF21C,
-    };
+    static const uint32_t after[8][256] = {TABLE(AFTER_0), TABLE(AFTER_1), TABLE(AFTER_2),
+                                           TABLE(AFTER_3), TABLE(AFTER_4), TABLE(AFTER_5),
+                                           TABLE(AFTER_6), TABLE(AFTER_7)};
     uint32_t sum = UINT32_MAX;
-    for (size_t at = 0; at < length; at++) {
-        sum = steps[(sum ^ bytes[at]) & 15] ^ sum >> 4;
-        sum = steps[(sum ^ bytes[at] >> 4) & 15] ^ sum >> 4;
+    size_t at = 0;
+    for (; length - at >= 8; at += 8) {
+        uint32_t next = restart_get_word(bytes + at, 1);
+        sum ^= restart_get_word(bytes + at, 0);
+        sum = after[7][sum & 255] ^ after[6][sum >> 8 & 255] ^ after[5][sum >> 16 & 255] ^
+              after[4][sum >> 24] ^ after[3][next & 255] ^ after[2][next >> 8 & 255] ^
+              after[1][next >> 16 & 255] ^ after[0][next >> 24];
     }
+    for (; at < length; at++)
+        sum = after[0][(sum ^ bytes[at]) & 255] ^ sum >> 8;
     return ~sum;
 }
 

@@ -69,9 +69,11 @@ THEN = [
     ("placements against the reference", cargo("tests/placement", "run", "--release"), PLACEMENT),
     ("cases and numbers of the programs restart and sheet", ["python3", "tests/cases.py"], None),
     ("arguments of the programs", ["python3", "tests/arguments.py"], None),
+    ("ten thousand restarts of simulated stores", ["python3", "tests/simulate/run.py"], LIBRARY),
     ("the library from C", ["make", "--no-print-directory", "test-c"], LIBRARY),
     ("Debian packages", ["sh", "tests/deb.sh"], "the library from C"),
     ("a store of real processes, killed at every step", ["sh", "tests/cluster/run.sh"], LIBRARY),
+    ("guided fuzzing of the C calls and the cluster's messages", ["make", "--no-print-directory", "fuzz-guided", "SECONDS=4"], LIBRARY),
     ("the total search is never entered", ["make", "--no-print-directory", "-C", "bench", "fallback"], PLACEMENT),
 ]
 PROCESSORS = len(os.sched_getaffinity(0))

@@ -14,6 +14,7 @@ log=$out/log
 strict="-D_DEFAULT_SOURCE -Iinclude -Wall -Wextra -Werror -pedantic -Wconversion -g"
 sanitizers="-fsanitize=address,undefined -fno-sanitize-recover=all"
 memcheck="valgrind -q --error-exitcode=9 --leak-check=full --show-leak-kinds=all"
+helgrind="valgrind -q --tool=helgrind --error-exitcode=9"
 shared="tests/c/harness.c tests/c/calls.c tests/c/world.c tests/c/room.c"
 tests="entry_points rows lengths guards roles preview rounds page game cuts remembered caps views flat draft leader"
 passed=0 failed=0
@@ -135,6 +136,11 @@ too_small() {
     ! $out/stack 16384
 }
 
+# Threads that share what they may not: helgrind must see it.
+race() { # HOW
+    $helgrind $out/threads "$1" 2>&1 | grep -q 'Possible data race'
+}
+
 manual_page() { # FILE
     groff -t -man -Tutf8 -ww -z "$1" >$out/groff 2>&1 && test ! -s $out/groff
 }
@@ -160,7 +166,10 @@ check "entry_points over the shared library" env LD_LIBRARY_PATH=target $out/ent
 
 check "build threads" compile threads -pthread
 check "threads" $out/threads
-check "threads under helgrind" valgrind -q --tool=helgrind --error-exitcode=9 $out/threads
+check "many threads, often" $out/threads 32 20
+check "threads under helgrind" $helgrind $out/threads
+check "two that write one state" race written
+check "one that writes what another reads" race read
 check "build stack" compile stack -pthread
 check "stack" $out/stack
 check "a stack of 16 KB is too small" too_small
