@@ -138,7 +138,7 @@ def main():
                 return QUOTED.sub(lambda q: re.sub(r"[\w'-]+", lambda w: table.get(w.group(0), w.group(0)), q.group(0)), t)
             if t.startswith('"'):
                 return t
-            return table.get(t, t)
+            return t if "_" in t else table.get(t, t)
 
         return re.sub(r"//.*|\"(?:[^\"\\]|\\.)*\"|[\w'-]+", word, line)
 

@@ -1,4 +1,6 @@
 // Little-endian words from bytes and to bytes.
+#![tactic(auto)]
+
 ghost use Rattle.std.specs.Prelude.{◌≡◌, ◌+◌, ◌*◌, ◌≤◌, length};
 ghost use Rattle.base_laws.specs.Definitions.{tabulate};
 ghost use Rattle.base_bytes.specs.Definitions.{word_at, words_of, bytes_of};

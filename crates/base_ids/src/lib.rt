@@ -1,27 +1,29 @@
 // The three kinds of identifier, which never stand for one another, a position in a shard's log, and a refusal.
+#![tactic(auto)]
+
 ghost use Rattle.std.specs.Prelude.{◌≡◌};
 
 // The number of a node, from 0.
-#[derive(Drop)]
+#[derive(Clone, Copy)]
 pub struct Node(pub u32);
 
 // The number of a shard, from 0.
-#[derive(Drop)]
+#[derive(Clone, Copy)]
 pub struct Shard(pub u32);
 
 // The number of a view, from 1; 0 stands for no view.
-#[derive(Drop)]
+#[derive(Clone, Copy)]
 pub struct View(pub u32);
 
 // A position of a log: update k of a view. (0, 0) is before all others and is the end of an empty log.
-#[derive(Drop)]
+#[derive(Clone, Copy)]
 pub struct Position {
     pub view: View,
     pub k: u32,
 }
 
 // A refusal in one word: its number in document 01's table and 256 times the index of the record it tells; 0 is none.
-#[derive(Drop)]
+#[derive(Clone, Copy)]
 pub struct Refusal {
     pub code: u32,
 }

@@ -1,17 +1,19 @@
 // Bytes that a C caller lends, as words.
+#![tactic(auto)]
+
 ghost use Rattle.std.specs.Prelude.{◌≡◌, ◌≤◌};
 ghost use Rattle.base_lent.specs.Definitions.{with_length};
 ghost use Rattle.base_lent.specs.Lent.{count_within, HoldsWords, HoldsSettings};
 
 // The words of lent bytes: the first len of the table.
-#[derive(Drop)]
+#[derive(Clone, Copy)]
 pub struct Lent {
     pub len: usize,
     pub table: [u32; 512],
 }
 
 // The words of lent settings: the first len of the table.
-#[derive(Drop)]
+#[derive(Clone, Copy)]
 pub struct LentSettings {
     pub len: usize,
     pub table: [u32; 52],

@@ -1,4 +1,6 @@
 // Tests and changes of a mask: a u32 whose bit n stands for node n. Each function gives what its definition in base_laws says.
+#![tactic(auto)]
+
 pub mod majority;
 
 ghost use Rattle.std.specs.Prelude.{◌≡◌, ◌<◌};

@@ -1,1 +1,2 @@
 // Finite sums and their laws. No code; all is in specs/.
+#![tactic(auto)]

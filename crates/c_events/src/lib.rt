@@ -1,4 +1,6 @@
 // The fresh state, the check of a state, and drop, fetched and prepared, over lent bytes.
+#![tactic(auto)]
+
 pub mod decide;
 pub mod game;
 pub mod order;
@@ -15,7 +17,7 @@ use base_ids::Node;
 use state_planner::{Outcome, State};
 
 // An event that names a node.
-#[derive(Drop)]
+#[derive(Clone, Copy)]
 pub enum Event {
     Drop,
     Fetched,

@@ -1,4 +1,6 @@
 // The calls on lent bytes for settings and messages. Lent bytes are little-endian words.
+#![tactic(auto)]
+
 pub mod flat;
 
 ghost use Rattle.std.specs.Prelude.{◌≡◌, ◌+◌, ◌*◌, ◌≤◌, length};

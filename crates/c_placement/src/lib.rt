@@ -1,4 +1,6 @@
 // The placement of one subgroup for C, as the benchmark and the tests call it: byte slices of fixed lengths.
+#![tactic(auto)]
+
 ghost use Rattle.std.specs.Prelude.{◌≡◌, true, ◌&&◌, ◌<◌, ◌≤◌, min, eqb, length};
 ghost use Rattle.search_laws.specs.Tables.{case_of};
 ghost use Rattle.search_laws.specs.Floor.{SheetFor};

@@ -1,6 +1,8 @@
 // The C entry points: settings, messages, open views and the planner's events. Lent bytes are little-endian words: 160 of a state,
 // 16384 of a desk, 512 of a buffer. Each call answers a word and changes no lent byte where it refuses. A call over a state is first told
 // the caller's role: 256 the planner, 512 + g a watcher of subgroup g, who may only read that subgroup's page.
+#![tactic(auto)]
+
 ghost use Rattle.std.specs.Prelude.{◌≡◌};
 ghost use Rattle.c_messages.specs.Definitions.{check_answer, read_answer, read_leaves, write_answer, write_leaves, from_flat_answer, from_flat_leaves, to_flat_answer, to_flat_leaves};
 ghost use Rattle.c_events.specs.Definitions.{fresh_answer, fresh_leaves, check_state_answer, take_answer, take_leaves, report_answer, report_leaves, report_desk, DecideCall, WithinCall, order_answer, order_leaves, PageCall, PreviewCall, WarnCall, GameCall};

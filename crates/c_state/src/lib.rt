@@ -1,4 +1,6 @@
 // The planner's state lent as bytes: what every C call over it does first and last.
+#![tactic(auto)]
+
 ghost use Rattle.std.specs.Prelude.{◌&&◌, ◌≡◌, eqb, length};
 ghost use Rattle.base_bytes.specs.Definitions.{bytes_of};
 ghost use Rattle.base_lent.specs.Definitions.{words_in};
@@ -14,7 +16,7 @@ use c_state_words::DecodedState;
 use state_planner::{Answer, Outcome, State};
 
 // What a call finds before its event: a refusal, the state, and the settings' words, which are the first of the table.
-#[derive(Drop)]
+#[derive(Clone, Copy)]
 pub struct CallFinds {
     pub refusal: Refusal,
     pub state: State,

@@ -1,4 +1,6 @@
 // The planner's state as 160 words, and back.
+#![tactic(auto)]
+
 pub mod page;
 
 ghost use Rattle.std.specs.Prelude.{◌≡◌, ◌+◌, ◌≤◌, length, get_or, set};
@@ -14,7 +16,7 @@ use report_views::{Layout, Phase, Plan, Termination};
 use state_planner::State;
 
 // What words say: whether they are a state, and the state; the fresh state where they are none.
-#[derive(Drop)]
+#[derive(Clone, Copy)]
 pub struct DecodedState {
     pub ok: bool,
     pub state: State,

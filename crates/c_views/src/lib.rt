@@ -1,4 +1,6 @@
 // What is known of an open view, as an answer for C.
+#![tactic(auto)]
+
 ghost use Rattle.std.specs.Prelude.{◌≡◌};
 ghost use Rattle.c_views.specs.Definitions.{finding_word, open_view_answer};
 

@@ -1,4 +1,6 @@
 // The game of outage and crew, on a table of decisions: the number that decide would give for each mask of held nodes.
+#![tactic(auto)]
+
 ghost use Rattle.std.specs.Prelude.{◌≡◌, ◌≤◌, ◌<◌, ◌^◌};
 ghost use Rattle.game_rules.specs.Turns.{absent as Absent·test, outage_turn, crew_turn, winner_of};
 ghost use Rattle.base_laws.specs.Definitions.{any_below};

@@ -1,5 +1,7 @@
 // What the placement oracle keeps: an array that the caller lends, in parts, some of masks and the others of numbers below 65536.
 // An element is named by its part and its index there; every place is taken modulo the array's length, so that no index is out of range.
+#![tactic(auto)]
+
 pub mod owners;
 
 ghost use Rattle.std.specs.Prelude.{◌≡◌, ◌+◌, ◌-◌, ◌^◌, ◌%◌, ◌≤◌, ◌<◌, min, max, get_or};

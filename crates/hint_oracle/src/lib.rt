@@ -1,6 +1,8 @@
 // The placement oracle: it keeps a placement of least weight among those that have all pairs taken for good, and levels
 // that say why it is the least, as a minimum cost flow by shortest ways. It is proved safe and ending, and its answers are claims: the
 // search that asks believes none of them, and proves each by the weights.
+#![tactic(auto)]
+
 mod claims;
 mod start;
 mod levels; // levels.rt: the levels as weights

@@ -3,6 +3,8 @@
 // takes any node, for itself or for a room that is not full. The reduced cost of such a step is the level at which the owner has the node
 // that it takes, less that at which it has the one that it loses, and is never below 0. Where a way ends, owners change along it, and every
 // vertex that is nearer than the end rises by the difference; where none ends within the limit, the levels are raised so that this shows.
+#![tactic(auto)]
+
 ghost use Rattle.std.specs.Prelude.{◌≤◌, ◌<◌};
 
 // No way is longer.

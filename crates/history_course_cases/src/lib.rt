@@ -1,1 +1,2 @@
 // Worked courses of a group over several restarts. No code.
+#![tactic(auto)]

@@ -1,10 +1,12 @@
 // Whether an open view counts: a view that machines have on disk and none of them knows to be committed.
+#![tactic(auto)]
+
 ghost use Rattle.std.specs.Prelude.{◌≡◌};
 ghost use Rattle.history_open.specs.Definitions.{says_sure, says_never, judged};
 
 // What the machines' views say of it: that it counts, that it was never served, neither, or both, which no machines say that keep their
 // duties.
-#[derive(Drop)]
+#[derive(Clone, Copy)]
 pub enum Finding {
     Sure,
     Never,

@@ -1,17 +1,19 @@
 // The chain of a message's records: a reader that holds the words and the index reached gives the record there, and the reader after it.
+#![tactic(auto)]
+
 ghost use Rattle.std.specs.Prelude.{◌≡◌};
 ghost use Rattle.message_format.specs.Definitions.{next};
 ghost use Rattle.message_chain.specs.Steps.{record_at, step_from};
 
 // A reader of records: the message's words, and the index of the record reached.
-#[derive(Drop)]
+#[derive(Clone, Copy)]
 pub struct Reader<'a> {
     pub words: &'a [u32],
     pub at: usize,
 }
 
 // A record without its next index.
-#[derive(Drop)]
+#[derive(Clone, Copy)]
 pub struct Record {
     pub word0: u32,
     pub word1: u32,
@@ -19,7 +21,7 @@ pub struct Record {
 }
 
 // A step along the chain: the record reached, and the index of the reader after it. 0 ends the chain.
-#[derive(Drop)]
+#[derive(Clone, Copy)]
 pub struct Step {
     pub reached: Record,
     pub next: usize,

@@ -1,5 +1,7 @@
 // Rows 6, 7, 9, 16, 17, 10 and 11 over the contents of a report or an order, for the reader, the writer and the slots of
 // the desk.
+#![tactic(auto)]
+
 mod passes;
 mod records;
 

@@ -9,7 +9,7 @@ use base_ids::{Node, Refusal, View};
 use message_format::Contents;
 
 // What the counts of a flat report say: the word before its positions, and how many masks, positions and runs it has.
-#[derive(Drop)]
+#[derive(Clone, Copy)]
 struct Counts {
     flag: u32,
     shards: u32,
@@ -81,7 +81,7 @@ fn explained(n: Counts, words: usize) -> bool
 }
 
 // Row 20: some triple has count 0.
-fn zero-in(flat: &[u8], n: Counts) -> bool
+fn zero_in(flat: &[u8], n: Counts) -> bool
     ensures { result ≡ zero_in (words_in flat.now) n }
 {
     let at = count_at(n.shards, n.places);
@@ -111,7 +111,7 @@ pub fn flat_refusal(flat: &[u8]) -> Refusal
     if !explained(n, words_in(flat)) {
         return Refusal { code: 19 };
     }
-    if zero-in(flat, n) {
+    if zero_in(flat, n) {
         return Refusal { code: 20 };
     }
     if 127 < records_of(n) {
@@ -121,7 +121,7 @@ pub fn flat_refusal(flat: &[u8]) -> Refusal
 }
 
 // Word p of the record of mask j.
-fn mask-word(flat: &[u8], j: usize, p: usize) -> u32
+fn mask_word(flat: &[u8], j: usize, p: usize) -> u32
     requires { j < 127 }
     ensures { result ≡ mask_word (words_in flat.now) j p }
 {
@@ -178,7 +178,7 @@ fn record_in(flat: &[u8], n: Counts, j: usize, p: usize) -> u32
     let masks = base_ids::wide(n.shards);
     let first = masks + base_ids::wide(n.places);
     if j < masks {
-        return mask-word(flat, j, p);
+        return mask_word(flat, j, p);
     }
     if j < first {
         return place_word(flat, n.shards, j - masks, p);

@@ -8,7 +8,7 @@ use base_ids::{Node, View};
 use message_format::Contents;
 
 // What a report consists of: whether it has a termination, and how many masks, positions and runs.
-#[derive(Drop)]
+#[derive(Clone, Copy)]
 struct Parts {
     ended: bool,
     shards: usize,

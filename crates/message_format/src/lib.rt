@@ -1,8 +1,10 @@
 // Messages: their contents as a value. What the words of a message mean, and rows 5 to 11, stand in specs/.
+#![tactic(auto)]
+
 use base_ids::{Node, Refusal, View};
 
 // A message is a report from a node or an order to one; nothing in its words says which.
-#[derive(Drop)]
+#[derive(Clone, Copy)]
 pub enum Form {
     Report,
     Order,
@@ -10,7 +12,7 @@ pub enum Form {
 
 // What a message says: its head, and the records of its chain after the head, three words each, one after another.
 // Words of body from 3 * len up say nothing; a reader gives them as zero.
-#[derive(Drop)]
+#[derive(Clone, Copy)]
 pub struct Contents {
     pub node: Node,
     pub view: View,
@@ -20,14 +22,14 @@ pub struct Contents {
 }
 
 // What reading gives: the contents, or blank ones beside a refusal.
-#[derive(Drop)]
+#[derive(Clone, Copy)]
 pub struct Reading {
     pub refusal: Refusal,
     pub contents: Contents,
 }
 
 // What writing answers: the message's length in words, or 0 beside a refusal.
-#[derive(Drop)]
+#[derive(Clone, Copy)]
 pub struct Writing {
     pub refusal: Refusal,
     pub length: usize,

@@ -1,4 +1,6 @@
 // Reads a message: its length (row 5), its chain (row 8) and what the records on the chain say.
+#![tactic(auto)]
+
 ghost use Rattle.std.specs.Prelude.{true, ◌≡◌, ◌<◌, ◌≤◌};
 ghost use Rattle.base_ids.specs.Definitions.{index_in};
 ghost use Rattle.message_format.specs.Definitions.{place, following, row5, row8, contents_of, in_order, records_refusal};

@@ -1,4 +1,6 @@
 // The tests of rows 7, 9 and 11 of document 01's table. Each gives what its definition in message_format says.
+#![tactic(auto)]
+
 pub mod fields;
 pub mod shards;
 

@@ -1,4 +1,6 @@
 // The writer: the contents of a report or an order as a message in 512 lent words, the records one after another, then zeros.
+#![tactic(auto)]
+
 ghost use Rattle.std.specs.Prelude.{◌≡◌, ◌≤◌, ◌<◌, length};
 ghost use Rattle.message_format.specs.Definitions.{record_word, message_word, message_length, message_of};
 ghost use Rattle.message_format.specs.Messages.{write_refusal, writing_of, buffer_after};

@@ -1,6 +1,8 @@
 // Reads the moves file from standard input once, in blocks, and prints for every 64 consecutive lines the sum of their moves and the
 // greatest of them. The number of the first bad line ends it. A read or a write that fails is told on standard error, and nothing more is
 // printed.
+#![tactic(auto)]
+
 ghost use Rattle.std.specs.Prelude.{◌≡◌, length, take};
 ghost use Rattle.mondays.specs.Definitions.{takes_more, PrintedBlock, TakesTurn, ShowsAll};
 
@@ -9,7 +11,7 @@ use mondays_moves::Tally;
 use program_input::Input;
 
 // What came of printing a block: the tally after it, the length of its text, and whether all of it was written.
-#[derive(Drop)]
+#[derive(Clone, Copy)]
 struct ShownText {
     tally: Tally,
     len: usize,
@@ -17,7 +19,7 @@ struct ShownText {
 }
 
 // How far the file was taken: the tally of its blocks, the input as far as it was read, and whether all that they print was written.
-#[derive(Drop)]
+#[derive(Clone, Copy)]
 struct Tallied {
     tally: Tally,
     input: Input,

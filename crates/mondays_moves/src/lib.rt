@@ -1,4 +1,6 @@
 // The moves file in blocks. A tally is what is known of the lines taken so far; a block puts what its lines print and gives the next one.
+#![tactic(auto)]
+
 ghost use Rattle.std.specs.Prelude.{◌≡◌, ◌≤◌, ◌<◌, min, length, take};
 ghost use Rattle.base_ids.specs.Definitions.{first_of};
 ghost use Rattle.base_laws.specs.Definitions.{padded};
@@ -11,7 +13,7 @@ use base_ids::Refusal;
 
 // What is known of the lines taken so far: the refusal that ended them if there is one, the least number that the next line may have, and
 // the moves of the last 63 lines, or of all where they are fewer, with zeros after them.
-#[derive(Drop)]
+#[derive(Clone, Copy)]
 pub struct Tally {
     pub refusal: Refusal,
     pub least: u64,
@@ -20,14 +22,14 @@ pub struct Tally {
 }
 
 // What came of a block: the tally after it, and the length of the text that it put.
-#[derive(Drop)]
+#[derive(Clone, Copy)]
 pub struct MovesTaken {
     pub tally: Tally,
     pub len: usize,
 }
 
 // What came of a block's lines: the place after their moves, the least number that may follow, and the refusal of the first bad one.
-#[derive(Drop)]
+#[derive(Clone, Copy)]
 struct LinesGathered {
     place: usize,
     least: u64,

@@ -1,11 +1,13 @@
 // Windows of 64 consecutive moves: for each a line with their sum and the greatest of them. The next window is the one before without
 // its first move and with one more.
+#![tactic(auto)]
+
 ghost use Rattle.std.specs.Prelude.{◌≡◌, ◌≤◌, max, length, take, drop};
 ghost use Rattle.program_text.specs.Definitions.{Puts};
 ghost use Rattle.mondays_windows.specs.Definitions as Definitions;
 
 // The sum and the greatest of the moves of a window.
-#[derive(Drop)]
+#[derive(Clone, Copy)]
 pub struct Window {
     pub sum: u32,
     pub greatest: u8,

@@ -1,4 +1,6 @@
 // The failure sets of the nodes in a mask.
+#![tactic(auto)]
+
 pub mod check;
 pub mod sheet;
 

@@ -1,1 +1,2 @@
 // The placements of a subgroup as masks and as owners: theorems, no code; all is in specs/.
+#![tactic(auto)]

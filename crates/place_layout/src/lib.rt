@@ -1,5 +1,7 @@
 // The placement of all four subgroups: a mask for each shard, in every subgroup of the placements of least moves with the most stays the
 // first, or the lowest subgroup without a valid placement.
+#![tactic(auto)]
+
 ghost use Rattle.std.specs.Prelude.{◌≡◌, cond, ◌<◌, ◌^◌, eqb, get_or};
 ghost use Rattle.base_laws.specs.Definitions.{any_below, with};
 ghost use Rattle.settings_values.specs.Definitions.{Settings, nodes};
@@ -18,7 +20,7 @@ use search_total::Solution;
 
 // Where every subgroup has a valid placement: a mask for each shard, 0 from S up, and the total of the moves. Else the lowest
 // subgroup without one, and nothing placed.
-#[derive(Drop)]
+#[derive(Clone, Copy)]
 pub struct Placed {
     pub found: bool,
     pub group: u32,
@@ -27,7 +29,7 @@ pub struct Placed {
 }
 
 // What one subgroup has, whatever the others: whether it has a valid placement, a mask for each of its shards, 0 for any other, and the moves.
-#[derive(Drop)]
+#[derive(Clone, Copy)]
 pub struct Offer {
     pub found: bool,
     pub masks: [u32; 16],

@@ -1,5 +1,7 @@
 // Improving rounds over the four subgroups: each starts from its first valid placement, whatever its moves, and each round goes, in the
 // lowest subgroup that has a valid placement of fewer moves, to the first such.
+#![tactic(auto)]
+
 ghost use Rattle.std.specs.Prelude.{◌≡◌, ◌<◌, ◌^◌, min, get_or, replicate};
 ghost use Rattle.settings_values.specs.Definitions.{Settings, nodes};
 ghost use Rattle.search_laws.specs.Tables.{case_of};
@@ -18,7 +20,7 @@ use search_total::Solution;
 
 // Where every subgroup has a valid placement: the one that the rounds reach, and its gap, by which no valid placement has fewer moves.
 // Else the lowest subgroup without one, nothing placed, and no gap.
-#[derive(Drop)]
+#[derive(Clone, Copy)]
 pub struct PlacedWithin {
     pub placed: Placed,
     pub gap: u32,
@@ -26,7 +28,7 @@ pub struct PlacedWithin {
 
 // What rounds reach in one subgroup: whether it has a valid placement, the owners of its nodes, the rounds that are left, and how many
 // moves it has at least.
-#[derive(Drop)]
+#[derive(Clone, Copy)]
 struct Grouped {
     found: bool,
     owners: [u8; 32],

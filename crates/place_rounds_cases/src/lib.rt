@@ -1,1 +1,2 @@
 // Worked rounds, from the definition: theorems, in specs/. No code.
+#![tactic(auto)]

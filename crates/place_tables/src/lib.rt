@@ -1,4 +1,6 @@
 // A subgroup's tables for the search, from the settings, the held nodes, the old members and the sheet.
+#![tactic(auto)]
+
 ghost use Rattle.std.specs.Prelude.{◌≡◌, true, ◌+◌, ◌*◌, ◌-◌, ◌≤◌, ◌<◌, ◌^◌, get_or};
 ghost use Rattle.settings_values.specs.Definitions.{Settings, nodes, set_of};
 ghost use Rattle.place_groups.specs.Sheet.{sheet_of, sheet_at};

@@ -1,4 +1,6 @@
 // The held nodes whose loss means waiting.
+#![tactic(auto)]
+
 ghost use Rattle.std.specs.Prelude.{true, cond, ◌≡◌, ℕ, ◌^◌, ◌+◌, ◌≤◌, ◌<◌, min, get_or};
 ghost use Rattle.base_laws.specs.Definitions.{tabulate};
 ghost use Rattle.settings_values.specs.Definitions.{nodes, shards, Settings};

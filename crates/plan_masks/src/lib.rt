@@ -1,5 +1,7 @@
 // What any set of held nodes would allow: the slots are read once, for each shard the nodes that count for it are noted, and from
 // these masks alone comes the number that decide would give.
+#![tactic(auto)]
+
 pub mod rows;
 
 ghost use Rattle.std.specs.Prelude.{◌≡◌, ◌^◌, ◌<◌, ◌≤◌, length};
@@ -16,7 +18,7 @@ use plan_seen::Seen;
 use report_views::{Layout, Quorum, Reason, Termination};
 
 // ok: every slot that was asked for is sound. masks: for each shard the nodes that count for it, 0 from S up.
-#[derive(Drop)]
+#[derive(Clone, Copy)]
 pub struct HolderMasks {
     pub ok: bool,
     pub masks: [u32; 16],

@@ -1,5 +1,7 @@
 // The contents of a node's order: the plan's view, masks and targets, and the holder and cut of each shard that the node
 // carries. Four loops over the shards store the records one after another. The cuts come from the desk, and are a table by then.
+#![tactic(auto)]
+
 ghost use Rattle.std.specs.Prelude.{cond, List, ◌≡◌, ℕ, ◌+◌, ◌*◌, ◌<◌, ◌≤◌};
 ghost use Rattle.base_laws.specs.Definitions.{count_below, has};
 ghost use Rattle.base_laws.specs.Loops.{turns};

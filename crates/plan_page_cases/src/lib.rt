@@ -1,1 +1,2 @@
 // Pages of worked worlds, from the definition: theorems, in specs/. No code.
+#![tactic(auto)]

@@ -1,4 +1,6 @@
 // Waits 1 to 4, from the kept view, the held nodes and each shard's holder.
+#![tactic(auto)]
+
 ghost use Rattle.std.specs.Prelude.{◌≡◌, ◌≤◌};
 ghost use Rattle.settings_values.specs.Definitions.{Settings};
 ghost use Rattle.plan_quorum.specs.Quorum.{most_held, first_without, quorum_by};

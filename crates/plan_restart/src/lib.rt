@@ -1,4 +1,6 @@
 // The core of decide: from the settings, what is kept and the held reports to a plan, or to the reason why there is none yet.
+#![tactic(auto)]
+
 pub mod rounds;
 
 ghost use Rattle.std.specs.Prelude.{◌≡◌, ◌^◌, ◌<◌, ◌≤◌};
@@ -13,7 +15,7 @@ use plan_seen::Seen;
 use report_views::{Layout, Plan, Quorum, Reason};
 
 // What the held reports allow. Met: the plan is there. Short: the first reason why there is none, wait 5 among them, and no plan.
-#[derive(Drop)]
+#[derive(Clone, Copy)]
 pub struct Verdict {
     pub quorum: Quorum,
     pub plan: Plan,

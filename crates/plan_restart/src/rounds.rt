@@ -9,7 +9,7 @@ use plan_seen::Seen;
 use report_views::{Layout, Quorum};
 
 // What the held reports allow with rounds: a verdict, and the gap of its plan; beside a wait there is no gap.
-#[derive(Drop)]
+#[derive(Clone, Copy)]
 pub struct Offered {
     pub verdict: Verdict,
     pub gap: u32,

@@ -1,4 +1,6 @@
 // What the desk tells of the held nodes: whether their slots are sound, the views that they reported, and each shard's holder and target.
+#![tactic(auto)]
+
 ghost use Rattle.std.specs.Prelude.{true, false, not, ◌||◌, List, ◌≡◌, ℕ, ◌<◌, ◌≤◌, ◌+◌, ◌*◌, ◌/◌, ◌%◌, eqb, ltb, length, get_or, replicate};
 ghost use Rattle.base_lent.specs.Definitions.{words_in};
 ghost use Rattle.base_ids.specs.declared.Position as Positions;
@@ -22,7 +24,7 @@ use report_views::{Layout, Termination};
 use report_walk::{Frame, Tables};
 
 // What a desk tells. ok: every held node's slot is sound; else nothing more is told. views: the view that each held node reported.
-#[derive(Drop)]
+#[derive(Clone, Copy)]
 pub struct Seen {
     pub ok: bool,
     pub views: [View; 32],
@@ -31,7 +33,7 @@ pub struct Seen {
 }
 
 // A node that is noted: its number, whether a termination is made, and the last of its records.
-#[derive(Drop)]
+#[derive(Clone, Copy)]
 struct Turn {
     node: Node,
     made: bool,
@@ -39,7 +41,7 @@ struct Turn {
 }
 
 // A held node's slot: its node, and whether the walk has told it.
-#[derive(Drop)]
+#[derive(Clone, Copy)]
 struct SlotSeen {
     node: Node,
     told: bool,

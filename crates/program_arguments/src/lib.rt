@@ -1,5 +1,7 @@
 // The argument of a program: --version and --help are answered on standard output, any other word is told on standard error. The first
 // argument decides, and no other is looked at.
+#![tactic(auto)]
+
 ghost use Rattle.std.specs.Prelude.{◌≡◌};
 ghost use Rattle.program_text.specs.Definitions.{Puts};
 ghost use Rattle.program_arguments.specs.Definitions.{same_text, told_line, is_known, answer_text};
@@ -7,7 +9,7 @@ ghost use Rattle.program_arguments.specs.Definitions.{same_text, told_line, is_k
 use libc::{STDERR_FILENO, STDOUT_FILENO};
 
 // The answer to a word: the length of its text, and whether the word is one that a program knows.
-#[derive(Drop)]
+#[derive(Clone, Copy)]
 struct WordAnswer {
     len: usize,
     known: bool,

@@ -36,7 +36,7 @@ pub fn gather(bytes: &mut [u8], at: usize, fed: &[u8], from: usize) -> usize
     let n = least(whole - at, fed.len() - from);
     let end = at + n;
     let to = from + n;
-    bytes::copy(&fed[from..to], &mut bytes[at..end]);
+    bytes[at..end].copy_from_slice(&fed[from..to]);
     end
 }
 

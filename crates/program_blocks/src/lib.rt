@@ -1,4 +1,6 @@
 // Blocks of words in a stream of bytes, each preceded by its word count.
+#![tactic(auto)]
+
 pub mod intake;
 
 ghost use Rattle.std.specs.Prelude.{◌≡◌, ◌≤◌, length};
@@ -6,7 +8,7 @@ ghost use Rattle.program_blocks.specs.Definitions as Definitions;
 ghost use Rattle.program_blocks.specs.Held.{held};
 
 // The words of a block: the first len of the table.
-#[derive(Drop)]
+#[derive(Clone, Copy)]
 pub struct Block {
     pub len: usize,
     pub table: [u32; 513],

@@ -1,12 +1,14 @@
 // Standard input, as far as it was read: the one way in which the programs read. The fields of an Input are its own: only `start`, `read` and
 // `fill` make one, so whoever holds an Input that is at its end, or that failed, has read.
+#![tactic(auto)]
+
 ghost use Rattle.std.specs.Prelude.{◌≡◌, ◌≤◌, ◌<◌, max, length, take};
 ghost use Rattle.program_input.specs.Definitions.{unread, after_bytes, after_failure, may_come, is_cut, read_to, most, most_counted, ReadsOn, Fills};
 
 use libc::{EINTR, STDIN_FILENO};
 
 // What may still come.
-#[derive(Drop)]
+#[derive(Clone, Copy)]
 pub enum Source {
     // more may come
     Open,
@@ -19,7 +21,7 @@ pub enum Source {
 }
 
 // Standard input: how many bytes came in all and their sum, how many reads were made, and how many bytes the last of them gave.
-#[derive(Drop)]
+#[derive(Clone, Copy)]
 pub struct Input {
     total: u64,
     sum: u64,
@@ -29,7 +31,7 @@ pub struct Input {
 }
 
 // What came of filling a block: the input after it, and how many bytes of the block are filled.
-#[derive(Drop)]
+#[derive(Clone, Copy)]
 pub struct FilledInput {
     pub input: Input,
     pub len: usize,

@@ -1,5 +1,7 @@
 // What a run prints, as text in lent bytes. Each function puts its text from a place on and answers the place after it; what
 // would lie past the end of the bytes is left out.
+#![tactic(auto)]
+
 pub mod decision;
 
 ghost use Rattle.std.specs.Prelude.{◌++◌, ◌≤◌, ◌<◌, length};

@@ -1,4 +1,6 @@
 // Reading for the programs that take settings and reports: what standard input gives is fed to a run.
+#![tactic(auto)]
+
 ghost use Rattle.std.specs.Prelude.{◌≡◌, ◌≤◌, length, take};
 ghost use Rattle.base_lent.specs.Definitions.{words_in};
 ghost use Rattle.program_run.specs.Definitions.{ReadyRun, Feeds};
@@ -9,14 +11,14 @@ use program_input::Input;
 use program_run::Run;
 
 // The run to which the input has led, and the input as far as it was read.
-#[derive(Drop)]
+#[derive(Clone, Copy)]
 pub struct Intake {
     pub run: Run,
     pub input: Input,
 }
 
 // What is to be printed: its length, and the input that it answers.
-#[derive(Drop)]
+#[derive(Clone, Copy)]
 pub struct Reply {
     pub len: usize,
     pub input: Input,

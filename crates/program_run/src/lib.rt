@@ -1,5 +1,7 @@
 // A run of the program restart: a stream of bytes gives settings, then reports; after its end the run decides, and what it prints
 // is put into lent bytes.
+#![tactic(auto)]
+
 ghost use Rattle.std.specs.Prelude.{[], ◌≡◌, ◌-◌, length, take, drop};
 ghost use Rattle.base_lent.specs.Definitions.{words_in};
 ghost use Rattle.program_blocks.specs.Definitions.{whole_words, next_place, bytes_laid};
@@ -10,7 +12,7 @@ use base_ids::Refusal;
 use state_planner::{Answer, State};
 
 // How far a run has come.
-#[derive(Drop)]
+#[derive(Clone, Copy)]
 pub enum Stage {
     // no block has come
     Opening,
@@ -21,7 +23,7 @@ pub enum Stage {
 }
 
 // A run. The bytes of the block that is coming in lie in lent memory, which the run is lent at each step.
-#[derive(Drop)]
+#[derive(Clone, Copy)]
 pub struct Run {
     pub stage: Stage,
     pub state: State,

@@ -1,4 +1,6 @@
 // What the program sheet prints of a run: its readiness sheet, or the number of a refusal, as text in lent bytes.
+#![tactic(auto)]
+
 ghost use Rattle.std.specs.Prelude.{◌≡◌};
 ghost use Rattle.base_lent.specs.Definitions.{words_in};
 ghost use Rattle.program_run.specs.Definitions.{progress_of, RightSettings};

@@ -1,5 +1,7 @@
 // The text of a readiness sheet in lent bytes: a line for every mask of held nodes, and the line of counts. What would lie past the end of the
 // bytes is left out.
+#![tactic(auto)]
+
 ghost use Rattle.std.specs.Prelude.{◌+◌, ◌^◌, ◌≤◌, ◌<◌, cond, ◌≡◌, eqb, length};
 ghost use Rattle.program_text.specs.Definitions.{field, space, Puts};
 ghost use Rattle.program_sheet_text.specs.Definitions as Definitions;

@@ -1,4 +1,6 @@
 // The sum of bytes.
+#![tactic(auto)]
+
 ghost use Rattle.std.specs.Prelude.{◌≡◌, ◌≤◌, min, length};
 ghost use Rattle.program_sums.specs.Definitions.{sum_of};
 

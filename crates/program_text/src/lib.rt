@@ -1,5 +1,7 @@
 // Text in lent bytes. Each function puts its text from a place on and answers the place after it; what would lie past the end of
 // the bytes is left out.
+#![tactic(auto)]
+
 ghost use Rattle.std.specs.Prelude.{[], ◌∷◌, ◌≡◌, ◌+◌, ◌≤◌, ◌<◌, length};
 ghost use Rattle.base_ids.specs.Definitions.{located};
 ghost use Rattle.program_text.specs.Definitions.{decimal, number_line, field as Text·field, line as Text·line, Puts};

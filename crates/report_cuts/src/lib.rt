@@ -1,5 +1,7 @@
 // The cut of a node's log against a holder's log: how far the node's own log is good. A body is that of a report's contents, len its
 // number of records.
+#![tactic(auto)]
+
 ghost use Rattle.std.specs.Prelude.{[], ◌∷◌, ◌≡◌, ◌<◌, ◌≤◌};
 ghost use Prim.Native.Nat as Nat;
 ghost use Rattle.message_format.specs.Definitions.{word1, word2};

@@ -1,4 +1,6 @@
 // The desk as 65536 lent bytes, 2048 for each node: a slot is read as words, and a message is stored in it.
+#![tactic(auto)]
+
 pub mod ends;
 pub mod slots;
 

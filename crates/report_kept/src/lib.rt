@@ -1,4 +1,6 @@
 // A report taken in: rows 5 to 13 with 18, the view and the termination that it gives, what is kept afterwards, and its slot of the desk.
+#![tactic(auto)]
+
 ghost use Rattle.std.specs.Prelude.{true, List, ◌≡◌, ℕ, ◌%◌, ◌<◌, ◌≤◌, length};
 ghost use Rattle.settings_values.specs.Definitions.{Settings};
 ghost use Rattle.report_views.specs.declared.Layout as Layouts;
@@ -16,7 +18,7 @@ use report_views::{Layout, Termination};
 use report_walk::Tables;
 
 // What is kept of the reports: the view and its termination.
-#[derive(Drop)]
+#[derive(Clone, Copy)]
 pub struct Kept {
     pub view: Layout,
     pub termination: Termination,
@@ -24,7 +26,7 @@ pub struct Kept {
 
 // A report beside what is kept and remembered: its refusal; its node and view, and what is kept afterwards. A refused one gives node 0,
 // view 0 and what was kept.
-#[derive(Drop)]
+#[derive(Clone, Copy)]
 pub struct Received {
     pub refusal: Refusal,
     pub node: Node,

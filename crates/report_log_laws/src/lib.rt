@@ -1,1 +1,2 @@
 // Laws of updates, stretches of logs and cuts.
+#![tactic(auto)]

@@ -1,5 +1,7 @@
 // A quick acceptance of a held node's slot that has a report of an earlier view than the kept one, its records one after another as the
 // writer lays them out. It accepts only sound slots; of one that it does not accept nothing is said.
+#![tactic(auto)]
+
 ghost use Rattle.std.specs.Prelude.{true, ◌⊎◌, ◌≡◌, ℕ, ◌+◌, ◌*◌, ◌<◌, ◌≤◌, length, get_or};
 ghost use Rattle.settings_values.specs.Definitions.{Settings, shards};
 ghost use Rattle.message_format.specs.Definitions.{row10};

@@ -7,7 +7,7 @@ ghost use Rattle.report_rows.specs.Laws.{recalled_by, latest_by};
 use base_ids::{Node, View};
 
 // Each node's greatest reported view since the fresh state; 0: none. Entries from N up are 0.
-#[derive(Drop)]
+#[derive(Clone, Copy)]
 pub struct Latest {
     pub views: [View; 32],
 }

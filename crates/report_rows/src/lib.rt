@@ -1,4 +1,6 @@
 // A report against what is kept: rows 12 and 13, and whether its termination is kept.
+#![tactic(auto)]
+
 pub mod latest;
 
 ghost use Rattle.std.specs.Prelude.{true, ◌&&◌, ◌≡◌, ◌<◌, ◌≤◌};

@@ -1,11 +1,13 @@
 // Views, terminations and waits as values. What the desk's reports say, the quorum, targets and holders stand in specs/.
+#![tactic(auto)]
+
 ghost use Rattle.std.specs.Prelude.{◌≡◌, replicate};
 ghost use Rattle.report_views.specs.Definitions.{start};
 
 use base_ids::{Node, Position, Shard, View};
 
 // A view: its number (0: none), its members and each shard's members. Entries from S up are 0.
-#[derive(Drop)]
+#[derive(Clone, Copy)]
 pub struct Layout {
     pub number: View,
     pub members: u32,
@@ -13,14 +15,14 @@ pub struct Layout {
 }
 
 // An epoch termination, if one was made: for each shard the position at which its log ends. Entries from S up are (0, 0).
-#[derive(Drop)]
+#[derive(Clone, Copy)]
 pub struct Termination {
     pub made: bool,
     pub positions: [Position; 16],
 }
 
 // Why no restart is possible yet.
-#[derive(Drop)]
+#[derive(Clone, Copy)]
 pub enum Reason {
     // no view is kept
     NoView,
@@ -35,14 +37,14 @@ pub enum Reason {
 }
 
 // Whether the quorum conditions are met, and if not the first that fails.
-#[derive(Drop)]
+#[derive(Clone, Copy)]
 pub enum Quorum {
     Met,
     Short(Reason),
 }
 
 // A plan: the new view, the moves of its placements, and each shard's holder and target. Entries from S up are 0.
-#[derive(Drop)]
+#[derive(Clone, Copy)]
 pub struct Plan {
     pub layout: Layout,
     pub total: u32,
@@ -51,7 +53,7 @@ pub struct Plan {
 }
 
 // Where a restart stands.
-#[derive(Drop)]
+#[derive(Clone, Copy)]
 pub enum Phase {
     // reports come in
     Gathering,

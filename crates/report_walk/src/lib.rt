@@ -1,6 +1,8 @@
 // A walk over a held node's slot, two words at a time. It tells a report of the kept view whose records stand one after another, as
 // the writer lays them out, and where each shard's last run stands. Of a slot that it does not tell nothing is said. What it compares
 // with is made once of the kept view and its termination.
+#![tactic(auto)]
+
 ghost use Rattle.std.specs.Prelude.{◌≡◌, ℕ, ◌+◌, ◌-◌, ◌*◌, ◌/◌, ◌%◌, ◌<◌, ◌≤◌, true, length, slice_index};
 ghost use Rattle.settings_values.specs.Definitions.{Settings};
 ghost use Rattle.base_laws.specs.Definitions.{all_below};
@@ -15,7 +17,7 @@ use message_format::Form;
 use report_views::{Layout, Termination};
 
 // Whether a report of the kept view can be told by comparing; the view's number and members, whether its termination is made, and S.
-#[derive(Drop)]
+#[derive(Clone, Copy)]
 pub struct Frame {
     pub ready: bool,
     pub number: View,
@@ -25,7 +27,7 @@ pub struct Frame {
 }
 
 // What slots and messages are compared with: the pairs of the records of members, and of those of positions.
-#[derive(Drop)]
+#[derive(Clone, Copy)]
 pub struct Tables {
     pub frame: Frame,
     pub masks: [u64; 32],

@@ -1,5 +1,7 @@
 // Reads settings and reports from standard input and prints the plan, the reason to wait, or the number of a refusal. Where standard input
 // cannot be read to its end nothing is decided.
+#![tactic(auto)]
+
 ghost use Rattle.program_run.specs.Definitions.{Printed};
 ghost use Rattle.program_reading.specs.Definitions.{Answers};
 

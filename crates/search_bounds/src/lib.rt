@@ -1,6 +1,8 @@
 // Excludes pairs of shard and node by weights, finds nodes that must be placed, and a floor of the weight. The weights are numbers from
 // anywhere: no floor, no exclusion and no mark rests on them being good. Where an inequality fails, the cut says so.
 // Pairs that are open: masks of nodes by shard; after them the mask of the nodes that must be placed.
+#![tactic(auto)]
+
 ghost use Rattle.std.specs.Prelude.{◌≡◌, true, false, cond, [], ◌+◌, ◌*◌, ◌-◌, ◌/◌, ◌^◌, ◌≤◌, ◌<◌, min, length, get_or, leb, ltb};
 ghost use Rattle.base_laws.specs.Definitions.{all_below, has, with, without};
 ghost use Rattle.base_sum_laws.specs.Definitions.{mask_below, sum_below};
@@ -273,7 +275,7 @@ fn lowest(m: u32) -> usize
 }
 
 // A row of open pairs, and whether its inequalities hold.
-#[derive(Drop)]
+#[derive(Clone, Copy)]
 struct OpenRow {
     good: bool,
     row: u32,
@@ -363,7 +365,7 @@ fn cut_row(
 }
 
 // Whether the weights are good, and the floor that they prove.
-#[derive(Drop)]
+#[derive(Clone, Copy)]
 pub struct Bound {
     pub good: bool,
     pub floor: usize,

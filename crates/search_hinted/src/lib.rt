@@ -1,6 +1,8 @@
 // The first valid placement of a weight of at most k, and the first of least weight, or that there is none, by the hints of an oracle.
 // Every pair that is left, every list that goes on and every bound is proved, by a cut, by a node that must be placed or by the sheet, and
 // the owners that are found are tested, so no answer rests on the hints. Where a hint fails, the total search answers.
+#![tactic(auto)]
+
 ghost use Rattle.std.specs.Prelude.{◌≡◌, true, false, [], ◌⊎◌, ◌+◌, ◌*◌, ◌/◌, ◌%◌, ◌≤◌, ◌<◌, min, ltb, length, get_or, set};
 ghost use Rattle.base_laws.specs.Definitions.{without};
 ghost use Rattle.base_sum_laws.specs.Definitions.{mask_below};
@@ -374,7 +376,7 @@ fn step(
 }
 
 // An answer, if it is sure.
-#[derive(Drop)]
+#[derive(Clone, Copy)]
 struct Quick {
     sure: bool,
     answer: Solution,

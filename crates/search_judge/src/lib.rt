@@ -1,5 +1,7 @@
 // Tests on a subgroup's tables: sets and owners by node, needs and caps by shard, costs at shard * 32 + node (from 255 up
 // not allowed). An owner below 16 is the node's shard; any other means that the node is placed nowhere, which costs idle.
+#![tactic(auto)]
+
 pub mod floor;
 
 ghost use Rattle.std.specs.Prelude.{◌≡◌, cond, true, false, [], ◌+◌, ◌*◌, ◌/◌, ◌%◌, ◌<◌, ◌≤◌, get_or, eqb, ltb};

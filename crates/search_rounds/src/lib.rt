@@ -1,11 +1,13 @@
 // Improving rounds in one subgroup: from a placement, each round goes to the first valid placement of less weight.
+#![tactic(auto)]
+
 ghost use Rattle.search_laws.specs.Tables.{case_of};
 ghost use Rattle.search_rounds.specs.Post.{Low, Weighed, Improved};
 
 use search_total::Solution;
 
 // The placement reached, the rounds that are left, and whether none is better.
-#[derive(Drop)]
+#[derive(Clone, Copy)]
 pub struct Improvement {
     pub answer: Solution,
     pub left: usize,

@@ -1,5 +1,7 @@
 // The first valid placement of a subgroup of a weight of at most k, and the first of least weight, or that there is none. The tables are
 // those of search_judge; shards ascending, the smaller list of nodes in dictionary order comes first, and a list before a longer one.
+#![tactic(auto)]
+
 ghost use Rattle.std.specs.Prelude.{◌≡◌, true, [], ◌+◌, ◌≤◌, ◌<◌, eqb};
 ghost use Rattle.search_laws.specs.Case.{WeighsWithin};
 ghost use Rattle.search_laws.specs.Order.{HasNone, From, shard_end};
@@ -8,7 +10,7 @@ ghost use Rattle.search_total.specs.Post.{ReadyFrom, Sought, WithinAnswer, Least
 ghost use Rattle.search_total.specs.Answers.{HasOwners, Empty};
 
 // What a search found: the weight and the owner of each node, 16 for none, where a placement exists; else 0 and no owners.
-#[derive(Drop)]
+#[derive(Clone, Copy)]
 pub struct Solution {
     pub exists: bool,
     pub weight: usize,

@@ -1,4 +1,6 @@
 // Row 2: whether the words of the settings are right.
+#![tactic(auto)]
+
 ghost use Rattle.std.specs.Prelude.{◌≡◌, ◌<◌, ◌≤◌, length};
 ghost use Rattle.settings_values.specs.Definitions.{ranges_ok, sizes_ok, nodes_ok, shard_ok, shards_ok, settings_ok, Sizes, shards};
 

@@ -1,4 +1,6 @@
 // What the words of the settings say.
+#![tactic(auto)]
+
 ghost use Rattle.std.specs.Prelude.{◌≡◌, ◌<◌};
 ghost use Rattle.settings_values.specs.Definitions.{from_to, Sizes, Settings, nodes, sets, least, shards, set_of, shard_word, subgroup, need, cap};
 

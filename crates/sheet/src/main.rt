@@ -1,6 +1,8 @@
 // Reads settings and reports from standard input as `restart` does and prints the readiness sheet: a line for every set of held nodes, then
 // how many of them have a plan and how many each wait; or the number of a refusal. Where standard input cannot be read to its end nothing is
 // printed.
+#![tactic(auto)]
+
 ghost use Rattle.program_reading.specs.Definitions.{Answers};
 ghost use Rattle.program_sheet.specs.Definitions.{Sheeted};
 

@@ -1,4 +1,6 @@
 // The game of outage and crew over a state, with given nodes held in place of the state's. Neither state nor desk changes.
+#![tactic(auto)]
+
 ghost use Rattle.std.specs.Prelude.{◌≡◌, length};
 ghost use Rattle.base_lent.specs.Definitions.{words_in};
 ghost use Rattle.settings_values.specs.Definitions.{Settings};
@@ -9,7 +11,7 @@ use game_rules::Winner;
 use state_planner::State;
 
 // Who wins, or a refusal.
-#[derive(Drop)]
+#[derive(Clone, Copy)]
 pub enum Played {
     Won(Winner),
     Unplayed(Refusal),

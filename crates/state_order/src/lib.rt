@@ -1,4 +1,6 @@
 // The order event: has the writer write the order of a held node, while the planner is ordered. It changes neither state nor desk.
+#![tactic(auto)]
+
 ghost use Rattle.std.specs.Prelude.{◌≡◌, length};
 ghost use Rattle.base_lent.specs.Definitions.{words_in};
 ghost use Rattle.settings_values.specs.Definitions.{Settings};

@@ -1,4 +1,6 @@
 // The page call: what a role may read of one subgroup. It changes neither state nor desk.
+#![tactic(auto)]
+
 ghost use Rattle.std.specs.Prelude.{◌≡◌, length};
 ghost use Rattle.base_lent.specs.Definitions.{words_in};
 ghost use Rattle.settings_values.specs.Definitions.{Settings};
@@ -12,7 +14,7 @@ use plan_page::Page;
 use state_planner::State;
 
 // What the page call hands back. Beside a refusal the page tells nothing.
-#[derive(Drop)]
+#[derive(Clone, Copy)]
 pub struct Paged {
     pub refusal: Refusal,
     pub page: Page,

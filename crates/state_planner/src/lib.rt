@@ -1,4 +1,6 @@
 // The planner: its state, and the events that lead from state to state.
+#![tactic(auto)]
+
 ghost use Rattle.std.specs.Prelude.{List, ◌≡◌, ℕ, ◌<◌, length};
 ghost use Rattle.base_laws.specs.Definitions.{with};
 ghost use Rattle.base_lent.specs.Definitions.{words_in};
@@ -23,7 +25,7 @@ use report_walk::Tables;
 
 // The planner's state: the phase, the kept view and its termination, the masks of held, fetched and prepared nodes, the plan, and each
 // node's greatest reported view.
-#[derive(Drop)]
+#[derive(Clone, Copy)]
 pub struct State {
     pub phase: Phase,
     pub kept: Layout,
@@ -36,14 +38,14 @@ pub struct State {
 }
 
 // The answer to report, drop, fetched and prepared.
-#[derive(Drop)]
+#[derive(Clone, Copy)]
 pub enum Answer {
     Accepted,
     Refused(Refusal),
 }
 
 // The answer to decide. The plan itself stands in the state.
-#[derive(Drop)]
+#[derive(Clone, Copy)]
 pub enum Decision {
     Planned,
     Wait(Reason),
@@ -51,21 +53,21 @@ pub enum Decision {
 }
 
 // What report, drop, fetched and prepared hand back.
-#[derive(Drop)]
+#[derive(Clone, Copy)]
 pub struct Outcome {
     pub state: State,
     pub answer: Answer,
 }
 
 // What decide hands back.
-#[derive(Drop)]
+#[derive(Clone, Copy)]
 pub struct Decided {
     pub state: State,
     pub decision: Decision,
 }
 
 // What decide with improving rounds hands back; no gap beside a wait or a refusal.
-#[derive(Drop)]
+#[derive(Clone, Copy)]
 pub struct DecidedWithin {
     pub state: State,
     pub decision: Decision,
@@ -73,7 +75,7 @@ pub struct DecidedWithin {
 }
 
 // What an event has found of rows 3 and 4, what the desk tells, and what slots and messages are compared with.
-#[derive(Drop)]
+#[derive(Clone, Copy)]
 pub struct Sighted {
     pub refusal: Refusal,
     pub seen: Seen,

@@ -1,5 +1,7 @@
 // What if this machine goes too: the answer that decide would give without a held node, and the held nodes whose loss means waiting.
 // Neither state nor desk changes.
+#![tactic(auto)]
+
 ghost use Rattle.std.specs.Prelude.{◌≡◌, length};
 ghost use Rattle.base_lent.specs.Definitions.{words_in};
 ghost use Rattle.settings_values.specs.Definitions.{Settings};
@@ -13,7 +15,7 @@ use base_ids::{Node, Refusal};
 use state_planner::{Decided, Decision, State};
 
 // What the preview of all held nodes hands back: beside a refusal no node, else those whose loss means waiting.
-#[derive(Drop)]
+#[derive(Clone, Copy)]
 pub struct Warning {
     pub refusal: Refusal,
     pub lost: u32,

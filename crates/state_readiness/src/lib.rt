@@ -1,4 +1,6 @@
 // Readiness: the number that decide would give for every set of held nodes, in settings of up to ten nodes. Neither state nor desk changes.
+#![tactic(auto)]
+
 ghost use Rattle.std.specs.Prelude.{◌-◌, ◌^◌, ◌≤◌, ◌&&◌, ◌≡◌, leb, length};
 ghost use Rattle.base_lent.specs.Definitions.{words_in};
 ghost use Rattle.settings_values.specs.Definitions.{nodes, Settings};
@@ -9,7 +11,7 @@ use base_ids::Refusal;
 use state_planner::State;
 
 // The row of each mask of held nodes. Beside a refusal they are zeros.
-#[derive(Drop)]
+#[derive(Clone, Copy)]
 pub struct ReadyRows {
     pub refusal: Refusal,
     pub rows: [u8; 1024],

@@ -1,4 +1,6 @@
 // What the events ask of a state's parts: its phase, rows 6 and 14 of a node, and the marks of its nodes.
+#![tactic(auto)]
+
 pub mod sound_parts;
 pub mod sound_plan;
 

@@ -1,0 +1,38 @@
+-- `base_bytes::encode` meets its contract. The loop's invariant: the slice is filled with the bytes of the words below i. The measure is what is
+-- left of the words. Assumes nothing.
+use mathlib.Core.Path.{refl, sym, ap, ◌∙◌}
+use Prim.Native.Nat.{◌*◌, ◌-◌}
+use native.Mathlib.Omega.{arith}
+use lib.ListN.{length, get_or}
+use Rattle.base_laws.specs.Tables.{filled_none}
+use Rattle.base_bytes.specs.Definitions.{byte_at}
+use Rattle.base_bytes.specs.Words.{bytes_filled, stored_turn, length_stored}
+use borrow.Author.Rules.{rules}
+use Rattle.base_bytes.proofs.encode.Goals as goal
+
+pub loop-i-init : goal.loop-i-init
+loop-i-init c = (search rules, refl, sym (filled_none (byte_at c.args.words.now) c.args.bytes.now))
+
+pub put-requires : goal.put-requires
+put-requires c = omega arith
+
+pub loop-i-preserved : goal.loop-i-preserved
+loop-i-preserved c =
+    let s = c in
+    let i = s.loop-i.i in
+    let words = s.args.words.now in
+    let bytes₀ = s.args.bytes.now in
+    let bytes = s.loop-i.bytes in (
+      omega arith,
+      ap length c.put.ensures ∙ length_stored bytes (4 * i) (get_or words i 0) ∙ s.loop-i.invariant.1,
+      c.put.ensures ∙ stored_turn words bytes₀ bytes i (omega arith) s.loop-i.invariant.2,
+    )
+
+pub shape_of-bytes : goal.shape_of-bytes
+shape_of-bytes c = c.loop-i.invariant.1
+
+pub returns : goal.returns
+returns c =
+    let words = c.args.words.now in
+    let bytes₀ = c.args.bytes.now in
+    c.loop-i.invariant.2 ∙ bytes_filled words bytes₀ c.loop-i.i (omega arith) (omega arith)

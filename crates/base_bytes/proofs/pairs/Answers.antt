@@ -1,0 +1,25 @@
+-- `base_bytes::pairs` meets its contract. The loop's invariant: the table is filled below i. The measure is what is left of it.
+-- Assumes nothing.
+use mathlib.Core.Path.{sym}
+use Prim.Native.Nat.{◌-◌, ◌≤◌}
+use native.Mathlib.Omega.{arith}
+use lib.Dec.{lit≤}
+use Rattle.base_laws.specs.Tables.{filled_none, filled_turn, filled_end}
+use Rattle.base_bytes.specs.Words.{pair_at}
+use Rattle.base_bytes.proofs.pairs.Goals as goal
+
+pub loop-i-init : goal.loop-i-init
+loop-i-init c = (lit≤ tt, sym (filled_none _ _))
+
+pub pair_at-requires : goal.pair_at-requires
+pair_at-requires c = omega arith
+
+pub loop-i-preserved : goal.loop-i-preserved
+loop-i-preserved c =
+    let l = c.loop-i in
+    (omega arith, filled_turn l.i _ _ l.out _ (omega arith) l.invariant.1 c.pair_at.ensures)
+
+pub returns : goal.returns
+returns c =
+    let l = c.loop-i in
+    filled_end 256 _ _ l.out l.i (omega arith) l.invariant.0 (omega arith) l.invariant.1

@@ -1,0 +1,19 @@
+-- Each return is a case of what the call answers and leaves.
+use mathlib.Core.Path.{refl}
+use Rattle.c_messages.specs.Turning.{to_not_2048, to_few, to_told}
+use Rattle.c_messages.proofs.flat.to_flat.Goals as goal
+
+pub returns-then-buffer-ne2048 : goal.returns-then-buffer-ne2048
+returns-then-buffer-ne2048 c = to_not_2048 _ _ _ c.if-buffer-ne2048.true
+
+pub give-requires : goal.give-requires
+give-requires c =
+    let s = c in
+    let whole = s.if-buffer-ne2048.false in
+    (to_few _ _ s.args.buffer.now whole _ refl _ s.turn_back_lent-writing.ensures.0, whole)
+
+pub returns : goal.returns
+returns c =
+    let s = c in
+    let given = c.give.ensures in
+    to_told _ _ _ s.if-buffer-ne2048.false _ refl _ s.turn_back_lent-writing.ensures.0 _ _ _ s.turn_back_lent-writing.ensures.1 given.0 given.1

@@ -1,0 +1,10 @@
+-- The settings that are looked at are those that were lent, or both are wrong.
+use mathlib.Core.Path.{◌∙◌}
+use Rattle.c_messages.specs.Limits.{writing_within, buffer_within}
+use Rattle.c_messages.proofs.write_under.Goals as goal
+
+pub returns : goal.returns
+returns c =
+    let front = c.settings_of-s.ensures.front in
+    let given = c.write.ensures in
+    (given.0 ∙ writing_within _ _ _ _ _ front, given.1 ∙ buffer_within _ _ _ _ _ front)

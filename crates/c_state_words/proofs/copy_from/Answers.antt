@@ -1,0 +1,26 @@
+-- At the loop's head the first k words are stored.
+use Prim.Native.Nat.{◌-◌}
+use mathlib.Core.Path.{refl, sym, ◌∙◌}
+use native.Mathlib.Omega.{arith}
+use lib.ListN.{length-set}
+use Rattle.base_laws.specs.Tables.{filled_none, filled_turn}
+use Rattle.c_state_words.specs.Laws.{span_filled}
+use borrow.Author.Rules.{rules}
+use Rattle.c_state_words.proofs.copy_from.Goals as goal
+
+pub loop-k-init : goal.loop-k-init
+loop-k-init c = (search rules, refl, sym (filled_none _ _))
+
+pub loop-k-preserved : goal.loop-k-preserved
+loop-k-preserved c =
+    let l = c.loop-k in (
+      omega arith,
+      length-set l.out l.k _ ∙ l.invariant.1,
+      filled_turn l.k _ _ l.out _ (omega arith) l.invariant.2 refl,
+    )
+
+pub shape_of-out : goal.shape_of-out
+shape_of-out c = c.loop-k.invariant.1
+
+pub returns : goal.returns
+returns c = c.loop-k.invariant.2 ∙ span_filled _ _ _ c.loop-k.k (omega arith)

@@ -1,0 +1,8 @@
+use Prim.Native.Nat.{◌≤◌}
+use Rattle.hint_memory.proofs.owners.least_level.Given as goal
+
+abbrev pub invariant-loop-m : goal.invariant-loop-m
+invariant-loop-m l = l.least ≤ 131072
+
+abbrev pub decreases-loop-m : goal.decreases-loop-m
+decreases-loop-m l = l.m

@@ -1,0 +1,95 @@
+-- A reader is made of the words and the index passed, in the result's local. A shared slice is Copy, so what the words own is had
+-- twice: once for the words at exit, and once inside the reader, beside the facts of the index.
+use mathlib.Core.Path.{refl}
+use Prim.Native.Nat.{ℕ, ◌<◌, ◌^◌}
+use mathlib.Core.List.{List, [], ◌∷◌}
+use lib.ListN.{length}
+use seplogic.Ra.Ura.{Ura}
+use mir.Syntax.{named, w64}
+use mir.Val.{Val, vint}
+use base.Logic.{SProp, ent, emp, via, fst∗}
+use base.Fml.{Lft, Share, Fml, ftrue, flft}
+use prog.Memory.{Memory}
+use prog.Routine.{Routine}
+use prog.Wp.{Calls, Loops, WpFn, Tables}
+use types.Logic.{Logic}
+use contract.Monad.{Fun}
+use types.Kit.{‵, raw, ◌⊛◌, ◌$◌, ◌∵◌, !, qed, by, move, use1, split, fsplit, fjoin, suffices, frame}
+use types.Part.{agg}
+use types.Run.{look, init, forget, stop, from, load, and_then, no_more, assigns, returns, enter, alloc1, alloc0, params1, pass1, pass0, free1, free0}
+use sound.WpLaws.{WpFn-mono}
+use denote.RattleType.{owns}
+use denote.Laws.{Is}
+use denote.Plain.{uint_vals, uint_Tells, uint_Makes}
+use denote.Builtin.{u32, usize}
+use denote.Ref.{Bor, NamedLft}
+use denote.Signature.{plain, named_lft}
+use denote.Slice.{slice_val, ShrSlice, shr_slice_vals, shr_slice_Tells, shr_slice_Lawful, shr_slice_copy}
+use denote.Steps.{nothing, owned}
+use denote.Struct.Rest.{own_shut}
+use denote.Triple.Entry.{Vals, on_entry}
+use denote.Triple.Spec.{Meets}
+use denote.Triple.Walked.{says, Stays, stay_none, stay_none_slice, walk_of, Goes-none, Goes-none_slice, Walks, ends_at, walked, walk_Meets}
+use denote.Exit.{yes}
+use Rattle.message_chain.specs.declared.Reader.{Reader}
+use Rattle.message_chain.specs.contracts.Reader as T
+use Rattle.message_chain.proofs.Reader.TheLaws as T'
+use Rattle.message_chain.specs.contracts.reader_at as own
+use Rattle.message_chain.proofs.reader_at.Statement as stated
+use Rattle.message_chain.proofs.reader_at.Code as code
+use Rattle.message_chain.proofs.reader_at.Goals as goal
+
+abbrev stayed : Stays (own.ended).signature.params (own.ended).kept
+stayed = (stay_none_slice (0 ∷ []) tt (plain (λ _. u32)) yes, (stay_none (λ _. usize) yes, tt))
+
+module _ {M : Type 1} {𝓤 : Ura M} (𝓛 : Logic 𝓤) (mem : Memory → SProp 𝓤) (run : Routine → Fun 𝓤) (κ : Lft) (q : Share) (s : Bor (List ℕ)) (n : ℕ) (ok : n < 2 ^ 64) where
+  open 𝓛 use {H}
+
+  abbrev α : NamedLft
+  α = named_lft 1 0 tt (κ, tt)
+
+  -- the words' machine value
+  abbrev v : Val
+  v = slice_val s.ref_ptr (length s.now)
+
+  abbrev made : Reader
+  made = record { words = s; at = n }
+
+  abbrev passed : Vals own.signature (κ, tt)
+  passed = (v ∷ [], (vint w64 n ∷ [], tt))
+
+  abbrev Post : Val → SProp 𝓤
+  Post = (walk_of 𝓛 own.ended stayed (own.clauses 𝓛 mem run)).post (((κ, tt), (q, tt), tt, (s, (n, tt)), passed), tt)
+
+  abbrev Own : Fml
+  Own = (ShrSlice (named 0) κ u32).own_val s (v ∷ [])
+
+  exits : ent 𝓤 (on_entry 𝓛 own.signature (κ, tt) (q, tt) (s, (n, tt)) passed) (Post (T'.lowered made))
+  exits =
+      qed 𝓛 ((‵ (flft κ q) ⊛ ‵ ftrue) ∷ ‵ (owns (ShrSlice (named 0) κ u32 ∷ usize ∷ []) (s, (n, tt)) passed) ∷ []) ∵
+      suffices ! _ (ends_at 𝓛 own.ended stayed (own.clauses 𝓛 mem run) (((κ, tt), (q, tt), tt, (s, (n, tt)), passed), tt) (T'.lowered made) made (tt, (tt, tt)) (tt, (tt, tt))) $ says ! (refl, refl) $
+      frame ! $ fsplit ! $ use1 𝓛 (‵ Own ⊛ ‵ Own) ((shr_slice_copy 𝓛 (named 0) κ u32).twice s (v ∷ [])) $ split ! $ move ! (0 ∷ 2 ∷ []) $ fjoin ! $ frame ! $
+      -- [what the words own]: with the index's facts it is what the reader owns
+      nothing ! $ owned ! usize (Is usize) (uint_Makes 𝓛 w64) n _ (refl, ok) $ fjoin ! $ move ! (1 ∷ 0 ∷ []) $ fjoin ! $ by ! (own_shut 𝓛 (T.the_type α) (T'.the_laws α) (s, (n, tt)))
+
+  module _ (C : Calls 𝓤 H) (Λ : Loops 𝓤 H) where
+    walk : Is (ShrSlice (named 0) κ u32) s (v ∷ []) → ent 𝓤 (on_entry 𝓛 own.signature (κ, tt) (q, tt) (s, (n, tt)) passed) (WpFn 𝓤 H C Λ code.function (v ∷ vint w64 n ∷ []) Post)
+    walk p =
+        qed 𝓛 (raw (on_entry 𝓛 own.signature (κ, tt) (q, tt) (s, (n, tt)) passed) ∷ []) ∵ enter ! C Λ code.function (v ∷ vint w64 n ∷ []) _ $
+        alloc1 ! (λ l₀. alloc1 ! (λ l₁. alloc1 ! (λ l₂. alloc0 ! $ params1 ! $ pass1 ! (init ! 2 refl ((shr_slice_Lawful 𝓛 (named 0) κ u32).typed s (v ∷ []) p).0) $ pass1 ! (init ! 0 refl (tt, record { fits = ok })) $ pass0 ! $
+        assigns ! (agg ! (and_then ! (load ! (from ! (stop !)) (look ! 2 refl)) (and_then ! (load ! (from ! (stop !)) (look ! 0 refl)) (no_more !)))) (from ! (stop !)) (init ! 4 refl (tt, (((shr_slice_Lawful 𝓛 (named 0) κ u32).typed s (v ∷ []) p).0.1, (record { fits = ok }, tt)))) $
+        returns ! (look ! 4 refl) $ forget ! 0 refl $ forget ! 2 refl $ forget ! 4 refl $
+        move ! (4 ∷ 5 ∷ []) $ free1 ! $ move ! (2 ∷ 3 ∷ []) $ free1 ! $ free1 ! $ free0 ! $ by ! exits)))
+
+module _ {M : Type 1} {𝓤 : Ura M} (𝓛 : Logic 𝓤) (mem : Memory → SProp 𝓤) (run : Routine → Fun 𝓤) where
+  open 𝓛 use {H}
+
+  walks : (C : Calls 𝓤 H) (Λ : Loops 𝓤 H) → Walks 𝓛 own.ended stayed (WpFn 𝓤 H C Λ code.function) (own.clauses 𝓛 mem run)
+  walks C Λ = walked 𝓛 own.ended stayed (own.clauses 𝓛 mem run) (WpFn 𝓤 H C Λ code.function) (λ κs. (shr_slice_vals, (uint_vals w64, tt))) (λ κs. (shr_slice_Tells (named 0) κs.0 u32, (uint_Tells w64, tt)))
+      (λ κs qs bounds a g are. via 𝓤 _ (fst∗ 𝓤 _ (emp 𝓤)) (walk 𝓛 mem run κs.0 qs.0 a.0 a.1.0 are.1.0.1 C Λ are.0))
+
+meets : {M : Type 1} {𝓤 : Ura M} (𝓛 : Logic 𝓤) → (mem : Memory → SProp 𝓤) (run : Routine → Fun 𝓤) (𝓣 : Tables 𝓤 𝓛.H)
+    → Meets 𝓛 own.signature (WpFn 𝓤 𝓛.H 𝓣.C 𝓣.Λ code.function) (own.spec 𝓛 mem run)
+meets {𝓤 = 𝓤} 𝓛 mem run 𝓣 =
+    walk_Meets 𝓛 own.ended stayed (Goes-none_slice 𝓛 1 (0 ∷ []) tt (plain (λ _. u32)) yes, (Goes-none 𝓛 1 (λ _. usize) yes (λ κs x f. refl), tt)) (own.clauses 𝓛 mem run)
+    (WpFn 𝓤 𝓛.H 𝓣.C 𝓣.Λ code.function) (WpFn-mono 𝓤 𝓛.H 𝓛.laws 𝓣 code.function) (walks 𝓛 mem run 𝓣.C 𝓣.Λ)

@@ -1,0 +1,46 @@
+-- `message_contents::passes::sequence` meets its contract. The invariant: the records below j pass, and carried has the shards that
+-- the node carries by them.
+use mathlib.Core.Path.{sym, ap, ◌∙◌}
+use mathlib.Core.Bool.{true}
+use Prim.Native.Nat.{ℕ, ◌-◌}
+use native.Mathlib.Omega.{arith}
+use borrow.Author.Tests.{not-true, not-false}
+use Rattle.message_contents.specs.Gathered.{gives_shard, with_shard}
+use Rattle.base_laws.specs.Below.{all_none, all_more, all_fewer}
+use Rattle.base_laws.specs.Loops.{bad_at, bad_none}
+use Rattle.message_format.specs.Definitions.{sequence_at}
+use Rattle.message_contents.specs.Laws.{where_none, where_step}
+use borrow.Author.Rules.{rules}
+use Rattle.message_contents.proofs.passes.sequence.Goals as goal
+
+pub loop-j-init : goal.loop-j-init
+loop-j-init c = let n = c.args.node.0 in
+    let b = c.args.body.now in
+    (search rules, sym (where_none (gives_shard n b) b), all_none (sequence_at n b))
+
+pub returns-then-not-sequence_at : goal.returns-then-not-sequence_at
+returns-then-not-sequence_at c = let a = c.args in
+    let k = c.sequence_at in
+    let l = c.loop-j in
+    sym (bad_at a.len (sequence_at a.node.0 a.body.now) l.j (omega arith) l.invariant.2 (sym k.ensures ∙ not-true k.result c.if-not-sequence_at.true))
+
+pub carried_more-carried-requires : goal.carried_more-carried-requires
+carried_more-carried-requires c = (omega arith, c.requires.1 c.loop-j.j (omega arith))
+
+pub loop-j-preserved : goal.loop-j-preserved
+loop-j-preserved c = let a = c.args in
+    let n = a.node.0 in
+    let b = a.body.now in
+    let k = c.sequence_at in
+    let l = c.loop-j in (
+      omega arith,
+      c.carried_more-carried.ensures
+          ∙ ap (λ (m : ℕ). with_shard (gives_shard n b l.j) m b l.j) l.invariant.1
+          ∙ sym (where_step (gives_shard n b) b l.j),
+      all_more l.j (sequence_at n b) l.invariant.2 (sym k.ensures ∙ not-false k.result c.if-not-sequence_at.false),
+    )
+
+pub returns : goal.returns
+returns c = let a = c.args in
+    let ok = sequence_at a.node.0 a.body.now in
+    sym (bad_none a.len ok (all_fewer a.len c.loop-j.j ok (omega arith) c.loop-j.invariant.2))

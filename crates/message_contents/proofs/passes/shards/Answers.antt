@@ -1,0 +1,45 @@
+-- `message_contents::passes::shards` meets its contract. The invariant: the records below j pass.
+use mathlib.Core.Path.{◌≡◌, sym}
+use mathlib.Core.Bool.{true, false}
+use mathlib.Core.List.{List}
+use Prim.Native.Nat.{ℕ, ◌<◌, ◌≤◌, ◌-◌}
+use native.Mathlib.Omega.{arith}
+use borrow.Author.Tests.{le-ltb, lt-ltb}
+use Rattle.base_laws.specs.Below.{all_none, all_more, all_fewer}
+use Rattle.base_laws.specs.Loops.{bad_at, bad_none}
+use Rattle.message_format.specs.Definitions.{record_shard, shard_at}
+use Rattle.settings_values.specs.Definitions as Definitions
+use borrow.Author.Rules.{rules}
+use Rattle.message_contents.proofs.passes.shards.Goals as goal
+
+module _ (σ b : List ℕ) (j count s : ℕ) (e : count ≡ Definitions.shards σ) (f : s ≡ record_shard b j) where
+  passes : s < count → shard_at σ b j ≡ true
+  unfolding shard_at
+  passes l = lt-ltb (record_shard b j) (Definitions.shards σ) (omega arith)
+
+  fails : count ≤ s → shard_at σ b j ≡ false
+  unfolding shard_at
+  fails l = le-ltb (record_shard b j) (Definitions.shards σ) (omega arith)
+
+pub loop-j-init : goal.loop-j-init
+loop-j-init c = let a = c.args in
+    (search rules, all_none (shard_at a.settings.now a.body.now))
+
+pub returns-then-count-shard : goal.returns-then-count-shard
+returns-then-count-shard c = let a = c.args in
+    let l = c.loop-j in
+    sym (bad_at a.len (shard_at a.settings.now a.body.now) l.j (omega arith) l.invariant.1
+    (fails a.settings.now a.body.now l.j _ _ c.shards-count.ensures c.shard-shard.ensures c.if-count-shard.true))
+
+pub loop-j-preserved : goal.loop-j-preserved
+loop-j-preserved c = let a = c.args in
+    let l = c.loop-j in (
+      omega arith,
+      all_more l.j (shard_at a.settings.now a.body.now) l.invariant.1
+          (passes a.settings.now a.body.now l.j _ _ c.shards-count.ensures c.shard-shard.ensures c.if-count-shard.false),
+    )
+
+pub returns : goal.returns
+returns c = let a = c.args in
+    let ok = shard_at a.settings.now a.body.now in
+    sym (bad_none a.len ok (all_fewer a.len c.loop-j.j ok (omega arith) c.loop-j.invariant.1))

@@ -1,0 +1,31 @@
+-- `message_contents::records::carried_by` meets its contract. The invariant: the mask has the shards carried by the records below j.
+use mathlib.Core.Path.{◌≡◌, sym, ap, ◌∙◌}
+use Prim.Native.Nat.{ℕ, ◌-◌}
+use native.Mathlib.Omega.{arith}
+use Rattle.message_contents.specs.Gathered.{gives_shard, with_shard}
+use Rattle.message_format.specs.Definitions.{carried_by}
+use Rattle.message_contents.specs.Laws.{where_none, where_step}
+use borrow.Author.Rules.{rules}
+use Rattle.message_contents.proofs.records.carried_by.Goals as goal
+
+pub loop-j-init : goal.loop-j-init
+loop-j-init c = (search rules, sym (where_none (gives_shard c.args.node.0 c.args.body.now) c.args.body.now))
+
+pub carried_more-mask-requires : goal.carried_more-mask-requires
+carried_more-mask-requires c = (omega arith, c.requires.1 c.loop-j.j (omega arith))
+
+pub loop-j-preserved : goal.loop-j-preserved
+loop-j-preserved c = let a = c.args in
+    let b = a.body.now in
+    let l = c.loop-j in (
+      omega arith,
+      c.carried_more-mask.ensures
+          ∙ ap (λ (m : ℕ). with_shard (gives_shard a.node.0 b l.j) m b l.j) l.invariant.1
+          ∙ sym (where_step (gives_shard a.node.0 b) b l.j),
+    )
+
+pub returns : goal.returns
+returns c = let a = c.args in
+    let l = c.loop-j in
+    let e : l.j ≡ a.len = omega arith in
+    l.invariant.1 ∙ ap (λ (n : ℕ). carried_by a.node.0 a.body.now n) e

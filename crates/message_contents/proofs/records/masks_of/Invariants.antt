@@ -1,0 +1,13 @@
+use mathlib.Core.Path.{◌≡◌}
+use Prim.Native.Nat.{◌≤◌, ◌-◌}
+use lib.ListN.{replicate}
+use Rattle.base_laws.specs.Tables.{filled}
+use Rattle.settings_values.specs.Definitions.{shards}
+use Rattle.message_format.specs.Definitions.{members_of}
+use Rattle.message_contents.proofs.records.masks_of.Given as goal
+
+abbrev pub invariant-loop-s : goal.invariant-loop-s
+invariant-loop-s l = (l.s ≤ shards l.settings) × (l.masks ≡ filled l.s (members_of l.body) (replicate 16 0))
+
+abbrev pub decreases-loop-s : goal.decreases-loop-s
+decreases-loop-s l = l.count - l.s

@@ -1,0 +1,31 @@
+-- `message_contents::records::shards_of` meets its contract. The invariant: the mask has the shards of the records below j.
+use mathlib.Core.Path.{◌≡◌, sym, ap, ◌∙◌}
+use Prim.Native.Nat.{ℕ, ◌-◌}
+use native.Mathlib.Omega.{arith}
+use Rattle.message_contents.specs.Gathered.{of_kind, with_shard}
+use Rattle.message_format.specs.Definitions.{shards_of}
+use Rattle.message_contents.specs.Laws.{where_none, where_step}
+use borrow.Author.Rules.{rules}
+use Rattle.message_contents.proofs.records.shards_of.Goals as goal
+
+pub loop-j-init : goal.loop-j-init
+loop-j-init c = (search rules, sym (where_none (of_kind c.args.k c.args.body.now) c.args.body.now))
+
+pub shards_more-mask-requires : goal.shards_more-mask-requires
+shards_more-mask-requires c = (omega arith, c.requires.1 c.loop-j.j (omega arith))
+
+pub loop-j-preserved : goal.loop-j-preserved
+loop-j-preserved c = let a = c.args in
+    let b = a.body.now in
+    let l = c.loop-j in (
+      omega arith,
+      c.shards_more-mask.ensures
+          ∙ ap (λ (m : ℕ). with_shard (of_kind a.k b l.j) m b l.j) l.invariant.1
+          ∙ sym (where_step (of_kind a.k b) b l.j),
+    )
+
+pub returns : goal.returns
+returns c = let a = c.args in
+    let l = c.loop-j in
+    let e : l.j ≡ a.len = omega arith in
+    l.invariant.1 ∙ ap (λ (n : ℕ). shards_of a.k a.body.now n) e

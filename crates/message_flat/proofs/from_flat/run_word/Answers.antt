@@ -1,0 +1,12 @@
+-- Each return is the case of the definition that the test picks.
+use borrow.Author.Tests.{eq-eqb, ne_eqb}
+use Rattle.message_flat.specs.Counted.{run_word}
+use Rattle.message_flat.proofs.from_flat.run_word.Goals as goal
+
+pub returns-then-p-eq0 : goal.returns-then-p-eq0
+unfolding run_word
+returns-then-p-eq0 c = simp (eq-eqb _ _ c.if-p-eq0.true, c.clamped.ensures, c.word_in.ensures)
+
+pub returns : goal.returns
+unfolding run_word
+returns c = simp (ne_eqb _ _ c.if-p-eq0.false, c.word_in-2.ensures)

@@ -1,0 +1,34 @@
+-- At the loop's head j steps have been made, and `at` is where they lead.
+use Prim.Native.Nat.{◌-◌}
+use mathlib.Core.Path.{sym, ap, ◌∙◌}
+use native.Mathlib.Nat.{le_antisymm}
+use native.Mathlib.Omega.{arith}
+use Rattle.message_format.specs.Definitions.{place, next}
+use Rattle.message_chain.specs.declared.Step.{Step}
+use Rattle.message_reader.specs.Walks.{place_none, place_next}
+use Rattle.message_reader.proofs.place_of.Goals as goal
+
+pub loop-j-init : goal.loop-j-init
+loop-j-init c = (sym (place_none _), omega arith)
+
+pub step_from-step-requires : goal.step_from-step-requires
+step_from-step-requires c = tt
+
+pub overflow_add-j : goal.overflow_add-j
+overflow_add-j c = omega (arith, c.ranges)
+
+pub loop-j-smaller : goal.loop-j-smaller
+loop-j-smaller c = omega arith
+
+pub loop-j-preserved : goal.loop-j-preserved
+loop-j-preserved c =
+    let w = c.args.words.now in
+    let l = c.loop-j in (
+      ap (λ (s : Step). s.next) c.step_from-step.ensures ∙ ap (next w) l.invariant.0 ∙ sym (place_next w l.j),
+      omega arith,
+    )
+
+pub returns : goal.returns
+returns c =
+    let l = c.loop-j in
+    l.invariant.0 ∙ ap (place _) (le_antisymm l.invariant.1 c.loop-j-test.false)

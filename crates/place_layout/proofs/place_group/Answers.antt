@@ -1,0 +1,54 @@
+-- `place_layout::place_group` meets its contract: the search's answer gives one subgroup more, or none exists; a subgroup without shards has
+-- nothing to place. The moves are at most 32, so the total fits. Assumes nothing.
+use mathlib.Core.Path.{refl, sym, ◌∙◌}
+use native.Mathlib.Omega.{arith}
+use borrow.Author.Tests.{not-true, not-false}
+use Rattle.base_laws.specs.Bools.{clash}
+use Rattle.place_layout.specs.Steps.{moved_small, stage_more, stage_none, none_here}
+use Rattle.place_layout.proofs.place_group.Goals as goal
+
+pub returns-then-not-has_shards : goal.returns-then-not-has_shards
+returns-then-not-has_shards c =
+    let p = c.requires in
+    let h = c.has_shards in
+    record {
+      more = λ e. stage_none p.0 p.1.1.1.1 (sym h.ensures ∙ not-true h.result c.if-not-has_shards.true) refl refl refl;
+      unplaced = λ e. clash refl e;
+    }
+
+pub returns-then-not-answer : goal.returns-then-not-answer
+returns-then-not-answer c =
+    let p = c.requires in
+    let s = c.solve-answer in
+    record {
+      more = λ e. clash e refl;
+      unplaced = λ e. none_here p.0 p.1.0 p.1.1.1.1 s.ensures p.1.1.1.0 (not-true s.result.exists c.if-not-answer.true) refl refl refl;
+    }
+
+pub overflow_add-result : goal.overflow_add-result
+overflow_add-result c =
+    let m = c in
+    let s = m.solve-answer in
+    let p = m.requires in
+    record {
+      fits =
+          omega (
+            arith,
+            p.1.1.1.0,
+            p.1.1.1.1.small,
+            c.group_moves-moved.ensures,
+            moved_small p.0 p.1.0 p.1.1.1.1 s.ensures (not-false s.result.exists m.if-not-answer.false) m.masks_with-masks.ensures,
+          );
+    }
+
+pub returns : goal.returns
+returns c =
+    let m = c in
+    let s = m.solve-answer in
+    let p = m.requires in
+    record {
+      more = λ e.
+          stage_more p.0 p.1.0 p.1.1.1.1 s.ensures (not-false s.result.exists m.if-not-answer.false) m.masks_with-masks.ensures
+          c.group_moves-moved.ensures refl refl;
+      unplaced = λ e. clash refl e;
+    }

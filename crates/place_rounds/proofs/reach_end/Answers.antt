@@ -1,0 +1,81 @@
+-- `place_rounds::reach_end` meets its contract: the first of least weight is where rounds enough end, and a subgroup without shards has nothing
+-- to place. Assumes nothing.
+use Prim.Native.Nat.{ℕ}
+use mathlib.Core.List.{List}
+use mathlib.Core.Path.{refl, sym, ◌∙◌, subst}
+use lib.ListN.{get_or}
+use borrow.Author.Tests.{not-true, not-false}
+use Rattle.base_laws.specs.Bools.{clash}
+use Rattle.search_laws.specs.Case.{Case}
+use Rattle.search_laws.specs.Tables.{case_of}
+use Rattle.search_laws.specs.Floor.{SheetFor}
+use Rattle.search_total.specs.Post.{LeastAnswer}
+use Rattle.place_groups.specs.Sheet.{sheet_of}
+use Rattle.place_rounds.specs.Tables.{floor_told}
+use Rattle.place_rounds.specs.Turns.{round_tables}
+use Rattle.place_rounds.specs.Ends.{sheet_round, never_least, ended_least, ended_none}
+use Rattle.place_rounds.proofs.reach_end.Goals as goal
+
+pub returns-then-not-has_shards : goal.returns-then-not-has_shards
+returns-then-not-has_shards c =
+    let m = c in
+    let a = m.args in
+    let h = c.has_shards in
+    record {
+      ended = λ e. ended_none a.settings.now a.held (λ s. get_or a.old.now s 0) a.g m.requires.0 (sym h.ensures ∙ not-true h.result c.if-not-has_shards.true) _;
+      none = λ e. clash refl e;
+    }
+
+pub least-best-requires : goal.least-best-requires
+least-best-requires c =
+    let m = c in
+    let a = m.args in
+    let p = m.requires in
+    let o : ℕ → ℕ = λ s. get_or a.old.now s 0 in
+    let n = c.needs-needs in
+    let x = c.sets-sets in
+    let y = c.caps-caps in
+    let t = c.repriced_table-counted in
+    let i = round_tables a.settings.now a.held o a.g 1 x.ensures n.ensures y.ensures c.costs-costs.ensures in
+    subst (SheetFor (case_of x.result n.result y.result t.result 0)) (sym p.1.1)
+    (subst (λ (q : List ℕ). SheetFor (case_of x.result n.result y.result q 0) (sheet_of a.settings.now a.held o)) (sym t.ensures)
+    (subst (λ (K : Case). SheetFor K (sheet_of a.settings.now a.held o)) (sym i) (sheet_round a.settings.now a.held o a.g p.0 p.1.0)))
+
+pub returns-then-not-best : goal.returns-then-not-best
+returns-then-not-best c =
+    let m = c in
+    let a = m.args in
+    let p = m.requires in
+    let o : ℕ → ℕ = λ s. get_or a.old.now s 0 in
+    let n = c.needs-needs in
+    let x = c.sets-sets in
+    let y = c.caps-caps in
+    let t = c.repriced_table-counted in
+    let i = round_tables a.settings.now a.held o a.g 1 x.ensures n.ensures y.ensures c.costs-costs.ensures in
+    let u = c.least-best in
+    let k = subst (λ (K : Case). LeastAnswer K u.result) i (subst (λ (q : List ℕ). LeastAnswer (case_of x.result n.result y.result q 0) u.result) t.ensures u.ensures) in
+    record {
+      ended = λ e. clash e refl;
+      none = λ e. never_least a.settings.now a.held o a.g p.0 p.1.0 u.result k (not-true u.result.exists c.if-not-best.true);
+    }
+
+pub returns : goal.returns
+returns c =
+    let m = c in
+    let a = m.args in
+    let p = m.requires in
+    let o : ℕ → ℕ = λ s. get_or a.old.now s 0 in
+    let n = c.needs-needs in
+    let x = c.sets-sets in
+    let y = c.caps-caps in
+    let t = c.repriced_table-counted in
+    let i = round_tables a.settings.now a.held o a.g 1 x.ensures n.ensures y.ensures c.costs-costs.ensures in
+    let u = c.least-best in
+    let k = subst (λ (K : Case). LeastAnswer K u.result) i (subst (λ (q : List ℕ). LeastAnswer (case_of x.result n.result y.result q 0) u.result) t.ensures u.ensures) in
+    let f = c.floor-floor in
+    record {
+      ended = λ e.
+          ended_least a.settings.now a.held o a.g p.0 p.1.0 u.result k (not-false u.result.exists c.if-not-best.false) f.result
+          (floor_told a.settings.now a.held o a.g p.0 p.1.0 n.result a.sheet.now f.result n.ensures p.1.1 f.ensures);
+      none = λ e. clash refl e;
+    }

@@ -1,0 +1,38 @@
+-- `place_tables::costs` meets its contract. The invariant: the costs of the shards below s are filled in; those of another subgroup's
+-- shards are 255, as the table has them from the start. Assumes nothing.
+use Prim.Native.Nat.{◌+◌, ◌*◌, ◌/◌, ◌%◌, ◌-◌}
+use mathlib.Core.Path.{◌≡◌, sym, ap, ◌∙◌}
+use mathlib.Core.Logic.{⊎_elim}
+use native.Mathlib.Omega.{arith}
+use lib.ListN.{get_or}
+use Rattle.base_laws.specs.Tables.{fill_start, fill_end}
+use Rattle.place_laws.specs.Cases.{cost_in}
+use Rattle.place_laws.specs.Tables.{costs_below, costs_skip}
+use Rattle.place_tables.proofs.costs.Goals as goal
+
+pub loop-s-init : goal.loop-s-init
+loop-s-init c = let a = c.args in (omega arith, fill_start 512 255 (λ k. cost_in a.settings.now a.held (λ i. get_or a.old.now i 0) a.g (k / 32) (k % 32)))
+
+pub cost_row-requires : goal.cost_row-requires
+cost_row-requires c =
+    let p = c.requires in
+    (p.0, (p.1.0, (p.1.1, (c.move_cost-w.ensures, (sym c.in_group.ensures ∙ c.if-in_group.true, c.loop-s.invariant.1)))))
+
+pub loop-s-preserved : goal.loop-s-preserved
+loop-s-preserved c =
+    let a = c.args in
+    let l = c.loop-s in
+    let i : l.s * 32 + 32 ≡ (l.s + 1) * 32 = omega arith in (
+      omega arith,
+      ⊎_elim
+          (λ w. w.3 ∙ w.2.ensures)
+          (λ w. w.1 ∙ (l.invariant.1 ∙ costs_skip a.settings.now a.held (λ i. get_or a.old.now i 0) a.g l.s c.loop-s-test.true (sym c.in_group.ensures ∙ w.0.left)))
+          c.if-in_group.branch
+          ∙ ap (costs_below a.settings.now a.held (λ i. get_or a.old.now i 0) a.g) i,
+    )
+
+pub returns : goal.returns
+returns c =
+    let a = c.args in
+    let l = c.loop-s in
+    fill_end 512 255 (λ k. cost_in a.settings.now a.held (λ i. get_or a.old.now i 0) a.g (k / 32) (k % 32)) (l.s * 32) l.table (omega arith) (omega arith) l.invariant.1

@@ -1,0 +1,20 @@
+-- `place_tables::needs` meets its contract. The invariant: the entries below s are filled in. Assumes nothing.
+use Prim.Native.Nat.{◌-◌}
+use native.Mathlib.Omega.{arith}
+use Rattle.base_laws.specs.Tables.{fill_start, fill_turn, fill_end}
+use Rattle.place_laws.specs.Cases.{need_in}
+use Rattle.place_tables.proofs.needs.Goals as goal
+
+pub loop-s-init : goal.loop-s-init
+loop-s-init c = let a = c.args in (omega arith, fill_start 16 0 (need_in a.settings.now a.g))
+
+pub loop-s-preserved : goal.loop-s-preserved
+loop-s-preserved c =
+    let a = c.args in
+    let l = c.loop-s in
+    (omega arith, fill_turn 16 0 (need_in a.settings.now a.g) l.s l.table c.need_at.result (omega arith) l.invariant.1 c.need_at.ensures)
+
+pub returns : goal.returns
+returns c =
+    let a = c.args in
+    let l = c.loop-s in fill_end 16 0 (need_in a.settings.now a.g) l.s l.table (omega arith) (omega arith) l.invariant.1

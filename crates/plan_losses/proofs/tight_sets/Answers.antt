@@ -1,0 +1,18 @@
+-- `plan_losses::tight_sets` meets its contract. The invariant: the sets are tight ones. Assumes nothing.
+use Prim.Native.Nat.{◌-◌}
+use native.Mathlib.Omega.{arith}
+use Rattle.plan_losses.specs.Needs.{tight_none}
+use Rattle.plan_losses.proofs.tight_sets.Goals as goal
+
+pub loop-s-init : goal.loop-s-init
+loop-s-init c = let a = c.args in (omega arith, tight_none a.settings.now a.held)
+
+pub tight_with-tight-requires : goal.tight_with-tight-requires
+tight_with-tight-requires c = let s = c in
+    (s.requires.0, ((s.requires.1, omega (arith, c.loop-s-test.true, c.shards-count.ensures)), (c.held_counts-counts.ensures, c.loop-s.invariant.1)))
+
+pub loop-s-preserved : goal.loop-s-preserved
+loop-s-preserved c = (omega (arith, c.loop-s-test.true, c.shards-count.ensures), c.tight_with-tight.ensures)
+
+pub returns : goal.returns
+returns c = c.loop-s.invariant.1

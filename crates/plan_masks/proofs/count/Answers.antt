@@ -1,0 +1,72 @@
+-- `plan_masks::count` meets its contract. The invariant: the slots of the nodes below n are sound, and the masks have those of them that count.
+use Prim.Native.Nat.{ℕ, ◌-◌, ◌+◌}
+use mathlib.Core.Bool.{false}
+use mathlib.Core.Logic.{⊎_elim}
+use mathlib.Core.Path.{◌≡◌, sym, ap, ◌∙◌, subst, subst⁻¹}
+use native.Mathlib.Omega.{arith}
+use borrow.Author.Tests.{not-true, not-false}
+use Rattle.base_laws.specs.Below.{all_fails}
+use Rattle.base_laws.specs.Tables.{filled}
+use Rattle.base_lent.specs.Definitions.{words_in}
+use Rattle.report_desk.specs.Bytes.{desk_length}
+use Rattle.report_views.specs.Definitions.{slots_ok}
+use Rattle.report_desk.specs.SlotsOf.{node_ok, held_ok}
+use Rattle.plan_seen.specs.Sight.{seen_of}
+use Rattle.plan_masks.specs.Counting.{counted_at, alone}
+use Rattle.plan_masks.specs.Turns.{CountedTo, counted_none, counted_unheld, counted_held, counted_sound, counted_failed, seen_own}
+use Rattle.plan_masks.proofs.count.Goals as goal
+
+pub loop-n-init : goal.loop-n-init
+loop-n-init c = let s = c in
+    counted_none s.args.settings.now s.args.v s.args.t s.args.all (words_in s.args.desk.now) s.requires.0
+
+pub see-seen-requires : goal.see-seen-requires
+see-seen-requires c = let s = c in (s.requires.0, (c.tables_of-tables.ensures, s.requires.1))
+
+pub returns-then-not-seen : goal.returns-then-not-seen
+unfolding slots_ok
+returns-then-not-seen c = let s = c in
+    let a = s.args in
+    let d = words_in a.desk.now in
+    let l = c.loop-n in
+    let m = c.loop-n-test.true in
+    let h = sym c.has.ensures ∙ c.if-has.true in
+    let x = c.see-seen in
+    let given = x.ensures ∙ ap (λ (k : ℕ). seen_of a.settings.now a.v a.t k d) (c.with.ensures ∙ alone l.n) in
+    let own = seen_own a.settings.now a.v a.t a.all d s.requires.0 (desk_length a.desk.now s.requires.1) l.n m h x.result given in
+    c.none_counted.ensures
+    ∙ counted_failed a.settings.now a.v a.t a.all d s.requires.0
+    (all_fails 32 (node_ok a.settings.now a.v a.t a.all d) l.n m
+    (held_ok a.settings.now a.v a.t a.all d l.n false h (sym own ∙ not-true x.result.ok c.if-not-seen.true)))
+
+pub count_node-requires : goal.count_node-requires
+count_node-requires c = let s = c in
+    ((c.loop-n.invariant.sized, c.loop-n-test.true), omega (arith, c.wide-shards.ensures, c.shards.ensures, s.requires.0.sizes.shards_to))
+
+pub loop-n-preserved : goal.loop-n-preserved
+loop-n-preserved c = let s = c in
+    let a = s.args in
+    let d = words_in a.desk.now in
+    let l = c.loop-n in
+    let m = c.loop-n-test.true in
+    let many = c.wide-shards.ensures ∙ c.shards.ensures in
+    ⊎_elim
+    (λ w.
+    let h = sym c.has.ensures ∙ w.0.taken in
+    let given = w.2.ensures ∙ ap (λ (k : ℕ). seen_of a.settings.now a.v a.t k d) (w.1.ensures ∙ alone l.n) in
+    subst⁻¹ (CountedTo a.settings.now a.v a.t a.all d (l.n + 1))
+    (w.7 ∙ w.6.ensures ∙ ap (λ (k : ℕ). filled k (counted_at w.2.result.holders l.n l.masks) l.masks) many)
+    (counted_held a.settings.now a.v a.t a.all d s.requires.0 (desk_length a.desk.now s.requires.1) l.n m h w.2.result given l.masks
+    (not-false w.2.result.ok w.4.left) l.invariant))
+    (λ w.
+    subst⁻¹ (CountedTo a.settings.now a.v a.t a.all d (l.n + 1)) w.1
+    (counted_unheld a.settings.now a.v a.t a.all d s.requires.0 l.n l.masks m (sym c.has.ensures ∙ w.0.left) l.invariant))
+    c.if-has.branch
+
+pub returns : goal.returns
+returns c = let s = c in
+    let a = s.args in
+    let l = c.loop-n in
+    let z : l.n ≡ 32 = omega (arith, l.invariant.upto, c.loop-n-test.false) in
+    counted_sound a.settings.now a.v a.t a.all (words_in a.desk.now) s.requires.0 l.masks
+    (subst (λ (k : ℕ). CountedTo a.settings.now a.v a.t a.all (words_in a.desk.now) k l.masks) z l.invariant)

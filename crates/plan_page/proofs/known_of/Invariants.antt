@@ -1,0 +1,12 @@
+use Prim.Native.Nat.{◌≤◌, ◌-◌}
+use mathlib.Core.Path.{◌≡◌}
+use Rattle.base_sum_laws.specs.Definitions.{mask_below}
+use Rattle.report_views.specs.Definitions.{node_at}
+use Rattle.plan_page.specs.Definitions.{shown}
+use Rattle.plan_page.proofs.known_of.Given as goal
+
+abbrev pub invariant-loop-s : goal.invariant-loop-s
+invariant-loop-s l = (l.s ≤ 16) × (l.mask ≡ mask_below l.s (shown l.settings l.g (node_at l.holders)))
+
+abbrev pub decreases-loop-s : goal.decreases-loop-s
+decreases-loop-s l = 16 - l.s

@@ -1,0 +1,32 @@
+-- `plan_seen::quick_step` meets its contract: what the walk tells is sound, and the ends are those of its list.
+use mathlib.Core.Path.{refl, sym}
+use native.Mathlib.Omega.{arith}
+use Rattle.base_laws.specs.Bools.{clash}
+use Rattle.plan_seen.specs.Quick.{walked_sound, walked_ends}
+use Rattle.plan_seen.proofs.quick_step.Goals as goal
+
+pub returns-then-last-gt127 : goal.returns-then-last-gt127
+returns-then-last-gt127 c = let s = c in
+    (s.requires.0, record { same = λ e. (refl, refl); done = λ e. clash e refl })
+
+pub note-requires : goal.note-requires
+note-requires c = let s = c in
+    (s.requires.0, (omega (arith, c.if-last-gt127.false), s.requires.1.1))
+
+pub returns : goal.returns
+returns c = let s = c in
+    let a = s.args in
+    let seen = c.told-last.ensures c.if-last-gt127.false in
+    let m = c.member_ends-ends in (
+      c.note.ensures.0,
+      record {
+        same = λ e. clash refl e;
+        done = λ e σ v t d kept is below.
+            record {
+              sound = sym (walked_sound σ v t a.frame a.masks.now a.records.now a.positions.now kept d a.node.0 a.b.now _ _ is below seen);
+              renewed = λ q.
+                  c.note.ensures.1 σ v t d (walked_ends σ v t a.frame a.masks.now a.records.now a.positions.now kept d a.node.0 a.b.now _ _ is below seen m.result m.ensures)
+                  kept.masks_are kept.tables.made kept.tables.positions kept.tables.count;
+            };
+      },
+    )

@@ -1,0 +1,111 @@
+-- `plan_seen::walk_nodes` meets its contract. The invariant: the slots of the held nodes below n are sound, and the lists are their bests.
+use Prim.Native.Nat.{ℕ, ◌-◌, ◌+◌, ◌*◌}
+use mathlib.Core.Path.{◌≡◌, refl, sym, ◌∙◌, subst}
+use native.Mathlib.Omega.{arith}
+use borrow.Author.Tests.{not-true, not-false}
+use mathlib.Core.Bool.{false}
+use mathlib.Core.List.{List}
+use mathlib.Core.Logic.{⊎_elim}
+use lib.ListN.{length-replicate}
+use Rattle.base_laws.specs.Below.{all_fails}
+use Rattle.base_laws.specs.Bools.{clash}
+use Rattle.settings_values.specs.Definitions.{Settings, shards}
+use Rattle.report_views.specs.declared.Layout.{Layout}
+use Rattle.report_views.specs.declared.Termination.{Termination}
+use Rattle.report_views.specs.Definitions.{slots_ok}
+use Rattle.report_desk.specs.SlotsOf.{node_ok, held_ok}
+use Rattle.report_walk.specs.Pairs.{FitWords}
+use Rattle.report_walk.specs.Kept.{TablesOf}
+use Rattle.report_walk.specs.declared.Tables.{Tables}
+use Rattle.plan_seen.specs.Nodes.{SlotIs}
+use Rattle.plan_seen.specs.Fold.{SoFar}
+use Rattle.plan_seen.specs.Quick.{KeptAs, stepped_both}
+use Rattle.plan_seen.specs.Turns.{pairs_long, walked_none, walked_unheld, walked_held, walked_as}
+use Rattle.base_laws.specs.Tables.{length_part}
+use Rattle.base_lent.specs.Definitions.{words_in}
+use Rattle.report_desk.specs.Bytes.{desk_length}
+use Rattle.plan_seen.specs.Bytes.{desk_words, slot_pairs}
+use Rattle.plan_seen.proofs.walk_nodes.Goals as goal
+
+-- the tables, part by part
+kept-by : (σ : List ℕ) (v : Layout) (t : Termination) (x : Tables) → Settings σ → TablesOf σ v t x
+    → KeptAs σ v t x.frame v.masks x.masks x.positions
+kept-by σ v t x right e =
+    record {
+      right = right;
+      tables = record { ready = e.ready; number = e.number; members = e.members; made = e.made; count = e.count; masks = e.masks; positions = e.positions };
+      masks_are = refl;
+    }
+
+pub loop-n-init : goal.loop-n-init
+loop-n-init c = let s = c in
+    let a = s.args in
+    walked_none a.settings.now a.v a.t a.held (words_in a.desk.now) s.requires.0 (desk_length a.desk.now s.requires.1.1.0) _ a.holders.now a.tops.now (length-replicate {A = ℕ} 256 0) s.requires.1.1.1.0 s.requires.1.1.1.1
+
+pub pairs-requires : goal.pairs-requires
+pairs-requires c = let s = c in
+    let l = c.loop-n in
+    (length_part (2048 * l.n) (2048 * l.n + 2048) s.args.desk.now (omega (arith, s.requires.1.1.0, c.loop-n-test.true)) ∙ omega arith, l.invariant.pairs)
+
+pub overflow_cast-node : goal.overflow_cast-node
+overflow_cast-node c = omega (arith, c.loop-n-test.true)
+
+pub quick_step-told-requires : goal.quick_step-told-requires
+quick_step-told-requires c = let s = c in
+    let count = s.requires.1.0.count in
+    (c.loop-n.invariant.lists, (omega (arith, count, s.requires.0.sizes.shards_from), omega (arith, count, s.requires.0.sizes.shards_to)))
+
+pub read_step-requires : goal.read_step-requires
+read_step-requires c = let s = c in
+    (s.requires.0, (c.quick_step-told.ensures.0, (c.loop-n-test.true, s.requires.1.0.positions)))
+
+pub returns-then-not-read_step : goal.returns-then-not-read_step
+unfolding slots_ok
+returns-then-not-read_step c = let s = c in
+    let a = s.args in
+    let l = c.loop-n in
+    let m = c.loop-n-test.true in
+    let h = c.has in
+    let q = c.quick_step-told in
+    let k = c.read_step in
+    let words : FitWords (words_in a.desk.now) = desk_words a.desk.now s.requires.1.1.0 (λ i. omega (arith, c.type_inv.desk i)) in
+    let is : SlotIs (words_in a.desk.now) l.n _ = record { whole = desk_length a.desk.now s.requires.1.1.0; words = words; pairs = slot_pairs a.desk.now s.requires.1.1.0 l.n m _ c.pairs.ensures } in
+    let kept = kept-by a.settings.now a.v a.t a.tables s.requires.0 s.requires.1.0 in
+    let step = stepped_both a.settings.now a.v a.t (words_in a.desk.now) l.n q.result k.result (λ e. q.ensures.1.done e a.settings.now a.v a.t (words_in a.desk.now) kept is m) q.ensures.1.same k.ensures.1.0 (λ e. k.ensures.1.1 e (words_in a.desk.now) is) in (
+      sym (all_fails 32 (node_ok a.settings.now a.v a.t a.held (words_in a.desk.now)) l.n m
+          (held_ok a.settings.now a.v a.t a.held (words_in a.desk.now) l.n false (sym h.ensures ∙ c.if-has.true) (sym step.sound ∙ not-true k.result c.if-not-read_step.true))),
+      λ e. clash e refl,
+    )
+
+pub overflow_add-n : goal.overflow_add-n
+overflow_add-n c = omega (arith, c.loop-n-test.true)
+
+pub loop-n-smaller : goal.loop-n-smaller
+loop-n-smaller c = omega (arith, c.loop-n-test.true)
+
+pub loop-n-preserved : goal.loop-n-preserved
+loop-n-preserved c = let s = c in
+    let a = s.args in
+    let l = c.loop-n in
+    let h = c.has in
+    let m = c.loop-n-test.true in
+    let words : FitWords (words_in a.desk.now) = desk_words a.desk.now s.requires.1.1.0 (λ i. omega (arith, c.type_inv.desk i)) in
+    let kept = kept-by a.settings.now a.v a.t a.tables s.requires.0 s.requires.1.0 in
+    ⊎_elim
+    (λ w.
+    let pairs = slot_pairs a.desk.now s.requires.1.1.0 l.n m _ w.3.ensures in
+    let is : SlotIs (words_in a.desk.now) l.n _ = record { whole = desk_length a.desk.now s.requires.1.1.0; words = words; pairs = pairs } in
+    walked_as a.settings.now a.v a.t a.held (words_in a.desk.now) (l.n + 1) w.17 w.18 w.19
+    (walked_held a.settings.now a.v a.t a.held (words_in a.desk.now) (desk_length a.desk.now s.requires.1.1.0) words l.n l.b l.holders l.tops m (sym h.ensures ∙ w.0.taken) l.invariant
+    w.15.result (not-false w.15.result w.16.left) _ _ _ (pairs_long _ _ pairs) w.15.ensures.0
+    (stepped_both a.settings.now a.v a.t (words_in a.desk.now) l.n w.10.result w.15.result (λ e. w.10.ensures.1.done e a.settings.now a.v a.t (words_in a.desk.now) kept is m) w.10.ensures.1.same w.15.ensures.1.0 (λ e. w.15.ensures.1.1 e (words_in a.desk.now) is))))
+    (λ w. walked_as a.settings.now a.v a.t a.held (words_in a.desk.now) (l.n + 1) w.1 w.2 w.3
+    (walked_unheld a.settings.now a.v a.t a.held (words_in a.desk.now) (desk_length a.desk.now s.requires.1.1.0) l.n l.b l.holders l.tops m (sym h.ensures ∙ w.0.left) l.invariant))
+    c.if-has.branch
+
+pub returns : goal.returns
+unfolding slots_ok
+returns c = let a = c.args in
+    let l = c.loop-n in
+    let z : l.n ≡ 32 = omega (arith, l.invariant.upto, c.loop-n-test.false) in
+    (sym (rw z at l.invariant.sound), λ e. subst (λ (x : ℕ). SoFar a.v a.t a.held (words_in a.desk.now) (shards a.settings.now) x l.holders l.tops) z l.invariant.far)

@@ -1,0 +1,21 @@
+-- `plan_seen::words_of` meets its contract. The invariant: the words below k are stored.
+use Prim.Native.Nat.{◌-◌}
+use native.Mathlib.Omega.{arith}
+use Rattle.base_laws.specs.Tables.{fill_start, fill_turn, fill_end}
+use Rattle.plan_seen.specs.Nodes.{word_of_pairs, words_of_pairs}
+use borrow.Author.Rules.{rules}
+use Rattle.plan_seen.proofs.words_of.Goals as goal
+
+pub loop-k-init : goal.loop-k-init
+loop-k-init c = (search rules, fill_start 512 0 (word_of_pairs c.args.b.now))
+
+pub loop-k-preserved : goal.loop-k-preserved
+loop-k-preserved c = let a = c.args in
+    let l = c.loop-k in
+    (omega arith, fill_turn 512 0 (word_of_pairs a.b.now) l.k l.words c.word_at.result c.loop-k-test.true l.invariant.1 c.word_at.ensures)
+
+pub returns : goal.returns
+unfolding words_of_pairs
+returns c = let a = c.args in
+    let l = c.loop-k in
+    fill_end 512 0 (word_of_pairs a.b.now) l.k l.words l.invariant.0 c.loop-k-test.false l.invariant.1

@@ -1,0 +1,10 @@
+use Prim.Native.Nat.{◌≤◌, ◌-◌}
+use Rattle.program_text.specs.Definitions.{Puts}
+use Rattle.program_lines.specs.Definitions.{members_below}
+use Rattle.program_lines.proofs.put_members.Given as goal
+
+abbrev pub invariant-loop-n : goal.invariant-loop-n
+invariant-loop-n l = (l.n ≤ 32) × Puts l.initial.out l.at (members_below l.n l.mask) l.out l.next
+
+abbrev pub decreases-loop-n : goal.decreases-loop-n
+decreases-loop-n l = 32 - l.n

@@ -1,0 +1,19 @@
+-- `program_lines::put_shards` meets its contract. The loop's invariant: the lines of the shards below s are put. Assumes nothing.
+use Prim.Native.Nat.{◌-◌}
+use mathlib.Core.Path.{ap}
+use native.Mathlib.Omega.{arith}
+use Rattle.program_text.specs.Puts.{puts_as, puts_none, then-puts}
+use Rattle.program_lines.specs.Definitions.{shard_lines}
+use Rattle.program_lines.specs.Lines.{shards_step}
+use borrow.Author.Rules.{rules}
+use Rattle.program_lines.proofs.put_shards.Goals as goal
+
+pub loop-s-init : goal.loop-s-init
+unfolding shard_lines
+loop-s-init c = (search rules, puts_none _ _ c.requires.0)
+
+pub loop-s-preserved : goal.loop-s-preserved
+loop-s-preserved c = (search rules, puts_as (shards_step _ _) (then-puts c.requires.0 c.loop-s.invariant.1 c.put_shard-next.ensures))
+
+pub returns : goal.returns
+returns c = puts_as (ap (shard_lines c.args.plan) (omega arith)) c.loop-s.invariant.1

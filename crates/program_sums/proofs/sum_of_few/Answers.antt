@@ -1,0 +1,28 @@
+-- `program_sums::sum_of_few` meets its contract. The loop's invariant: the sum of the first i bytes, each below 256. Assumes nothing.
+use Prim.Native.Nat.{◌-◌}
+use mathlib.Core.Path.{ap, ◌∙◌}
+use native.Mathlib.Omega.{arith}
+use lib.Seq.{take_all}
+use Rattle.program_sums.specs.Definitions.{sum_of}
+use Rattle.program_sums.specs.Sums.{sum_turn}
+use borrow.Author.Rules.{rules}
+use Rattle.program_sums.proofs.sum_of_few.Goals as goal
+
+pub loop-i-init : goal.loop-i-init
+unfolding sum_of
+loop-i-init c = search rules
+
+pub overflow_add-sum : goal.overflow_add-sum
+overflow_add-sum c = omega (arith, c.type_inv.bytes c.loop-i.i)
+
+pub loop-i-preserved : goal.loop-i-preserved
+loop-i-preserved c =
+    let l = c.args.bytes.now in
+    let i = c.loop-i.i in (
+      omega arith,
+      omega (arith, c.type_inv.bytes i),
+      sum_turn l i c.loop-i.sum c.half-sum.result (omega arith) c.loop-i.invariant.2 c.half-sum.ensures,
+    )
+
+pub returns : goal.returns
+returns c = c.loop-i.invariant.2 ∙ ap sum_of (take_all c.loop-i.i c.args.bytes.now c.loop-i-test.false)

@@ -1,0 +1,14 @@
+-- `program_text::put_text` meets its contract. The loop's invariant: the first i bytes of the text are put. Assumes nothing.
+use Prim.Native.Nat.{◌-◌}
+use Rattle.program_text.specs.Puts.{puts_none, puts_more, puts_all}
+use borrow.Author.Rules.{rules}
+use Rattle.program_text.proofs.put_text.Goals as goal
+
+pub loop-i-init : goal.loop-i-init
+loop-i-init c = (search rules, puts_none c.args.out.now c.args.at c.requires)
+
+pub loop-i-preserved : goal.loop-i-preserved
+loop-i-preserved c = (search rules, puts_more _ _ c.requires c.loop-i-test.true c.loop-i.invariant.1 c.put_byte-next.ensures)
+
+pub returns : goal.returns
+returns c = puts_all _ _ c.loop-i-test.false c.loop-i.invariant.1

@@ -1,0 +1,12 @@
+use Prim.Native.Nat.{◌≤◌, ◌-◌}
+use mathlib.Core.Path.{◌≡◌}
+use lib.ListN.{replicate}
+use Rattle.base_laws.specs.Tables.{filled}
+use Rattle.report_kept.specs.Words.{mask_in}
+use Rattle.report_kept.proofs.masks_in.Given as goal
+
+abbrev pub invariant-loop-s : goal.invariant-loop-s
+invariant-loop-s l = (l.s ≤ 16) × (l.masks ≡ filled l.s (mask_in l.body l.count) (replicate 16 0))
+
+abbrev pub decreases-loop-s : goal.decreases-loop-s
+decreases-loop-s l = 16 - l.s

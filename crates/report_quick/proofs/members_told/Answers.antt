@@ -1,0 +1,26 @@
+-- `report_quick::members_told` meets its contract. The invariant: what is promised, of the shards below s.
+use Prim.Native.Nat.{◌-◌}
+use mathlib.Core.Bool.{false≢true}
+use mathlib.Core.Logic.{⊎_elim}
+use mathlib.Core.Path.{sym, subst}
+use native.Mathlib.Omega.{arith}
+use Rattle.base_laws.specs.Bools.{eq_or_ne, of_not_false}
+use Rattle.report_quick.specs.Told.{MemberTold}
+use borrow.Author.Rules.{rules}
+use Rattle.report_quick.proofs.members_told.Goals as goal
+
+pub loop-s-init : goal.loop-s-init
+loop-s-init c =
+    (search rules, λ j l. absurd (omega arith))
+
+pub returns-then-not-member_told : goal.returns-then-not-member_told
+returns-then-not-member_told c =
+    λ e. absurd (false≢true e)
+
+pub loop-s-preserved : goal.loop-s-preserved
+loop-s-preserved c =
+    (omega arith, λ j l. ⊎_elim (λ e. subst (MemberTold c.args.w.now) (sym e) (c.member_told.ensures (of_not_false c.member_told.result c.if-not-member_told.false))) (λ e. c.loop-s.invariant.1 j (omega arith)) (eq_or_ne j c.loop-s.s))
+
+pub returns : goal.returns
+returns c =
+    λ e j l. c.loop-s.invariant.1 j (omega arith)

@@ -1,0 +1,26 @@
+-- `report_quick::positions_told` meets its contract. The invariant: what is promised, of the shards below s.
+use Prim.Native.Nat.{ℕ, ◌+◌, ◌-◌}
+use mathlib.Core.Bool.{false≢true}
+use mathlib.Core.Logic.{⊎_elim}
+use mathlib.Core.Path.{sym, subst}
+use native.Mathlib.Omega.{arith}
+use Rattle.base_laws.specs.Bools.{eq_or_ne, of_not_false}
+use Rattle.report_quick.specs.Told.{PositionTold}
+use borrow.Author.Rules.{rules}
+use Rattle.report_quick.proofs.positions_told.Goals as goal
+
+pub loop-s-init : goal.loop-s-init
+loop-s-init c =
+    (search rules, λ j l. absurd (omega arith))
+
+pub returns-then-not-position_told : goal.returns-then-not-position_told
+returns-then-not-position_told c =
+    λ e. absurd (false≢true e)
+
+pub loop-s-preserved : goal.loop-s-preserved
+loop-s-preserved c =
+    (omega arith, λ j l. ⊎_elim (λ e. subst (λ (i : ℕ). PositionTold c.args.w.now c.args.view (c.args.count + i) i) (sym e) (c.position_told.ensures (of_not_false c.position_told.result c.if-not-position_told.false))) (λ e. c.loop-s.invariant.1 j (omega arith)) (eq_or_ne j c.loop-s.s))
+
+pub returns : goal.returns
+returns c =
+    λ e j l. c.loop-s.invariant.1 j (omega arith)

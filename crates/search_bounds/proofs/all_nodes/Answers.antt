@@ -1,0 +1,15 @@
+-- The loop's invariant: the sum so far is that of the weights below n. Assumes nothing.
+use Prim.Native.Nat.{◌-◌}
+use mathlib.Core.Path.{sym}
+use native.Mathlib.Omega.{arith}
+use Rattle.base_sum_laws.specs.Sums.{sum_zero, sum_turn, sum_done}
+use Rattle.search_bounds.proofs.all_nodes.Goals as goal
+
+pub loop-n-init : goal.loop-n-init
+loop-n-init c = (omega arith, omega arith, sym (sum_zero _))
+
+pub loop-n-preserved : goal.loop-n-preserved
+loop-n-preserved c = (omega arith, omega arith, sum_turn _ _ _ _ c.loop-n.invariant.2 c.large-sum.ensures.0)
+
+pub returns : goal.returns
+returns c = (sum_done c.loop-n.invariant.0 c.loop-n-test.false _ _ c.loop-n.invariant.2, omega arith)

@@ -1,0 +1,26 @@
+-- The loop's invariant: the mask has the nodes below n that are allowed. Assumes nothing.
+use Prim.Native.Nat.{ℕ, ◌+◌, ◌*◌, ◌-◌}
+use mathlib.Core.Path.{sym, ap, ◌∙◌}
+use mathlib.Core.Bool.{Bool}
+use mathlib.Core.List.{List}
+use native.Mathlib.Nat.{le_antisymm}
+use native.Mathlib.Omega.{arith}
+use lib.Dec.{ltb}
+use lib.ListN.{get_or}
+use Rattle.base_sum_laws.specs.Definitions.{mask_below}
+use Rattle.base_sum_laws.specs.Picked.{mask_none, mask_turn}
+use Rattle.search_hinted.proofs.allowed.Goals as goal
+
+-- node n is allowed in shard i
+abbrev fine : List ℕ → ℕ → ℕ → Bool
+fine prices i n = ltb (get_or prices (i * 32 + n) 0) 255
+
+pub loop-n-init : goal.loop-n-init
+loop-n-init c = (omega arith, sym (mask_none (fine c.args.prices.now c.args.i)))
+
+pub loop-n-preserved : goal.loop-n-preserved
+loop-n-preserved c = let l = c.loop-n in
+    let a = c.args in (omega arith, mask_turn l.n l.m c.added-m.result (fine a.prices.now a.i) l.invariant.1 c.added-m.ensures)
+
+pub returns : goal.returns
+returns c = let l = c.loop-n in l.invariant.1 ∙ ap (λ (k : ℕ). mask_below k (fine c.args.prices.now c.args.i)) (le_antisymm l.invariant.0 c.loop-n-test.false)

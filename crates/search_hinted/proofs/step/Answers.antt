@@ -1,0 +1,14 @@
+-- By whether the end of the list was tried. Assumes nothing.
+use Prim.Native.Nat.{ℕ, ◌%◌}
+use mathlib.Core.Path.{◌≡◌}
+use native.Mathlib.Omega.{arith}
+use Rattle.search_hinted.proofs.step.Goals as goal
+
+odd : (p : ℕ) → (p % 2 ≡ 0 → ⊥) → p % 2 ≡ 1
+odd p e = omega arith
+
+pub ended-requires : goal.ended-requires
+ended-requires c = let s = c in (s.requires.0, (c.if-p-eq0.true, (s.requires.1.0, s.requires.1.1)))
+
+pub decided-requires : goal.decided-requires
+decided-requires c = let s = c in (s.requires.0, (odd s.args.p c.if-p-eq0.false, (s.requires.1.0, s.requires.1.1)))

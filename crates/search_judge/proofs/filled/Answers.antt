@@ -1,0 +1,32 @@
+-- The loop's invariant: every shard below i fits, and the mask has all owners. Assumes nothing.
+use Prim.Native.Nat.{◌-◌}
+use mathlib.Core.Path.{sym, ◌∙◌}
+use mathlib.Core.Bool.{true}
+use native.Mathlib.Omega.{arith}
+use borrow.Author.Tests.{not-true, not-false}
+use Rattle.base_laws.specs.Below.{all_none, all_more, all_fails}
+use Rattle.base_laws.specs.Loops.{all_done}
+use Rattle.search_judge.proofs.filled.Goals as goal
+
+pub loop-i-init : goal.loop-i-init
+loop-i-init c = (omega arith, c.owners-used.ensures, all_none _)
+
+pub filled_at-requires : goal.filled_at-requires
+filled_at-requires c = (c.loop-i-test.true, c.loop-i.invariant.1)
+
+pub returns-then-not-filled_at : goal.returns-then-not-filled_at
+returns-then-not-filled_at c =
+    sym
+    (all_fails 16 _ c.loop-i.i (omega arith)
+    (sym c.filled_at.ensures ∙ not-true c.filled_at.result c.if-not-filled_at.true))
+
+pub loop-i-preserved : goal.loop-i-preserved
+loop-i-preserved c = (
+  omega arith,
+  c.loop-i.invariant.1,
+  all_more _ _ c.loop-i.invariant.2
+      (sym c.filled_at.ensures ∙ not-false c.filled_at.result c.if-not-filled_at.false),
+)
+
+pub returns : goal.returns
+returns c = sym (all_done c.loop-i.invariant.0 c.loop-i-test.false true _ c.loop-i.invariant.2)

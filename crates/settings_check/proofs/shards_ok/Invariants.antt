@@ -1,0 +1,12 @@
+use mathlib.Core.Path.{◌≡◌}
+use mathlib.Core.Bool.{true}
+use Prim.Native.Nat.{◌≤◌, ◌-◌}
+use Rattle.base_laws.specs.Definitions.{all_below}
+use Rattle.settings_values.specs.Definitions.{shards, shard_ok}
+use Rattle.settings_check.proofs.shards_ok.Given as goal
+
+abbrev pub invariant-loop-s : goal.invariant-loop-s
+invariant-loop-s l = (l.s ≤ shards l.settings) × (all_below l.s (shard_ok l.settings) ≡ true)
+
+abbrev pub decreases-loop-s : goal.decreases-loop-s
+decreases-loop-s l = l.count - l.s

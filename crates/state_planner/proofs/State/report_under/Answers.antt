@@ -1,0 +1,33 @@
+-- `state_planner::State::report_under` meets its contract: the outcome, and where it accepts the message is stored. Assumes nothing.
+use mathlib.Core.Path.{sym, ◌∙◌}
+use borrow.Author.Tests.{not-true, not-false}
+use Rattle.state_planner.specs.ReportLaws.{answer_leaves, reporter_told, report_small, reporter_named, stored_desk}
+use borrow.Author.Rules.{rules}
+use Rattle.state_planner.proofs.State.report_under.Goals as goal
+
+pub returns-then-not-is_accepted : goal.returns-then-not-is_accepted
+returns-then-not-is_accepted c =
+    let s = c in
+    let e = c.report_by-outcome.ensures in
+    (e, answer_leaves s.args.settings.now s.args.self s.args.desk.now s.args.message.now c.report_by-outcome.result e (sym c.is_accepted.ensures ∙ not-true c.is_accepted.result c.if-not-is_accepted.true))
+
+pub bounds-message-0 : goal.bounds-message-0
+bounds-message-0 c =
+    let s = c in
+    let e = c.report_by-outcome.ensures in
+    search (rules, reporter_told s.args.settings.now s.args.self s.args.desk.now s.args.message.now c.report_by-outcome.result e (sym c.is_accepted.ensures ∙ not-false c.is_accepted.result c.if-not-is_accepted.false))
+
+pub store-requires : goal.store-requires
+store-requires c =
+    let s = c in
+    let e = c.report_by-outcome.ensures in
+    let yes = (sym c.is_accepted.ensures ∙ not-false c.is_accepted.result c.if-not-is_accepted.false) in (
+      (s.requires.1, reporter_named s.args.settings.now s.args.self s.args.desk.now s.args.message.now c.report_by-outcome.result e yes s.requires.0),
+      report_small s.args.settings.now s.args.self s.args.desk.now s.args.message.now c.report_by-outcome.result e yes,
+    )
+
+pub returns : goal.returns
+returns c =
+    let s = c in
+    let e = c.report_by-outcome.ensures in
+    (e, stored_desk s.args.settings.now s.args.self s.args.desk.now s.args.message.now c.report_by-outcome.result e (sym c.is_accepted.ensures ∙ not-false c.is_accepted.result c.if-not-is_accepted.false) _ c.store.ensures)

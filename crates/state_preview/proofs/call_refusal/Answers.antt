@@ -1,0 +1,24 @@
+-- `state_preview::call_refusal` meets its contract: row by row. Assumes nothing.
+use mathlib.Core.Path.{sym, ◌∙◌}
+use borrow.Author.Tests.{not-true, not-false, eq-eqb, ne_eqb}
+use Rattle.state_planner.specs.CallLaws.{call_length, call_settings, call_none}
+use Rattle.base_lent.specs.Definitions.{words_in}
+use Rattle.base_lent.specs.Lent.{length-test}
+use Rattle.state_preview.proofs.call_refusal.Goals as goal
+
+pub returns-then-desk-ne65536 : goal.returns-then-desk-ne65536
+returns-then-desk-ne65536 c =
+    let a = c.args in
+    call_length a.settings.now (words_in a.desk.now) (sym (length-test a.desk.now 16383) ∙ ne_eqb _ _ c.if-desk-ne65536.true)
+
+pub returns-then-not-check : goal.returns-then-not-check
+returns-then-not-check c =
+    let a = c.args in
+    let k = c.check in
+    call_settings a.settings.now (words_in a.desk.now) (sym (length-test a.desk.now 16383) ∙ eq-eqb _ _ c.if-desk-ne65536.false) (sym k.ensures ∙ not-true k.result c.if-not-check.true)
+
+pub returns : goal.returns
+returns c =
+    let a = c.args in
+    let k = c.check in
+    call_none a.settings.now (words_in a.desk.now) (sym (length-test a.desk.now 16383) ∙ eq-eqb _ _ c.if-desk-ne65536.false) (sym k.ensures ∙ not-false k.result c.if-not-check.false)

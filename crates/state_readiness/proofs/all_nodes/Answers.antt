@@ -1,0 +1,13 @@
+-- `state_readiness::all_nodes` meets its contract: the shifted 1 is 2 ^ n, since nothing is shifted out. Assumes nothing.
+use mathlib.Core.Path.{ap}
+use Prim.Native.Nat.{ℕ, ◌-◌}
+use native.Mathlib.Omega.{arith}
+use lib.Pow.{pow_pos}
+use Rattle.base_laws.specs.Masks.{shl-single}
+use Rattle.state_readiness.proofs.all_nodes.Goals as goal
+
+pub overflow_sub-result : goal.overflow_sub-result
+overflow_sub-result c = omega (arith, shl-single 32 c.args.count (omega (arith, c.requires)), pow_pos c.args.count)
+
+pub returns : goal.returns
+returns c = ap (λ (x : ℕ). x - 1) (shl-single 32 c.args.count (omega (arith, c.requires)))

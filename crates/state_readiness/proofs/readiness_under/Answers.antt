@@ -1,0 +1,49 @@
+-- `state_readiness::readiness_under` meets its contract: rows 3 and 4 as every event finds them, then 22, then the rest. Assumes nothing.
+use mathlib.Core.Path.{sym, ◌∙◌}
+use native.Mathlib.Omega.{arith}
+use borrow.Author.Tests.{not-true, not-false, leb-true}
+use lib.Dec.{leb}
+use Rattle.base_lent.specs.Definitions.{words_in}
+use Rattle.base_laws.specs.Bools.{and_left}
+use Rattle.settings_values.specs.Definitions.{nodes}
+use Rattle.state_readiness.specs.Definitions.{desk_says}
+use Rattle.state_readiness.specs.Steps.{entered, entry-refused, size_refused, size_passed, readies_refused, readies_by}
+use Rattle.state_readiness.proofs.readiness_under.Goals as goal
+
+pub returns-then-refusal-ne0 : goal.returns-then-refusal-ne0
+returns-then-refusal-ne0 c =
+    let a = c.args in
+    let d = words_in a.desk.now in
+    let k = c.enter-entry in
+    let e = entered a.settings.now a.x d k.result.refusal c.is_gathering-in_phase.ensures k.ensures.0 in
+    readies_refused a.settings.now (desk_says a.settings.now a.x d) k.result.refusal
+    (entry-refused a.in-limits a.settings.now a.x d k.result.refusal e c.if-refusal-ne0.true) c.if-refusal-ne0.true c.refuse.ensures
+
+pub returns-then-not-is_small : goal.returns-then-not-is_small
+returns-then-not-is_small c =
+    let a = c.args in
+    let d = words_in a.desk.now in
+    let k = c.enter-entry in
+    let e = entered a.settings.now a.x d k.result.refusal c.is_gathering-in_phase.ensures k.ensures.0 in
+    let m = c.is_small in
+    readies_refused a.settings.now (desk_says a.settings.now a.x d) _
+    (size_refused a.in-limits a.settings.now a.x d k.result.refusal e c.if-refusal-ne0.false (sym m.ensures ∙ not-true m.result c.if-not-is_small.true))
+    (λ z. omega arith) c.refuse-then-not-is_small.ensures
+
+pub rows_ready-requires : goal.rows_ready-requires
+rows_ready-requires c =
+    let s = c in
+    let m = c.is_small in
+    let n = nodes s.args.settings.now in
+    ((s.requires.0, leb-true n 10 (and_left (leb n 10) s.args.in-limits (sym m.ensures ∙ not-false m.result c.if-not-is_small.false))), s.requires.1)
+
+pub returns : goal.returns
+returns c =
+    let a = c.args in
+    let d = words_in a.desk.now in
+    let k = c.enter-entry in
+    let e = entered a.settings.now a.x d k.result.refusal c.is_gathering-in_phase.ensures k.ensures.0 in
+    let m = c.is_small in
+    readies_by a.settings.now (desk_says a.settings.now a.x d)
+    (size_passed a.in-limits a.settings.now a.x d k.result.refusal e c.if-refusal-ne0.false (sym m.ensures ∙ not-false m.result c.if-not-is_small.false))
+    c.rows_ready.ensures

@@ -1,0 +1,15 @@
+-- `state_rows::sound_plan::is_met` meets its contract: by the case of the quorum. Assumes nothing.
+use Rattle.report_views.specs.Definitions.{is_met}
+use borrow.Author.Rules.{rules}
+use Rattle.state_rows.proofs.sound_plan.is_met.Goals as goal
+
+pub enum_told-1 : goal.enum_told-1
+enum_told-1 c = search rules
+
+pub returns-in-Met : goal.returns-in-Met
+unfolding is_met
+returns-in-Met c = simp c.enum_told-1.given.1
+
+pub returns-in-Short : goal.returns-in-Short
+unfolding is_met
+returns-in-Short c = simp c.enum_told-in-Short-1.given.1
