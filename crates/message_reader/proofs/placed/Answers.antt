@@ -22,7 +22,7 @@ told_at-requires c =
     let here = reached c in
     let inside = (place_inside s.args.words.now sized s.requires.1.0 (s.args.refusal.code / 256) s.requires.1.1).0 in
     let few = sized.few in
-    (omega arith, omega arith)
+    record { row_bound = omega arith; i_bound = omega arith }
 
 pub returns : goal.returns
 returns c =

@@ -30,7 +30,7 @@ returns-then-not-length_ok c =
     c.refuse.ensures ∙ reading_length _ _ _ (sym c.length_ok.ensures ∙ c.if-not-length_ok.true)
 
 pub head_of-head-requires : goal.head_of-head-requires
-head_of-head-requires c = (c.requires, row5_gives _ (sized c))
+head_of-head-requires c = record { settings = c.requires; sized_message = row5_gives _ (sized c) }
 
 pub returns-then-head-ne0 : goal.returns-then-head-ne0
 returns-then-head-ne0 c =
@@ -47,16 +47,13 @@ returns-then-chain-ne0 c =
     c.chain_refusal-chain.ensures c.if-chain-ne0.true
 
 pub contents_of-c-requires : goal.contents_of-c-requires
-contents_of-c-requires c = (row5_gives _ (sized c), linked c)
+contents_of-c-requires c = record { sized_message = row5_gives _ (sized c); words_value = linked c }
 
 pub records_of-records-requires : goal.records_of-records-requires
-records_of-records-requires c = (c.requires, contents_few _ _ c.contents_of-c.ensures)
+records_of-records-requires c = record { settings = c.requires; len_bound = contents_few _ _ c.contents_of-c.ensures }
 
 pub placed-requires : goal.placed-requires
-placed-requires c = (
-  row5_gives _ (sized c),
-  (linked c, records_few _ _ _ _ _ c.contents_of-c.ensures c.records_of-records.ensures),
-)
+placed-requires c = record { sized_message = row5_gives _ (sized c); words_value = linked c; refusal_bound = records_few _ _ _ _ _ c.contents_of-c.ensures c.records_of-records.ensures }
 
 pub returns : goal.returns
 returns c =
