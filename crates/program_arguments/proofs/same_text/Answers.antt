@@ -1,6 +1,4 @@
 -- `program_arguments::same_text` meets its contract. The loop's invariant: the bytes below i are the same. Assumes nothing.
-use Prim.Native.Nat.{◌-◌}
-use mathlib.Core.Bool.{true}
 use mathlib.Core.Path.{sym}
 use borrow.Author.Tests.{eq-eqb}
 use Rattle.base_laws.specs.Below.{all_none, all_more}
