@@ -46,7 +46,7 @@ PARTS = [
     (BUILT, ["python3", "gate/prove.py", "--after-ci", *MADE], PROOFS),
     (LIBRARY, ["make", "--no-print-directory", "lib"], BUILT),
     ("checks that need no proof", ["python3", "checks/fast.py", "--gate"], PROOFS),
-    ("wrong programs are refused for a fact", ["python3", "gate/edits.py", "--gate"], PROOFS),
+    ("wrong programs are refused for a fact", ["python3", "gate/edits.py"], PROOFS),
     ("the reference's own tests", cargo("reference", "test", "--release"), PROOFS),
     ("tests of the comparison itself", cargo("tests/compare", "test", "--release", "--features", "mock"), PROOFS),
     ("texts and explanations for operators", ["python3", "operators/tests/run.py", *OPERATED], LIBRARY),
