@@ -20,7 +20,7 @@ import sys
 PROMISES, READING = "docs/PROMISES.md", "docs/READING.md"
 MOST = 90 * 1024
 LINK = re.compile(r"\[([^\]]*)\]\(([^)\s]+)\)")
-QUALIFIED = re.compile(r"`([a-z0-9_]+)(::|/)([A-Za-z0-9_.:·-]+)`")
+QUALIFIED = re.compile(r"`([a-z0-9_]+)(::|/)([A-Za-z0-9_.:'-]+)`")
 QUOTED = re.compile(r"`([^`\s]+)`")
 PATH = re.compile(r"`([\w.*-]+(?:/[\w.*-]*)+)`")
 HEAD = re.compile(r"^(\s*)(?:(?:abbrev|unfoldable|axiom) )*pub (?:(record|data) )?([^\s:({]+)(?=[\s:({]|$)")

@@ -114,7 +114,7 @@ class Tree:
     def __init__(self):
         self.edges = {}
         for line in read("crates.txt").split("\n"):
-            listed = re.match(r"([a-z0-9_]+):(.*)", line)
+            listed = re.match(r"([a-z0-9_]+)(?: staticlib)?:(.*)", line)
             if listed:
                 self.edges[listed.group(1)] = listed.group(2).split()
         self.files = []
