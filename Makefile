@@ -5,7 +5,7 @@
 # make format            formats the crates, Rust, C and C++
 # make hook              runs check-fast before every commit of this clone
 # make test              proves every crate, tries the wrong programs of the gate and runs every test
-# make wrong-programs    tries the other wrong programs, of all crates or of CRATE=NAME
+# make wrong-programs    tries all wrong programs one by one, each for a fact of its own, of all crates or of CRATE=NAME
 # make lib               target/librestart.a and target/librestart.so.1, the proved library for C
 # make example           target/c/restart-cluster, the example over it: machine, leader and client
 # make test-c            the tests in C: plainly, under valgrind, with sanitizers and as an installed library

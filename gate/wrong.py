@@ -1,6 +1,7 @@
 """Try wrong programs and judge each as edits.py does: whether it is refused for a fact of its own.
 
-    wrong.py [NAME ..]             of all crates, or of these: those that `rt ci` tries too, crates/NAME/must-fail/*.edit, and the others, crates/NAME/wrong/*.edit
+    wrong.py [NAME ..]             of all crates, or of these: those that `rt ci` tries too, crates/NAME/must-fail/*.edit, and the others,
+                                   crates/NAME/wrong/*.edit
     wrong.py --gate [NAME ..]      the first alone
     wrong.py --aside [NAME ..]     the others alone
 
