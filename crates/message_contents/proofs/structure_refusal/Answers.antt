@@ -22,11 +22,11 @@ returns-then-shard-len c = let a = c.args in
 
 pub sequence-place-requires : goal.sequence-place-requires
 sequence-place-requires c = let a = c.args in
-    let shards = c.shards-shard in (
-      search rules,
-      shards_small a.settings.now a.body.now a.len (search rules)
-          (bad-holds a.len (shard_at a.settings.now a.body.now) shards.result shards.ensures c.if-shard-len.false),
-    )
+    let shards = c.shards-shard in (record {
+      len_bound = search rules;
+      small_shards = shards_small a.settings.now a.body.now a.len (search rules)
+          (bad-holds a.len (shard_at a.settings.now a.body.now) shards.result shards.ensures c.if-shard-len.false);
+    })
 
 pub returns-then-place-len : goal.returns-then-place-len
 returns-then-place-len c = let a = c.args in
@@ -39,14 +39,8 @@ returns-then-place-len c = let a = c.args in
 
 pub complete-requires : goal.complete-requires
 complete-requires c = let a = c.args in
-    let shards = c.shards-shard in (
-      search rules,
-      (
-        search rules,
-        shards_small a.settings.now a.body.now a.len (search rules)
-            (bad-holds a.len (shard_at a.settings.now a.body.now) shards.result shards.ensures c.if-shard-len.false),
-      ),
-    )
+    let shards = c.shards-shard in record { settings = search rules; len_bound = search rules; small_shards = shards_small a.settings.now a.body.now a.len (search rules)
+            (bad-holds a.len (shard_at a.settings.now a.body.now) shards.result shards.ensures c.if-shard-len.false) }
 
 pub returns-then-not-complete : goal.returns-then-not-complete
 returns-then-not-complete c = let a = c.args in
@@ -56,7 +50,7 @@ returns-then-not-complete c = let a = c.args in
     let complete = c.complete in
     missing_told a.form a.settings.now a.node.0 a.body.now a.len kinds.result kinds.ensures shards.result shards.ensures c.if-kind-len.false
     sequence.result sequence.ensures c.if-shard-len.false c.if-place-len.false
-    _ c.told_at-then-not-complete.ensures (sym complete.ensures ∙ not-true complete.result c.if-not-complete.true)
+    _ c.told_at-then-not-complete.ensures (sym complete.ensures ∙ c.if-not-complete.true)
 
 pub returns : goal.returns
 returns c = let a = c.args in
@@ -66,4 +60,4 @@ returns c = let a = c.args in
     let complete = c.complete in
     nothing_told a.form a.settings.now a.node.0 a.body.now a.len kinds.result kinds.ensures shards.result shards.ensures c.if-kind-len.false
     sequence.result sequence.ensures c.if-shard-len.false c.if-place-len.false
-    (sym complete.ensures ∙ not-false complete.result c.if-not-complete.false)
+    (sym complete.ensures ∙ c.if-not-complete.false)

@@ -12,7 +12,7 @@ returns-then-slot c = let s = c in
 
 pub words_fit-requires : goal.words_fit-requires
 words_fit-requires c = let s = c in
-    (s.requires.0, words_long s.args.b.now c.words_of-w.result c.words_of-w.ensures)
+    record { settings = s.requires.0; w_len = words_long s.args.b.now c.words_of-w.result c.words_of-w.ensures }
 
 pub returns-then-words_fit : goal.returns-then-words_fit
 returns-then-words_fit c = let s = c in
@@ -37,7 +37,7 @@ returns-then-not-report_fits c = let s = c in
       (
         λ e. clash e c.if-slot.false,
         λ e d is. stepped_unfit a.settings.now a.v a.t d a.slot.node.0 a.b.now w.result s.requires.0 is s.requires.1.1.0 w.ensures a.holders.now a.tops.now r.result r.ensures c.if-refusal-ne0.false
-            (sym f.ensures ∙ not-true f.result c.if-not-report_fits.true),
+            (sym f.ensures ∙ c.if-not-report_fits.true),
       ),
     )
 
@@ -45,7 +45,7 @@ pub note_report-requires : goal.note_report-requires
 note_report-requires c = let s = c in
     let w = c.words_of-w in
     let r = c.read_under-r in
-    (s.requires.0, (s.requires.1.0, (s.requires.1.1.1, read_few s.args.settings.now w.result r.result r.ensures c.if-refusal-ne0.false)))
+    record { settings = s.requires.0; holders_len = s.requires.1.0; position_records = s.requires.1.1.1; len_bound = read_few s.args.settings.now w.result r.result r.ensures c.if-refusal-ne0.false }
 
 pub returns : goal.returns
 returns c = let s = c in
@@ -59,7 +59,7 @@ returns c = let s = c in
         λ e. clash e c.if-slot.false,
         λ e d is.
             let ok = fits_sound a.settings.now a.v a.t d a.slot.node.0 a.b.now w.result s.requires.0 is s.requires.1.1.0 w.ensures a.holders.now a.tops.now r.result r.ensures h true
-            (sym f.ensures ∙ not-false f.result c.if-not-report_fits.false) in
+            (sym f.ensures ∙ c.if-not-report_fits.false) in
             record {
               sound = sym ok;
               renewed = λ q. c.note_report.ensures.1 d a.b.now is s.requires.1.1.0 ok
