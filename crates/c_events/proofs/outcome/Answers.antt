@@ -6,10 +6,10 @@ pub enum_told-1 : goal.enum_told-1
 enum_told-1 c = search rules
 
 pub returns-in-Drop : goal.returns-in-Drop
-returns-in-Drop c = simp c.enum_told-1.given.1 c.drop_under.ensures
+returns-in-Drop c = simp c.in-Drop.is c.drop_under.ensures
 
 pub returns-in-Fetched : goal.returns-in-Fetched
-returns-in-Fetched c = simp c.enum_told-in-Fetched-1.given.1 c.fetched_under.ensures
+returns-in-Fetched c = simp c.in-Fetched.is c.fetched_under.ensures
 
 pub returns-in-Prepared : goal.returns-in-Prepared
-returns-in-Prepared c = simp c.enum_told-in-Prepared-1.given.1 c.prepared_under.ensures
+returns-in-Prepared c = simp c.in-Prepared.is c.prepared_under.ensures

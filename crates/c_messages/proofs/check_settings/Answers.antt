@@ -14,11 +14,11 @@ returns-then-not-check c =
     check_wrong _
     (ap settings_ok (sym c.settings_of-s.ensures.front)
     ∙ sym c.check.ensures
-    ∙ not-true _ c.if-not-check.true)
+    ∙ c.if-not-check.true)
 
 pub returns : goal.returns
 returns c =
     check_right _
     (ap settings_ok (sym c.settings_of-s.ensures.front)
     ∙ sym c.check.ensures
-    ∙ not-false _ c.if-not-check.false)
+    ∙ c.if-not-check.false)

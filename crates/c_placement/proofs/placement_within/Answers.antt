@@ -8,37 +8,37 @@ use Rattle.c_placement.specs.Number.{small_within, lengths_of, within_given}
 use Rattle.c_placement.proofs.placement_within.Goals as goal
 
 pub returns-then-not-fit : goal.returns-then-not-fit
-returns-then-not-fit c = record { answered = λ e. clash e (sym c.fit.ensures ∙ not-true c.fit.result c.if-not-fit.true); refused = λ e. (refl, refl) }
+returns-then-not-fit c = record { answered = λ e. clash e (sym c.fit.ensures ∙ c.if-not-fit.true); refused = λ e. (refl, refl) }
 
 pub array_32-s-requires : goal.array_32-s-requires
 array_32-s-requires c =
     let e = c in
     let a = e.args in
-    let ok = lengths_of a.sets.now a.needs.now a.caps.now a.costs.now a.owners.now (sym e.fit.ensures ∙ not-false e.fit.result e.if-not-fit.false) in ok.sets_are
+    let ok = lengths_of a.sets.now a.needs.now a.caps.now a.costs.now a.owners.now (sym e.fit.ensures ∙ e.if-not-fit.false) in ok.sets_are
 
 pub array_16-m-requires : goal.array_16-m-requires
 array_16-m-requires c =
     let e = c in
     let a = e.args in
-    let ok = lengths_of a.sets.now a.needs.now a.caps.now a.costs.now a.owners.now (sym e.fit.ensures ∙ not-false e.fit.result e.if-not-fit.false) in ok.needs_are
+    let ok = lengths_of a.sets.now a.needs.now a.caps.now a.costs.now a.owners.now (sym e.fit.ensures ∙ e.if-not-fit.false) in ok.needs_are
 
 pub array_16-c-requires : goal.array_16-c-requires
 array_16-c-requires c =
     let e = c in
     let a = e.args in
-    let ok = lengths_of a.sets.now a.needs.now a.caps.now a.costs.now a.owners.now (sym e.fit.ensures ∙ not-false e.fit.result e.if-not-fit.false) in ok.caps_are
+    let ok = lengths_of a.sets.now a.needs.now a.caps.now a.costs.now a.owners.now (sym e.fit.ensures ∙ e.if-not-fit.false) in ok.caps_are
 
 pub array_512-p-requires : goal.array_512-p-requires
 array_512-p-requires c =
     let e = c in
     let a = e.args in
-    let ok = lengths_of a.sets.now a.needs.now a.caps.now a.costs.now a.owners.now (sym e.fit.ensures ∙ not-false e.fit.result e.if-not-fit.false) in ok.costs_are
+    let ok = lengths_of a.sets.now a.needs.now a.caps.now a.costs.now a.owners.now (sym e.fit.ensures ∙ e.if-not-fit.false) in ok.costs_are
 
 pub put-requires : goal.put-requires
 put-requires c =
     let e = c in
     let a = e.args in
-    let ok = lengths_of a.sets.now a.needs.now a.caps.now a.costs.now a.owners.now (sym e.fit.ensures ∙ not-false e.fit.result e.if-not-fit.false) in (ok.owners_are, c.first_within-w.ensures.owners.long)
+    let ok = lengths_of a.sets.now a.needs.now a.caps.now a.costs.now a.owners.now (sym e.fit.ensures ∙ e.if-not-fit.false) in (ok.owners_are, c.first_within-w.ensures.owners.long)
 
 pub number-requires : goal.number-requires
 number-requires c = small_within (omega (arith, c.ranges.idle)) c.first_within-w.ensures
@@ -48,4 +48,4 @@ returns c =
     let e = c in
     let t = c in
     within_given t.array_32-s.ensures t.array_16-m.ensures t.array_16-c.ensures t.array_512-p.ensures
-    (sym e.fit.ensures ∙ not-false e.fit.result e.if-not-fit.false) c.number.ensures c.put.ensures c.first_within-w.ensures
+    (sym e.fit.ensures ∙ e.if-not-fit.false) c.number.ensures c.put.ensures c.first_within-w.ensures

@@ -6,4 +6,4 @@ pub enum_told-1 : goal.enum_told-1
 enum_told-1 c = search rules
 
 pub returns-in-Accepted : goal.returns-in-Accepted
-returns-in-Accepted c = simp c.enum_told-1.given.1
+returns-in-Accepted c = simp c.in-Accepted.is

@@ -7,11 +7,11 @@ use Rattle.c_state_words.proofs.decode.Goals as goal
 
 pub returns-then-not-is_state : goal.returns-then-not-is_state
 unfolding decoded
-returns-then-not-is_state c = rw (sym c.is_state.ensures ∙ not-true c.is_state.result c.if-not-is_state.true, c.fresh.ensures)
+returns-then-not-is_state c = rw (sym c.is_state.ensures ∙ c.if-not-is_state.true, c.fresh.ensures)
 
 pub state_in-requires : goal.state_in-requires
-state_in-requires c = (stated _ (sym c.is_state.ensures ∙ not-false c.is_state.result c.if-not-is_state.false)).long
+state_in-requires c = (stated _ (sym c.is_state.ensures ∙ c.if-not-is_state.false)).long
 
 pub returns : goal.returns
 unfolding decoded
-returns c = rw (sym c.is_state.ensures ∙ not-false c.is_state.result c.if-not-is_state.false, c.state_in.ensures)
+returns c = rw (sym c.is_state.ensures ∙ c.if-not-is_state.false, c.state_in.ensures)

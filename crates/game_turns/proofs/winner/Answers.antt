@@ -69,7 +69,7 @@ returns-then-not-crew c =
     let k = c.crew-then-has in
     let q =
     ap (λ (x : ℕ). crew_turn a.nodes (plan_at a.table.now) (2 * a.rounds - 1) x l.o) (sym c.without.ensures)
-    ∙ sym k.ensures ∙ not-true k.result c.if-not-crew.true in
+    ∙ sym k.ensures ∙ c.if-not-crew.true in
     won_taking a.nodes a.table.now a.rounds a.held l.o s.requires.0.0 z below l.invariant.1 p q
     (outage_lost a.nodes a.table.now (2 * a.rounds) a.held l.o (λ e. some (omega (arith, e))) z below p q)
 

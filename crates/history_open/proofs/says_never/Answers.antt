@@ -6,8 +6,8 @@ use Rattle.history_open.proofs.says_never.Goals as goal
 
 pub returns-then-not-disjoint : goal.returns-then-not-disjoint
 unfolding says_never
-returns-then-not-disjoint c = simp (sym c.disjoint.ensures, not-true c.disjoint.result c.if-not-disjoint.true)
+returns-then-not-disjoint c = simp (sym c.disjoint.ensures, c.if-not-disjoint.true)
 
 pub returns : goal.returns
 unfolding says_never
-returns c = simp (sym c.disjoint.ensures, not-false c.disjoint.result c.if-not-disjoint.false)
+returns c = simp (sym c.disjoint.ensures, c.if-not-disjoint.false)

@@ -11,8 +11,8 @@ returns-then-nodes-node c = simp (sym c.nodes.ensures, le-leb _ _ c.if-nodes-nod
 
 pub returns-then-not-row7 : goal.returns-then-not-row7
 unfolding head_refusal row6 unless
-returns-then-not-row7 c = simp (sym c.nodes.ensures, lt-leb _ _ c.if-nodes-node.false, lt-ltb _ _ c.if-nodes-node.false, sym c.row7.ensures, not-true c.row7.result c.if-not-row7.true)
+returns-then-not-row7 c = simp (sym c.nodes.ensures, lt-leb _ _ c.if-nodes-node.false, lt-ltb _ _ c.if-nodes-node.false, sym c.row7.ensures, c.if-not-row7.true)
 
 pub returns : goal.returns
 unfolding head_refusal row6 unless
-returns c = simp (sym c.nodes.ensures, lt-leb _ _ c.if-nodes-node.false, lt-ltb _ _ c.if-nodes-node.false, sym c.row7.ensures, not-false c.row7.result c.if-not-row7.false)
+returns c = simp (sym c.nodes.ensures, lt-leb _ _ c.if-nodes-node.false, lt-ltb _ _ c.if-nodes-node.false, sym c.row7.ensures, c.if-not-row7.false)

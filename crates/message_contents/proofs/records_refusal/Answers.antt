@@ -33,7 +33,7 @@ returns-then-not-row10 c = let s = c in
     let ten = c.row10 in
     records_10 a.form a.settings.now a.node.0 a.view.0 a.members a.body.now a.len list.result list.ensures c.if-structure-ne0.false
     (masks_by a.settings.now a.members a.body.now table.result ten.result s.requires.0 table.ensures ten.ensures
-    ∙ not-true ten.result c.if-not-row10.true)
+    ∙ c.if-not-row10.true)
 
 pub returns-then-positions-len : goal.returns-then-positions-len
 returns-then-positions-len c = let s = c in
@@ -43,7 +43,7 @@ returns-then-positions-len c = let s = c in
     let ten = c.row10 in
     records_11 a.form a.settings.now a.node.0 a.view.0 a.members a.body.now a.len list.result list.ensures c.if-structure-ne0.false
     (masks_by a.settings.now a.members a.body.now table.result ten.result s.requires.0 table.ensures ten.ensures
-    ∙ not-false ten.result c.if-not-row10.false)
+    ∙ c.if-not-row10.false)
     (bad_fails a.len (row11_at a.form a.view.0 a.members a.body.now) c.positions.result c.positions.ensures c.if-positions-len.true)
 
 pub returns : goal.returns
@@ -54,5 +54,5 @@ returns c = let s = c in
     let ten = c.row10 in
     records_pass a.form a.settings.now a.node.0 a.view.0 a.members a.body.now a.len list.result list.ensures c.if-structure-ne0.false
     (masks_by a.settings.now a.members a.body.now table.result ten.result s.requires.0 table.ensures ten.ensures
-    ∙ not-false ten.result c.if-not-row10.false)
+    ∙ c.if-not-row10.false)
     (bad-holds a.len (row11_at a.form a.view.0 a.members a.body.now) c.positions.result c.positions.ensures c.if-positions-len.false)

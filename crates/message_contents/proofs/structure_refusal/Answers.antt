@@ -56,7 +56,7 @@ returns-then-not-complete c = let a = c.args in
     let complete = c.complete in
     missing_told a.form a.settings.now a.node.0 a.body.now a.len kinds.result kinds.ensures shards.result shards.ensures c.if-kind-len.false
     sequence.result sequence.ensures c.if-shard-len.false c.if-place-len.false
-    _ c.told_at-then-not-complete.ensures (sym complete.ensures ∙ not-true complete.result c.if-not-complete.true)
+    _ c.told_at-then-not-complete.ensures (sym complete.ensures ∙ c.if-not-complete.true)
 
 pub returns : goal.returns
 returns c = let a = c.args in
@@ -66,4 +66,4 @@ returns c = let a = c.args in
     let complete = c.complete in
     nothing_told a.form a.settings.now a.node.0 a.body.now a.len kinds.result kinds.ensures shards.result shards.ensures c.if-kind-len.false
     sequence.result sequence.ensures c.if-shard-len.false c.if-place-len.false
-    (sym complete.ensures ∙ not-false complete.result c.if-not-complete.false)
+    (sym complete.ensures ∙ c.if-not-complete.false)

@@ -13,7 +13,7 @@ right c = sym c.before.check.ensures ∙ not-false _ c.if1.false
 
 pub returns-then-not-check : goal.returns-then-not-check
 returns-then-not-check c =
-    c.refuse.ensures ∙ reading_settings _ _ _ (sym c.check.ensures ∙ not-true _ c.if-not-check.true)
+    c.refuse.ensures ∙ reading_settings _ _ _ (sym c.check.ensures ∙ c.if-not-check.true)
 
 pub read_under-requires : goal.read_under-requires
 read_under-requires c = settings_give _ (right c)

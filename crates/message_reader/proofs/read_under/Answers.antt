@@ -27,7 +27,7 @@ linked c = chain_linked _ _ c.before.before.chain-refusal.ensures c.if3.false
 
 pub returns-then-not-length_ok : goal.returns-then-not-length_ok
 returns-then-not-length_ok c =
-    c.refuse.ensures ∙ reading_length _ _ _ (sym c.length_ok.ensures ∙ not-true _ c.if-not-length_ok.true)
+    c.refuse.ensures ∙ reading_length _ _ _ (sym c.length_ok.ensures ∙ c.if-not-length_ok.true)
 
 pub head_of-head-requires : goal.head_of-head-requires
 head_of-head-requires c = (c.requires, row5_gives _ (sized c))

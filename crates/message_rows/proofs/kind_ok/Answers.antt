@@ -9,12 +9,12 @@ enum_told-1 c = search rules
 
 pub returns-then-from_to : goal.returns-then-from_to
 unfolding kind_ok
-returns-then-from_to c = simp (c.enum_told-in-Order-1.given.1, sym c.from_to-in-Order.ensures, c.if-from_to.true)
+returns-then-from_to c = simp (c.in-Order.is, sym c.from_to-in-Order.ensures, c.if-from_to.true)
 
 pub returns-in-Report : goal.returns-in-Report
 unfolding kind_ok
-returns-in-Report c = simp (c.enum_told-1.given.1, sym c.from_to.ensures)
+returns-in-Report c = simp (c.in-Report.is, sym c.from_to.ensures)
 
 pub returns-else-from_to : goal.returns-else-from_to
 unfolding kind_ok
-returns-else-from_to c = simp (c.enum_told-in-Order-1.given.1, sym c.from_to-in-Order.ensures, c.if-from_to.false, sym c.from_to-in-Order-2.ensures)
+returns-else-from_to c = simp (c.in-Order.is, sym c.from_to-in-Order.ensures, c.if-from_to.false, sym c.from_to-in-Order-2.ensures)

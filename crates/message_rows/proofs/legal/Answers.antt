@@ -31,8 +31,8 @@ returns-then-kind-eq4 c = let a = c.args in
 
 pub returns-then-not-position : goal.returns-then-not-position
 unfolding legal
-returns-then-not-position c = simp (ne_eqb _ _ c.if-kind-eq1.false, ne_eqb _ _ c.if-kind-eq3.false, ne_eqb _ _ c.if-kind-eq4.false, sym c.position.ensures, not-true c.position.result c.if-not-position.true)
+returns-then-not-position c = simp (ne_eqb _ _ c.if-kind-eq1.false, ne_eqb _ _ c.if-kind-eq3.false, ne_eqb _ _ c.if-kind-eq4.false, sym c.position.ensures, c.if-not-position.true)
 
 pub returns : goal.returns
 unfolding legal
-returns c = simp (ne_eqb _ _ c.if-kind-eq1.false, ne_eqb _ _ c.if-kind-eq3.false, ne_eqb _ _ c.if-kind-eq4.false, sym c.position.ensures, not-false c.position.result c.if-not-position.false, sym c.view_fits.ensures)
+returns c = simp (ne_eqb _ _ c.if-kind-eq1.false, ne_eqb _ _ c.if-kind-eq3.false, ne_eqb _ _ c.if-kind-eq4.false, sym c.position.ensures, c.if-not-position.false, sym c.view_fits.ensures)

@@ -6,12 +6,12 @@ use Rattle.message_rows.proofs.row7.Goals as goal
 
 pub returns-then-not-view_ok : goal.returns-then-not-view_ok
 unfolding row7
-returns-then-not-view_ok c = simp (sym c.view_ok.ensures, not-true c.view_ok.result c.if-not-view_ok.true)
+returns-then-not-view_ok c = simp (sym c.view_ok.ensures, c.if-not-view_ok.true)
 
 pub returns-then-not-within : goal.returns-then-not-within
 unfolding row7
-returns-then-not-within c = simp (sym c.view_ok.ensures, not-false c.view_ok.result c.if-not-view_ok.false, sym c.nodes.ensures, sym c.within.ensures, not-true c.within.result c.if-not-within.true)
+returns-then-not-within c = simp (sym c.view_ok.ensures, c.if-not-view_ok.false, sym c.nodes.ensures, sym c.within.ensures, c.if-not-within.true)
 
 pub returns : goal.returns
 unfolding row7
-returns c = simp (sym c.view_ok.ensures, not-false c.view_ok.result c.if-not-view_ok.false, sym c.nodes.ensures, sym c.within.ensures, not-false c.within.result c.if-not-within.false, sym c.has.ensures)
+returns c = simp (sym c.view_ok.ensures, c.if-not-view_ok.false, sym c.nodes.ensures, sym c.within.ensures, c.if-not-within.false, sym c.has.ensures)

@@ -8,8 +8,8 @@ enum_told-1 c = search rules
 
 pub returns-in-Report : goal.returns-in-Report
 unfolding view_fits
-returns-in-Report c = simp c.enum_told-1.given.1
+returns-in-Report c = simp c.in-Report.is
 
 pub returns-in-Order : goal.returns-in-Order
 unfolding view_fits
-returns-in-Order c = simp c.enum_told-in-Order-1.given.1
+returns-in-Order c = simp c.in-Order.is

@@ -9,8 +9,8 @@ enum_told-1 c = search rules
 
 pub returns-in-Report : goal.returns-in-Report
 unfolding view_ok
-returns-in-Report c = simp (c.enum_told-1.given.1, sym c.from_to.ensures)
+returns-in-Report c = simp (c.in-Report.is, sym c.from_to.ensures)
 
 pub returns-in-Order : goal.returns-in-Order
 unfolding view_ok
-returns-in-Order c = simp (c.enum_told-in-Order-1.given.1, sym c.from_to-in-Order.ensures)
+returns-in-Order c = simp (c.in-Order.is, sym c.from_to-in-Order.ensures)

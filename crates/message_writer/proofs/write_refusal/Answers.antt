@@ -16,11 +16,11 @@ unfolding write_refusal
 returns-then-not-check c =
     sym
     (unless_true _ _ _ (eq-eqb _ _ c.if-buffer-ne512.false)
-    ∙ unless_false _ _ _ (sym c.check.ensures ∙ not-true c.check.result c.if-not-check.true))
+    ∙ unless_false _ _ _ (sym c.check.ensures ∙ c.if-not-check.true))
 
 pub contents_refusal-requires : goal.contents_refusal-requires
 contents_refusal-requires c =
-    settings_give _ (sym c.check.ensures ∙ not-false c.check.result c.if-not-check.false)
+    settings_give _ (sym c.check.ensures ∙ c.if-not-check.false)
 
 pub returns : goal.returns
 unfolding write_refusal
@@ -28,4 +28,4 @@ returns c =
     c.contents_refusal.ensures
     ∙ sym
     (unless_true _ _ _ (eq-eqb _ _ c.if-buffer-ne512.false)
-    ∙ unless_true _ _ _ (sym c.check.ensures ∙ not-false c.check.result c.if-not-check.false))
+    ∙ unless_true _ _ _ (sym c.check.ensures ∙ c.if-not-check.false))

@@ -6,7 +6,7 @@ use Rattle.place_groups.proofs.seen_with.Goals as goal
 
 pub returns-then-not-has : goal.returns-then-not-has
 unfolding seen_with
-returns-then-not-has c = simp (sym c.has.ensures, not-true c.has.result c.if-not-has.true)
+returns-then-not-has c = simp (sym c.has.ensures, c.if-not-has.true)
 
 pub with-requires : goal.with-requires
 with-requires c =
@@ -15,4 +15,4 @@ with-requires c =
 
 pub returns : goal.returns
 unfolding seen_with
-returns c = simp (sym c.has.ensures, not-false c.has.result c.if-not-has.false, sym c.set_of.ensures, sym c.with.ensures)
+returns c = simp (sym c.has.ensures, c.if-not-has.false, sym c.set_of.ensures, sym c.with.ensures)

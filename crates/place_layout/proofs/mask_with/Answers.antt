@@ -10,7 +10,7 @@ unfolding mask_with
 returns-then-not-in_group c =
     let a = c.args in
     let i = c.in_group in
-    sym (ap (λ (b : Bool). cond b (owned_by a.owners.now a.s.0) a.was) (sym i.ensures ∙ not-true i.result c.if-not-in_group.true))
+    sym (ap (λ (b : Bool). cond b (owned_by a.owners.now a.s.0) a.was) (sym i.ensures ∙ c.if-not-in_group.true))
 
 pub returns : goal.returns
 unfolding mask_with
@@ -18,4 +18,4 @@ returns c =
     let a = c.args in
     let i = c.in_group in
     c.owned_by.ensures
-    ∙ sym (ap (λ (b : Bool). cond b (owned_by a.owners.now a.s.0) a.was) (sym i.ensures ∙ not-false i.result c.if-not-in_group.false))
+    ∙ sym (ap (λ (b : Bool). cond b (owned_by a.owners.now a.s.0) a.was) (sym i.ensures ∙ c.if-not-in_group.false))

@@ -8,23 +8,23 @@ use Rattle.place_tables.proofs.cap_at.Goals as goal
 pub returns-then-not-in_group : goal.returns-then-not-in_group
 returns-then-not-in_group c =
     let a = c.args in
-    let i = c.in_group in sym (cap_none a.settings.now a.g a.s (sym i.ensures ∙ not-true i.result c.if-not-in_group.true))
+    let i = c.in_group in sym (cap_none a.settings.now a.g a.s (sym i.ensures ∙ c.if-not-in_group.true))
 
 pub cap-requires : goal.cap-requires
 cap-requires c =
     let a = c.args in
     let i = c.in_group in
-    (c.requires.sizes, group_shard a.settings.now a.g a.s (sym i.ensures ∙ not-false i.result c.if-not-in_group.false))
+    (c.requires.sizes, group_shard a.settings.now a.g a.s (sym i.ensures ∙ c.if-not-in_group.false))
 
 pub overflow_cast-result : goal.overflow_cast-result
 overflow_cast-result c =
     let m = c in
     let a = m.args in
     let i = c.in_group in
-    record { fits = omega (arith, c.cap.ensures, m.requires.cap_to a.s (group_shard a.settings.now a.g a.s (sym i.ensures ∙ not-false i.result c.if-not-in_group.false))) }
+    record { fits = omega (arith, c.cap.ensures, m.requires.cap_to a.s (group_shard a.settings.now a.g a.s (sym i.ensures ∙ c.if-not-in_group.false))) }
 
 pub returns : goal.returns
 returns c =
     let a = c.args in
     let i = c.in_group in
-    c.cap.ensures ∙ sym (cap_of a.settings.now a.g a.s (sym i.ensures ∙ not-false i.result c.if-not-in_group.false))
+    c.cap.ensures ∙ sym (cap_of a.settings.now a.g a.s (sym i.ensures ∙ c.if-not-in_group.false))

@@ -34,7 +34,7 @@ pub returns-then-not-has : goal.returns-then-not-has
 returns-then-not-has c =
     let a = c.args in
     let h = c.has in
-    sym (cost_away a.settings.now a.held (λ i. get_or a.old.now i 0) a.g a.s a.n (sym h.ensures ∙ not-true h.result c.if-not-has.true))
+    sym (cost_away a.settings.now a.held (λ i. get_or a.old.now i 0) a.g a.s a.n (sym h.ensures ∙ c.if-not-has.true))
 
 pub returns-then-least-eq1 : goal.returns-then-least-eq1
 returns-then-least-eq1 c =
@@ -42,7 +42,7 @@ returns-then-least-eq1 c =
     let m = t in
     let a = m.args in
     let h = c.has in
-    let p = sym h.ensures ∙ not-false h.result c.if-not-has.false in
+    let p = sym h.ensures ∙ c.if-not-has.false in
     m.requires.1.1.1.0
     ∙ sym (cost_told a.settings.now a.held (λ i. get_or a.old.now i 0) a.g a.s a.n m.requires.1.1.1.1 p
     (entry_moves a.settings.now a.held (λ i. get_or a.old.now i 0) m.requires.0 a.s (group_shard a.settings.now a.g a.s m.requires.1.1.1.1) a.n
@@ -59,7 +59,7 @@ returns-then-has c =
     let m = c in
     let a = m.args in
     sym (cost_told a.settings.now a.held (λ i. get_or a.old.now i 0) a.g a.s a.n m.requires.1.1.1.1
-    (sym h.ensures ∙ not-false h.result c.if-not-has.false) (sym c.has-2.ensures ∙ c.if-has.true))
+    (sym h.ensures ∙ c.if-not-has.false) (sym c.has-2.ensures ∙ c.if-has.true))
 
 pub returns-else-has : goal.returns-else-has
 returns-else-has c =
@@ -68,4 +68,4 @@ returns-else-has c =
     let a = m.args in
     m.requires.1.1.1.0
     ∙ sym (cost_told a.settings.now a.held (λ i. get_or a.old.now i 0) a.g a.s a.n m.requires.1.1.1.1
-    (sym h.ensures ∙ not-false h.result c.if-not-has.false) (sym c.has-2.ensures ∙ c.if-has.false))
+    (sym h.ensures ∙ c.if-not-has.false) (sym c.has-2.ensures ∙ c.if-has.false))

@@ -7,16 +7,16 @@ use Rattle.place_tables.proofs.need_at.Goals as goal
 pub returns-then-not-in_group : goal.returns-then-not-in_group
 returns-then-not-in_group c =
     let a = c.args in
-    let i = c.in_group in sym (need_none a.settings.now a.g a.s (sym i.ensures ∙ not-true i.result c.if-not-in_group.true))
+    let i = c.in_group in sym (need_none a.settings.now a.g a.s (sym i.ensures ∙ c.if-not-in_group.true))
 
 pub need-requires : goal.need-requires
 need-requires c =
     let a = c.args in
     let i = c.in_group in
-    (c.requires, group_shard a.settings.now a.g a.s (sym i.ensures ∙ not-false i.result c.if-not-in_group.false))
+    (c.requires, group_shard a.settings.now a.g a.s (sym i.ensures ∙ c.if-not-in_group.false))
 
 pub returns : goal.returns
 returns c =
     let a = c.args in
     let i = c.in_group in
-    c.need.ensures ∙ sym (need-of a.settings.now a.g a.s (sym i.ensures ∙ not-false i.result c.if-not-in_group.false))
+    c.need.ensures ∙ sym (need-of a.settings.now a.g a.s (sym i.ensures ∙ c.if-not-in_group.false))

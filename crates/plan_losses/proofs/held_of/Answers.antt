@@ -8,10 +8,10 @@ use Rattle.plan_losses.proofs.held_of.Goals as goal
 
 pub returns-then-not-has : goal.returns-then-not-has
 returns-then-not-has c = let a = c.args in
-    let h = c.has in held_not a.settings.now a.held a.f a.n.0 (sym h.ensures ∙ not-true h.result c.if-not-has.true)
+    let h = c.has in held_not a.settings.now a.held a.f a.n.0 (sym h.ensures ∙ c.if-not-has.true)
 
 pub returns : goal.returns
 returns c = let a = c.args in
     let h = c.has in
-    held_is a.settings.now a.held a.f a.n.0 (eqb c.set_of.result a.f) (sym h.ensures ∙ not-false h.result c.if-not-has.false)
+    held_is a.settings.now a.held a.f a.n.0 (eqb c.set_of.result a.f) (sym h.ensures ∙ c.if-not-has.false)
     (ap (λ (x : ℕ). eqb x a.f) c.set_of.ensures)

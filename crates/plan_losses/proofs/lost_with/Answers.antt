@@ -16,19 +16,19 @@ pub returns-then-not-has : goal.returns-then-not-has
 returns-then-not-has c = let s = c in
     let a = s.args in
     lost_not a.settings.now a.held (quorums_in a.settings.now a.v a.masks.now) a.n a.lost
-    (λ h. clash h (sym c.has.ensures ∙ not-true c.has.result c.if-not-has.true)) s.requires.1.1.1
+    (λ h. clash h (sym c.has.ensures ∙ c.if-not-has.true)) s.requires.1.1.1
 
 pub set_of-requires : goal.set_of-requires
 set_of-requires c = let s = c in
     let h = c.has in
-    (s.requires.0, has_below s.args.held (nodes s.args.settings.now) s.args.n s.requires.1.0.0 (sym h.ensures ∙ not-false h.result c.if-not-has.false))
+    (s.requires.0, has_below s.args.held (nodes s.args.settings.now) s.args.n s.requires.1.0.0 (sym h.ensures ∙ c.if-not-has.false))
 
 pub returns-then-has : goal.returns-then-has
 returns-then-has c = let s = c in
     let a = s.args in
     let h = c.has in
     let t = c.has-2 in
-    let own : has a.held a.n ≡ true = sym h.ensures ∙ not-false h.result c.if-not-has.false in
+    let own : has a.held a.n ≡ true = sym h.ensures ∙ c.if-not-has.false in
     let in-tight : has a.tight (set_of a.settings.now a.n) ≡ true =
     subst (λ (x : ℕ). has a.tight x ≡ true) (c.wide.ensures ∙ c.set_of.ensures) (sym t.ensures ∙ c.if-has.true) in
     subst (LostBelow a.settings.now a.held (quorums_in a.settings.now a.v a.masks.now) (a.n + 1)) (sym c.with.ensures)
@@ -45,7 +45,7 @@ returns-then-not-waits c = let s = c in
     let w = c.waits in
     let e = c.without.ensures in
     lost_not a.settings.now a.held (quorums_in a.settings.now a.v a.masks.now) a.n a.lost
-    (λ h. subst (λ (x : ℕ). Allowed a.settings.now x (quorum_in a.settings.now a.v x a.masks.now)) e (w.ensures.some (not-true w.result c.if-not-waits.true)))
+    (λ h. subst (λ (x : ℕ). Allowed a.settings.now x (quorum_in a.settings.now a.v x a.masks.now)) e (w.ensures.some (c.if-not-waits.true)))
     s.requires.1.1.1
 
 pub returns : goal.returns
@@ -56,6 +56,6 @@ returns c = let s = c in
     let h = c.has in
     subst (LostBelow a.settings.now a.held (quorums_in a.settings.now a.v a.masks.now) (a.n + 1)) (sym c.with-2.ensures)
     (lost_with a.settings.now a.held (quorums_in a.settings.now a.v a.masks.now) a.n a.lost
-    (sym h.ensures ∙ not-false h.result c.if-not-has.false)
-    (λ r. w.ensures.none (not-false w.result c.if-not-waits.false)
+    (sym h.ensures ∙ c.if-not-has.false)
+    (λ r. w.ensures.none (c.if-not-waits.false)
     (subst (λ (x : ℕ). Allowed a.settings.now x (quorum_in a.settings.now a.v x a.masks.now)) (sym e) r)) s.requires.1.1.1)

@@ -18,7 +18,7 @@ pub loop-g-preserved : goal.loop-g-preserved
 loop-g-preserved c = let a = c.args in
     let l = c.loop-g in
     let v = c.stays_in in
-    let w = v.ensures (not-false v.result c.if-not-stays_in.false) in
+    let w = v.ensures (c.if-not-stays_in.false) in
     (omega (arith, c.loop-g-test.true), placed_more a.settings.now a.held l.g w.0 w.1 l.invariant.1)
 
 pub returns : goal.returns

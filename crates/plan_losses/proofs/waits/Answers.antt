@@ -8,16 +8,16 @@ use Rattle.plan_losses.proofs.waits.Goals as goal
 pub returns-then-stays_placed : goal.returns-then-stays_placed
 returns-then-stays_placed c = let a = c.args in
     foretold_placed a.settings.now a.held (quorum_in a.settings.now a.v a.held a.masks.now)
-    (sym c.quorum-found.ensures ∙ c.enum_told-in-Met-1.given.1) (c.stays_placed.ensures c.if-stays_placed.true)
+    (sym c.quorum-found.ensures ∙ c.in-Met.is) (c.stays_placed.ensures c.if-stays_placed.true)
 
 pub returns-in-Short : goal.returns-in-Short
 returns-in-Short c = let a = c.args in
-    foretold_short a.settings.now a.held (quorum_in a.settings.now a.v a.held a.masks.now) _ (sym c.quorum-found.ensures ∙ c.enum_told-1.given.1)
+    foretold_short a.settings.now a.held (quorum_in a.settings.now a.v a.held a.masks.now) _ (sym c.quorum-found.ensures ∙ c.in-Short.is)
 
 pub returns-else-stays_placed : goal.returns-else-stays_placed
 returns-else-stays_placed c = let a = c.args in
     let p = c.place-placed in
     foretold_search a.settings.now a.held (quorum_in a.settings.now a.v a.held a.masks.now) p.result.found
-    (sym c.quorum-found.ensures ∙ c.enum_told-in-Met-1.given.1)
+    (sym c.quorum-found.ensures ∙ c.in-Met.is)
     (λ e g l. (λ i. get_or p.result.masks i 0, ((p.ensures.laid e).chosen g l).least.valid))
     (λ e. (p.result.group, (p.ensures.unplaced e).lowest))

@@ -37,7 +37,7 @@ returns-then-not-seen c = let s = c in
     c.none_counted.ensures
     ∙ counted_failed a.settings.now a.v a.t a.all d s.requires.0
     (all_fails 32 (node_ok a.settings.now a.v a.t a.all d) l.n m
-    (held_ok a.settings.now a.v a.t a.all d l.n false h (sym own ∙ not-true x.result.ok c.if-not-seen.true)))
+    (held_ok a.settings.now a.v a.t a.all d l.n false h (sym own ∙ c.if-not-seen.true)))
 
 pub count_node-requires : goal.count_node-requires
 count_node-requires c = let s = c in

@@ -12,4 +12,4 @@ returns-in-Short c = let a = c.args in
 pub returns-in-Met : goal.returns-in-Met
 returns-in-Met c = let a = c.args in
     numbered_met a.settings.now a.held (quorum_in a.settings.now a.v a.held a.masks.now) c.placement_number.result
-    (sym c.quorum-found.ensures ∙ c.enum_told-1.given.1) c.placement_number.ensures
+    (sym c.quorum-found.ensures ∙ c.in-Met.is) c.placement_number.ensures

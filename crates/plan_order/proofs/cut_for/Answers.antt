@@ -8,7 +8,7 @@ use Rattle.plan_order.proofs.cut_for.Goals as goal
 pub returns-then-not-has : goal.returns-then-not-has
 returns-then-not-has c =
     let h = c.has in
-    cut_left _ (sym h.ensures ∙ not-true h.result c.if-not-has.true)
+    cut_left _ (sym h.ensures ∙ c.if-not-has.true)
 
 pub report_at-report-requires : goal.report_at-report-requires
 report_at-report-requires c =
@@ -25,5 +25,5 @@ pub returns : goal.returns
 returns c =
     let h = c.has in
     let r = c.report_at-report in
-    cut_taken (sym h.ensures ∙ not-false h.result c.if-not-has.false)
+    cut_taken (sym h.ensures ∙ c.if-not-has.false)
     (cut_read _ _ _ _ _ r.result _ c.cut.result r.ensures c.cut.ensures)

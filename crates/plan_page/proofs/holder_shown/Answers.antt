@@ -8,10 +8,10 @@ pub returns-then-not-is_shown : goal.returns-then-not-is_shown
 returns-then-not-is_shown c =
     let a = c.args in
     let h = c.is_shown in
-    holder_hidden a.settings.now a.g a.shard.0 a.holder.0 (sym h.ensures ∙ not-true h.result c.if-not-is_shown.true)
+    holder_hidden a.settings.now a.g a.shard.0 a.holder.0 (sym h.ensures ∙ c.if-not-is_shown.true)
 
 pub returns : goal.returns
 returns c =
     let a = c.args in
     let h = c.is_shown in
-    holder_kept a.settings.now a.g a.shard.0 a.holder.0 (sym h.ensures ∙ not-false h.result c.if-not-is_shown.false)
+    holder_kept a.settings.now a.g a.shard.0 a.holder.0 (sym h.ensures ∙ c.if-not-is_shown.false)

@@ -8,10 +8,10 @@ pub returns-then-not-in_group : goal.returns-then-not-in_group
 returns-then-not-in_group c =
     let a = c.args in
     let h = c.in_group in
-    mask_hidden a.settings.now a.g a.shard.0 a.mask (sym h.ensures ∙ not-true h.result c.if-not-in_group.true)
+    mask_hidden a.settings.now a.g a.shard.0 a.mask (sym h.ensures ∙ c.if-not-in_group.true)
 
 pub returns : goal.returns
 returns c =
     let a = c.args in
     let h = c.in_group in
-    mask_kept a.settings.now a.g a.shard.0 a.mask (sym h.ensures ∙ not-false h.result c.if-not-in_group.false)
+    mask_kept a.settings.now a.g a.shard.0 a.mask (sym h.ensures ∙ c.if-not-in_group.false)

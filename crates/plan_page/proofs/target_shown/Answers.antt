@@ -8,10 +8,10 @@ pub returns-then-not-is_shown : goal.returns-then-not-is_shown
 returns-then-not-is_shown c =
     let a = c.args in
     let h = c.is_shown in
-    target_hidden a.settings.now a.g a.shard.0 a.holder.0 a.target (sym h.ensures ∙ not-true h.result c.if-not-is_shown.true)
+    target_hidden a.settings.now a.g a.shard.0 a.holder.0 a.target (sym h.ensures ∙ c.if-not-is_shown.true)
 
 pub returns : goal.returns
 returns c =
     let a = c.args in
     let h = c.is_shown in
-    target_kept a.settings.now a.g a.shard.0 a.holder.0 a.target (sym h.ensures ∙ not-false h.result c.if-not-is_shown.false)
+    target_kept a.settings.now a.g a.shard.0 a.holder.0 a.target (sym h.ensures ∙ c.if-not-is_shown.false)

@@ -17,4 +17,4 @@ returns-in-Met c = let s = c in
     let q = c.quorum-quorum in
     let p = c.place-placed in
     restart_met s.args.settings.now s.args.kept s.args.held s.args.seen q.result q.ensures p.result
-    c.verdict_by.result p.ensures c.enum_told-1.given.1 c.verdict_by.ensures
+    c.verdict_by.result p.ensures c.in-Met.is c.verdict_by.ensures

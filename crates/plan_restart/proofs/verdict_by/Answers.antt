@@ -8,9 +8,9 @@ use Rattle.plan_restart.proofs.verdict_by.Goals as goal
 
 pub returns-then-not-placed : goal.returns-then-not-placed
 returns-then-not-placed c = let a = c.args in
-    c.waiting.ensures ∙ sym (verdict_none a.kept a.held a.seen a.placed (not-true a.placed.found c.if-not-placed.true))
+    c.waiting.ensures ∙ sym (verdict_none a.kept a.held a.seen a.placed (c.if-not-placed.true))
 
 pub returns : goal.returns
 returns c = let a = c.args in
     ap (λ (p : Plan). record { quorum = Met; plan = p }) c.plan_by.ensures
-    ∙ sym (verdict_plan a.kept a.held a.seen a.placed (not-false a.placed.found c.if-not-placed.false))
+    ∙ sym (verdict_plan a.kept a.held a.seen a.placed (c.if-not-placed.false))

@@ -7,7 +7,7 @@ use Rattle.plan_seen.proofs.member_end.Goals as goal
 
 pub returns-then-not-has : goal.returns-then-not-has
 returns-then-not-has c = λ h f. let k = c.has in
-    clash h (sym k.ensures ∙ not-true k.result c.if-not-has.true)
+    clash h (sym k.ensures ∙ c.if-not-has.true)
 
 pub returns-then-last-s-gt127 : goal.returns-then-last-s-gt127
 returns-then-last-s-gt127 c = λ h f. absurd (omega (arith, f, c.if-last-s-gt127.true))

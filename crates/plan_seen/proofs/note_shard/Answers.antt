@@ -20,7 +20,7 @@ returns-then-not-has c = let s = c in
       s.requires.0,
       λ σ v t d told em et eg l.
           shard_miss v t d a.turn.node.0 (as_number (end_at d a.s a.turn.node.0)) a.s a.holders.now a.tops.now
-          (ap (λ (x : List ℕ). has (get_or x a.s 0) a.turn.node.0) (sym em) ∙ sym h.ensures ∙ not-true h.result c.if-not-has.true),
+          (ap (λ (x : List ℕ). has (get_or x a.s 0) a.turn.node.0) (sym em) ∙ sym h.ensures ∙ c.if-not-has.true),
     )
 
 pub returns-then-not-reached : goal.returns-then-not-reached
@@ -31,11 +31,11 @@ returns-then-not-reached c = let s = c in
       s.requires.0,
       λ σ v t d told em et eg l.
           let member : has (mask_at v a.s) a.turn.node.0 ≡ true =
-          ap (λ (x : List ℕ). has (get_or x a.s 0) a.turn.node.0) (sym em) ∙ sym h.ensures ∙ not-false h.result c.if-not-has.false in
+          ap (λ (x : List ℕ). has (get_or x a.s 0) a.turn.node.0) (sym em) ∙ sym h.ensures ∙ c.if-not-has.false in
           renewed_not a.turn.node.0 (as_number (end_at d a.s a.turn.node.0)) a.s a.holders.now a.tops.now (eligible v t d a.s a.turn.node.0)
           (and_fails_left _
           (sym (shard_told σ v t d a.turn.node.0 a.b.now a.turn.last a.ends.now a.positions.now a.turn.made r.result a.s s.requires.1.1 r.ensures told et eg l member)
-          ∙ not-true r.result c.if-not-reached.true)),
+          ∙ c.if-not-reached.true)),
     )
 
 pub note_best-requires : goal.note_best-requires
@@ -50,9 +50,9 @@ returns c = let s = c in
       c.note_best.ensures.0,
       λ σ v t d told em et eg l.
           let member : has (mask_at v a.s) a.turn.node.0 ≡ true =
-          ap (λ (x : List ℕ). has (get_or x a.s 0) a.turn.node.0) (sym em) ∙ sym h.ensures ∙ not-false h.result c.if-not-has.false in
+          ap (λ (x : List ℕ). has (get_or x a.s 0) a.turn.node.0) (sym em) ∙ sym h.ensures ∙ c.if-not-has.false in
           renewed_same (eligible v t d a.s a.turn.node.0) a.turn.node.0 (get_or a.ends.now a.s 0) (as_number (end_at d a.s a.turn.node.0)) a.s a.holders.now a.tops.now _ _
-          (sym (not-false r.result c.if-not-reached.false)
+          (sym (c.if-not-reached.false)
           ∙ shard_told σ v t d a.turn.node.0 a.b.now a.turn.last a.ends.now a.positions.now a.turn.made r.result a.s s.requires.1.1 r.ensures told et eg l member)
           (told.ends_are a.s l member) c.note_best.ensures.1,
     )

@@ -37,7 +37,7 @@ returns-then-not-report_fits c = let s = c in
       (
         λ e. clash e c.if-slot.false,
         λ e d is. stepped_unfit a.settings.now a.v a.t d a.slot.node.0 a.b.now w.result s.requires.0 is s.requires.1.1.0 w.ensures a.holders.now a.tops.now r.result r.ensures c.if-refusal-ne0.false
-            (sym f.ensures ∙ not-true f.result c.if-not-report_fits.true),
+            (sym f.ensures ∙ c.if-not-report_fits.true),
       ),
     )
 
@@ -59,7 +59,7 @@ returns c = let s = c in
         λ e. clash e c.if-slot.false,
         λ e d is.
             let ok = fits_sound a.settings.now a.v a.t d a.slot.node.0 a.b.now w.result s.requires.0 is s.requires.1.1.0 w.ensures a.holders.now a.tops.now r.result r.ensures h true
-            (sym f.ensures ∙ not-false f.result c.if-not-report_fits.false) in
+            (sym f.ensures ∙ c.if-not-report_fits.false) in
             record {
               sound = sym ok;
               renewed = λ q. c.note_report.ensures.1 d a.b.now is s.requires.1.1.0 ok

@@ -17,7 +17,7 @@ walk_nodes-requires c = let s = c in
 pub returns-then-not-walk_nodes : goal.returns-then-not-walk_nodes
 returns-then-not-walk_nodes c = let a = c.args in
     let k = c.walk_nodes in
-    c.none_seen.ensures ∙ seen_none a.settings.now a.v a.t a.held (words_in a.desk.now) (sym k.ensures.0 ∙ not-true k.result c.if-not-walk_nodes.true)
+    c.none_seen.ensures ∙ seen_none a.settings.now a.v a.t a.held (words_in a.desk.now) (sym k.ensures.0 ∙ c.if-not-walk_nodes.true)
 
 pub holders_seen-holders-requires : goal.holders_seen-holders-requires
 holders_seen-holders-requires c = let s = c in
@@ -31,7 +31,7 @@ pub returns : goal.returns
 returns c = let s = c in
     let a = s.args in
     let k = c.walk_nodes in
-    let good = not-false k.result c.if-not-walk_nodes.false in
+    let good = c.if-not-walk_nodes.false in
     let ok = sym k.ensures.0 ∙ good in
     let far = k.ensures.1 good in
     let n = s.requires.1.0.count in

@@ -73,7 +73,7 @@ returns-then-not-read_step c = let s = c in
     let kept = kept-by a.settings.now a.v a.t a.tables s.requires.0 s.requires.1.0 in
     let step = stepped_both a.settings.now a.v a.t (words_in a.desk.now) l.n q.result k.result (λ e. q.ensures.1.done e a.settings.now a.v a.t (words_in a.desk.now) kept is m) q.ensures.1.same k.ensures.1.0 (λ e. k.ensures.1.1 e (words_in a.desk.now) is) in (
       sym (all_fails 32 (node_ok a.settings.now a.v a.t a.held (words_in a.desk.now)) l.n m
-          (held_ok a.settings.now a.v a.t a.held (words_in a.desk.now) l.n false (sym h.ensures ∙ c.if-has.true) (sym step.sound ∙ not-true k.result c.if-not-read_step.true))),
+          (held_ok a.settings.now a.v a.t a.held (words_in a.desk.now) l.n false (sym h.ensures ∙ c.if-has.true) (sym step.sound ∙ c.if-not-read_step.true))),
       λ e. clash e refl,
     )
 

@@ -11,15 +11,15 @@ enum_told-1 c = search rules
 
 pub returns-in-NoView : goal.returns-in-NoView
 unfolding wait_line number_of
-returns-in-NoView c = puts_as (ap wait_line c.enum_told-1.given.1) c.wait_of.ensures
+returns-in-NoView c = puts_as (ap wait_line c.in-NoView.is) c.wait_of.ensures
 
 pub returns-in-NoMajority : goal.returns-in-NoMajority
 unfolding wait_line number_of
-returns-in-NoMajority c = puts_as (ap wait_line c.enum_told-in-NoMajority-1.given.1) c.wait_of-in-NoMajority.ensures
+returns-in-NoMajority c = puts_as (ap wait_line c.in-NoMajority.is) c.wait_of-in-NoMajority.ensures
 
 pub returns-in-TooFew : goal.returns-in-TooFew
 unfolding wait_line number_of
-returns-in-TooFew c = puts_as (ap wait_line c.enum_told-in-TooFew-1.given.1) c.wait_of-in-TooFew.ensures
+returns-in-TooFew c = puts_as (ap wait_line c.in-TooFew.is) c.wait_of-in-TooFew.ensures
 
 pub returns-in-NoHolder : goal.returns-in-NoHolder
 unfolding wait_line number_of value_of

@@ -31,7 +31,7 @@ returns-then-not-shared_whole c = let x = c.args in
     ∙ sym (l.invariant.4
     ∙ walk_stops x.body.now x.len x.holder.now x.hlen x.s.0 x.t l.a l.i l.j below holder-below
     (l.invariant.2 below) (l.invariant.3 holder-below) r.result q.result r.ensures q.ensures
-    (sym w.ensures ∙ not-true w.result c.if-not-shared_whole.true))
+    (sym w.ensures ∙ c.if-not-shared_whole.true))
 
 pub loop-i-preserved : goal.loop-i-preserved
 loop-i-preserved c = let x = c.args in
@@ -50,7 +50,7 @@ loop-i-preserved c = let x = c.args in
       l.invariant.4
           ∙ walk_goes x.body.now x.len x.holder.now x.hlen x.s.0 x.t l.a l.i l.j below holder-below
           (l.invariant.2 below) (l.invariant.3 holder-below) r.result q.result r.ensures q.ensures
-          (sym w.ensures ∙ not-false w.result c.if-not-shared_whole.false) n.result m.result n.ensures m.ensures,
+          (sym w.ensures ∙ c.if-not-shared_whole.false) n.result m.result n.ensures m.ensures,
     )
 
 pub loop-i-smaller : goal.loop-i-smaller

@@ -8,14 +8,14 @@ use Rattle.report_kept.proofs.kept_refusal.Goals as goal
 
 pub returns-then-not-row18 : goal.returns-then-not-row18
 unfolding kept_refusal row18 unless
-returns-then-not-row18 c = let j = c.row18 in simp (sym j.ensures, not-true j.result c.if-not-row18.true)
+returns-then-not-row18 c = let j = c.row18 in simp (sym j.ensures, c.if-not-row18.true)
 
 pub returns-then-not-row12 : goal.returns-then-not-row12
 unfolding kept_refusal row18 unless
 returns-then-not-row12 c =
     let j = c.row18 in
     let k = c.row12 in
-    simp (sym j.ensures, not-false j.result c.if-not-row18.false, sym k.ensures, not-true k.result c.if-not-row12.true)
+    simp (sym j.ensures, c.if-not-row18.false, sym k.ensures, c.if-not-row12.true)
 
 pub returns-then-not-row13 : goal.returns-then-not-row13
 unfolding kept_refusal row18 unless
@@ -23,7 +23,7 @@ returns-then-not-row13 c =
     let j = c.row18 in
     let k = c.row12 in
     let l = c.row13 in
-    simp (sym j.ensures, not-false j.result c.if-not-row18.false, sym k.ensures, not-false k.result c.if-not-row12.false, sym l.ensures, not-true l.result c.if-not-row13.true)
+    simp (sym j.ensures, c.if-not-row18.false, sym k.ensures, c.if-not-row12.false, sym l.ensures, c.if-not-row13.true)
 
 pub returns : goal.returns
 unfolding kept_refusal row18 unless
@@ -31,4 +31,4 @@ returns c =
     let j = c.row18 in
     let k = c.row12 in
     let l = c.row13 in
-    simp (sym j.ensures, not-false j.result c.if-not-row18.false, sym k.ensures, not-false k.result c.if-not-row12.false, sym l.ensures, not-false l.result c.if-not-row13.false)
+    simp (sym j.ensures, c.if-not-row18.false, sym k.ensures, c.if-not-row12.false, sym l.ensures, c.if-not-row13.false)

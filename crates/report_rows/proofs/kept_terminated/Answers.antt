@@ -6,8 +6,8 @@ use Rattle.report_rows.proofs.kept_terminated.Goals as goal
 
 pub returns-then-not-of_kept : goal.returns-then-not-of_kept
 returns-then-not-of_kept c = let k = c.of_kept in
-    sym (and_fails_left _ (sym k.ensures ∙ not-true k.result c.if-not-of_kept.true))
+    sym (and_fails_left _ (sym k.ensures ∙ c.if-not-of_kept.true))
 
 pub returns : goal.returns
 returns c = let k = c.of_kept in
-    c.terminated.ensures ∙ and_rest _ (sym k.ensures ∙ not-false k.result c.if-not-of_kept.false)
+    c.terminated.ensures ∙ and_rest _ (sym k.ensures ∙ c.if-not-of_kept.false)

@@ -8,9 +8,9 @@ use Rattle.report_rows.proofs.row12.Goals as goal
 pub returns-then-not-of_kept : goal.returns-then-not-of_kept
 unfolding row12
 returns-then-not-of_kept c = let k = c.of_kept in
-    unasked _ (sym k.ensures ∙ not-true k.result c.if-not-of_kept.true)
+    unasked _ (sym k.ensures ∙ c.if-not-of_kept.true)
 
 pub returns : goal.returns
 unfolding row12
 returns c = let k = c.of_kept in
-    c.same_view.ensures ∙ asked _ (sym k.ensures ∙ not-false k.result c.if-not-of_kept.false)
+    c.same_view.ensures ∙ asked _ (sym k.ensures ∙ c.if-not-of_kept.false)

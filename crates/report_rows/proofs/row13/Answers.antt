@@ -9,14 +9,14 @@ use Rattle.report_rows.proofs.row13.Goals as goal
 pub returns-then-not-kept_terminated : goal.returns-then-not-kept_terminated
 unfolding row13
 returns-then-not-kept_terminated c = let k = c.kept_terminated in
-    unasked _ (and_fails_left _ (sym k.ensures ∙ not-true k.result c.if-not-kept_terminated.true))
+    unasked _ (and_fails_left _ (sym k.ensures ∙ c.if-not-kept_terminated.true))
 
 pub returns-then-not-t : goal.returns-then-not-t
 returns-then-not-t c = let a = c.args in
-    row13_unmade a.settings.now a.v a.t a.c (not-true a.t.made c.if-not-t.true)
+    row13_unmade a.settings.now a.v a.t a.c (c.if-not-t.true)
 
 pub returns : goal.returns
 unfolding row13
 returns c = let k = c.kept_terminated in
     let t = c.args.t in
-    c.same_termination.ensures ∙ asked _ (and_both (sym k.ensures ∙ not-false k.result c.if-not-kept_terminated.false) (not-false t.made c.if-not-t.false))
+    c.same_termination.ensures ∙ asked _ (and_both (sym k.ensures ∙ c.if-not-kept_terminated.false) (c.if-not-t.false))

@@ -25,13 +25,13 @@ unfolding positions_same
 returns-then-not-same_position c = let a = c.args in
     let p = c.same_position in
     sym (all_fails a.count (same a.t1 a.body.now a.count) c.loop-s.s (omega arith)
-    (sym p.ensures ∙ not-true p.result c.if-not-same_position.true))
+    (sym p.ensures ∙ c.if-not-same_position.true))
 
 pub loop-s-preserved : goal.loop-s-preserved
 loop-s-preserved c = let a = c.args in
     let p = c.same_position in
     let l = c.loop-s in
-    (omega arith, all_more l.s (same a.t1 a.body.now a.count) l.invariant.1 (sym p.ensures ∙ not-false p.result c.if-not-same_position.false))
+    (omega arith, all_more l.s (same a.t1 a.body.now a.count) l.invariant.1 (sym p.ensures ∙ c.if-not-same_position.false))
 
 pub returns : goal.returns
 unfolding positions_same

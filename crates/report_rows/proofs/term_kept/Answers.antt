@@ -8,9 +8,9 @@ use Rattle.report_rows.proofs.term_kept.Goals as goal
 pub returns-then-not-kept_terminated : goal.returns-then-not-kept_terminated
 unfolding term_kept
 returns-then-not-kept_terminated c = let k = c.kept_terminated in
-    unasked _ (sym k.ensures ∙ not-true k.result c.if-not-kept_terminated.true)
+    unasked _ (sym k.ensures ∙ c.if-not-kept_terminated.true)
 
 pub returns : goal.returns
 unfolding term_kept
 returns c = let k = c.kept_terminated in
-    asked _ (sym k.ensures ∙ not-false k.result c.if-not-kept_terminated.false)
+    asked _ (sym k.ensures ∙ c.if-not-kept_terminated.false)

@@ -6,8 +6,8 @@ use Rattle.report_walk.proofs.position_legal.Goals as goal
 
 pub returns-then-not-position : goal.returns-then-not-position
 unfolding position_sound
-returns-then-not-position c = simp (sym c.position.ensures, not-true c.position.result c.if-not-position.true)
+returns-then-not-position c = simp (sym c.position.ensures, c.if-not-position.true)
 
 pub returns : goal.returns
 unfolding position_sound
-returns c = simp (sym c.position.ensures, not-false c.position.result c.if-not-position.false)
+returns c = simp (sym c.position.ensures, c.if-not-position.false)

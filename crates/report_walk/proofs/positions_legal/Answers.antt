@@ -17,13 +17,13 @@ pub returns-then-not-position_legal : goal.returns-then-not-position_legal
 returns-then-not-position_legal c = let a = c.args in
     let k = c.position_legal in
     let l = c.loop-s in
-    sym (all_fails a.count (ok a.number.0 a.t.positions) l.s (omega arith) (sym k.ensures ∙ not-true k.result c.if-not-position_legal.true))
+    sym (all_fails a.count (ok a.number.0 a.t.positions) l.s (omega arith) (sym k.ensures ∙ c.if-not-position_legal.true))
 
 pub loop-s-preserved : goal.loop-s-preserved
 loop-s-preserved c = let a = c.args in
     let k = c.position_legal in
     let l = c.loop-s in
-    (omega arith, all_more l.s (ok a.number.0 a.t.positions) l.invariant.1 (sym k.ensures ∙ not-false k.result c.if-not-position_legal.false))
+    (omega arith, all_more l.s (ok a.number.0 a.t.positions) l.invariant.1 (sym k.ensures ∙ c.if-not-position_legal.false))
 
 pub returns : goal.returns
 returns c = let a = c.args in

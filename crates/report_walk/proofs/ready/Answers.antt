@@ -7,19 +7,19 @@ use Rattle.report_walk.proofs.ready.Goals as goal
 
 pub returns-then-not-view_ok : goal.returns-then-not-view_ok
 unfolding ready_of
-returns-then-not-view_ok c = simp (sym c.view_ok.ensures, not-true c.view_ok.result c.if-not-view_ok.true)
+returns-then-not-view_ok c = simp (sym c.view_ok.ensures, c.if-not-view_ok.true)
 
 pub returns-then-not-within : goal.returns-then-not-within
 unfolding ready_of
-returns-then-not-within c = simp (sym c.view_ok.ensures, not-false c.view_ok.result c.if-not-view_ok.false, sym c.nodes.ensures, sym c.within.ensures, not-true c.within.result c.if-not-within.true)
+returns-then-not-within c = simp (sym c.view_ok.ensures, c.if-not-view_ok.false, sym c.nodes.ensures, sym c.within.ensures, c.if-not-within.true)
 
 pub returns-then-not-row10 : goal.returns-then-not-row10
 unfolding ready_of
-returns-then-not-row10 c = simp (sym c.view_ok.ensures, not-false c.view_ok.result c.if-not-view_ok.false, sym c.nodes.ensures, sym c.within.ensures, not-false c.within.result c.if-not-within.false, sym c.row10.ensures, not-true c.row10.result c.if-not-row10.true)
+returns-then-not-row10 c = simp (sym c.view_ok.ensures, c.if-not-view_ok.false, sym c.nodes.ensures, sym c.within.ensures, c.if-not-within.false, sym c.row10.ensures, c.if-not-row10.true)
 
 pub returns-then-not-t : goal.returns-then-not-t
 unfolding ready_of
-returns-then-not-t c = simp (sym c.view_ok.ensures, not-false c.view_ok.result c.if-not-view_ok.false, sym c.nodes.ensures, sym c.within.ensures, not-false c.within.result c.if-not-within.false, sym c.row10.ensures, not-false c.row10.result c.if-not-row10.false, not-true c.args.t.made c.if-not-t.true)
+returns-then-not-t c = simp (sym c.view_ok.ensures, c.if-not-view_ok.false, sym c.nodes.ensures, sym c.within.ensures, c.if-not-within.false, sym c.row10.ensures, c.if-not-row10.false, c.if-not-t.true)
 
 pub returns : goal.returns
 returns c = let a = c.args in
@@ -27,7 +27,7 @@ returns c = let a = c.args in
     let n = c.nodes in
     let inside = c.within in
     let masks = c.row10 in
-    ready_by a.settings.now a.t2 a.t (sym view.ensures ∙ not-false view.result c.if-not-view_ok.false)
-    (subst (λ (x : ℕ). within x a.t2.members ≡ true) n.ensures (sym inside.ensures ∙ not-false inside.result c.if-not-within.false))
-    (sym masks.ensures ∙ not-false masks.result c.if-not-row10.false) (not-false a.t.made c.if-not-t.false)
+    ready_by a.settings.now a.t2 a.t (sym view.ensures ∙ c.if-not-view_ok.false)
+    (subst (λ (x : ℕ). within x a.t2.members ≡ true) n.ensures (sym inside.ensures ∙ c.if-not-within.false))
+    (sym masks.ensures ∙ c.if-not-row10.false) (c.if-not-t.false)
     c.shards.result c.shards.ensures c.positions_legal.result c.positions_legal.ensures

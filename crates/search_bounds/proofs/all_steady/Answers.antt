@@ -16,13 +16,13 @@ pub returns-then-not-steady : goal.returns-then-not-steady
 returns-then-not-steady c =
     sym
     (all_fails 32 _ c.loop-n.n (omega arith)
-    (sym c.steady.ensures ∙ not-true c.steady.result c.if-not-steady.true))
+    (sym c.steady.ensures ∙ c.if-not-steady.true))
 
 pub loop-n-preserved : goal.loop-n-preserved
 loop-n-preserved c = (
   omega arith,
   all_more _ _ c.loop-n.invariant.1
-      (sym c.steady.ensures ∙ not-false c.steady.result c.if-not-steady.false),
+      (sym c.steady.ensures ∙ c.if-not-steady.false),
 )
 
 pub returns : goal.returns

@@ -30,7 +30,7 @@ returns-then-not-cut_row c = λ e. clash e c.bad-then-not-cut_row.ensures
 
 pub loop-i-preserved : goal.loop-i-preserved
 loop-i-preserved c = let l = c.loop-i in
-    let v = c.cut_row.ensures (not-false c.cut_row.result c.if-not-cut_row.false) in (
+    let v = c.cut_row.ensures (c.if-not-cut_row.false) in (
       omega (arith, l.invariant.0),
       omega (arith, c.loop-i-test.true),
       rows_more c.loop-i-test.true l.invariant.2 (record { kept = v.kept; stored = v.stored; keeps = v.keeps; marks = v.marks }),
@@ -53,7 +53,7 @@ returns c = λ e.
     s.args.rows.now l.rows s.requires.1.0.below
     (modest_of s.args.wants.now s.args.rooms.now s.args.nodes.now s.args.pairs.now)
     s.requires.1.1.1
-    (sym a.ensures ∙ not-false a.result c.if-not-all_steady.false)
+    (sym a.ensures ∙ c.if-not-all_steady.false)
     (ap (λ (x : ℕ). s.args.k + x) h.ensures.0) g.ensures.0 c.floor.ensures c.unowned-free.ensures c.must.ensures
     (subst (λ (x : ℕ). RowsPassed (case_of s.args.sets.now s.args.needs.now s.args.caps.now s.args.costs.now s.args.idle) (weights_of s.args.wants.now s.args.rooms.now s.args.nodes.now s.args.pairs.now)
     c.unowned-free.result s.args.t (s.args.k + h.result) g.result x s.args.rows.now l.rows) (le_antisymm l.invariant.1 c.loop-i-test.false) l.invariant.2)

@@ -17,7 +17,7 @@ returns-then-not-has c = λ l.
     let at = s.requires.1.1.1 in
     let t = half s.requires.0.0 in
     moved_passed at s.requires.0.0 c.passed.result s.requires.1.0 c.passed.ensures
-    (advance_leave at.stage t (stage_shut at.stage t (sym c.has.ensures ∙ not-true c.has.result c.if-not-has.true)))
+    (advance_leave at.stage t (stage_shut at.stage t (sym c.has.ensures ∙ c.if-not-has.true)))
 
 pub returns-then-owner-n-lt16 : goal.returns-then-owner-n-lt16
 returns-then-owner-n-lt16 c = λ l.

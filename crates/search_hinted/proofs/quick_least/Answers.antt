@@ -14,4 +14,4 @@ unfolding too_few short_at
 returns-then-short c = λ e. least_none (sheet_none c.requires (sym c.short.ensures ∙ c.if-short.true)) c.none.ensures.1
 
 pub by_claim-requires : goal.by_claim-requires
-by_claim-requires c = c.fit.ensures (not-false c.fit.result c.if-not-fit.false)
+by_claim-requires c = c.fit.ensures (c.if-not-fit.false)

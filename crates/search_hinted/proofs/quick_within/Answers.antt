@@ -11,7 +11,7 @@ pub returns-then-not-fit : goal.returns-then-not-fit
 returns-then-not-fit c = λ e. clash e c.unsure.ensures
 
 pub prune-v-requires : goal.prune-v-requires
-prune-v-requires c = ((omega arith, omega (arith, c.capped-most.ensures)), (c.fit.ensures (not-false c.fit.result c.if-not-fit.false), (c.all_allowed-rows.ensures.long, ready_blank.begun)))
+prune-v-requires c = ((omega arith, omega (arith, c.capped-most.ensures)), (c.fit.ensures (c.if-not-fit.false), (c.all_allowed-rows.ensures.long, ready_blank.begun)))
 
 pub returns-then-not-v : goal.returns-then-not-v
 returns-then-not-v c = λ e. clash e c.unsure-then-not-v.ensures
@@ -23,7 +23,7 @@ returns-then-most-v c = λ e.
     within_capped (omega (arith, s.ranges.idle)) c.capped-most.ensures
     (within_none
     (none_below c.if-most-v.true
-    (at_least s.args.sets.now s.args.needs.now s.args.caps.now s.args.prices.now s.args.idle c.capped-most.result p.prune-v.result.floor c.all_allowed-rows.ensures (p.prune-v.ensures (not-false p.prune-v.result.good c.if-not-v.false))))
+    (at_least s.args.sets.now s.args.needs.now s.args.caps.now s.args.prices.now s.args.idle c.capped-most.result p.prune-v.result.floor c.all_allowed-rows.ensures (p.prune-v.ensures (c.if-not-v.false))))
     c.none.ensures.1)
 
 pub follow-requires : goal.follow-requires
@@ -31,8 +31,8 @@ follow-requires c = let p = c in
     let s = c in (
       omega (arith, c.capped-most.ensures),
       (
-        c.fit.ensures (not-false c.fit.result c.if-not-fit.false),
-        stage_cut (stage_start s.args.sets.now s.args.needs.now s.args.caps.now s.args.prices.now s.args.idle c.capped-most.result c.all_allowed-rows.ensures) (p.prune-v.ensures (not-false p.prune-v.result.good c.if-not-v.false)),
+        c.fit.ensures (c.if-not-fit.false),
+        stage_cut (stage_start s.args.sets.now s.args.needs.now s.args.caps.now s.args.prices.now s.args.idle c.capped-most.result c.all_allowed-rows.ensures) (p.prune-v.ensures (c.if-not-v.false)),
       ),
     )
 

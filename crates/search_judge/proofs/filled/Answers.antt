@@ -18,14 +18,14 @@ pub returns-then-not-filled_at : goal.returns-then-not-filled_at
 returns-then-not-filled_at c =
     sym
     (all_fails 16 _ c.loop-i.i (omega arith)
-    (sym c.filled_at.ensures ∙ not-true c.filled_at.result c.if-not-filled_at.true))
+    (sym c.filled_at.ensures ∙ c.if-not-filled_at.true))
 
 pub loop-i-preserved : goal.loop-i-preserved
 loop-i-preserved c = (
   omega arith,
   c.loop-i.invariant.1,
   all_more _ _ c.loop-i.invariant.2
-      (sym c.filled_at.ensures ∙ not-false c.filled_at.result c.if-not-filled_at.false),
+      (sym c.filled_at.ensures ∙ c.if-not-filled_at.false),
 )
 
 pub returns : goal.returns

@@ -30,13 +30,13 @@ pub returns-then-not-stands_at : goal.returns-then-not-stands_at
 returns-then-not-stands_at c =
     sym
     (all_fails 32 _ c.loop-n.n (omega arith)
-    (sym (test c) ∙ not-true c.stands_at.result c.if-not-stands_at.true))
+    (sym (test c) ∙ c.if-not-stands_at.true))
 
 pub loop-n-preserved : goal.loop-n-preserved
 loop-n-preserved c = (
   omega arith,
   all_more _ _ c.loop-n.invariant.1
-      (sym (test c) ∙ not-false c.stands_at.result c.if-not-stands_at.false),
+      (sym (test c) ∙ c.if-not-stands_at.false),
 )
 
 pub returns : goal.returns

@@ -9,11 +9,11 @@ use Rattle.search_judge.specs.Post.{judged, rejected}
 use Rattle.search_judge.proofs.within.Goals as goal
 
 pub returns-then-not-stands : goal.returns-then-not-stands
-returns-then-not-stands c = rejected (λ w. clash (c.stands.ensures ∙ valid_stands w.valid) (not-true c.stands.result c.if-not-stands.true))
+returns-then-not-stands c = rejected (λ w. clash (c.stands.ensures ∙ valid_stands w.valid) (c.if-not-stands.true))
 
 pub returns-then-not-filled : goal.returns-then-not-filled
 unfolding spread meets
-returns-then-not-filled c = rejected (λ w. clash (c.filled.ensures ∙ valid_met w.valid) (not-true c.filled.result c.if-not-filled.true))
+returns-then-not-filled c = rejected (λ w. clash (c.filled.ensures ∙ valid_met w.valid) (c.if-not-filled.true))
 
 pub returns-then-weight-k : goal.returns-then-weight-k
 unfolding weight
@@ -27,7 +27,7 @@ returns c =
       valid =
           let s = c.stands in
           let f = c.filled in
-          valid_of (sym s.ensures ∙ not-false s.result c.if-not-stands.false)
-          (sym f.ensures ∙ not-false f.result c.if-not-filled.false);
+          valid_of (sym s.ensures ∙ c.if-not-stands.false)
+          (sym f.ensures ∙ c.if-not-filled.false);
       cheap = omega (arith, c.if-weight-k.false, c.weight.ensures.0);
     })

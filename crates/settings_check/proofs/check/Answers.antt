@@ -7,18 +7,18 @@ use Rattle.settings_check.proofs.check.Goals as goal
 
 pub returns-then-not-sizes_ok : goal.returns-then-not-sizes_ok
 unfolding settings_ok
-returns-then-not-sizes_ok c = simp (sym c.sizes_ok.ensures, not-true c.sizes_ok.result c.if-not-sizes_ok.true)
+returns-then-not-sizes_ok c = simp (sym c.sizes_ok.ensures, c.if-not-sizes_ok.true)
 
 pub nodes_ok-requires : goal.nodes_ok-requires
-nodes_ok-requires c = sizes_give _ (sym c.sizes_ok.ensures ∙ not-false c.sizes_ok.result c.if-not-sizes_ok.false)
+nodes_ok-requires c = sizes_give _ (sym c.sizes_ok.ensures ∙ c.if-not-sizes_ok.false)
 
 pub returns-then-not-nodes_ok : goal.returns-then-not-nodes_ok
 unfolding settings_ok
-returns-then-not-nodes_ok c = simp (sym c.sizes_ok.ensures, not-false c.sizes_ok.result c.if-not-sizes_ok.false, sym c.nodes_ok.ensures, not-true c.nodes_ok.result c.if-not-nodes_ok.true)
+returns-then-not-nodes_ok c = simp (sym c.sizes_ok.ensures, c.if-not-sizes_ok.false, sym c.nodes_ok.ensures, c.if-not-nodes_ok.true)
 
 pub shards_ok-requires : goal.shards_ok-requires
-shards_ok-requires c = sizes_give _ (sym c.sizes_ok.ensures ∙ not-false c.sizes_ok.result c.if-not-sizes_ok.false)
+shards_ok-requires c = sizes_give _ (sym c.sizes_ok.ensures ∙ c.if-not-sizes_ok.false)
 
 pub returns : goal.returns
 unfolding settings_ok
-returns c = simp (sym c.sizes_ok.ensures, not-false c.sizes_ok.result c.if-not-sizes_ok.false, sym c.nodes_ok.ensures, not-false c.nodes_ok.result c.if-not-nodes_ok.false, sym c.shards_ok.ensures)
+returns c = simp (sym c.sizes_ok.ensures, c.if-not-sizes_ok.false, sym c.nodes_ok.ensures, c.if-not-nodes_ok.false, sym c.shards_ok.ensures)

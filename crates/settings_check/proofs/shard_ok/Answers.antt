@@ -14,7 +14,7 @@ returns-then-not-from_to c =
       ← c.shard_word-word.ensures,
       le-leb _ _ c.if-word-gt3.false,
       ← c.from_to.ensures,
-      not-true c.from_to.result c.if-not-from_to.true,
+      c.if-not-from_to.true,
     )
 
 pub returns : goal.returns
@@ -24,6 +24,6 @@ returns c =
       ← c.shard_word-word.ensures,
       le-leb _ _ c.if-word-gt3.false,
       ← c.from_to.ensures,
-      not-false c.from_to.result c.if-not-from_to.false,
+      c.if-not-from_to.false,
       ← c.cap.ensures,
     ) c.from_to-2.ensures

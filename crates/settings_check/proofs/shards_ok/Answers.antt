@@ -17,13 +17,13 @@ unfolding shards_ok
 returns-then-not-shard_ok c = let σ = c.args.settings.now in
     let s = c.loop-s.s in
     let k = c.shard_ok in
-    sym (all_fails (shards σ) (shard_ok σ) s (omega arith) (sym k.ensures ∙ not-true k.result c.if-not-shard_ok.true))
+    sym (all_fails (shards σ) (shard_ok σ) s (omega arith) (sym k.ensures ∙ c.if-not-shard_ok.true))
 
 pub loop-s-preserved : goal.loop-s-preserved
 loop-s-preserved c = let σ = c.args.settings.now in
     let s = c.loop-s.s in
     let k = c.shard_ok in
-    (omega arith, all_more s (shard_ok σ) c.loop-s.invariant.1 (sym k.ensures ∙ not-false k.result c.if-not-shard_ok.false))
+    (omega arith, all_more s (shard_ok σ) c.loop-s.invariant.1 (sym k.ensures ∙ c.if-not-shard_ok.false))
 
 pub returns : goal.returns
 unfolding shards_ok

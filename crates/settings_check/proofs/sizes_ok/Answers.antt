@@ -22,24 +22,24 @@ returns-then-settings-lt4 c = simp (lt-leb _ _ c.if-settings-lt4.true)
 
 pub returns-then-not-ranges_ok : goal.returns-then-not-ranges_ok
 unfolding sizes_ok
-returns-then-not-ranges_ok c = simp (le-leb _ _ c.if-settings-lt4.false, sym c.ranges_ok.ensures, not-true c.ranges_ok.result c.if-not-ranges_ok.true)
+returns-then-not-ranges_ok c = simp (le-leb _ _ c.if-settings-lt4.false, sym c.ranges_ok.ensures, c.if-not-ranges_ok.true)
 
 pub overflow_add-result : goal.overflow_add-result
 overflow_add-result c = let k = c.ranges_ok in
     let σ = c.args.settings.now in
-    let r = ranges_give σ (sym k.ensures ∙ not-false k.result c.if-not-ranges_ok.false) in
+    let r = ranges_give σ (sym k.ensures ∙ c.if-not-ranges_ok.false) in
     omega (arith, range_high 1 32 (nodes σ) r.nodes_range)
 
 pub overflow_add-result-2 : goal.overflow_add-result-2
 overflow_add-result-2 c = let k = c.ranges_ok in
     let σ = c.args.settings.now in
-    let r = ranges_give σ (sym k.ensures ∙ not-false k.result c.if-not-ranges_ok.false) in
+    let r = ranges_give σ (sym k.ensures ∙ c.if-not-ranges_ok.false) in
     omega (arith, range_high 1 32 (nodes σ) r.nodes_range, range_high 1 16 (shards σ) r.shards_range)
 
 pub returns : goal.returns
 returns c = let k = c.ranges_ok in
     let σ = c.args.settings.now in
     last σ c.wide.result c.wide-2.result (le-leb _ _ c.if-settings-lt4.false)
-    (sym k.ensures ∙ not-false k.result c.if-not-ranges_ok.false)
+    (sym k.ensures ∙ c.if-not-ranges_ok.false)
     c.wide.ensures
     c.wide-2.ensures

@@ -17,12 +17,12 @@ returns-then-not-check c =
     let a = c.args in
     let k = c.check in
     game_settings a.settings.now a.x (words_in a.desk.now) a.held a.rounds
-    (sym (length-test a.desk.now 16383) ∙ eq-eqb _ _ c.if-desk-ne65536.false) (sym k.ensures ∙ not-true k.result c.if-not-check.true)
+    (sym (length-test a.desk.now 16383) ∙ eq-eqb _ _ c.if-desk-ne65536.false) (sym k.ensures ∙ c.if-not-check.true)
 
 pub game_under-requires : goal.game_under-requires
 game_under-requires c =
     let k = c.check in
-    (settings_give _ (sym k.ensures ∙ not-false k.result c.if-not-check.false), c.if-desk-ne65536.false)
+    (settings_give _ (sym k.ensures ∙ c.if-not-check.false), c.if-desk-ne65536.false)
 
 pub returns : goal.returns
 returns c = c.game_under.ensures

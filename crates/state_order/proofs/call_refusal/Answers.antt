@@ -20,12 +20,12 @@ pub returns-then-not-check : goal.returns-then-not-check
 unfolding call_refuses
 returns-then-not-check c =
     let k = c.check in
-    call_settings _ _ (sym (length-test _ 16383) ∙ eq-eqb _ _ c.if-desk-ne65536.false) (sym k.ensures ∙ not-true k.result c.if-not-check.true)
+    call_settings _ _ (sym (length-test _ 16383) ∙ eq-eqb _ _ c.if-desk-ne65536.false) (sym k.ensures ∙ c.if-not-check.true)
     ∙ sym (unless_true _ 1 _ (eq-eqb _ _ c.if-buffer-ne512.false))
 
 pub returns : goal.returns
 unfolding call_refuses
 returns c =
     let k = c.check in
-    call_none _ _ (sym (length-test _ 16383) ∙ eq-eqb _ _ c.if-desk-ne65536.false) (sym k.ensures ∙ not-false k.result c.if-not-check.false)
+    call_none _ _ (sym (length-test _ 16383) ∙ eq-eqb _ _ c.if-desk-ne65536.false) (sym k.ensures ∙ c.if-not-check.false)
     ∙ sym (unless_true _ 1 _ (eq-eqb _ _ c.if-buffer-ne512.false))

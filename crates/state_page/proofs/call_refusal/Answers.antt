@@ -11,18 +11,18 @@ returns-then-desk-ne65536 c = asked_length _ _ _ _ (sym (length-test _ 16383) �
 pub returns-then-not-check : goal.returns-then-not-check
 returns-then-not-check c =
     let k = c.check in
-    asked_settings _ _ _ _ (sym (length-test _ 16383) ∙ eq-eqb _ _ c.if-desk-ne65536.false) (sym k.ensures ∙ not-true k.result c.if-not-check.true)
+    asked_settings _ _ _ _ (sym (length-test _ 16383) ∙ eq-eqb _ _ c.if-desk-ne65536.false) (sym k.ensures ∙ c.if-not-check.true)
 
 pub returns-then-not-may_read : goal.returns-then-not-may_read
 returns-then-not-may_read c =
     let m = c.may_read in
     let k = c.check in
     asked_role _ _ _ _ (sym (length-test _ 16383) ∙ eq-eqb _ _ c.if-desk-ne65536.false)
-    (sym k.ensures ∙ not-false k.result c.if-not-check.false) (sym m.ensures ∙ not-true m.result c.if-not-may_read.true)
+    (sym k.ensures ∙ c.if-not-check.false) (sym m.ensures ∙ c.if-not-may_read.true)
 
 pub returns : goal.returns
 returns c =
     let m = c.may_read in
     let k = c.check in
     asked_none _ _ _ _ (sym (length-test _ 16383) ∙ eq-eqb _ _ c.if-desk-ne65536.false)
-    (sym k.ensures ∙ not-false k.result c.if-not-check.false) (sym m.ensures ∙ not-false m.result c.if-not-may_read.false)
+    (sym k.ensures ∙ c.if-not-check.false) (sym m.ensures ∙ c.if-not-may_read.false)

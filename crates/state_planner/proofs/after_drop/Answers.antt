@@ -6,19 +6,19 @@ use Rattle.state_planner.proofs.after_drop.Goals as goal
 pub returns-in-Gathering : goal.returns-in-Gathering
 unfolding dropped_in holding
 returns-in-Gathering c =
-    simp (c.enum_told-1.given.1, sym c.without-held.ensures)
+    simp (c.in-Gathering.is, sym c.without-held.ensures)
 
 pub returns-in-Ordered : goal.returns-in-Ordered
 unfolding dropped_in
 returns-in-Ordered c =
-    simp (c.enum_told-in-Ordered-1.given.1, c.restarted.ensures)
+    simp (c.in-Ordered.is, c.restarted.ensures)
 
 pub returns-in-Preparing : goal.returns-in-Preparing
 unfolding dropped_in
 returns-in-Preparing c =
-    simp (c.enum_told-in-Preparing-1.given.1, c.restarted-in-Preparing.ensures)
+    simp (c.in-Preparing.is, c.restarted-in-Preparing.ensures)
 
 pub returns-in-Committed : goal.returns-in-Committed
 unfolding dropped_in
 returns-in-Committed c =
-    simp c.enum_told-in-Committed-1.given.1
+    simp c.in-Committed.is

@@ -6,9 +6,9 @@ use Rattle.state_planner.proofs.after_quorum.Goals as goal
 pub returns-in-Met : goal.returns-in-Met
 unfolding state_by planned
 returns-in-Met c =
-    simp c.enum_told-1.given.1
+    simp c.in-Met.is
 
 pub returns-in-Short : goal.returns-in-Short
 unfolding state_by
 returns-in-Short c =
-    simp c.enum_told-in-Short-1.given.1
+    simp c.in-Short.is

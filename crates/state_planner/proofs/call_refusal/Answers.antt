@@ -15,10 +15,10 @@ pub returns-then-not-check : goal.returns-then-not-check
 returns-then-not-check c =
     let a = c.args in
     let k = c.check in
-    call_settings a.settings.now (words_in a.desk.now) (sym (length-test a.desk.now 16383) ∙ eq-eqb _ _ c.if-desk-ne65536.false) (sym k.ensures ∙ not-true k.result c.if-not-check.true)
+    call_settings a.settings.now (words_in a.desk.now) (sym (length-test a.desk.now 16383) ∙ eq-eqb _ _ c.if-desk-ne65536.false) (sym k.ensures ∙ c.if-not-check.true)
 
 pub returns : goal.returns
 returns c =
     let a = c.args in
     let k = c.check in
-    call_none a.settings.now (words_in a.desk.now) (sym (length-test a.desk.now 16383) ∙ eq-eqb _ _ c.if-desk-ne65536.false) (sym k.ensures ∙ not-false k.result c.if-not-check.false)
+    call_none a.settings.now (words_in a.desk.now) (sym (length-test a.desk.now 16383) ∙ eq-eqb _ _ c.if-desk-ne65536.false) (sym k.ensures ∙ c.if-not-check.false)

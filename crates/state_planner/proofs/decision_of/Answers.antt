@@ -4,7 +4,7 @@ use Rattle.state_planner.proofs.decision_of.Goals as goal
 
 pub returns-in-Met : goal.returns-in-Met
 unfolding decision_by
-returns-in-Met c = simp c.enum_told-1.given.1
+returns-in-Met c = simp c.in-Met.is
 
 pub returns-in-Short : goal.returns-in-Short
 unfolding decision_by

@@ -21,7 +21,7 @@ returns-then-not-is_sound c =
     let k = c.is_sound in
     let e = c.see-seen.ensures in
     let t = c.tables_of-tables.ensures in (
-      row_3 (sound a.settings.now a.x d) a.in-phase (sym (k.ensures d e) ∙ not-true k.result c.if-not-is_sound.true)
+      row_3 (sound a.settings.now a.x d) a.in-phase (sym (k.ensures d e) ∙ c.if-not-is_sound.true)
           ∙ rows_passed (sound a.settings.now a.x d) a.in-phase (desk_ok d) a.settings.now (eq-eqb (length d) 16384 (desk_length a.desk.now s.requires.1)) s.requires.0,
       (e, t),
     )
@@ -35,7 +35,7 @@ returns-then-not-in_phase c =
     let k = c.is_sound in
     let e = c.see-seen.ensures in
     let t = c.tables_of-tables.ensures in (
-      row_4 (sound a.settings.now a.x d) a.in-phase (sym (k.ensures d e) ∙ not-false k.result c.if-not-is_sound.false) (not-true a.in-phase c.if-not-in_phase.true)
+      row_4 (sound a.settings.now a.x d) a.in-phase (sym (k.ensures d e) ∙ c.if-not-is_sound.false) (c.if-not-in_phase.true)
           ∙ rows_passed (sound a.settings.now a.x d) a.in-phase (desk_ok d) a.settings.now (eq-eqb (length d) 16384 (desk_length a.desk.now s.requires.1)) s.requires.0,
       (e, t),
     )
@@ -49,7 +49,7 @@ returns c =
     let k = c.is_sound in
     let e = c.see-seen.ensures in
     let t = c.tables_of-tables.ensures in (
-      no_row (sound a.settings.now a.x d) a.in-phase (sym (k.ensures d e) ∙ not-false k.result c.if-not-is_sound.false) (not-false a.in-phase c.if-not-in_phase.false)
+      no_row (sound a.settings.now a.x d) a.in-phase (sym (k.ensures d e) ∙ c.if-not-is_sound.false) (c.if-not-in_phase.false)
           ∙ rows_passed (sound a.settings.now a.x d) a.in-phase (desk_ok d) a.settings.now (eq-eqb (length d) 16384 (desk_length a.desk.now s.requires.1)) s.requires.0,
       (e, t),
     )

@@ -5,9 +5,9 @@ use Rattle.state_planner.proofs.is_accepted.Goals as goal
 pub returns-in-Accepted : goal.returns-in-Accepted
 unfolding is_accepted
 returns-in-Accepted c =
-    simp c.enum_told-1.given.1
+    simp c.in-Accepted.is
 
 pub returns-in-Refused : goal.returns-in-Refused
 unfolding is_accepted
 returns-in-Refused c =
-    simp c.enum_told-in-Refused-1.given.1
+    simp c.in-Refused.is

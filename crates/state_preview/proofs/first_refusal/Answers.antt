@@ -14,14 +14,14 @@ returns-then-not-in_phase c =
     let a = c.args in
     let p = c.is_gathering-in_phase in
     let q = c.has-known in
-    found_event a.settings.now a.x (words_in a.desk.now) a.node.0 a.fewer p.result q.result _ p.ensures q.ensures c.event_refusal.ensures (inl (not-true p.result c.if-not-in_phase.true))
+    found_event a.settings.now a.x (words_in a.desk.now) a.node.0 a.fewer p.result q.result _ p.ensures q.ensures c.event_refusal.ensures (inl (c.if-not-in_phase.true))
 
 pub returns-then-not-known : goal.returns-then-not-known
 returns-then-not-known c =
     let a = c.args in
     let p = c.is_gathering-in_phase in
     let q = c.has-known in
-    found_event a.settings.now a.x (words_in a.desk.now) a.node.0 a.fewer p.result q.result _ p.ensures q.ensures c.event_refusal-then-not-known.ensures (inr (not-true q.result c.if-not-known.true))
+    found_event a.settings.now a.x (words_in a.desk.now) a.node.0 a.fewer p.result q.result _ p.ensures q.ensures c.event_refusal-then-not-known.ensures (inr (c.if-not-known.true))
 
 pub returns : goal.returns
 returns c =
@@ -32,5 +32,5 @@ returns c =
     let d = words_in a.desk.now in
     let is = c.holding.ensures ∙ ap (holding a.x) c.minus.ensures in
     found_check a.settings.now a.x d a.node.0 a.fewer s.requires.0 (desk_length a.desk.now s.requires.1)
-    (sym p.ensures ∙ not-false p.result c.if-not-in_phase.false) (sym q.ensures ∙ not-false q.result c.if-not-known.false) _
+    (sym p.ensures ∙ c.if-not-in_phase.false) (sym q.ensures ∙ c.if-not-known.false) _
     (c.check_under.ensures ∙ ap (λ (y : State). check_refusal a.settings.now y d) is)

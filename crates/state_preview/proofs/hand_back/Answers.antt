@@ -8,13 +8,13 @@ pub returns-in-Planned : goal.returns-in-Planned
 unfolding handed_back
 returns-in-Planned c =
     let a = c.args in
-    sym (ap (λ (k : Decision). handed_back k a.x a.decided) c.enum_told-1.given.1)
+    sym (ap (λ (k : Decision). handed_back k a.x a.decided) c.in-Planned.is)
 
 pub returns-in-Wait : goal.returns-in-Wait
 unfolding handed_back
 returns-in-Wait c =
     let a = c.args in
-    sym (ap (λ (k : Decision). handed_back k a.x a.decided) c.enum_told-in-Wait-1.given.1)
+    sym (ap (λ (k : Decision). handed_back k a.x a.decided) c.in-Wait.is)
 
 pub returns-in-Refused : goal.returns-in-Refused
 unfolding handed_back

@@ -24,10 +24,10 @@ returns-then-not-check c =
     let k = c.check in
     readies_refused a.settings.now (desk_says a.settings.now a.x d) _
     (settings_refused a.in-limits a.settings.now a.x d (sym (length-test a.desk.now 16383) ∙ eq-eqb _ _ c.if-desk-ne65536.false)
-    (sym k.ensures ∙ not-true k.result c.if-not-check.true))
+    (sym k.ensures ∙ c.if-not-check.true))
     (λ z. omega arith) c.refuse-then-not-check.ensures
 
 pub readiness_under-requires : goal.readiness_under-requires
 readiness_under-requires c =
     let k = c.check in
-    (settings_give _ (sym k.ensures ∙ not-false k.result c.if-not-check.false), c.if-desk-ne65536.false)
+    (settings_give _ (sym k.ensures ∙ c.if-not-check.false), c.if-desk-ne65536.false)

@@ -27,7 +27,7 @@ returns-then-not-is_small c =
     let e = entered a.settings.now a.x d k.result.refusal c.is_gathering-in_phase.ensures k.ensures.0 in
     let m = c.is_small in
     readies_refused a.settings.now (desk_says a.settings.now a.x d) _
-    (size_refused a.in-limits a.settings.now a.x d k.result.refusal e c.if-refusal-ne0.false (sym m.ensures ∙ not-true m.result c.if-not-is_small.true))
+    (size_refused a.in-limits a.settings.now a.x d k.result.refusal e c.if-refusal-ne0.false (sym m.ensures ∙ c.if-not-is_small.true))
     (λ z. omega arith) c.refuse-then-not-is_small.ensures
 
 pub rows_ready-requires : goal.rows_ready-requires
@@ -35,7 +35,7 @@ rows_ready-requires c =
     let s = c in
     let m = c.is_small in
     let n = nodes s.args.settings.now in
-    ((s.requires.0, leb-true n 10 (and_left (leb n 10) s.args.in-limits (sym m.ensures ∙ not-false m.result c.if-not-is_small.false))), s.requires.1)
+    ((s.requires.0, leb-true n 10 (and_left (leb n 10) s.args.in-limits (sym m.ensures ∙ c.if-not-is_small.false))), s.requires.1)
 
 pub returns : goal.returns
 returns c =
@@ -45,5 +45,5 @@ returns c =
     let e = entered a.settings.now a.x d k.result.refusal c.is_gathering-in_phase.ensures k.ensures.0 in
     let m = c.is_small in
     readies_by a.settings.now (desk_says a.settings.now a.x d)
-    (size_passed a.in-limits a.settings.now a.x d k.result.refusal e c.if-refusal-ne0.false (sym m.ensures ∙ not-false m.result c.if-not-is_small.false))
+    (size_passed a.in-limits a.settings.now a.x d k.result.refusal e c.if-refusal-ne0.false (sym m.ensures ∙ c.if-not-is_small.false))
     c.rows_ready.ensures

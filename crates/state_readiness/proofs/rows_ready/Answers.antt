@@ -32,7 +32,7 @@ returns-then-not-counted c =
     c.nodes.ensures in
     readies_refused a.settings.now (desk_says a.settings.now a.x d) _
     (slot_refused a.settings.now a.x d c.if-number-eq0.false
-    (sym (counted_ok a.settings.now a.x.kept a.x.termination (2 ^ nodes a.settings.now - 1) d k.result e) ∙ not-true k.result.ok c.if-not-counted.true))
+    (sym (counted_ok a.settings.now a.x.kept a.x.termination (2 ^ nodes a.settings.now - 1) d k.result e) ∙ c.if-not-counted.true))
     (λ z. omega arith) c.refuse-then-not-counted.ensures
 
 pub rows_of-requires : goal.rows_of-requires
@@ -49,5 +49,5 @@ returns c =
     let e = all_counted a.settings.now a.x d k.result k.ensures c.all_nodes-all.ensures
     c.nodes.ensures in
     readies_told a.settings.now a.x d k.result c.rows_of.result s.requires.0.0 (desk_length a.desk.now s.requires.1)
-    c.if-number-eq0.false e (not-false k.result.ok c.if-not-counted.false)
+    c.if-number-eq0.false e (c.if-not-counted.false)
     c.rows_of.ensures

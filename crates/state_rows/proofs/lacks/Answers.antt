@@ -4,7 +4,7 @@ use borrow.Author.Tests.{not-true, not-false}
 use Rattle.state_rows.proofs.lacks.Goals as goal
 
 pub returns-then-not-has : goal.returns-then-not-has
-returns-then-not-has c = simp (sym c.has.ensures, not-true c.has.result c.if-not-has.true)
+returns-then-not-has c = simp (sym c.has.ensures, c.if-not-has.true)
 
 pub returns : goal.returns
-returns c = simp (sym c.has.ensures, not-false c.has.result c.if-not-has.false, sym c.has-2.ensures)
+returns c = simp (sym c.has.ensures, c.if-not-has.false, sym c.has-2.ensures)

@@ -11,8 +11,8 @@ returns-then-nodes-node c = simp (sym c.nodes.ensures, le-ltb _ _ c.if-nodes-nod
 
 pub returns-then-not-ok : goal.returns-then-not-ok
 unfolding node_refusal unless
-returns-then-not-ok c = simp (sym c.nodes.ensures, lt-ltb _ _ c.if-nodes-node.false, not-true c.args.ok c.if-not-ok.true)
+returns-then-not-ok c = simp (sym c.nodes.ensures, lt-ltb _ _ c.if-nodes-node.false, c.if-not-ok.true)
 
 pub returns : goal.returns
 unfolding node_refusal unless
-returns c = simp (sym c.nodes.ensures, lt-ltb _ _ c.if-nodes-node.false, not-false c.args.ok c.if-not-ok.false)
+returns c = simp (sym c.nodes.ensures, lt-ltb _ _ c.if-nodes-node.false, c.if-not-ok.false)

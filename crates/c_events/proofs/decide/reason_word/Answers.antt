@@ -17,15 +17,15 @@ wait_word-requires-in-NoPlacement c = (lit≤ tt, rw c.reason-in-NoPlacement-1.g
 
 pub returns-in-NoView : goal.returns-in-NoView
 unfolding number_of value_of
-returns-in-NoView c = simp c.enum_told-1.given.1 c.wait_word.ensures
+returns-in-NoView c = simp c.in-NoView.is c.wait_word.ensures
 
 pub returns-in-NoMajority : goal.returns-in-NoMajority
 unfolding number_of value_of
-returns-in-NoMajority c = simp c.enum_told-in-NoMajority-1.given.1 c.wait_word-in-NoMajority.ensures
+returns-in-NoMajority c = simp c.in-NoMajority.is c.wait_word-in-NoMajority.ensures
 
 pub returns-in-TooFew : goal.returns-in-TooFew
 unfolding number_of value_of
-returns-in-TooFew c = simp c.enum_told-in-TooFew-1.given.1 c.wait_word-in-TooFew.ensures
+returns-in-TooFew c = simp c.in-TooFew.is c.wait_word-in-TooFew.ensures
 
 pub returns-in-NoHolder : goal.returns-in-NoHolder
 unfolding number_of value_of

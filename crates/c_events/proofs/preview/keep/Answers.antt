@@ -9,7 +9,7 @@ pub reason_word-requires : goal.reason_word-requires
 reason_word-requires c = rw c.decision-1.given.1 at c.requires.1
 
 pub returns-in-Planned : goal.returns-in-Planned
-returns-in-Planned c = (simp c.enum_told-1.given.1, simp c.enum_told-1.given.1 c.store.ensures)
+returns-in-Planned c = (simp c.in-Planned.is, simp c.in-Planned.is c.store.ensures)
 
 pub returns-in-Wait : goal.returns-in-Wait
 returns-in-Wait c = (simp c.decision-1.given.1 c.reason_word.ensures, simp c.decision-1.given.1 c.store-in-Wait.ensures)

@@ -13,11 +13,11 @@ pub returns-then-not-check : goal.returns-then-not-check
 unfolding flat_rows
 returns-then-not-check c = sym
     (unless_true _ _ _ (eq-eqb _ _ c.if-words-ne512.false)
-    ∙ unless_false _ _ _ (sym c.check.ensures ∙ not-true c.check.result c.if-not-check.true))
+    ∙ unless_false _ _ _ (sym c.check.ensures ∙ c.if-not-check.true))
 
 pub returns : goal.returns
 unfolding flat_rows
 returns c = c.flat_refusal.ensures
     ∙ sym
     (unless_true _ _ _ (eq-eqb _ _ c.if-words-ne512.false)
-    ∙ unless_true _ _ _ (sym c.check.ensures ∙ not-false c.check.result c.if-not-check.false))
+    ∙ unless_true _ _ _ (sym c.check.ensures ∙ c.if-not-check.false))

@@ -6,8 +6,8 @@ use Rattle.message_contents.proofs.passes.kind_at.Goals as goal
 
 pub returns-then-not-kind_ok : goal.returns-then-not-kind_ok
 unfolding kind_at
-returns-then-not-kind_ok c = simp (sym c.kind-kind.ensures, sym c.kind_ok.ensures, not-true c.kind_ok.result c.if-not-kind_ok.true)
+returns-then-not-kind_ok c = simp (sym c.kind-kind.ensures, sym c.kind_ok.ensures, c.if-not-kind_ok.true)
 
 pub returns : goal.returns
 unfolding kind_at
-returns c = simp (sym c.kind-kind.ensures, sym c.kind_ok.ensures, not-false c.kind_ok.result c.if-not-kind_ok.false, sym c.word2.ensures, sym c.plain.ensures)
+returns c = simp (sym c.kind-kind.ensures, sym c.kind_ok.ensures, c.if-not-kind_ok.false, sym c.word2.ensures, sym c.plain.ensures)

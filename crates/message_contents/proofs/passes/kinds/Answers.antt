@@ -17,13 +17,13 @@ pub returns-then-not-kind_at : goal.returns-then-not-kind_at
 returns-then-not-kind_at c = let a = c.args in
     let k = c.kind_at in
     let l = c.loop-j in
-    sym (bad_at a.len (kind_at a.form a.body.now) l.j (omega arith) l.invariant.1 (sym k.ensures ∙ not-true k.result c.if-not-kind_at.true))
+    sym (bad_at a.len (kind_at a.form a.body.now) l.j (omega arith) l.invariant.1 (sym k.ensures ∙ c.if-not-kind_at.true))
 
 pub loop-j-preserved : goal.loop-j-preserved
 loop-j-preserved c = let a = c.args in
     let k = c.kind_at in
     let l = c.loop-j in
-    (omega arith, all_more l.j (kind_at a.form a.body.now) l.invariant.1 (sym k.ensures ∙ not-false k.result c.if-not-kind_at.false))
+    (omega arith, all_more l.j (kind_at a.form a.body.now) l.invariant.1 (sym k.ensures ∙ c.if-not-kind_at.false))
 
 pub returns : goal.returns
 returns c = let a = c.args in

@@ -18,13 +18,13 @@ pub returns-then-not-position_at : goal.returns-then-not-position_at
 returns-then-not-position_at c = let a = c.args in
     let k = c.position_at in
     let l = c.loop-j in
-    sym (bad_at a.len (row11_at a.form a.view.0 a.members a.body.now) l.j (omega arith) l.invariant.1 (sym k.ensures ∙ not-true k.result c.if-not-position_at.true))
+    sym (bad_at a.len (row11_at a.form a.view.0 a.members a.body.now) l.j (omega arith) l.invariant.1 (sym k.ensures ∙ c.if-not-position_at.true))
 
 pub loop-j-preserved : goal.loop-j-preserved
 loop-j-preserved c = let a = c.args in
     let k = c.position_at in
     let l = c.loop-j in
-    (omega arith, all_more l.j (row11_at a.form a.view.0 a.members a.body.now) l.invariant.1 (sym k.ensures ∙ not-false k.result c.if-not-position_at.false))
+    (omega arith, all_more l.j (row11_at a.form a.view.0 a.members a.body.now) l.invariant.1 (sym k.ensures ∙ c.if-not-position_at.false))
 
 pub returns : goal.returns
 returns c = let a = c.args in

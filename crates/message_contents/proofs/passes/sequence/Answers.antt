@@ -22,7 +22,7 @@ pub returns-then-not-sequence_at : goal.returns-then-not-sequence_at
 returns-then-not-sequence_at c = let a = c.args in
     let k = c.sequence_at in
     let l = c.loop-j in
-    sym (bad_at a.len (sequence_at a.node.0 a.body.now) l.j (omega arith) l.invariant.2 (sym k.ensures ∙ not-true k.result c.if-not-sequence_at.true))
+    sym (bad_at a.len (sequence_at a.node.0 a.body.now) l.j (omega arith) l.invariant.2 (sym k.ensures ∙ c.if-not-sequence_at.true))
 
 pub carried_more-carried-requires : goal.carried_more-carried-requires
 carried_more-carried-requires c = (omega arith, c.requires.1 c.loop-j.j (omega arith))
@@ -37,7 +37,7 @@ loop-j-preserved c = let a = c.args in
       c.carried_more-carried.ensures
           ∙ ap (λ (m : ℕ). with_shard (gives_shard n b l.j) m b l.j) l.invariant.1
           ∙ sym (where_step (gives_shard n b) b l.j),
-      all_more l.j (sequence_at n b) l.invariant.2 (sym k.ensures ∙ not-false k.result c.if-not-sequence_at.false),
+      all_more l.j (sequence_at n b) l.invariant.2 (sym k.ensures ∙ c.if-not-sequence_at.false),
     )
 
 pub returns : goal.returns

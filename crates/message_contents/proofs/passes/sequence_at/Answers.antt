@@ -9,10 +9,10 @@ use Rattle.message_contents.proofs.passes.sequence_at.Goals as goal
 
 pub returns-then-not-follows : goal.returns-then-not-follows
 unfolding sequence_at surplus
-returns-then-not-follows c = simp (sym c.follows.ensures, not-true c.follows.result c.if-not-follows.true)
+returns-then-not-follows c = simp (sym c.follows.ensures, c.if-not-follows.true)
 
 pub returns : goal.returns
 unfolding sequence_at surplus
 returns c = let a = c.args in
-    rw (sym c.follows.ensures ∙ not-false c.follows.result c.if-not-follows.false)
+    rw (sym c.follows.ensures ∙ c.if-not-follows.false)
     (ap not (c.stray.ensures ∙ ap (λ (m : ℕ). stray_at m a.body.now a.j) c.requires.1))

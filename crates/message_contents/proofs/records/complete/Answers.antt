@@ -9,8 +9,8 @@ enum_told-1 c = search rules
 
 pub returns-in-Report : goal.returns-in-Report
 unfolding complete
-returns-in-Report c = simp (c.enum_told-1.given.1, sym c.complete_report.ensures)
+returns-in-Report c = simp (c.in-Report.is, sym c.complete_report.ensures)
 
 pub returns-in-Order : goal.returns-in-Order
 unfolding complete
-returns-in-Order c = simp (c.enum_told-in-Order-1.given.1, sym c.complete_order.ensures)
+returns-in-Order c = simp (c.in-Order.is, sym c.complete_order.ensures)

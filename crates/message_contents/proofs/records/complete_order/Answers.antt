@@ -6,16 +6,16 @@ use Rattle.message_contents.proofs.records.complete_order.Goals as goal
 
 pub returns-then-not-covered : goal.returns-then-not-covered
 unfolding complete
-returns-then-not-covered c = simp (sym c.every_shard-every.ensures, sym c.covered.ensures, not-true c.covered.result c.if-not-covered.true)
+returns-then-not-covered c = simp (sym c.every_shard-every.ensures, sym c.covered.ensures, c.if-not-covered.true)
 
 pub returns-then-not-covered-2 : goal.returns-then-not-covered-2
 unfolding complete
-returns-then-not-covered-2 c = simp (sym c.every_shard-every.ensures, sym c.covered.ensures, not-false c.covered.result c.if-not-covered.false, sym c.covered-2.ensures, not-true c.covered-2.result c.if-not-covered-2.true)
+returns-then-not-covered-2 c = simp (sym c.every_shard-every.ensures, sym c.covered.ensures, c.if-not-covered.false, sym c.covered-2.ensures, c.if-not-covered-2.true)
 
 pub returns-then-not-covered-3 : goal.returns-then-not-covered-3
 unfolding complete
-returns-then-not-covered-3 c = simp (sym c.every_shard-every.ensures, sym c.covered.ensures, not-false c.covered.result c.if-not-covered.false, sym c.covered-2.ensures, not-false c.covered-2.result c.if-not-covered-2.false, sym c.carried_by-carried.ensures, sym c.covered-3.ensures, not-true c.covered-3.result c.if-not-covered-3.true)
+returns-then-not-covered-3 c = simp (sym c.every_shard-every.ensures, sym c.covered.ensures, c.if-not-covered.false, sym c.covered-2.ensures, c.if-not-covered-2.false, sym c.carried_by-carried.ensures, sym c.covered-3.ensures, c.if-not-covered-3.true)
 
 pub returns : goal.returns
 unfolding complete
-returns c = simp (sym c.every_shard-every.ensures, sym c.covered.ensures, not-false c.covered.result c.if-not-covered.false, sym c.covered-2.ensures, not-false c.covered-2.result c.if-not-covered-2.false, sym c.carried_by-carried.ensures, sym c.covered-3.ensures, not-false c.covered-3.result c.if-not-covered-3.false, sym c.covered-4.ensures)
+returns c = simp (sym c.every_shard-every.ensures, sym c.covered.ensures, c.if-not-covered.false, sym c.covered-2.ensures, c.if-not-covered-2.false, sym c.carried_by-carried.ensures, sym c.covered-3.ensures, c.if-not-covered-3.false, sym c.covered-4.ensures)

@@ -22,13 +22,13 @@ pub returns-then-not-shard_apart : goal.returns-then-not-shard_apart
 returns-then-not-shard_apart c = let a = c.args in
     let k = c.shard_apart in
     sym (all_fails a.s.0 (ok a.settings.now a.masks.now a.s.0) c.loop-t.t (omega arith)
-    (sym k.ensures ∙ not-true k.result c.if-not-shard_apart.true))
+    (sym k.ensures ∙ c.if-not-shard_apart.true))
 
 pub loop-t-preserved : goal.loop-t-preserved
 loop-t-preserved c = let a = c.args in
     let k = c.shard_apart in
     let l = c.loop-t in
-    (omega arith, all_more l.t (ok a.settings.now a.masks.now a.s.0) l.invariant.1 (sym k.ensures ∙ not-false k.result c.if-not-shard_apart.false))
+    (omega arith, all_more l.t (ok a.settings.now a.masks.now a.s.0) l.invariant.1 (sym k.ensures ∙ c.if-not-shard_apart.false))
 
 pub returns : goal.returns
 returns c = let a = c.args in

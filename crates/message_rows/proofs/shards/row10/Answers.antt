@@ -24,13 +24,13 @@ unfolding row10
 returns-then-not-row10_at c = let a = c.args in
     let k = c.row10_at in
     sym (all_fails (shards a.settings.now) (ok a.settings.now a.members a.masks.now) c.loop-s.s (omega arith)
-    (sym k.ensures ∙ not-true k.result c.if-not-row10_at.true))
+    (sym k.ensures ∙ c.if-not-row10_at.true))
 
 pub loop-s-preserved : goal.loop-s-preserved
 loop-s-preserved c = let a = c.args in
     let k = c.row10_at in
     let l = c.loop-s in
-    (omega arith, all_more l.s (ok a.settings.now a.members a.masks.now) l.invariant.1 (sym k.ensures ∙ not-false k.result c.if-not-row10_at.false))
+    (omega arith, all_more l.s (ok a.settings.now a.members a.masks.now) l.invariant.1 (sym k.ensures ∙ c.if-not-row10_at.false))
 
 pub returns : goal.returns
 unfolding row10

@@ -10,8 +10,8 @@ returns-then-mask-lt1 c = simp (lt-ltb _ _ c.if-mask-lt1.true, lt-leb _ _ c.if-m
 
 pub returns-then-not-subset : goal.returns-then-not-subset
 unfolding row10_at
-returns-then-not-subset c = simp (le-ltb _ _ c.if-mask-lt1.false, le-leb _ _ c.if-mask-lt1.false, sym c.subset.ensures, not-true c.subset.result c.if-not-subset.true)
+returns-then-not-subset c = simp (le-ltb _ _ c.if-mask-lt1.false, le-leb _ _ c.if-mask-lt1.false, sym c.subset.ensures, c.if-not-subset.true)
 
 pub returns : goal.returns
 unfolding row10_at
-returns c = simp (le-ltb _ _ c.if-mask-lt1.false, le-leb _ _ c.if-mask-lt1.false, sym c.subset.ensures, not-false c.subset.result c.if-not-subset.false, sym c.apart_below.ensures)
+returns c = simp (le-ltb _ _ c.if-mask-lt1.false, le-leb _ _ c.if-mask-lt1.false, sym c.subset.ensures, c.if-not-subset.false, sym c.apart_below.ensures)

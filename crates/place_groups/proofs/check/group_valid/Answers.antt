@@ -24,14 +24,14 @@ returns-then-not-group_valid_at c = let a = c.args in
     let k = c.group_valid_at in
     sym (all_fails (shards a.settings.now) (ok a.settings.now a.held a.masks.now a.g) c.loop-s.s
     (omega (arith, c.shards-count.ensures))
-    (sym k.ensures ∙ not-true k.result c.if-not-group_valid_at.true))
+    (sym k.ensures ∙ c.if-not-group_valid_at.true))
 
 pub loop-s-preserved : goal.loop-s-preserved
 loop-s-preserved c = let a = c.args in
     let k = c.group_valid_at in
     let l = c.loop-s in (
       omega (arith, c.shards-count.ensures),
-      all_more l.s (ok a.settings.now a.held a.masks.now a.g) l.invariant.1 (sym k.ensures ∙ not-false k.result c.if-not-group_valid_at.false),
+      all_more l.s (ok a.settings.now a.held a.masks.now a.g) l.invariant.1 (sym k.ensures ∙ c.if-not-group_valid_at.false),
     )
 
 pub returns : goal.returns

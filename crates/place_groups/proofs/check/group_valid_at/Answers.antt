@@ -9,8 +9,8 @@ returns-then-subgroup-g c = simp (sym c.subgroup.ensures, ne_eqb _ _ c.if-subgro
 
 pub returns-then-not-shard_valid : goal.returns-then-not-shard_valid
 unfolding group_valid_at
-returns-then-not-shard_valid c = simp (sym c.subgroup.ensures, eq-eqb _ _ c.if-subgroup-g.false, sym c.shard_valid.ensures, not-true c.shard_valid.result c.if-not-shard_valid.true)
+returns-then-not-shard_valid c = simp (sym c.subgroup.ensures, eq-eqb _ _ c.if-subgroup-g.false, sym c.shard_valid.ensures, c.if-not-shard_valid.true)
 
 pub returns : goal.returns
 unfolding group_valid_at
-returns c = simp (sym c.subgroup.ensures, eq-eqb _ _ c.if-subgroup-g.false, sym c.shard_valid.ensures, not-false c.shard_valid.result c.if-not-shard_valid.false, sym c.apart_below.ensures)
+returns c = simp (sym c.subgroup.ensures, eq-eqb _ _ c.if-subgroup-g.false, sym c.shard_valid.ensures, c.if-not-shard_valid.false, sym c.apart_below.ensures)

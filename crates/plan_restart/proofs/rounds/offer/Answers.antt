@@ -22,4 +22,4 @@ returns-in-Met c =
     let q = c.quorum-quorum in
     let p = c.improve-within in
     offer_met s.args.settings.now s.args.kept s.args.held s.args.seen s.args.rounds q.result q.ensures p.result _ p.ensures
-    c.enum_told-1.given.1 (ap (λ (v : Verdict). record { verdict = v; gap = p.result.gap }) c.verdict_by.ensures)
+    c.in-Met.is (ap (λ (v : Verdict). record { verdict = v; gap = p.result.gap }) c.verdict_by.ensures)

@@ -8,13 +8,13 @@ pub enum_told-1 : goal.enum_told-1
 enum_told-1 c = search rules
 
 pub shards-shards-requires : goal.shards-shards-requires
-shards-shards-requires c = c.requires c.enum_told-1.given.1
+shards-shards-requires c = c.requires c.in-Planned.is
 
 pub plan_lines-requires : goal.plan_lines-requires
-plan_lines-requires c = omega (arith, c.shards-shards.ensures, (c.requires c.enum_told-1.given.1).sizes.shards_to)
+plan_lines-requires c = omega (arith, c.shards-shards.ensures, (c.requires c.in-Planned.is).sizes.shards_to)
 
 pub returns-in-Planned : goal.returns-in-Planned
-returns-in-Planned c = says_plan _ c.enum_told-1.given.1 c.shards-shards.ensures (omega (arith, c.shards-shards.ensures, (c.requires c.enum_told-1.given.1).sizes.shards_to)) c.plan_lines.ensures
+returns-in-Planned c = says_plan _ c.in-Planned.is c.shards-shards.ensures (omega (arith, c.shards-shards.ensures, (c.requires c.in-Planned.is).sizes.shards_to)) c.plan_lines.ensures
 
 pub returns-in-Wait : goal.returns-in-Wait
 returns-in-Wait c = says_wait _ c.decision-1.given.1 c.wait_line.ensures

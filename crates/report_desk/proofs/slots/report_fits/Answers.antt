@@ -14,12 +14,12 @@ returns-then-number-view c = simp (eq-eqb _ _ c.if-own-node.false, lt-leb _ _ c.
 
 pub returns-then-not-row12 : goal.returns-then-not-row12
 unfolding report_fits
-returns-then-not-row12 c = simp (eq-eqb _ _ c.if-own-node.false, le-leb _ _ c.if-number-view.false, sym c.row12.ensures, not-true c.row12.result c.if-not-row12.true)
+returns-then-not-row12 c = simp (eq-eqb _ _ c.if-own-node.false, le-leb _ _ c.if-number-view.false, sym c.row12.ensures, c.if-not-row12.true)
 
 pub returns-then-not-row13 : goal.returns-then-not-row13
 unfolding report_fits
-returns-then-not-row13 c = simp (eq-eqb _ _ c.if-own-node.false, le-leb _ _ c.if-number-view.false, sym c.row12.ensures, not-false c.row12.result c.if-not-row12.false, sym c.row13.ensures, not-true c.row13.result c.if-not-row13.true)
+returns-then-not-row13 c = simp (eq-eqb _ _ c.if-own-node.false, le-leb _ _ c.if-number-view.false, sym c.row12.ensures, c.if-not-row12.false, sym c.row13.ensures, c.if-not-row13.true)
 
 pub returns : goal.returns
 unfolding report_fits
-returns c = simp (eq-eqb _ _ c.if-own-node.false, le-leb _ _ c.if-number-view.false, sym c.row12.ensures, not-false c.row12.result c.if-not-row12.false, sym c.row13.ensures, not-false c.row13.result c.if-not-row13.false, sym c.term_kept.ensures)
+returns c = simp (eq-eqb _ _ c.if-own-node.false, le-leb _ _ c.if-number-view.false, sym c.row12.ensures, c.if-not-row12.false, sym c.row13.ensures, c.if-not-row13.false, sym c.term_kept.ensures)

@@ -14,12 +14,12 @@ loop-n-init c = (lit≤ tt, all_none _)
 pub returns-then-not-recalled : goal.returns-then-not-recalled
 returns-then-not-recalled c =
     let k = c.recalled in
-    sym (all_fails 32 _ c.loop-n.n (omega arith) (sym k.ensures ∙ not-true k.result c.if-not-recalled.true))
+    sym (all_fails 32 _ c.loop-n.n (omega arith) (sym k.ensures ∙ c.if-not-recalled.true))
 
 pub loop-n-preserved : goal.loop-n-preserved
 loop-n-preserved c =
     let k = c.recalled in
-    (omega arith, all_more _ _ c.loop-n.invariant.1 (sym k.ensures ∙ not-false k.result c.if-not-recalled.false))
+    (omega arith, all_more _ _ c.loop-n.invariant.1 (sym k.ensures ∙ c.if-not-recalled.false))
 
 pub returns : goal.returns
 returns c =

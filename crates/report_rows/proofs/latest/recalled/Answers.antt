@@ -9,7 +9,7 @@ returns-then-not-known_or_none c =
     let a = c.args in
     let k = c.known_or_none in
     not_known a.settings.now a.number.0 a.held a.reported.0 a.view.0 a.node.0
-    (sym k.ensures ∙ not-true k.result c.if-not-known_or_none.true)
+    (sym k.ensures ∙ c.if-not-known_or_none.true)
 
 pub returns-then-not-has : goal.returns-then-not-has
 returns-then-not-has c =
@@ -17,7 +17,7 @@ returns-then-not-has c =
     let k = c.known_or_none in
     let h = c.has in
     not_held a.settings.now a.number.0 a.held a.reported.0 a.view.0 a.node.0
-    (sym k.ensures ∙ not-false k.result c.if-not-known_or_none.false) (sym h.ensures ∙ not-true h.result c.if-not-has.true)
+    (sym k.ensures ∙ c.if-not-known_or_none.false) (sym h.ensures ∙ c.if-not-has.true)
 
 pub returns : goal.returns
 returns c =
@@ -26,4 +26,4 @@ returns c =
     let h = c.has in
     c.from_to.ensures
     ∙ is_held a.settings.now a.number.0 a.held a.reported.0 a.view.0 a.node.0
-    (sym k.ensures ∙ not-false k.result c.if-not-known_or_none.false) (sym h.ensures ∙ not-false h.result c.if-not-has.false)
+    (sym k.ensures ∙ c.if-not-known_or_none.false) (sym h.ensures ∙ c.if-not-has.false)

@@ -9,19 +9,19 @@ pub returns-then-not-is_accepted : goal.returns-then-not-is_accepted
 returns-then-not-is_accepted c =
     let s = c in
     let e = c.report_by-outcome.ensures in
-    (e, answer_leaves s.args.settings.now s.args.self s.args.desk.now s.args.message.now c.report_by-outcome.result e (sym c.is_accepted.ensures ∙ not-true c.is_accepted.result c.if-not-is_accepted.true))
+    (e, answer_leaves s.args.settings.now s.args.self s.args.desk.now s.args.message.now c.report_by-outcome.result e (sym c.is_accepted.ensures ∙ c.if-not-is_accepted.true))
 
 pub bounds-message-0 : goal.bounds-message-0
 bounds-message-0 c =
     let s = c in
     let e = c.report_by-outcome.ensures in
-    search (rules, reporter_told s.args.settings.now s.args.self s.args.desk.now s.args.message.now c.report_by-outcome.result e (sym c.is_accepted.ensures ∙ not-false c.is_accepted.result c.if-not-is_accepted.false))
+    search (rules, reporter_told s.args.settings.now s.args.self s.args.desk.now s.args.message.now c.report_by-outcome.result e (sym c.is_accepted.ensures ∙ c.if-not-is_accepted.false))
 
 pub store-requires : goal.store-requires
 store-requires c =
     let s = c in
     let e = c.report_by-outcome.ensures in
-    let yes = (sym c.is_accepted.ensures ∙ not-false c.is_accepted.result c.if-not-is_accepted.false) in (
+    let yes = (sym c.is_accepted.ensures ∙ c.if-not-is_accepted.false) in (
       (s.requires.1, reporter_named s.args.settings.now s.args.self s.args.desk.now s.args.message.now c.report_by-outcome.result e yes s.requires.0),
       report_small s.args.settings.now s.args.self s.args.desk.now s.args.message.now c.report_by-outcome.result e yes,
     )
@@ -30,4 +30,4 @@ pub returns : goal.returns
 returns c =
     let s = c in
     let e = c.report_by-outcome.ensures in
-    (e, stored_desk s.args.settings.now s.args.self s.args.desk.now s.args.message.now c.report_by-outcome.result e (sym c.is_accepted.ensures ∙ not-false c.is_accepted.result c.if-not-is_accepted.false) _ c.store.ensures)
+    (e, stored_desk s.args.settings.now s.args.self s.args.desk.now s.args.message.now c.report_by-outcome.result e (sym c.is_accepted.ensures ∙ c.if-not-is_accepted.false) _ c.store.ensures)

@@ -24,13 +24,13 @@ pub returns-then-not-tidy_at : goal.returns-then-not-tidy_at
 unfolding layout_tidy
 returns-then-not-tidy_at c = let a = c.args in
     let k = c.tidy_at in
-    sym (all_fails 16 (ok a.settings.now a.t2) c.loop-s.s (omega (arith)) (sym k.ensures ∙ not-true k.result c.if-not-tidy_at.true))
+    sym (all_fails 16 (ok a.settings.now a.t2) c.loop-s.s (omega (arith)) (sym k.ensures ∙ c.if-not-tidy_at.true))
 
 pub loop-s-preserved : goal.loop-s-preserved
 loop-s-preserved c = let a = c.args in
     let k = c.tidy_at in
     let l = c.loop-s in
-    (omega (arith), all_more l.s (ok a.settings.now a.t2) l.invariant.1 (sym k.ensures ∙ not-false k.result c.if-not-tidy_at.false))
+    (omega (arith), all_more l.s (ok a.settings.now a.t2) l.invariant.1 (sym k.ensures ∙ c.if-not-tidy_at.false))
 
 pub returns : goal.returns
 unfolding layout_tidy

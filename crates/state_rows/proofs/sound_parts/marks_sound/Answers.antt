@@ -9,40 +9,40 @@ enum_told-1 c = search rules
 
 pub returns-then-fetched-ne0 : goal.returns-then-fetched-ne0
 unfolding marks_sound
-returns-then-fetched-ne0 c = simp (c.enum_told-1.given.1, ne_eqb _ _ c.if-fetched-ne0.true)
+returns-then-fetched-ne0 c = simp (c.in-Gathering.is, ne_eqb _ _ c.if-fetched-ne0.true)
 
 pub returns-then-not-subset : goal.returns-then-not-subset
 unfolding marks_sound
-returns-then-not-subset c = simp (c.enum_told-in-Ordered-1.given.1, sym c.subset.ensures, not-true c.subset.result c.if-not-subset.true)
+returns-then-not-subset c = simp (c.in-Ordered.is, sym c.subset.ensures, c.if-not-subset.true)
 
 pub returns-then-fetched-held : goal.returns-then-fetched-held
 unfolding marks_sound
-returns-then-fetched-held c = simp (c.enum_told-in-Ordered-1.given.1, sym c.subset.ensures, not-false c.subset.result c.if-not-subset.false, eq-eqb _ _ c.if-fetched-held.true)
+returns-then-fetched-held c = simp (c.in-Ordered.is, sym c.subset.ensures, c.if-not-subset.false, eq-eqb _ _ c.if-fetched-held.true)
 
 pub returns-then-fetched-held-2 : goal.returns-then-fetched-held-2
 unfolding marks_sound
-returns-then-fetched-held-2 c = simp (c.enum_told-in-Preparing-1.given.1, ne_eqb _ _ c.if-fetched-held-2.true)
+returns-then-fetched-held-2 c = simp (c.in-Preparing.is, ne_eqb _ _ c.if-fetched-held-2.true)
 
 pub returns-then-not-subset-2 : goal.returns-then-not-subset-2
 unfolding marks_sound
-returns-then-not-subset-2 c = simp (c.enum_told-in-Preparing-1.given.1, eq-eqb _ _ c.if-fetched-held-2.false, sym c.subset-in-Preparing.ensures, not-true c.subset-in-Preparing.result c.if-not-subset-2.true)
+returns-then-not-subset-2 c = simp (c.in-Preparing.is, eq-eqb _ _ c.if-fetched-held-2.false, sym c.subset-in-Preparing.ensures, c.if-not-subset-2.true)
 
 pub returns-then-fetched-held-3 : goal.returns-then-fetched-held-3
 unfolding marks_sound
-returns-then-fetched-held-3 c = simp (c.enum_told-in-Committed-1.given.1, ne_eqb _ _ c.if-fetched-held-3.true)
+returns-then-fetched-held-3 c = simp (c.in-Committed.is, ne_eqb _ _ c.if-fetched-held-3.true)
 
 pub returns-else-fetched-ne0 : goal.returns-else-fetched-ne0
 unfolding marks_sound
-returns-else-fetched-ne0 c = simp (c.enum_told-1.given.1, eq-eqb _ _ c.if-fetched-ne0.false)
+returns-else-fetched-ne0 c = simp (c.in-Gathering.is, eq-eqb _ _ c.if-fetched-ne0.false)
 
 pub returns-else-fetched-held : goal.returns-else-fetched-held
 unfolding marks_sound
-returns-else-fetched-held c = simp (c.enum_told-in-Ordered-1.given.1, sym c.subset.ensures, not-false c.subset.result c.if-not-subset.false, ne_eqb _ _ c.if-fetched-held.false)
+returns-else-fetched-held c = simp (c.in-Ordered.is, sym c.subset.ensures, c.if-not-subset.false, ne_eqb _ _ c.if-fetched-held.false)
 
 pub returns-else-not-subset-2 : goal.returns-else-not-subset-2
 unfolding marks_sound
-returns-else-not-subset-2 c = simp (c.enum_told-in-Preparing-1.given.1, eq-eqb _ _ c.if-fetched-held-2.false, sym c.subset-in-Preparing.ensures, not-false c.subset-in-Preparing.result c.if-not-subset-2.false)
+returns-else-not-subset-2 c = simp (c.in-Preparing.is, eq-eqb _ _ c.if-fetched-held-2.false, sym c.subset-in-Preparing.ensures, c.if-not-subset-2.false)
 
 pub returns-else-fetched-held-3 : goal.returns-else-fetched-held-3
 unfolding marks_sound
-returns-else-fetched-held-3 c = simp (c.enum_told-in-Committed-1.given.1, eq-eqb _ _ c.if-fetched-held-3.false)
+returns-else-fetched-held-3 c = simp (c.in-Committed.is, eq-eqb _ _ c.if-fetched-held-3.false)

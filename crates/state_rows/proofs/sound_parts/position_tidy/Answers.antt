@@ -4,10 +4,10 @@ use borrow.Author.Tests.{lt-ltb, le-ltb, not-true, not-false}
 use Rattle.state_rows.proofs.sound_parts.position_tidy.Goals as goal
 
 pub returns-then-not-made : goal.returns-then-not-made
-returns-then-not-made c = simp (not-true c.args.made c.if-not-made.true, sym c.no_position.ensures)
+returns-then-not-made c = simp (c.if-not-made.true, sym c.no_position.ensures)
 
 pub returns-then-shards-s : goal.returns-then-shards-s
-returns-then-shards-s c = simp (not-false c.args.made c.if-not-made.false, sym c.shards.ensures, le-ltb _ _ c.if-shards-s.true, sym c.no_position-then-shards-s.ensures)
+returns-then-shards-s c = simp (c.if-not-made.false, sym c.shards.ensures, le-ltb _ _ c.if-shards-s.true, sym c.no_position-then-shards-s.ensures)
 
 pub returns : goal.returns
-returns c = simp (not-false c.args.made c.if-not-made.false, sym c.shards.ensures, lt-ltb _ _ c.if-shards-s.false)
+returns c = simp (c.if-not-made.false, sym c.shards.ensures, lt-ltb _ _ c.if-shards-s.false)

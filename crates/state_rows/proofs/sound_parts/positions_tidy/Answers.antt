@@ -17,7 +17,7 @@ unfolding position_tidy
 returns-then-not-position_tidy c =
     let a = c.args in
     let k = c.position_tidy in
-    sym (all_fails 16 (position_tidy a.settings.now a.t) c.loop-s.s (omega arith) (sym k.ensures ∙ not-true k.result c.if-not-position_tidy.true))
+    sym (all_fails 16 (position_tidy a.settings.now a.t) c.loop-s.s (omega arith) (sym k.ensures ∙ c.if-not-position_tidy.true))
 
 pub loop-s-preserved : goal.loop-s-preserved
 unfolding position_tidy
@@ -25,7 +25,7 @@ loop-s-preserved c =
     let a = c.args in
     let k = c.position_tidy in
     let l = c.loop-s in
-    (omega arith, all_more l.s (position_tidy a.settings.now a.t) l.invariant.1 (sym k.ensures ∙ not-false k.result c.if-not-position_tidy.false))
+    (omega arith, all_more l.s (position_tidy a.settings.now a.t) l.invariant.1 (sym k.ensures ∙ c.if-not-position_tidy.false))
 
 pub returns : goal.returns
 returns c =

@@ -23,13 +23,13 @@ loop-s-init c = let p = c.args.p in (search rules, all_none (ok p.holders p.targ
 pub returns-then-not-nothing_planned : goal.returns-then-not-nothing_planned
 returns-then-not-nothing_planned c = let p = c.args.p in
     let k = c.nothing_planned in
-    sym (all_fails 16 (ok p.holders p.targets) c.loop-s.s (omega arith) (sym k.ensures ∙ not-true k.result c.if-not-nothing_planned.true))
+    sym (all_fails 16 (ok p.holders p.targets) c.loop-s.s (omega arith) (sym k.ensures ∙ c.if-not-nothing_planned.true))
 
 pub loop-s-preserved : goal.loop-s-preserved
 loop-s-preserved c = let p = c.args.p in
     let k = c.nothing_planned in
     let l = c.loop-s in
-    (omega arith, all_more l.s (ok p.holders p.targets) l.invariant.1 (sym k.ensures ∙ not-false k.result c.if-not-nothing_planned.false))
+    (omega arith, all_more l.s (ok p.holders p.targets) l.invariant.1 (sym k.ensures ∙ c.if-not-nothing_planned.false))
 
 pub returns : goal.returns
 returns c = let p = c.args.p in

@@ -23,13 +23,13 @@ pub returns-then-not-group_valid : goal.returns-then-not-group_valid
 unfolding groups_valid
 returns-then-not-group_valid c = let a = c.args in
     let k = c.group_valid in
-    sym (all_fails 4 (ok a.settings.now a.held a.t3) c.loop-g.g (omega arith) (sym k.ensures ∙ not-true k.result c.if-not-group_valid.true))
+    sym (all_fails 4 (ok a.settings.now a.held a.t3) c.loop-g.g (omega arith) (sym k.ensures ∙ c.if-not-group_valid.true))
 
 pub loop-g-preserved : goal.loop-g-preserved
 loop-g-preserved c = let a = c.args in
     let k = c.group_valid in
     let l = c.loop-g in
-    (omega arith, all_more l.g (ok a.settings.now a.held a.t3) l.invariant.1 (sym k.ensures ∙ not-false k.result c.if-not-group_valid.false))
+    (omega arith, all_more l.g (ok a.settings.now a.held a.t3) l.invariant.1 (sym k.ensures ∙ c.if-not-group_valid.false))
 
 pub returns : goal.returns
 unfolding groups_valid

@@ -8,8 +8,8 @@ enum_told-1 c = search rules
 
 pub returns-in-Met : goal.returns-in-Met
 unfolding is_met
-returns-in-Met c = simp c.enum_told-1.given.1
+returns-in-Met c = simp c.in-Met.is
 
 pub returns-in-Short : goal.returns-in-Short
 unfolding is_met
-returns-in-Short c = simp c.enum_told-in-Short-1.given.1
+returns-in-Short c = simp c.in-Short.is

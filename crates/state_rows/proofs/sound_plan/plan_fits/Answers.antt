@@ -9,11 +9,11 @@ returns-then-not-has_plan c =
     let a = c.args in
     let k = c.has_plan in
     c.plan_blank.ensures
-    ∙ fits_blank a.phase a.settings.now a.v a.held a.seen a.p (sym k.ensures ∙ not-true k.result c.if-not-has_plan.true)
+    ∙ fits_blank a.phase a.settings.now a.v a.held a.seen a.p (sym k.ensures ∙ c.if-not-has_plan.true)
 
 pub returns : goal.returns
 returns c =
     let a = c.args in
     let k = c.has_plan in
     c.matches.ensures
-    ∙ fits_matches a.phase a.settings.now a.v a.held a.seen a.p (sym k.ensures ∙ not-false k.result c.if-not-has_plan.false)
+    ∙ fits_matches a.phase a.settings.now a.v a.held a.seen a.p (sym k.ensures ∙ c.if-not-has_plan.false)

@@ -32,13 +32,13 @@ pub returns-then-not-same_shard : goal.returns-then-not-same_shard
 unfolding same_shards same_shard
 returns-then-not-same_shard c = let a = c.args in
     let k = c.same_shard in
-    sym (all_fails 16 (ok a.p a.seen) c.loop-s.s (omega arith) (sym k.ensures ∙ not-true k.result c.if-not-same_shard.true))
+    sym (all_fails 16 (ok a.p a.seen) c.loop-s.s (omega arith) (sym k.ensures ∙ c.if-not-same_shard.true))
 
 pub loop-s-preserved : goal.loop-s-preserved
 loop-s-preserved c = let a = c.args in
     let k = c.same_shard in
     let l = c.loop-s in
-    (omega arith, all_more l.s (ok a.p a.seen) l.invariant.1 (sym k.ensures ∙ not-false k.result c.if-not-same_shard.false))
+    (omega arith, all_more l.s (ok a.p a.seen) l.invariant.1 (sym k.ensures ∙ c.if-not-same_shard.false))
 
 pub returns : goal.returns
 unfolding same_shards same_shard
