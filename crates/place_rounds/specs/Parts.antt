@@ -70,12 +70,12 @@ pub data RoundsSoFar (σ : List ℕ) (held : ℕ) (old : ℕ → ℕ) (k n : ℕ
   round : {m : ℕ} {b c : ℕ → ℕ} → RoundsSoFar σ held old k n a (m + 1) b → (r : Round σ held old b c) → r.at < k → RoundsSoFar σ held old k n a m c
 
 module _ {σ : List ℕ} {held : ℕ} {old : ℕ → ℕ} where
-  joined : {k n m : ℕ} {a b c : ℕ → ℕ} → RoundsSoFar σ held old k n a m b → Rounds σ held old m b c → Rounds σ held old n a c
+  joined : {k n : ℕ} {a : ℕ → ℕ} {m : ℕ} {b c : ℕ → ℕ} → RoundsSoFar σ held old k n a m b → Rounds σ held old m b c → Rounds σ held old n a c
   joined (none e) s = rounds_from e s
   joined {m = m} {c = c} (round {b = b} p r l) s = joined p (subst (λ (j : ℕ). Rounds σ held old j b c) (sym (add-one m)) (more r s))
 
   -- at the end no rounds are left, or no subgroup has a better one
-  pub part_rounds : {k n m : ℕ} {a b : ℕ → ℕ} → RoundsSoFar σ held old k n a m b → (m ≡ 0) ⊎ ((g : ℕ) → g < 4 → NoneFewer σ held old b g) → Rounds σ held old n a b
+  pub part_rounds : {k n : ℕ} {a : ℕ → ℕ} {m : ℕ} {b : ℕ → ℕ} → RoundsSoFar σ held old k n a m b → (m ≡ 0) ⊎ ((g : ℕ) → g < 4 → NoneFewer σ held old b g) → Rounds σ held old n a b
   part_rounds {b = b} p (inl e) = joined p (subst (λ (j : ℕ). Rounds σ held old j b b) (sym e) (over (λ s l. refl)))
   part_rounds p (inr d) = joined p (done d (λ s l. refl))
 
@@ -95,7 +95,7 @@ module _ {σ : List ℕ} {held : ℕ} {old : ℕ → ℕ} where
   )
 
   -- one subgroup more: its start takes its place at the start and at the end
-  pub part_mixed : {n m : ℕ} {a c : ℕ → ℕ} (k : ℕ) (z : ℕ → ℕ) → RoundsSoFar σ held old k n a m c → RoundsSoFar σ held old (k + 1) n (mix σ k z a) m (mix σ k z c)
+  pub part_mixed : {n : ℕ} {a : ℕ → ℕ} (k : ℕ) {m : ℕ} {c : ℕ → ℕ} (z : ℕ → ℕ) → RoundsSoFar σ held old k n a m c → RoundsSoFar σ held old (k + 1) n (mix σ k z a) m (mix σ k z c)
   part_mixed {a = a} k z (none {c = c} e) =
       none (λ s l. ⊎_elim (λ i. mix_here σ k z a s i ∙ sym (mix_here σ k z c s i)) (λ i. mix_else σ k z a s i ∙ (e s l ∙ sym (mix_else σ k z c s i))) (either (of_group σ k s)))
   part_mixed k z (round p r l) = let q = mix_round k z r l in round (part_mixed k z p) q.0 (omega (arith, q.1))
@@ -138,12 +138,12 @@ pub data GroupRounds (σ : List ℕ) (held : ℕ) (old : ℕ → ℕ) (g n : ℕ
 
 module _ {σ : List ℕ} {held : ℕ} {old : ℕ → ℕ} where
   -- there are no more left than before
-  pub rounds_used : {g n m : ℕ} {a c : ℕ → ℕ} → GroupRounds σ held old g n a m c → m ≤ n
+  pub rounds_used : {g n : ℕ} {a : ℕ → ℕ} {m : ℕ} {c : ℕ → ℕ} → GroupRounds σ held old g n a m c → m ≤ n
   rounds_used stays = omega arith
   rounds_used (betters s f) = omega (arith, rounds_used s)
 
   -- they are rounds of all, where no lower subgroup has a better placement, or none is left
-  pub part_group : {g n k m : ℕ} {a b y z : ℕ → ℕ} → g < 4 → (k ≡ 0) ⊎ ((h : ℕ) → h < g → NoneFewer σ held old b h)
+  pub part_group : {g n k : ℕ} {a b y : ℕ → ℕ} {m : ℕ} {z : ℕ → ℕ} → g < 4 → (k ≡ 0) ⊎ ((h : ℕ) → h < g → NoneFewer σ held old b h)
       → RoundsSoFar σ held old (g + 1) n a k (mix σ g y b) → GroupRounds σ held old g k y m z → RoundsSoFar σ held old (g + 1) n a m (mix σ g z b)
   part_group l d p stays = p
   part_group {g} {n} {k} {m} {a} {b} {y} {z} l d p (betters {b = x} s f) =

@@ -142,6 +142,6 @@ module _ (S node : ℕ) (a : OrderSays) (b : List ℕ) (len : ℕ) (o : BodySays
   pub said : {j : ℕ} (q : RecordPlace S node a j) → RecordSays b j (kind_of q) (shard_of q) (first_word q) (second_of q)
   unfolding kind_of shard_of first_word second_of
   said (a_members s l e) = subst⁻¹ (λ (x : ℕ). RecordSays b x 1 s (a.members s) 0) e (o.members-at s l)
-  said (a_target s l e) = subst⁻¹ (λ (x : ℕ). RecordSays b x 2 s (a.target s).view.0 (a.target s).k) e (o.target_at s l)
+  said (a_target s l e) = subst⁻¹ (λ (x : ℕ). RecordSays b x 2 s (a.target s).view.0 (a.target s).k) e (o.target-at s l)
   said (a_holder s l p e) = subst⁻¹ (λ (x : ℕ). RecordSays b x 4 s (a.holder s) 0) e (o.holder-at s l p)
   said (a_cut s l p e) = subst⁻¹ (λ (x : ℕ). RecordSays b x 5 s (a.cut s).view.0 (a.cut s).k) e (o.cut_at s l p)

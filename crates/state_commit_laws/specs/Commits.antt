@@ -167,7 +167,7 @@ told_prepare l σ x d n h t =
     let taken = node_given (desk_ok d) σ x d (is_preparing x.phase) n (has x.held n && not (has x.prepared n)) h in
     let phase : x.phase ≡ Preparing = preparing_is x.phase taken.entered.in-phase in
     let m = t.outside (λ e. preparing_not (sym phase ∙ e)) in
-    let mine : has x.held n ≡ true = and_left (has x.held n) (not (has x.prepared n)) taken.node_ok in
+    let mine : has x.held n ≡ true = and_left (has x.held n) (not (has x.prepared n)) taken.node-ok in
     let had : some_of (is_fetched n) (since l) ≡ true =
     sym (m.fetched n) ∙ (ap (λ (k : ℕ). has k n) (marks_fetched x.phase x.held x.fetched x.prepared phase t.marks) ∙ mine) in
     record {

@@ -24,7 +24,7 @@ module _ (σ : List ℕ) (x : State) (d : List ℕ) (n : ℕ) (inPhase : Bool) (
   marker_phase = taken.entered.in-phase
 
   marker_held : has x.held n ≡ true
-  marker_held = and_left (has x.held n) (not (has marks n)) taken.node_ok
+  marker_held = and_left (has x.held n) (not (has marks n)) taken.node-ok
 
   sound_before : SoundState σ x d
   sound_before = sound_given σ x d taken.entered.state_sound

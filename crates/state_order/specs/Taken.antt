@@ -120,7 +120,7 @@ module _ (σ : List ℕ) (x : State) (d : List ℕ) (n : ℕ) (buffer : List ℕ
         settings_right = e.settings-ok;
         state_sound = s;
         plan-sound = ordered_plan x.phase σ x.kept x.termination x.held d x.plan e.in-phase s.plan-fits;
-        node_held = t.node_ok;
+        node_held = t.node-ok;
       }
 
   -- for the call that makes the contents

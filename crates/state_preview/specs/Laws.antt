@@ -72,14 +72,14 @@ module _ (σ : List ℕ) (x : State) (d : List ℕ) (n : ℕ) where
     unfolding drop_refusal event_refusal entry_refusal node_refusal unless first_of
     drop_taken =
         let e = given.entered in
-        rw (e.lengths-ok, e.settings-ok, e.state_sound, gathering_is x.phase e.in-phase, lt-ltb n (nodes σ) given.node_below, given.node_ok)
+        rw (e.lengths-ok, e.settings-ok, e.state_sound, gathering_is x.phase e.in-phase, lt-ltb n (nodes σ) given.node_below, given.node-ok)
 
   -- and while gathering a preview is refused just where drop is
   pub preview_taken : is_gathering x.phase ≡ true → drop_refusal σ x d n ≡ none → preview_refusal σ x d n ≡ none
   unfolding drop_refusal
   preview_taken g e =
       let t = node_given (desk_ok d) σ x d (not (is_committed x.phase)) n (has x.held n) e in
-      preview_sound σ x d (settings_give σ t.entered.settings-ok) (eqb-true (length d) 16384 t.entered.lengths-ok) n t.entered.state_sound g t.node_ok
+      preview_sound σ x d (settings_give σ t.entered.settings-ok) (eqb-true (length d) 16384 t.entered.lengths-ok) n t.entered.state_sound g t.node-ok
 
   module _ {p : Decided} (previews : Previews σ x d n p) where
     module _ (taken : accepted (preview_refusal σ x d n) ≡ true) where
@@ -182,5 +182,5 @@ module _ (σ : List ℕ) (x : State) (d : List ℕ) where
 
           kept : has r.lost n ≡ false → has r.lost n ≡ is_wait p.decision
           kept h =
-              let q = plans_where_possible σ (holding x (without x.held n)) d p copy free ((w.told (taken_of n t)).plans n (given σ x d n t).node_ok h) in
+              let q = plans_where_possible σ (holding x (without x.held n)) d p copy free ((w.told (taken_of n t)).plans n (given σ x d n t).node-ok h) in
               h ∙ sym (ap (λ (o : Decided). is_wait o.decision) q.given)

@@ -106,7 +106,7 @@ module _ (σ : List ℕ) (x : State) (d : List ℕ) (n fewer : ℕ) where
       bad : r.code ≡ 0 → ⊥
       bad z =
           let t = node_given (desk_ok d) σ x d p n q (sym e ∙ ap refused z) in
-          ⊎_elim (λ h. clash t.entered.in-phase h) (λ h. clash t.node_ok h) off
+          ⊎_elim (λ h. clash t.entered.in-phase h) (λ h. clash t.node-ok h) off
 
   -- else row 3, as far as the other held nodes play no part in it
   pub found_check : Settings σ → length d ≡ 16384 → is_gathering x.phase ≡ true → has x.held n ≡ true → (r : Refusal)

@@ -30,7 +30,7 @@ check_under-check-requires c =
     let a = c.args in
     let e = c.enter_planner-lent.ensures in
     let p = desk_passes (by_planner a.role) a.settings.now a.state.now a.desk.now _ e c.if-refusal-ne0.false in
-    (subst Settings (sym (settings_front _ _ _ _ _ e p.settings-ok)) (settings_give _ p.settings-ok), desk_long (by_planner a.role) a.settings.now a.state.now a.desk.now _ e c.if-refusal-ne0.false)
+    record { settings = subst Settings (sym (settings_front _ _ _ _ _ e p.settings-ok)) (settings_give _ p.settings-ok); desk_len = desk_long (by_planner a.role) a.settings.now a.state.now a.desk.now _ e c.if-refusal-ne0.false }
 
 pub returns : goal.returns
 returns c =

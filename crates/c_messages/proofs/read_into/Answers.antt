@@ -13,7 +13,7 @@ returns-then-refusal-ne0 c =
 pub give-requires : goal.give-requires
 give-requires c =
     let whole = c.if-contents-ne2048.false in
-    (read_few _ _ _ c.args.contents.now whole _ c.read_lent-reading.ensures c.if-refusal-ne0.false, whole)
+    record { length_bound = read_few _ _ _ c.args.contents.now whole _ c.read_lent-reading.ensures c.if-refusal-ne0.false; bytes_len = whole }
 
 pub returns : goal.returns
 returns c =

@@ -38,7 +38,7 @@ pub put-requires : goal.put-requires
 put-requires c =
     let e = c in
     let a = e.args in
-    let ok = lengths_of a.sets.now a.needs.now a.caps.now a.costs.now a.owners.now (sym e.fit.ensures ∙ e.if-not-fit.false) in (ok.owners_are, c.least-a.ensures.owners.long)
+    let ok = lengths_of a.sets.now a.needs.now a.caps.now a.costs.now a.owners.now (sym e.fit.ensures ∙ e.if-not-fit.false) in record { owners_len = ok.owners_are; from_len = c.least-a.ensures.owners.long }
 
 pub number-requires : goal.number-requires
 number-requires c = small (omega (arith, c.ranges.idle)) c.least-a.ensures

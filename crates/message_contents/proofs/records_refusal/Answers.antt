@@ -32,7 +32,7 @@ returns-then-not-row10 c = let s = c in
     let table = c.masks_of-masks in
     let ten = c.row10 in
     records_10 a.form a.settings.now a.node.0 a.view.0 a.members a.body.now a.len list.result list.ensures c.if-structure-ne0.false
-    (masks_by a.settings.now a.members a.body.now table.result ten.result s.requires.0 table.ensures ten.ensures
+    (masks_by a.settings.now a.members a.body.now table.result ten.result s.requires.settings table.ensures ten.ensures
     ∙ c.if-not-row10.true)
 
 pub returns-then-positions-len : goal.returns-then-positions-len
@@ -42,7 +42,7 @@ returns-then-positions-len c = let s = c in
     let table = c.masks_of-masks in
     let ten = c.row10 in
     records_11 a.form a.settings.now a.node.0 a.view.0 a.members a.body.now a.len list.result list.ensures c.if-structure-ne0.false
-    (masks_by a.settings.now a.members a.body.now table.result ten.result s.requires.0 table.ensures ten.ensures
+    (masks_by a.settings.now a.members a.body.now table.result ten.result s.requires.settings table.ensures ten.ensures
     ∙ c.if-not-row10.false)
     (bad_fails a.len (row11_at a.form a.view.0 a.members a.body.now) c.positions.result c.positions.ensures c.if-positions-len.true)
 
@@ -53,6 +53,6 @@ returns c = let s = c in
     let table = c.masks_of-masks in
     let ten = c.row10 in
     records_pass a.form a.settings.now a.node.0 a.view.0 a.members a.body.now a.len list.result list.ensures c.if-structure-ne0.false
-    (masks_by a.settings.now a.members a.body.now table.result ten.result s.requires.0 table.ensures ten.ensures
+    (masks_by a.settings.now a.members a.body.now table.result ten.result s.requires.settings table.ensures ten.ensures
     ∙ c.if-not-row10.false)
     (bad-holds a.len (row11_at a.form a.view.0 a.members a.body.now) c.positions.result c.positions.ensures c.if-positions-len.false)

@@ -20,7 +20,7 @@ returns-then-next-eq0 c =
     walk_end _ _ _ c.requires l.invariant e c.if-next-eq0.true
 
 pub told_at-requires : goal.told_at-requires
-told_at-requires c = (omega arith, walk_few _ _ _ c.requires c.loop-at.invariant refl)
+told_at-requires c = record { row_bound = omega arith; i_bound = walk_few _ _ _ c.requires c.loop-at.invariant refl }
 
 pub returns-then-next-at : goal.returns-then-next-at
 returns-then-next-at c =
@@ -29,7 +29,7 @@ returns-then-next-at c =
     ∙ walk_broken _ _ _ c.requires l.invariant e c.if-next-eq0.false (inl c.if-next-at.true)
 
 pub told_at-requires-then-words-next : goal.told_at-requires-then-words-next
-told_at-requires-then-words-next c = (omega arith, walk_few _ _ _ c.requires c.loop-at.invariant refl)
+told_at-requires-then-words-next c = record { row_bound = omega arith; i_bound = walk_few _ _ _ c.requires c.loop-at.invariant refl }
 
 pub returns-then-words-next : goal.returns-then-words-next
 returns-then-words-next c =

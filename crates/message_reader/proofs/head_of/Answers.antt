@@ -9,4 +9,4 @@ pub returns : goal.returns
 returns c =
     c.head_refusal.ensures
     ∙ ap (λ (h : Record). head_refusal c.args.form c.args.settings.now h.word0 h.word1 h.word2)
-    (head_words c.args.words.now _ c.requires.1 c.step_from-first.ensures)
+    (head_words c.args.words.now _ c.requires.sized_message c.step_from-first.ensures)

@@ -26,7 +26,7 @@ pub slide-window-requires : goal.slide-window-requires
 slide-window-requires c =
     let s = c in
     let moves = s.args.moves.now in
-    (simp (length-take, length-drop) (omega arith), s.loop-i.invariant.1 ∙ ap window_of (sym (part_before moves s.loop-i.i)))
+    record { moves_len = simp (length-take, length-drop) (omega arith); window_value = s.loop-i.invariant.1 ∙ ap window_of (sym (part_before moves s.loop-i.i)) }
 
 pub loop-i-preserved : goal.loop-i-preserved
 loop-i-preserved c =

@@ -12,7 +12,7 @@ use Rattle.place_rounds.specs.Turns.{turns_start, turns_none, moved_fits, turns_
 use Rattle.place_rounds.proofs.improve.Goals as goal
 
 pub finish-requires : goal.finish-requires
-finish-requires c = let p = c.requires in (p.0, (p.1, c.sheet-sheet.ensures))
+finish-requires c = let p = c.requires in record { settings = p.0; held_bound = p.1; sheet_value = c.sheet-sheet.ensures }
 
 pub returns-then-rounds-ge128 : goal.returns-then-rounds-ge128
 returns-then-rounds-ge128 c =
@@ -30,7 +30,7 @@ loop-g-init c =
     )
 
 pub reach-one-requires : goal.reach-one-requires
-reach-one-requires c = let p = c.requires in (p.0, (p.1, c.sheet-sheet.ensures))
+reach-one-requires c = let p = c.requires in record { settings = p.0; held_bound = p.1; sheet_value = c.sheet-sheet.ensures }
 
 pub returns-then-not-one : goal.returns-then-not-one
 returns-then-not-one c =

@@ -17,10 +17,7 @@ pub better-requires : goal.better-requires
 better-requires c =
     let m = c in
     let a = m.args in
-    let e = c.repriced_table-counted.ensures in (
-      subst (λ (t : List ℕ). Low (case_of a.sets.now a.needs.now a.caps.now t 0) a.floor) (sym e) m.requires.0,
-      subst (λ (t : List ℕ). Weighed (case_of a.sets.now a.needs.now a.caps.now t 0) a.first) (sym e) m.requires.1,
-    )
+    let e = c.repriced_table-counted.ensures in record { low = subst (λ (t : List ℕ). Low (case_of a.sets.now a.needs.now a.caps.now t 0) a.floor) (sym e) m.requires.0; weighed = subst (λ (t : List ℕ). Weighed (case_of a.sets.now a.needs.now a.caps.now t 0) a.first) (sym e) m.requires.1 }
 
 pub returns : goal.returns
 returns c =

@@ -14,7 +14,7 @@ pub cap-requires : goal.cap-requires
 cap-requires c =
     let a = c.args in
     let i = c.in_group in
-    (c.requires.sizes, group_shard a.settings.now a.g a.s (sym i.ensures ∙ c.if-not-in_group.false))
+    record { sizes = c.requires.sizes; shard_bound = group_shard a.settings.now a.g a.s (sym i.ensures ∙ c.if-not-in_group.false) }
 
 pub overflow_cast-result : goal.overflow_cast-result
 overflow_cast-result c =

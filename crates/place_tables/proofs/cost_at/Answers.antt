@@ -20,7 +20,7 @@ pub entry-least-requires : goal.entry-least-requires
 entry-least-requires c =
     let a = c.args in
     let p = c.requires in
-    (p.0, (p.1.1.0, (shard_below a.settings.now a.g p.0 a.s p.1.1.1.1, omega (arith, c.nodes.ensures))))
+    record { settings = p.0; sheet_value = p.1.1.0; s_bound = shard_below a.settings.now a.g p.0 a.s p.1.1.1.1; n_bound = omega (arith, c.nodes.ensures) }
 
 pub returns-then-least-eq2 : goal.returns-then-least-eq2
 returns-then-least-eq2 c =

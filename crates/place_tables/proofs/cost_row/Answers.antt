@@ -17,7 +17,7 @@ loop-n-init c =
     )
 
 pub cost_at-requires : goal.cost_at-requires
-cost_at-requires c = let p = c.requires in (p.0, (p.1.0, (p.1.1.0, (p.1.1.1.0, p.1.1.1.1.0))))
+cost_at-requires c = let p = c.requires in record { settings = p.0; held_bound = p.1.0; sheet_value = p.1.1.0; w_value = p.1.1.1.0; s_value = p.1.1.1.1.0 }
 
 pub loop-n-preserved : goal.loop-n-preserved
 loop-n-preserved c =

@@ -16,7 +16,7 @@ loop-s-init c = let a = c.args in (omega arith, fill_start 512 255 (λ k. cost_i
 pub cost_row-requires : goal.cost_row-requires
 cost_row-requires c =
     let p = c.requires in
-    (p.0, (p.1.0, (p.1.1, (c.move_cost-w.ensures, (sym c.in_group.ensures ∙ c.if-in_group.true, c.loop-s.invariant.1)))))
+    record { settings = p.0; held_bound = p.1.0; sheet_value = p.1.1; w_value = c.move_cost-w.ensures; s_value = sym c.in_group.ensures ∙ c.if-in_group.true; table_value = c.loop-s.invariant.1 }
 
 pub loop-s-preserved : goal.loop-s-preserved
 loop-s-preserved c =

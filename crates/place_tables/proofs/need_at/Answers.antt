@@ -13,7 +13,7 @@ pub need-requires : goal.need-requires
 need-requires c =
     let a = c.args in
     let i = c.in_group in
-    (c.requires, group_shard a.settings.now a.g a.s (sym i.ensures ∙ c.if-not-in_group.false))
+    record { settings = c.requires; shard_bound = group_shard a.settings.now a.g a.s (sym i.ensures ∙ c.if-not-in_group.false) }
 
 pub returns : goal.returns
 returns c =

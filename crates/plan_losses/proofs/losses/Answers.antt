@@ -12,7 +12,7 @@ loop-n-init c = let a = c.args in (search rules, lost_none a.settings.now a.held
 
 pub lost_with-lost-requires : goal.lost_with-lost-requires
 lost_with-lost-requires c = let s = c in
-    (s.requires.0, ((s.requires.1, c.loop-n-test.true), (c.tight_sets-tight.ensures, c.loop-n.invariant.1)))
+    record { settings = s.requires.0; held_bound = (s.requires.1, c.loop-n-test.true); tight = c.tight_sets-tight.ensures; lost_below = c.loop-n.invariant.1 }
 
 pub loop-n-preserved : goal.loop-n-preserved
 loop-n-preserved c = (omega (arith, c.loop-n-test.true), c.lost_with-lost.ensures)

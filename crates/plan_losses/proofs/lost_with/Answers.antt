@@ -21,7 +21,7 @@ returns-then-not-has c = let s = c in
 pub set_of-requires : goal.set_of-requires
 set_of-requires c = let s = c in
     let h = c.has in
-    (s.requires.0, has_below s.args.held (nodes s.args.settings.now) s.args.n s.requires.1.0.0 (sym h.ensures ∙ c.if-not-has.false))
+    record { settings = s.requires.0; node_bound = has_below s.args.held (nodes s.args.settings.now) s.args.n s.requires.1.0.0 (sym h.ensures ∙ c.if-not-has.false) }
 
 pub returns-then-has : goal.returns-then-has
 returns-then-has c = let s = c in
@@ -37,7 +37,7 @@ returns-then-has c = let s = c in
 
 pub waits-requires : goal.waits-requires
 waits-requires c = let s = c in
-    (s.requires.0, subst (λ (x : ℕ). x < 2 ^ nodes s.args.settings.now) (sym c.without.ensures) (without_lt (nodes s.args.settings.now) s.args.held s.args.n s.requires.1.0.0))
+    record { settings = s.requires.0; held_bound = subst (λ (x : ℕ). x < 2 ^ nodes s.args.settings.now) (sym c.without.ensures) (without_lt (nodes s.args.settings.now) s.args.held s.args.n s.requires.1.0.0) }
 
 pub returns-then-not-waits : goal.returns-then-not-waits
 returns-then-not-waits c = let s = c in

@@ -9,7 +9,7 @@ pub loop-f-init : goal.loop-f-init
 loop-f-init c = (omega arith, low_none c.args.counts.now c.args.j)
 
 pub low_with-sets-requires : goal.low_with-sets-requires
-low_with-sets-requires c = (c.loop-f-test.true, c.loop-f.invariant.1)
+low_with-sets-requires c = record { f_bound = c.loop-f-test.true; low_below = c.loop-f.invariant.1 }
 
 pub loop-f-preserved : goal.loop-f-preserved
 loop-f-preserved c = (omega (arith, c.loop-f-test.true), c.low_with-sets.ensures)

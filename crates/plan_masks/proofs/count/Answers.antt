@@ -21,7 +21,7 @@ loop-n-init c = let s = c in
     counted_none s.args.settings.now s.args.v s.args.t s.args.all (words_in s.args.desk.now) s.requires.0
 
 pub see-seen-requires : goal.see-seen-requires
-see-seen-requires c = let s = c in (s.requires.0, (c.tables_of-tables.ensures, s.requires.1))
+see-seen-requires c = let s = c in record { settings = s.requires.0; tables_of = c.tables_of-tables.ensures; desk_len = s.requires.1 }
 
 pub returns-then-not-seen : goal.returns-then-not-seen
 unfolding slots_ok
@@ -41,7 +41,7 @@ returns-then-not-seen c = let s = c in
 
 pub count_node-requires : goal.count_node-requires
 count_node-requires c = let s = c in
-    ((c.loop-n.invariant.sized, c.loop-n-test.true), omega (arith, c.wide-shards.ensures, c.shards.ensures, s.requires.0.sizes.shards_to))
+    record { masks_len = (c.loop-n.invariant.sized, c.loop-n-test.true); count_bound = omega (arith, c.wide-shards.ensures, c.shards.ensures, s.requires.0.sizes.shards_to) }
 
 pub loop-n-preserved : goal.loop-n-preserved
 loop-n-preserved c = let s = c in

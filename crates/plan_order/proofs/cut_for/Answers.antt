@@ -14,7 +14,7 @@ pub report_at-report-requires : goal.report_at-report-requires
 report_at-report-requires c =
     let s = c in
     let r = s.requires.1 in
-    ((desk_bytes s.args.desk.now r.words, r.below), r.chained)
+    record { desk_len = (desk_bytes s.args.desk.now r.words, r.below); node_value = r.chained }
 
 pub cut-requires : goal.cut-requires
 cut-requires c =

@@ -13,13 +13,13 @@ pub report_at-report-requires : goal.report_at-report-requires
 report_at-report-requires c =
     let s = c in
     let r = s.requires.1.0 in
-    ((desk_bytes s.args.desk.now r.words, r.below), r.chained)
+    record { desk_len = (desk_bytes s.args.desk.now r.words, r.below); node_value = r.chained }
 
 pub loop-s-init : goal.loop-s-init
 loop-s-init c =
     let a = c.args in
     let e = c.wide-count.ensures in
-    (e, omega (arith, e, c.requires.0.shards_to), omega arith, cuts_none a.t2 (words_in a.desk.now) a.node.0)
+    (e, omega (arith, e, c.requires.0.shards_to), omega arith, cuts_none a.plan (words_in a.desk.now) a.node.0)
 
 pub cut_for-t-requires : goal.cut_for-t-requires
 cut_for-t-requires c =
@@ -28,7 +28,7 @@ cut_for-t-requires c =
     let r = c.report_at-report in
     let l = c.loop-s-test.true in
     let below : i.s < shards start.args.settings.now = omega (arith, i.invariant.0) in
-    (read_few _ _ r.result r.ensures, start.requires.1.1.holder i.s below)
+    record { len_bound = read_few _ _ r.result r.ensures; readable_slot = start.requires.1.1.holder i.s below }
 
 pub loop-s-preserved : goal.loop-s-preserved
 loop-s-preserved c =
@@ -41,8 +41,8 @@ loop-s-preserved c =
       i.invariant.0,
       i.invariant.1,
       omega arith,
-      cuts_turn a.t2 (words_in a.desk.now) a.node.0 i.s i.cuts t.result (omega (arith, i.invariant.1)) i.invariant.3
-          (cut-carried a.t2 (words_in a.desk.now) a.node.0 i.s r.result t.result r.ensures t.ensures),
+      cuts_turn a.plan (words_in a.desk.now) a.node.0 i.s i.cuts t.result (omega (arith, i.invariant.1)) i.invariant.3
+          (cut-carried a.plan (words_in a.desk.now) a.node.0 i.s r.result t.result r.ensures t.ensures),
     )
 
 pub returns : goal.returns
@@ -51,4 +51,4 @@ returns c =
     let a = start.args in
     let i = c.loop-s in
     let e : i.s ≡ shards a.settings.now = omega (arith, i.invariant.0, i.invariant.2, c.loop-s-test.false) in
-    cuts_all a.t2 (words_in a.desk.now) a.node.0 a.settings.now i.s i.cuts start.requires.0.shards_to e i.invariant.3
+    cuts_all a.plan (words_in a.desk.now) a.node.0 a.settings.now i.s i.cuts start.requires.0.shards_to e i.invariant.3

@@ -30,7 +30,7 @@ loop-s-preserved c =
     let i = c.loop-s in
     let a = c.args in
     let l = c.loop-s-test.true in
-    let f = is_member a.t3 a.node.0 in
+    let f = is_member a.layout a.node.0 in
     ⊎_elim
     (λ w.
     let carried = sym c.has.ensures ∙ w.0.taken in

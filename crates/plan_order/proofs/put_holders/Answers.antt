@@ -28,7 +28,7 @@ loop-s-preserved c =
     let i = c.loop-s in
     let a = c.args in
     let l = c.loop-s-test.true in
-    let f = carries a.t2 a.node.0 in
+    let f = carries a.plan a.node.0 in
     ⊎_elim
     (λ w.
     let carried = sym c.has.ensures ∙ w.0.taken in
@@ -38,7 +38,7 @@ loop-s-preserved c =
     (λ w.
     let skipped = sym c.has.ensures ∙ w.0.left in
     storing_miss i.invariant c.if-has.body c.if-has.j l skipped
-    (record_miss a.from f i.s (1024 + i.s) (holder_at a.t2 i.s) 0 i.body c.if-has.body skipped w.1)
+    (record_miss a.from f i.s (1024 + i.s) (holder_at a.plan i.s) 0 i.body c.if-has.body skipped w.1)
     w.2)
     c.if-has.branch
 

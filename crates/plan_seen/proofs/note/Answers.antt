@@ -13,7 +13,7 @@ loop-s-init c = (search rules, c.requires.0.0, c.requires.0.1, λ σ v t d told 
 pub note_shard-requires : goal.note_shard-requires
 note_shard-requires c = let s = c in
     let l = c.loop-s in
-    ((l.invariant.1, l.invariant.2), (s.requires.1.0, omega (arith, s.requires.1.1, c.loop-s-test.true)))
+    record { holders_len = (l.invariant.1, l.invariant.2); last_bound = (s.requires.1.0, omega (arith, s.requires.1.1, c.loop-s-test.true)) }
 
 pub loop-s-preserved : goal.loop-s-preserved
 loop-s-preserved c = let s = c in

@@ -12,7 +12,7 @@ returns-then-view-number c = let s = c in
     let a = s.args in (
       s.requires.1.0,
       λ d b is below ok e.
-          renewed_other a.t2 a.t d a.node.0 (λ q. c.if-view-number.true (ap (λ (x : Contents). x.view.0) e ∙ q)) (shards a.settings.now) a.holders.now a.tops.now,
+          renewed_other a.v a.t d a.node.0 (λ q. c.if-view-number.true (ap (λ (x : Contents). x.view.0) e ∙ q)) (shards a.settings.now) a.holders.now a.tops.now,
     )
 
 pub ends_of-ends-requires : goal.ends_of-ends-requires
@@ -23,7 +23,7 @@ record_pairs-b-requires c = c.requires.1.1.1
 
 pub note-requires : goal.note-requires
 note-requires c = let s = c in
-    (s.requires.1.0, (s.requires.1.1.1, omega (arith, c.wide-count.ensures, c.shards.ensures, s.requires.0.sizes.shards_to)))
+    record { holders_len = s.requires.1.0; last_bound = (s.requires.1.1.1, omega (arith, c.wide-count.ensures, c.shards.ensures, s.requires.0.sizes.shards_to)) }
 
 pub returns : goal.returns
 returns c = let s = c in
@@ -32,7 +32,7 @@ returns c = let s = c in
     let p = c.record_pairs-b in (
       c.note.ensures.0,
       λ d b is below ok e.
-          c.note.ensures.1 a.settings.now a.t2 a.t d
-          (ends_told a.settings.now a.t2 a.t d a.node.0 b a.t5 p.result k.result s.requires.0 is below ok e c.if-view-number.false p.ensures k.ensures)
+          c.note.ensures.1 a.settings.now a.v a.t d
+          (ends_told a.settings.now a.v a.t d a.node.0 b a.c p.result k.result s.requires.0 is below ok e c.if-view-number.false p.ensures k.ensures)
           refl refl s.requires.1.1.0 (c.wide-count.ensures ∙ c.shards.ensures),
     )

@@ -40,7 +40,7 @@ returns-then-not-reached c = let s = c in
 
 pub note_best-requires : goal.note_best-requires
 note_best-requires c = let s = c in
-    (s.requires.0, s.requires.1.1)
+    record { holders_len = s.requires.0; s_bound = s.requires.1.1 }
 
 pub returns : goal.returns
 returns c = let s = c in

@@ -11,7 +11,7 @@ returns-then-last-gt127 c = let s = c in
 
 pub note-requires : goal.note-requires
 note-requires c = let s = c in
-    (s.requires.0, (omega (arith, c.if-last-gt127.false), s.requires.1.1))
+    record { holders_len = s.requires.0; last_bound = (omega (arith, c.if-last-gt127.false), s.requires.1.1) }
 
 pub returns : goal.returns
 returns c = let s = c in

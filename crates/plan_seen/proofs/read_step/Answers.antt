@@ -12,7 +12,7 @@ returns-then-slot c = let s = c in
 
 pub words_fit-requires : goal.words_fit-requires
 words_fit-requires c = let s = c in
-    (s.requires.0, words_long s.args.b.now c.words_of-w.result c.words_of-w.ensures)
+    record { settings = s.requires.0; w_len = words_long s.args.b.now c.words_of-w.result c.words_of-w.ensures }
 
 pub returns-then-words_fit : goal.returns-then-words_fit
 returns-then-words_fit c = let s = c in
@@ -45,7 +45,7 @@ pub note_report-requires : goal.note_report-requires
 note_report-requires c = let s = c in
     let w = c.words_of-w in
     let r = c.read_under-r in
-    (s.requires.0, (s.requires.1.0, (s.requires.1.1.1, read_few s.args.settings.now w.result r.result r.ensures c.if-refusal-ne0.false)))
+    record { settings = s.requires.0; holders_len = s.requires.1.0; position_records = s.requires.1.1.1; len_bound = read_few s.args.settings.now w.result r.result r.ensures c.if-refusal-ne0.false }
 
 pub returns : goal.returns
 returns c = let s = c in

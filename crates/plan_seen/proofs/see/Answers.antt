@@ -12,7 +12,7 @@ use Rattle.plan_seen.proofs.see.Goals as goal
 
 pub walk_nodes-requires : goal.walk_nodes-requires
 walk_nodes-requires c = let s = c in
-    (s.requires.0, (s.requires.1.0, (s.requires.1.1, (refl, refl))))
+    record { settings = s.requires.0; tables_of = s.requires.1.0; desk_len = s.requires.1.1; holders_value = (refl, refl) }
 
 pub returns-then-not-walk_nodes : goal.returns-then-not-walk_nodes
 returns-then-not-walk_nodes c = let a = c.args in

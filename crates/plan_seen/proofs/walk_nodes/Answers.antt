@@ -45,7 +45,7 @@ loop-n-init c = let s = c in
 pub pairs-requires : goal.pairs-requires
 pairs-requires c = let s = c in
     let l = c.loop-n in
-    (length_part (2048 * l.n) (2048 * l.n + 2048) s.args.desk.now (omega (arith, s.requires.1.1.0, c.loop-n-test.true)) ∙ omega arith, l.invariant.pairs)
+    record { bytes_len = length_part (2048 * l.n) (2048 * l.n + 2048) s.args.desk.now (omega (arith, s.requires.1.1.0, c.loop-n-test.true)) ∙ omega arith; out_len = l.invariant.pairs }
 
 pub overflow_cast-node : goal.overflow_cast-node
 overflow_cast-node c = omega (arith, c.loop-n-test.true)
@@ -53,11 +53,11 @@ overflow_cast-node c = omega (arith, c.loop-n-test.true)
 pub quick_step-told-requires : goal.quick_step-told-requires
 quick_step-told-requires c = let s = c in
     let count = s.requires.1.0.count in
-    (c.loop-n.invariant.lists, (omega (arith, count, s.requires.0.sizes.shards_from), omega (arith, count, s.requires.0.sizes.shards_to)))
+    record { holders_len = c.loop-n.invariant.lists; le_count = (omega (arith, count, s.requires.0.sizes.shards_from), omega (arith, count, s.requires.0.sizes.shards_to)) }
 
 pub read_step-requires : goal.read_step-requires
 read_step-requires c = let s = c in
-    (s.requires.0, (c.quick_step-told.ensures.0, (c.loop-n-test.true, s.requires.1.0.positions)))
+    record { settings = s.requires.0; holders_len = c.quick_step-told.ensures.0; node_bound = c.loop-n-test.true; position_records = s.requires.1.0.positions }
 
 pub returns-then-not-read_step : goal.returns-then-not-read_step
 unfolding slots_ok

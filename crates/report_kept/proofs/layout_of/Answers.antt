@@ -9,5 +9,5 @@ pub returns : goal.returns
 returns c =
     let a = c.args in
     let n = c.shards-count in
-    ap (λ (l : List ℕ). record { number = a.t2.view; members = a.t2.members; masks = l }) c.masks_in.ensures
-    ∙ layout_by a.settings.now a.t2 n.result n.ensures
+    ap (λ (l : List ℕ). record { number = a.c.view; members = a.c.members; masks = l }) c.masks_in.ensures
+    ∙ layout_by a.settings.now a.c n.result n.ensures

@@ -12,7 +12,7 @@ pub kept_refusal-refusal-requires : goal.kept_refusal-refusal-requires
 kept_refusal-refusal-requires c =
     let b = c in
     let r = c.read_under-r in
-    (b.requires, read_node b.args.settings.now b.args.v b.args.t b.args.latest b.args.message.now r.result r.ensures b.requires c.if-refusal-ne0.false)
+    record { settings = b.requires; node_bound = read_node b.args.settings.now b.args.v b.args.t b.args.latest b.args.message.now r.result r.ensures b.requires c.if-refusal-ne0.false }
 
 pub returns : goal.returns
 returns c =

@@ -12,7 +12,7 @@ returns-then-not-terminated c =
     let a = c.args in
     let k = c.terminated in
     ap (λ (l : List Position). record { made = false; positions = l }) c.no_positions.ensures
-    ∙ termination_none a.settings.now a.t2 (sym k.ensures ∙ c.if-not-terminated.true)
+    ∙ termination_none a.settings.now a.c (sym k.ensures ∙ c.if-not-terminated.true)
 
 pub returns : goal.returns
 returns c =
@@ -20,5 +20,5 @@ returns c =
     let k = c.terminated in
     let n = c.shards-count in
     ap (λ (l : List Position). record { made = true; positions = l }) c.positions_in.ensures
-    ∙ termination_by a.settings.now a.t2 n.result n.ensures
+    ∙ termination_by a.settings.now a.c n.result n.ensures
     (sym k.ensures ∙ c.if-not-terminated.false)

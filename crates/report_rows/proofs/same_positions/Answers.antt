@@ -18,20 +18,20 @@ same positions b count s = record_same (get_or positions s start) b (count + s)
 
 pub loop-s-init : goal.loop-s-init
 loop-s-init c = let a = c.args in
-    (search rules, all_none (same a.t1 a.body.now a.count))
+    (search rules, all_none (same a.positions a.body.now a.count))
 
 pub returns-then-not-same_position : goal.returns-then-not-same_position
 unfolding positions_same
 returns-then-not-same_position c = let a = c.args in
     let p = c.same_position in
-    sym (all_fails a.count (same a.t1 a.body.now a.count) c.loop-s.s (omega arith)
+    sym (all_fails a.count (same a.positions a.body.now a.count) c.loop-s.s (omega arith)
     (sym p.ensures ∙ c.if-not-same_position.true))
 
 pub loop-s-preserved : goal.loop-s-preserved
 loop-s-preserved c = let a = c.args in
     let p = c.same_position in
     let l = c.loop-s in
-    (omega arith, all_more l.s (same a.t1 a.body.now a.count) l.invariant.1 (sym p.ensures ∙ c.if-not-same_position.false))
+    (omega arith, all_more l.s (same a.positions a.body.now a.count) l.invariant.1 (sym p.ensures ∙ c.if-not-same_position.false))
 
 pub returns : goal.returns
 unfolding positions_same

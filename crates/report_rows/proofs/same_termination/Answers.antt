@@ -6,4 +6,4 @@ use Rattle.report_rows.proofs.same_termination.Goals as goal
 pub returns : goal.returns
 returns c = let a = c.args in
     let n = c.shards-count in
-    c.same_positions.ensures ∙ term_positions a.settings.now a.t a.t3 n.result n.ensures
+    c.same_positions.ensures ∙ term_positions a.settings.now a.t a.c n.result n.ensures

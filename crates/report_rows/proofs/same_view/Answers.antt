@@ -5,9 +5,9 @@ use Rattle.report_rows.proofs.same_view.Goals as goal
 
 pub returns-then-c-v : goal.returns-then-c-v
 returns-then-c-v c = let a = c.args in
-    view_differs a.settings.now a.t2 a.t3 c.if-c-v.true
+    view_differs a.settings.now a.v a.c c.if-c-v.true
 
 pub returns : goal.returns
 returns c = let a = c.args in
     let n = c.shards-count in
-    c.same_masks.ensures ∙ view_masks a.settings.now a.t2 a.t3 n.result n.ensures c.if-c-v.false
+    c.same_masks.ensures ∙ view_masks a.settings.now a.v a.c n.result n.ensures c.if-c-v.false

@@ -5,9 +5,9 @@ use Rattle.report_rows.proofs.terminated.Goals as goal
 pub returns-then-len-count : goal.returns-then-len-count
 returns-then-len-count c = let a = c.args in
     let n = c.shards-count in
-    term_short a.settings.now a.t2 n.result n.ensures c.if-len-count.true
+    term_short a.settings.now a.c n.result n.ensures c.if-len-count.true
 
 pub returns : goal.returns
 returns c = let a = c.args in
     let n = c.shards-count in
-    term_kind a.settings.now a.t2 n.result n.ensures c.if-len-count.false c.kind.result c.kind.ensures
+    term_kind a.settings.now a.c n.result n.ensures c.if-len-count.false c.kind.result c.kind.ensures

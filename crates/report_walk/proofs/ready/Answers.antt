@@ -27,7 +27,7 @@ returns c = let a = c.args in
     let n = c.nodes in
     let inside = c.within in
     let masks = c.row10 in
-    ready_by a.settings.now a.t2 a.t (sym view.ensures ∙ c.if-not-view_ok.false)
-    (subst (λ (x : ℕ). within x a.t2.members ≡ true) n.ensures (sym inside.ensures ∙ c.if-not-within.false))
+    ready_by a.settings.now a.v a.t (sym view.ensures ∙ c.if-not-view_ok.false)
+    (subst (λ (x : ℕ). within x a.v.members ≡ true) n.ensures (sym inside.ensures ∙ c.if-not-within.false))
     (sym masks.ensures ∙ c.if-not-row10.false) (c.if-not-t.false)
     c.shards.result c.shards.ensures c.positions_legal.result c.positions_legal.ensures

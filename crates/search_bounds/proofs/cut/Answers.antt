@@ -23,7 +23,7 @@ loop-i-init c = let s = c in (omega arith, omega (arith, s.requires.0.0), rows_n
 pub cut_row-requires : goal.cut_row-requires
 cut_row-requires c = let s = c in
     let l = c.loop-i in
-    ((l.invariant.0, c.loop-i-test.true), ((omega (arith, c.takes.ensures.1, s.requires.0.1), omega (arith, c.grants-high.ensures.1)), s.requires.1.0))
+    record { t_bound = (l.invariant.0, c.loop-i-test.true); low_bound = (omega (arith, c.takes.ensures.1, s.requires.0.1), omega (arith, c.grants-high.ensures.1)); small = s.requires.1.0 }
 
 pub returns-then-not-cut_row : goal.returns-then-not-cut_row
 returns-then-not-cut_row c = λ e. clash e c.bad-then-not-cut_row.ensures

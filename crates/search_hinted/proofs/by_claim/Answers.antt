@@ -11,7 +11,7 @@ use Rattle.search_hinted.specs.Post.{stage_start, at_least}
 use Rattle.search_hinted.proofs.by_claim.Goals as goal
 
 pub prune-v-requires : goal.prune-v-requires
-prune-v-requires c = ((omega arith, omega (arith, c.capped-most.ensures)), (c.requires, (c.all_allowed-rows.ensures.long, ready_blank.begun)))
+prune-v-requires c = record { t_bound = (omega arith, omega (arith, c.capped-most.ensures)); small = c.requires; rows_len = c.all_allowed-rows.ensures.long; begun = ready_blank.begun }
 
 pub returns-then-not-v : goal.returns-then-not-v
 returns-then-not-v c = λ e. clash e c.unsure.ensures
@@ -29,10 +29,7 @@ returns-then-v-most c = λ e. clash e c.unsure-then-v-most.ensures
 
 pub follow-requires : goal.follow-requires
 follow-requires c = let p = c in
-    let s = c in (
-      omega (arith, c.capped-most.ensures),
-      (s.requires, stage_cut (stage_start s.args.sets.now s.args.needs.now s.args.caps.now s.args.prices.now s.args.idle c.capped-most.result c.all_allowed-rows.ensures) (p.prune-v.ensures (c.if-not-v.false))),
-    )
+    let s = c in record { k_bound = omega (arith, c.capped-most.ensures); small = s.requires; narrowed = stage_cut (stage_start s.args.sets.now s.args.needs.now s.args.caps.now s.args.prices.now s.args.idle c.capped-most.result c.all_allowed-rows.ensures) (p.prune-v.ensures (c.if-not-v.false)) }
 
 pub returns : goal.returns
 returns c = λ e.

@@ -40,7 +40,7 @@ returns-then-hint-eq0 c = λ l. absurd (omega arith)
 
 pub leaves-requires : goal.leaves-requires
 leaves-requires c = let s = c in
-    ((half s.requires.0.0, s.requires.0.1), (s.requires.1.1.0, s.requires.1.1.1.stage))
+    record { t_bound = (half s.requires.0.0, s.requires.0.1); small = s.requires.1.1.0; narrowed = s.requires.1.1.1.stage }
 
 pub returns-then-leaves : goal.returns-then-leaves
 returns-then-leaves c = λ l.

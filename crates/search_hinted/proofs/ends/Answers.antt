@@ -18,7 +18,7 @@ returns-then-stuck c = let s = c in (λ e. stage_only_here s.requires.1.1 s.requ
 
 pub exceeds-requires : goal.exceeds-requires
 exceeds-requires c = let s = c in
-    ((c.next.ensures.2, s.requires.0.1), (s.requires.1.0, (s.requires.1.1.long, begun_at s.args.t s.requires.0.0 s.requires.1.1.ready.begun c.next.ensures.0)))
+    record { t_bound = (c.next.ensures.2, s.requires.0.1); small = s.requires.1.0; rows_len = s.requires.1.1.long; begun = begun_at s.args.t s.requires.0.0 s.requires.1.1.ready.begun c.next.ensures.0 }
 
 pub returns-then-exceeds : goal.returns-then-exceeds
 returns-then-exceeds c = let s = c in (

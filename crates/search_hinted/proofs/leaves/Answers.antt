@@ -11,7 +11,7 @@ pub returns-then-hint-eq1 : goal.returns-then-hint-eq1
 returns-then-hint-eq1 c = λ e. advance_leave c.requires.1.1 c.requires.0.0 (λ y f d. barred_never _ _ _ c.barred.ensures e c.requires.0.0 c.requires.1.1.ready.begun y f.has.valid f.agree d)
 
 pub prune-v-requires : goal.prune-v-requires
-prune-v-requires c = let s = c in ((omega (arith, s.requires.0.0), s.requires.0.1), (s.requires.1.0, (s.requires.1.1.long, s.requires.1.1.ready.begun)))
+prune-v-requires c = let s = c in record { t_bound = (omega (arith, s.requires.0.0), s.requires.0.1); small = s.requires.1.0; rows_len = s.requires.1.1.long; begun = s.requires.1.1.ready.begun }
 
 pub returns-then-v : goal.returns-then-v
 returns-then-v c = λ e.

@@ -11,7 +11,7 @@ pub returns-then-not-fit : goal.returns-then-not-fit
 returns-then-not-fit c = λ e. clash e c.unsure.ensures
 
 pub prune-v-requires : goal.prune-v-requires
-prune-v-requires c = ((omega arith, omega (arith, c.capped-most.ensures)), (c.fit.ensures (c.if-not-fit.false), (c.all_allowed-rows.ensures.long, ready_blank.begun)))
+prune-v-requires c = record { t_bound = (omega arith, omega (arith, c.capped-most.ensures)); small = c.fit.ensures (c.if-not-fit.false); rows_len = c.all_allowed-rows.ensures.long; begun = ready_blank.begun }
 
 pub returns-then-not-v : goal.returns-then-not-v
 returns-then-not-v c = λ e. clash e c.unsure-then-not-v.ensures
@@ -28,13 +28,7 @@ returns-then-most-v c = λ e.
 
 pub follow-requires : goal.follow-requires
 follow-requires c = let p = c in
-    let s = c in (
-      omega (arith, c.capped-most.ensures),
-      (
-        c.fit.ensures (c.if-not-fit.false),
-        stage_cut (stage_start s.args.sets.now s.args.needs.now s.args.caps.now s.args.prices.now s.args.idle c.capped-most.result c.all_allowed-rows.ensures) (p.prune-v.ensures (c.if-not-v.false)),
-      ),
-    )
+    let s = c in record { k_bound = omega (arith, c.capped-most.ensures); small = c.fit.ensures (c.if-not-fit.false); narrowed = stage_cut (stage_start s.args.sets.now s.args.needs.now s.args.caps.now s.args.prices.now s.args.idle c.capped-most.result c.all_allowed-rows.ensures) (p.prune-v.ensures (c.if-not-v.false)) }
 
 pub returns : goal.returns
 returns c = λ e. within_capped (omega (arith, c.ranges.idle)) c.capped-most.ensures (c.follow.ensures e).within

@@ -8,7 +8,7 @@ odd : (p : ℕ) → (p % 2 ≡ 0 → ⊥) → p % 2 ≡ 1
 odd p e = omega arith
 
 pub ended-requires : goal.ended-requires
-ended-requires c = let s = c in (s.requires.0, (c.if-p-eq0.true, (s.requires.1.0, s.requires.1.1)))
+ended-requires c = let s = c in record { p_bound = s.requires.0; p_value = c.if-p-eq0.true; small = s.requires.1.0; «at» = s.requires.1.1 }
 
 pub decided-requires : goal.decided-requires
-decided-requires c = let s = c in (s.requires.0, (odd s.args.p c.if-p-eq0.false, (s.requires.1.0, s.requires.1.1)))
+decided-requires c = let s = c in record { p_bound = s.requires.0; p_value = odd s.args.p c.if-p-eq0.false; small = s.requires.1.0; «at» = s.requires.1.1 }

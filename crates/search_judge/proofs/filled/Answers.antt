@@ -12,7 +12,7 @@ pub loop-i-init : goal.loop-i-init
 loop-i-init c = (omega arith, c.owners-used.ensures, all_none _)
 
 pub filled_at-requires : goal.filled_at-requires
-filled_at-requires c = (c.loop-i-test.true, c.loop-i.invariant.1)
+filled_at-requires c = record { i_bound = c.loop-i-test.true; owners_held = c.loop-i.invariant.1 }
 
 pub returns-then-not-filled_at : goal.returns-then-not-filled_at
 returns-then-not-filled_at c =

@@ -7,7 +7,7 @@ use Rattle.search_total.specs.Answers.{ready_blank, within_found, within_none}
 use Rattle.search_total.proofs.plain_within.Goals as goal
 
 pub seek-requires : goal.seek-requires
-seek-requires c = (omega arith, (ready_blank, λ e. absurd (false≢true e)))
+seek-requires c = record { t_bound = omega arith; ready_from = ready_blank; has_none = λ e. absurd (false≢true e) }
 
 pub returns-then-seek : goal.returns-then-seek
 unfolding weight

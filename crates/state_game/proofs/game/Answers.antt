@@ -22,7 +22,7 @@ returns-then-not-check c =
 pub game_under-requires : goal.game_under-requires
 game_under-requires c =
     let k = c.check in
-    (settings_give _ (sym k.ensures ∙ c.if-not-check.false), c.if-desk-ne65536.false)
+    record { settings = settings_give _ (sym k.ensures ∙ c.if-not-check.false); desk_len = c.if-desk-ne65536.false }
 
 pub returns : goal.returns
 returns c = c.game_under.ensures

@@ -25,7 +25,7 @@ winner-requires c =
     let few = game_few a.settings.now a.x d a.held a.rounds l.result l.ensures k.result k.ensures h in
     let within = game_held a.settings.now a.x d a.held a.rounds l.result l.ensures k.result k.ensures h in
     let short = game_rounds a.settings.now a.x d a.held a.rounds l.result l.ensures k.result k.ensures h in
-    ((subst⁻¹ (λ (m : ℕ). m ≤ 10) n few, subst⁻¹ (λ (m : ℕ). a.held < 2 ^ m) n within), short)
+    record { nodes_bound = (subst⁻¹ (λ (m : ℕ). m ≤ 10) n few, subst⁻¹ (λ (m : ℕ). a.held < 2 ^ m) n within); rounds_bound = short }
 
 pub returns : goal.returns
 returns c =

@@ -14,10 +14,7 @@ returns-then-refusal-ne0 c =
 pub order_under-requires : goal.order_under-requires
 order_under-requires c =
     let a = c.args in
-    let r = c.call_refusal-refusal in (
-      called_right _ _ _ r.result r.ensures c.if-refusal-ne0.false,
-      (desk_bytes a.desk.now (called_words _ _ _ r.result r.ensures c.if-refusal-ne0.false), called_buffer _ _ _ r.result r.ensures c.if-refusal-ne0.false),
-    )
+    let r = c.call_refusal-refusal in record { settings = called_right _ _ _ r.result r.ensures c.if-refusal-ne0.false; desk_len = desk_bytes a.desk.now (called_words _ _ _ r.result r.ensures c.if-refusal-ne0.false); buffer_len = called_buffer _ _ _ r.result r.ensures c.if-refusal-ne0.false }
 
 pub returns : goal.returns
 returns c = c.order_under.ensures

@@ -20,7 +20,7 @@ order_contents-c-requires c =
     let d = words_in a.desk.now in
     let e = found_refusal a.settings.now a.x d a.node.0 a.buffer.now (eq-eqb _ _ s.requires.1.1) _ _ c.is_ordered-in_phase.ensures c.has-known.ensures _ c.event_refusal-refusal.ensures in
     let h = not_refused _ _ _ _ _ _ e c.if-refusal-ne0.false in
-    (s.requires.0.sizes, (taken_node _ _ _ _ _ h, taken_holders _ _ _ _ _ h))
+    record { sizes = s.requires.0.sizes; readable_slot = taken_node _ _ _ _ _ h; holders = taken_holders _ _ _ _ _ h }
 
 pub fill-length-requires : goal.fill-length-requires
 fill-length-requires c =

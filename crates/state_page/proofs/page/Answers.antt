@@ -16,10 +16,7 @@ pub page_under-requires : goal.page_under-requires
 page_under-requires c =
     let a = c.args in
     let k = c.call_refusal-refusal in
-    let d = words_in a.desk.now in (
-      passed_settings a.settings.now d a.role a.g k.result k.ensures c.if-refusal-ne0.false,
-      desk_bytes a.desk.now (passed_desk a.settings.now d a.role a.g k.result k.ensures c.if-refusal-ne0.false),
-    )
+    let d = words_in a.desk.now in record { settings = passed_settings a.settings.now d a.role a.g k.result k.ensures c.if-refusal-ne0.false; desk_len = desk_bytes a.desk.now (passed_desk a.settings.now d a.role a.g k.result k.ensures c.if-refusal-ne0.false) }
 
 pub returns : goal.returns
 returns c =

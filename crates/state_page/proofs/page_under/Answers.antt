@@ -24,7 +24,7 @@ page_seen-requires c =
     let d = words_in a.desk.now in
     let k = c.enter-entry in
     let e = k.ensures.0 ∙ sound_entry a.settings.now a.x d (desk_length a.desk.now s.requires.1) s.requires.0 in
-    (s.requires.0, held_below a.settings.now a.x.kept a.x.termination a.x.held (sound_passed a.settings.now a.x d (sym (ap accepted e) ∙ eq-eqb _ _ c.if-refusal-ne0.false)).kept-sound)
+    record { settings = s.requires.0; held_bound = held_below a.settings.now a.x.kept a.x.termination a.x.held (sound_passed a.settings.now a.x d (sym (ap accepted e) ∙ eq-eqb _ _ c.if-refusal-ne0.false)).kept-sound }
 
 pub returns : goal.returns
 returns c =

@@ -10,7 +10,7 @@ use Rattle.state_planner.proofs.enter.Goals as goal
 
 -- the tables say whether the kept view and its termination pass their rows
 pub is_sound-requires : goal.is_sound-requires
-is_sound-requires c = (c.requires.0, c.tables_of-tables.ensures.ready)
+is_sound-requires c = record { settings = c.requires.0; ready_value = c.tables_of-tables.ensures.ready }
 
 pub returns-then-not-is_sound : goal.returns-then-not-is_sound
 unfolding entry_refusal

@@ -48,7 +48,7 @@ plan_fits-requires c =
     let s = c in
     let a = s.args in
     let k = c.kept_sound in
-    (s.requires.0, held_below a.settings.now a.x.kept a.x.termination a.x.held (sym k.ensures ∙ c.if-not-kept_sound.false))
+    record { settings = s.requires.0; held_bound = held_below a.settings.now a.x.kept a.x.termination a.x.held (sym k.ensures ∙ c.if-not-kept_sound.false) }
 
 pub returns : goal.returns
 unfolding sound

@@ -18,10 +18,7 @@ returns-then-first-ne0 c =
 pub preview_all_under-requires : goal.preview_all_under-requires
 preview_all_under-requires c =
     let a = c.args in
-    let r = c.call_refusal-first in (
-      called_settings a.settings.now (words_in a.desk.now) r.result r.ensures c.if-first-ne0.false,
-      desk_bytes a.desk.now (called_desk a.settings.now (words_in a.desk.now) r.result r.ensures c.if-first-ne0.false),
-    )
+    let r = c.call_refusal-first in record { settings = called_settings a.settings.now (words_in a.desk.now) r.result r.ensures c.if-first-ne0.false; desk_len = desk_bytes a.desk.now (called_desk a.settings.now (words_in a.desk.now) r.result r.ensures c.if-first-ne0.false) }
 
 pub returns : goal.returns
 returns c = c.preview_all_under.ensures

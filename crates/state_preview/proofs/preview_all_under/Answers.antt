@@ -29,7 +29,7 @@ losses-requires c =
     let e : k.result.refusal ≡ decide_refusal a.settings.now a.x d =
     k.ensures.0 ∙ ap (λ (p : Bool). entry_refusal (desk_ok d) a.settings.now a.x d p) c.is_gathering-in_phase.ensures in
     let t : accepted (decide_refusal a.settings.now a.x d) ≡ true = sym (ap accepted e) ∙ eq-eqb _ _ c.if-refusal-ne0.false in
-    (s.requires.0, held_below a.settings.now a.x.kept a.x.termination a.x.held (decide_kept a.settings.now a.x d t))
+    record { settings = s.requires.0; held_bound = held_below a.settings.now a.x.kept a.x.termination a.x.held (decide_kept a.settings.now a.x d t) }
 
 pub returns : goal.returns
 unfolding decide_refusal

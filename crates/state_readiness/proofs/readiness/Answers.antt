@@ -30,4 +30,4 @@ returns-then-not-check c =
 pub readiness_under-requires : goal.readiness_under-requires
 readiness_under-requires c =
     let k = c.check in
-    (settings_give _ (sym k.ensures ∙ c.if-not-check.false), c.if-desk-ne65536.false)
+    record { settings = settings_give _ (sym k.ensures ∙ c.if-not-check.false); desk_len = c.if-desk-ne65536.false }

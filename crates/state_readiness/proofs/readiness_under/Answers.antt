@@ -35,7 +35,7 @@ rows_ready-requires c =
     let s = c in
     let m = c.is_small in
     let n = nodes s.args.settings.now in
-    ((s.requires.0, leb-true n 10 (and_left (leb n 10) s.args.in-limits (sym m.ensures ∙ c.if-not-is_small.false))), s.requires.1)
+    record { settings = (s.requires.0, leb-true n 10 (and_left (leb n 10) s.args.in-limits (sym m.ensures ∙ c.if-not-is_small.false))); desk_len = s.requires.1 }
 
 pub returns : goal.returns
 returns c =

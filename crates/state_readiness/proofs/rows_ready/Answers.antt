@@ -38,7 +38,7 @@ returns-then-not-counted c =
 pub rows_of-requires : goal.rows_of-requires
 rows_of-requires c =
     let p = c.requires in
-    (p.0.0, p.0.1)
+    record { settings = p.0.0; settings_bound = p.0.1 }
 
 pub returns : goal.returns
 returns c =

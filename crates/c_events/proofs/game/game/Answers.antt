@@ -27,10 +27,7 @@ game_under-played-requires c =
     let a = c.args in
     let e = c.enter_planner-entry.ensures in
     let h = c.if-refusal-ne0.false in
-    let p = desk_passes (by_planner a.role) a.settings.now a.state.now a.desk.now _ e h in (
-      subst Settings (sym (settings_front _ _ _ _ _ e p.settings-ok)) (settings_give _ p.settings-ok),
-      desk_long (by_planner a.role) a.settings.now a.state.now a.desk.now _ e h,
-    )
+    let p = desk_passes (by_planner a.role) a.settings.now a.state.now a.desk.now _ e h in record { settings = subst Settings (sym (settings_front _ _ _ _ _ e p.settings-ok)) (settings_give _ p.settings-ok); desk_len = desk_long (by_planner a.role) a.settings.now a.state.now a.desk.now _ e h }
 
 pub played_word-requires : goal.played_word-requires
 played_word-requires c =

@@ -29,7 +29,7 @@ order_under-written-requires c =
     let a = c.args in
     let p = buffer_passes (by_planner a.role) a.settings.now a.state.now a.desk.now a.buffer.now _ c.lengths_ok-lengths.ensures _ c.enter_planner-entry.ensures c.if-first-ne0.false in
     let front = settings_front _ _ _ _ _ c.enter_planner-entry.ensures p.settings-ok in
-    (subst Settings (sym front) (settings_give _ p.settings-ok), (buffer_desk (by_planner a.role) a.settings.now a.state.now a.desk.now a.buffer.now _ c.lengths_ok-lengths.ensures _ c.enter_planner-entry.ensures c.if-first-ne0.false, refl))
+    record { settings = subst Settings (sym front) (settings_give _ p.settings-ok); desk_len = buffer_desk (by_planner a.role) a.settings.now a.state.now a.desk.now a.buffer.now _ c.lengths_ok-lengths.ensures _ c.enter_planner-entry.ensures c.if-first-ne0.false; buffer_len = refl }
 
 pub returns-then-refusal-ne0 : goal.returns-then-refusal-ne0
 returns-then-refusal-ne0 c =

@@ -39,7 +39,7 @@ page_under-paged-requires c =
     let e = c.enter-entry.ensures in
     let h = c.if-first-ne0.false in
     let p = buffer_passes _ a.settings.now a.state.now a.desk.now a.buffer.now _ lengths _ e h in
-    (subst Settings (sym (settings_front _ _ _ _ _ e p.settings-ok)) (settings_give _ p.settings-ok), buffer_desk _ a.settings.now a.state.now a.desk.now a.buffer.now _ lengths _ e h)
+    record { settings = subst Settings (sym (settings_front _ _ _ _ _ e p.settings-ok)) (settings_give _ p.settings-ok); desk_len = buffer_desk _ a.settings.now a.state.now a.desk.now a.buffer.now _ lengths _ e h }
 
 pub returns-then-refusal-ne0 : goal.returns-then-refusal-ne0
 returns-then-refusal-ne0 c =

@@ -35,7 +35,7 @@ preview_under-o-requires c =
     let e = c.enter_planner-entry in
     let h = c.if-refusal-ne0.false in
     let p = buffer_passes _ a.settings.now a.state.now a.desk.now a.buffer.now _ ok _ e.ensures h in
-    (subst Settings (sym (settings_front _ _ _ _ _ e.ensures p.settings-ok)) (settings_give _ p.settings-ok), buffer_desk _ a.settings.now a.state.now a.desk.now a.buffer.now _ ok _ e.ensures h)
+    record { settings = subst Settings (sym (settings_front _ _ _ _ _ e.ensures p.settings-ok)) (settings_give _ p.settings-ok); desk_len = buffer_desk _ a.settings.now a.state.now a.desk.now a.buffer.now _ ok _ e.ensures h }
 
 pub keep-requires : goal.keep-requires
 keep-requires c =

@@ -29,7 +29,7 @@ report_under-o-requires c =
     let e = c.enter_planner-entry.ensures in
     let h = c.if-refusal-ne0.false in
     let p = desk_passes (by_planner a.role) a.settings.now a.state.now a.desk.now _ e h in
-    (subst Settings (sym (settings_front _ _ _ _ _ e p.settings-ok)) (settings_give _ p.settings-ok), desk_long (by_planner a.role) a.settings.now a.state.now a.desk.now _ e h)
+    record { settings = subst Settings (sym (settings_front _ _ _ _ _ e p.settings-ok)) (settings_give _ p.settings-ok); desk_len = desk_long (by_planner a.role) a.settings.now a.state.now a.desk.now _ e h }
 
 pub keep-requires : goal.keep-requires
 keep-requires c =

@@ -10,7 +10,7 @@ pub give-requires : goal.give-requires
 give-requires c =
     let s = c in
     let whole = s.if-buffer-ne2048.false in
-    (to_few _ _ s.args.buffer.now whole _ refl _ s.turn_back_lent-writing.ensures.0, whole)
+    record { length_bound = to_few _ _ s.args.buffer.now whole _ refl _ s.turn_back_lent-writing.ensures.0; bytes_len = whole }
 
 pub returns : goal.returns
 returns c =

@@ -14,7 +14,7 @@ write-length-requires c =
     let long = s.if-words-ne512.false in
     let none = c.if-refusal-ne0.false in
     let b = s.args.words.now in
-    (back_settings _ _ b long _ s.read-reading.ensures none, (back_few _ _ b long _ s.read-reading.ensures none, long))
+    record { settings = back_settings _ _ b long _ s.read-reading.ensures none; len_bound = back_few _ _ b long _ s.read-reading.ensures none; words_len = long }
 
 pub returns : goal.returns
 returns c =

@@ -25,7 +25,7 @@ returns-then-not-sequence_at c = let a = c.args in
     sym (bad_at a.len (sequence_at a.node.0 a.body.now) l.j (omega arith) l.invariant.2 (sym k.ensures ∙ c.if-not-sequence_at.true))
 
 pub carried_more-carried-requires : goal.carried_more-carried-requires
-carried_more-carried-requires c = (omega arith, c.requires.1 c.loop-j.j (omega arith))
+carried_more-carried-requires c = (record { j_bound = omega arith; j_bound_2 = c.requires.small_shards c.loop-j.j (omega arith) })
 
 pub loop-j-preserved : goal.loop-j-preserved
 loop-j-preserved c = let a = c.args in

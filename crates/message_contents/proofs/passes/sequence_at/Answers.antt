@@ -15,4 +15,4 @@ pub returns : goal.returns
 unfolding sequence_at surplus
 returns c = let a = c.args in
     rw (sym c.follows.ensures ∙ c.if-not-follows.false)
-    (ap not (c.stray.ensures ∙ ap (λ (m : ℕ). stray_at m a.body.now a.j) c.requires.1))
+    (ap not (c.stray.ensures ∙ ap (λ (m : ℕ). stray_at m a.body.now a.j) c.requires.carried_value))

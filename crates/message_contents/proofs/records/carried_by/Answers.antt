@@ -12,7 +12,7 @@ pub loop-j-init : goal.loop-j-init
 loop-j-init c = (search rules, sym (where_none (gives_shard c.args.node.0 c.args.body.now) c.args.body.now))
 
 pub carried_more-mask-requires : goal.carried_more-mask-requires
-carried_more-mask-requires c = (omega arith, c.requires.1 c.loop-j.j (omega arith))
+carried_more-mask-requires c = (record { j_bound = omega arith; j_bound_2 = c.requires.small_shards c.loop-j.j (omega arith) })
 
 pub loop-j-preserved : goal.loop-j-preserved
 loop-j-preserved c = let a = c.args in

@@ -12,7 +12,7 @@ pub loop-j-init : goal.loop-j-init
 loop-j-init c = (search rules, sym (where_none (of_kind c.args.k c.args.body.now) c.args.body.now))
 
 pub shards_more-mask-requires : goal.shards_more-mask-requires
-shards_more-mask-requires c = (omega arith, c.requires.1 c.loop-j.j (omega arith))
+shards_more-mask-requires c = (record { j_bound = omega arith; j_bound_2 = c.requires.small_shards c.loop-j.j (omega arith) })
 
 pub loop-j-preserved : goal.loop-j-preserved
 loop-j-preserved c = let a = c.args in

@@ -48,7 +48,7 @@ returns c =
     let l = c.loop-k in
     let s = c in
     let σ = s.args.settings.now in
-    let x = s.args.t2 in
+    let x = s.args.c in
     let all = filled_end 512 _ _ l.words l.k (omega arith) l.invariant.0 (omega arith) l.invariant.1 in (
       c.length_of.ensures ∙ ap length_of s.parts_of-parts.ensures ∙ length_own σ x,
       all ∙ ap (λ (p : Parts). tabulate 512 (word_of x.node x.view x.members x.body p)) s.parts_of-parts.ensures ∙ words_own σ x,

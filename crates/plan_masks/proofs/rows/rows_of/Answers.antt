@@ -7,7 +7,7 @@ use Rattle.plan_masks.proofs.rows.rows_of.Goals as goal
 pub fill-requires : goal.fill-requires
 fill-requires c = let s = c in
     let e = c.nodes.ensures in
-    (s.requires.0, ((s.requires.1, omega (arith, e), refl), none_up _ _ e))
+    record { settings = s.requires.0; settings_bound = (s.requires.1, omega (arith, e), refl); undecided_bound = none_up _ _ e }
 
 pub returns : goal.returns
 returns c = let s = c in

@@ -16,10 +16,7 @@ returns-then-refusal-ne0 c =
 pub check_under-requires : goal.check_under-requires
 check_under-requires c =
     let a = c.args in
-    let r = c.call_refusal-refusal in (
-      called_settings a.settings.now (words_in a.desk.now) r.result r.ensures c.if-refusal-ne0.false,
-      desk_bytes a.desk.now (called_desk a.settings.now (words_in a.desk.now) r.result r.ensures c.if-refusal-ne0.false),
-    )
+    let r = c.call_refusal-refusal in record { settings = called_settings a.settings.now (words_in a.desk.now) r.result r.ensures c.if-refusal-ne0.false; desk_len = desk_bytes a.desk.now (called_desk a.settings.now (words_in a.desk.now) r.result r.ensures c.if-refusal-ne0.false) }
 
 pub returns : goal.returns
 returns c = c.check_under.ensures

@@ -37,7 +37,7 @@ offer-offered-requires c =
     let f : k.result.refusal ≡ decide_refusal a.settings.now a.self d =
     k.ensures.0 ∙ ap (λ (p : Bool). entry_refusal (desk_ok d) a.settings.now a.self d p) g.ensures in
     let h = decide_kept a.settings.now a.self d (sym (ap accepted f) ∙ eq-eqb _ _ c.if-refusal-ne0.false) in
-    (s.requires.0, (number_to a.settings.now a.self.kept a.self.termination a.self.held h, held_below a.settings.now a.self.kept a.self.termination a.self.held h))
+    record { settings = s.requires.0; number_bound = number_to a.settings.now a.self.kept a.self.termination a.self.held h; held_bound = held_below a.settings.now a.self.kept a.self.termination a.self.held h }
 
 pub returns : goal.returns
 unfolding decide_refusal

@@ -21,10 +21,7 @@ pub store-requires : goal.store-requires
 store-requires c =
     let s = c in
     let e = c.report_by-outcome.ensures in
-    let yes = (sym c.is_accepted.ensures ∙ c.if-not-is_accepted.false) in (
-      (s.requires.1, reporter_named s.args.settings.now s.args.self s.args.desk.now s.args.message.now c.report_by-outcome.result e yes s.requires.0),
-      report_small s.args.settings.now s.args.self s.args.desk.now s.args.message.now c.report_by-outcome.result e yes,
-    )
+    let yes = (sym c.is_accepted.ensures ∙ c.if-not-is_accepted.false) in record { desk_len = (s.requires.1, reporter_named s.args.settings.now s.args.self s.args.desk.now s.args.message.now c.report_by-outcome.result e yes s.requires.0); message_len_bound = report_small s.args.settings.now s.args.self s.args.desk.now s.args.message.now c.report_by-outcome.result e yes }
 
 pub returns : goal.returns
 returns c =

@@ -17,4 +17,4 @@ unfolding layout_blank
 returns c =
     let a = c.args in
     simp (eq-eqb _ _ c.if-number-ne0.false, eq-eqb _ _ c.if-v-ne0.false)
-    (c.zeros.ensures ∙ ap (all_zero a.t1.masks) c.zeros-arg-2-1.given.0)
+    (c.zeros.ensures ∙ ap (all_zero a.v.masks) c.zeros-arg-2-1.given.0)

@@ -18,22 +18,22 @@ abbrev ok : List ℕ → Layout → ℕ → Bool
 ok σ v s = ltb s (shards σ) || eqb (get_or v.masks s 0) 0
 
 pub loop-s-init : goal.loop-s-init
-loop-s-init c = let a = c.args in (search rules, all_none (ok a.settings.now a.t2))
+loop-s-init c = let a = c.args in (search rules, all_none (ok a.settings.now a.v))
 
 pub returns-then-not-tidy_at : goal.returns-then-not-tidy_at
 unfolding layout_tidy
 returns-then-not-tidy_at c = let a = c.args in
     let k = c.tidy_at in
-    sym (all_fails 16 (ok a.settings.now a.t2) c.loop-s.s (omega (arith)) (sym k.ensures ∙ c.if-not-tidy_at.true))
+    sym (all_fails 16 (ok a.settings.now a.v) c.loop-s.s (omega (arith)) (sym k.ensures ∙ c.if-not-tidy_at.true))
 
 pub loop-s-preserved : goal.loop-s-preserved
 loop-s-preserved c = let a = c.args in
     let k = c.tidy_at in
     let l = c.loop-s in
-    (omega (arith), all_more l.s (ok a.settings.now a.t2) l.invariant.1 (sym k.ensures ∙ c.if-not-tidy_at.false))
+    (omega (arith), all_more l.s (ok a.settings.now a.v) l.invariant.1 (sym k.ensures ∙ c.if-not-tidy_at.false))
 
 pub returns : goal.returns
 unfolding layout_tidy
 returns c = let a = c.args in
     let l = c.loop-s in
-    sym (all_fewer 16 l.s (ok a.settings.now a.t2) (omega (arith)) l.invariant.1)
+    sym (all_fewer 16 l.s (ok a.settings.now a.v) (omega (arith)) l.invariant.1)

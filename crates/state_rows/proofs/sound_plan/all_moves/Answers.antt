@@ -15,12 +15,12 @@ abbrev at : List ℕ → Layout → Layout → ℕ → ℕ
 at σ old new = group_moves σ (mask_at old) (mask_at new)
 
 pub loop-g-init : goal.loop-g-init
-loop-g-init c = let a = c.args in (search rules, sym (sum_zero (at a.settings.now a.t2 a.t3)), search rules)
+loop-g-init c = let a = c.args in (search rules, sym (sum_zero (at a.settings.now a.old a.new)), search rules)
 
 pub loop-g-preserved : goal.loop-g-preserved
 loop-g-preserved c = let a = c.args in
     let l = c.loop-g in
-    let f : ℕ → ℕ = at a.settings.now a.t2 a.t3 in
+    let f : ℕ → ℕ = at a.settings.now a.old a.new in
     let e : c.group_moves.result ≡ f l.g = c.group_moves.ensures in
     (omega arith, omega (arith, l.invariant.1, e, sum_next l.g f), omega arith)
 
@@ -28,6 +28,6 @@ pub returns : goal.returns
 unfolding all_moves
 returns c = let a = c.args in
     let l = c.loop-g in
-    let f : ℕ → ℕ = at a.settings.now a.t2 a.t3 in
+    let f : ℕ → ℕ = at a.settings.now a.old a.new in
     let e : l.g ≡ 4 = omega arith in
     l.invariant.1 ∙ ap (λ (n : ℕ). sum_below n f) e
