@@ -15,7 +15,7 @@ pub overflow_add-sum : goal.overflow_add-sum
 overflow_add-sum c =
     let l = c.args.moves.now in
     let known = c.type_inv.moves in
-    omega (arith, ap (λ (w : Window). w.sum) c.requires.1, sum_bound l 64 (λ k. omega (arith, known k)), known 64, c.word.ensures)
+    omega (arith, ap (λ (w : Window). w.sum) c.requires.window_value, sum_bound l 64 (λ k. omega (arith, known k)), known 64, c.word.ensures)
 
 pub overflow_sub-sum : goal.overflow_sub-sum
 overflow_sub-sum c =
