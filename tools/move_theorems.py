@@ -267,7 +267,7 @@ class Crate:
         # helpers of these alone go with them
         more = True
         while more:
-            more = [d for f in self.files.values() for d in f.decls if d.is_spec and d not in moves and not d.is_definition and "pub" not in d.kinds
+            more = [d for f in self.files.values() for d in f.decls if d.is_spec and d not in moves and "pub" not in d.kinds
                     and self.needed[d] and self.needed[d] <= moves and all(u.file == d.file for u in self.needed[d])
                     and not any(d in changed for changed in edits.values())]
             moves.update(more)
@@ -393,10 +393,12 @@ def move(crate, moves, second, table):
                             print("  %s: %s becomes pub" % (it.path, d.name))
                             d.kinds.append("pub")
                             d.lines[0] = re.sub(r"^( *)((?:(?:abbrev|unfoldable) )?)", r"\1\2pub ", d.lines[0])
+                            if "record" in d.kinds:
+                                d.lines[1:] = [re.sub(r"^( +)(?!pub )(?=[^\s(){}:.;,]+ :(?!:))", r"\1pub ", x) for x in d.lines[1:]]
             uses += [importable(module, names) for module, names in local.items()]
-            for d in gone:
-                apply_sections(name, d, [s for s in crate.needs[d] if s.file == file and s not in gone])
             target = where[next(iter(gone))].split(".")[-1]
+            for d in gone:
+                apply_sections((name, target), d, [s for s in crate.needs[d] if s.file == file and s not in gone])
             made.append(target)
             writes["crates/%s/proofs/%s.antt" % (name, target)] = (it, gone, uses)
         if stays:
@@ -441,7 +443,7 @@ def explicit(module):
 WRITTEN = collections.defaultdict(dict)
 
 
-def apply_sections(crate, decl, siblings):
+def apply_sections(target, decl, siblings):
     """From another file a declaration takes the explicit parameters of its sections: those that both stand in are written."""
     for s in siblings:
         common = [a for a, b in zip(s.above, decl.above) if a is b]
@@ -452,7 +454,7 @@ def apply_sections(crate, decl, siblings):
         if re.search(r"λ[^.]*(?<![^\s(])%s(?![^\s):.])|[({]%s(?: [^\s:]+)* : " % (word, word), "\n".join(plain(x) for x in decl.lines)):
             print("  by hand: %s: %s binds a name that is also a sibling's: %s" % (decl.file, decl.name, s.name))
         pattern, applied = r"(?<![^\s(,←{])%s(?![^\s),.;}])(?! [=:] )" % word, "(%s %s)" % (s.name, " ".join(names))
-        WRITTEN[crate, decl.file][pattern] = applied
+        WRITTEN[target][pattern] = applied
         for i, line in enumerate(decl.lines):
             if not line.strip().startswith(("unfolding", "--")):
                 decl.lines[i] = re.sub(pattern, applied, line)
@@ -484,10 +486,13 @@ def follow(name, targets):
                         old, lines[i - 1], line = public, "old: " + public, "new: " + re.sub(r"^( *)", r"\1pub ", line[5:])
                         lines[i] = line
                 if not fits:
-                    both = [old, line[4:].removeprefix(" ")]
-                    for pattern, applied in WRITTEN[name, file].items():
-                        both = [re.sub(pattern, applied, x) for x in both]
-                    fits = [f for f in there if text_of(f).count(both[0]) == 1]
+                    for f in there[1:]:
+                        both = [old, line[4:].removeprefix(" ")]
+                        for pattern, applied in WRITTEN[name, f.split("/")[-1][:-5]].items():
+                            both = [re.sub(pattern, applied, x) for x in both]
+                        if text_of(f).count(both[0]) == 1:
+                            fits = [f]
+                            break
                     if fits:
                         old, lines[i - 1], line = both[0], "old: " + both[0], "new: " + both[1]
                         lines[i] = line
@@ -565,7 +570,7 @@ def main():
         if second:
             print("  in a second file: %s" % " ".join(sorted(d.name for d in second)))
         for d in moves:
-            if d.is_definition:
+            if d.is_definition and "pub" in d.kinds:
                 print("  a definition rests on a theorem that may fall: %s %s" % (d.file, d.name))
         for edit, d in clash:
             print("  %s changes %s, which rests on another that it may refuse" % (edit, d.name))
