@@ -11,7 +11,4 @@ overflow_sub-result c =
 
 pub returns : goal.returns
 returns c =
-    let m = c in (
-      ap₂ (λ (a b : ℕ). a - b) c.cap_at.ensures c.need_at.ensures,
-      omega (arith, c.cap_at.ensures, c.need_at.ensures, spare_most m.args.settings.now m.args.g m.args.s m.requires),
-    )
+    let m = c in record { value = ap₂ (λ (a b : ℕ). a - b) c.cap_at.ensures c.need_at.ensures; upper_bound = omega (arith, c.cap_at.ensures, c.need_at.ensures, spare_most m.args.settings.now m.args.g m.args.s m.requires) }
