@@ -3,7 +3,7 @@ use mathlib.Core.Path.{sym, ◌∙◌}
 use borrow.Author.Tests.{not-true, not-false}
 use Rattle.message_format.specs.Definitions.{shard_at}
 use Rattle.message_contents.specs.Laws.{shards_small}
-use Rattle.base_laws.specs.Loops.{bad-holds}
+use Rattle.base_laws.proofs.Loops.{bad-holds}
 use Rattle.message_contents.specs.Structure.{kind_told, shard_told, sequence_told, missing_told, nothing_told}
 use borrow.Author.Rules.{rules}
 use Rattle.message_contents.proofs.structure_refusal.Goals as goal

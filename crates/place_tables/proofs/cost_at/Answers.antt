@@ -6,8 +6,9 @@ use lib.ListN.{get_or}
 use borrow.Author.Tests.{not-true, not-false}
 use Rattle.base_laws.specs.Masks.{has_past}
 use Rattle.settings_values.specs.Definitions.{nodes}
-use Rattle.place_groups.specs.Laws.{entry_none, entry_moves}
-use Rattle.place_laws.specs.Cases.{group_shard, shard_below, cost_away, cost_told}
+use Rattle.place_groups.proofs.Laws.{entry_none, entry_moves}
+use Rattle.place_laws.specs.Cases.{group_shard, shard_below, cost_away}
+use Rattle.place_laws.proofs.Cases.{cost_told}
 use Rattle.place_tables.proofs.cost_at.Goals as goal
 
 pub returns-then-n-nodes : goal.returns-then-n-nodes

@@ -5,7 +5,8 @@ use mathlib.Core.Path.{◌≡◌, ap, ◌∙◌}
 use mathlib.Core.List.{List}
 use native.Mathlib.Omega.{arith}
 use Rattle.base_sum_laws.specs.Definitions.{sum_below}
-use Rattle.base_sum_laws.specs.Sums.{sum_zero, sum_next}
+use Rattle.base_sum_laws.specs.Sums.{sum_zero}
+use Rattle.base_sum_laws.proofs.Sums.{sum_next}
 use Rattle.place_laws.specs.Cases.{need_in, cap_in, move_cost}
 use Rattle.place_tables.proofs.move_cost.Goals as goal
 

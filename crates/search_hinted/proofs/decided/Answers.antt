@@ -30,8 +30,8 @@ pub returns-then-take : goal.returns-then-take
 returns-then-take c = λ l.
     let s = c in
     let at = s.requires.«at» in
-    let took = c.take.ensures.0 c.if-take.true in
-    let rest = c.take.ensures.1 c.if-take.true in
+    let took = c.take.ensures.bound c.if-take.true in
+    let rest = c.take.ensures.rows_after c.if-take.true in
     subst₂ (λ (w v : List ℕ). Moved (case_of s.args.sets.now s.args.needs.now s.args.caps.now s.args.prices.now s.args.idle) s.args.k s.args.owner.now s.args.p w v (s.args.p + 1))
     (sym took.1) (sym rest) (moved_next at s.requires.p_bound.0 s.requires.p_value (advance_take at.stage (half s.requires.p_bound.0) (at.on s.requires.p_value) refl took.0))
 

@@ -7,7 +7,8 @@ use native.Mathlib.Omega.{arith}
 use borrow.Author.Tests.{not-true, not-false}
 use lib.Dec.{ltb}
 use lib.ListN.{get_or}
-use Rattle.base_laws.specs.Below.{all_none, all_more, all_fails}
+use Rattle.base_laws.specs.Below.{all_none}
+use Rattle.base_laws.proofs.Below.{all_more, all_fails}
 use Rattle.base_laws.specs.Loops.{all_done}
 use Rattle.search_laws.specs.Tables.{case_of, owners_of}
 use Rattle.search_laws.specs.Tests.{stands}

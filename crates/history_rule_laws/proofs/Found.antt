@@ -19,11 +19,13 @@ use Rattle.history_laws.specs.Definitions.{History, view_at, number_at, members_
 use Rattle.history_open.specs.declared.Finding.TheVariants.{Sure, Never, Undecided, Contradicted}
 use Rattle.history_open.specs.Definitions.{says_sure, says_never, judged}
 use Rattle.history_course_laws.specs.Course.{last_of, Orderly}
-use Rattle.history_course_laws.specs.Ever.{stands_on}
-use Rattle.history_course_laws.specs.Counting.{now, OneLacks, all_have, never_both}
+use Rattle.history_course_laws.proofs.Ever.{stands_on}
+use Rattle.history_course_laws.specs.Counting.{now, OneLacks, all_have}
+use Rattle.history_course_laws.proofs.Counting.{never_both}
 use Rattle.history_rule_laws.specs.Disks.{Attempt, plan_view, Each, each_more, Disks}
 use Rattle.history_rule_laws.specs.Sent.{OneView, ElementOf, among_first, among_later, Known, as_sure, in-list, in-plan, PassedBy, Sent}
-use Rattle.history_rule_laws.specs.Ruled.{Machines, InHistory, OnlyLatest, latest_is, Ruled, ruled, number_above, number_next}
+use Rattle.history_rule_laws.specs.Ruled.{Machines, InHistory, OnlyLatest, latest_is, Ruled, number_above, number_next}
+use Rattle.history_rule_laws.proofs.Ruled.{ruled}
 
 pub each_at : {A : Type 0} {P : A → Type 0} {x : A} {l : List A} → ElementOf x l → Each P l → P x
 each_at (among_first l) (each_more _ _ p e) = p

@@ -12,7 +12,8 @@ use borrow.Author.Tests.{eqb-true, eq-eqb, ne_eqb, lt-ltb, le-ltb}
 use Rattle.base_laws.specs.Bools.{either, clash, and_both, and_left, and_right, and_fails, or-holds, or_fails_left, or_fails_right, not_of_false, of_not_true, of_not_false, no_true}
 use Rattle.base_laws.specs.Definitions.{all_below, any_below, lowest, has, with, without}
 use Rattle.base_laws.specs.Below.{all_at, all_counter, any_at, any_fails, any_witness, lowest-holds, lowest_below, lowest_first}
-use Rattle.base_laws.specs.Masks.{has_zero, has_below, without_same, with_lt, without_lt}
+use Rattle.base_laws.specs.Masks.{has_zero, has_below, with_lt, without_lt}
+use Rattle.base_laws.proofs.Masks.{without_same}
 use Rattle.game_rules.specs.Definitions.{OutageMay, Returnable, CrewMay, after_turns, CrewRule, OutageRule, CrewHolds, Beats, Starts, OutageWins, OutageAnswer, WonBy}
 use Rattle.game_rules.specs.Game.{rules_clash}
 use Rattle.game_rules.specs.Turns.{absent, outage_turn, crew_turn, saves, wins, first_move, winner_of}

@@ -24,7 +24,7 @@ use Rattle.state_planner.specs.declared.State.{State}
 use Rattle.state_planner.specs.declared.Decided.{Decided}
 use Rattle.state_planner.specs.declared.DecidedWithin.{DecidedWithin}
 use Rattle.state_planner.specs.Definitions.{keeping, Decides, DecidesWithin}
-use Rattle.state_laws.specs.Once.{decides_unique}
+use Rattle.state_laws.proofs.Once.{decides_unique}
 use Rattle.state_laws.specs.Within.{within_unique}
 use Rattle.state_laws.specs.Parts.{sound_given}
 use Rattle.state_laws.specs.Fitting.{Fits, slot_reported}
@@ -32,9 +32,10 @@ use Rattle.state_arrival_laws.specs.Arrivals as arrivals
 use Rattle.state_arrival_laws.specs.Arrivals.{AllTaken, sender, OneOf, Distinct, SameMessages}
 use Rattle.state_arrival_laws.specs.Messages.{not_none, OneEach, distinct_one, one_same, same_back}
 use Rattle.state_arrival_laws.specs.Steps.{SteadyAfter, report_steady, held_own, held_other, latest_own, latest_other, slot_written, slot_kept, all_steady, all_valid, all_rest}
-use Rattle.state_arrival_laws.specs.Cells.{cell_of, cells_same}
-use Rattle.state_arrival_laws.specs.Kept.{kept-by, kept_over}
-use Rattle.state_arrival_laws.specs.Agreed.{view_equal, view_agrees, termination_agrees}
+use Rattle.state_arrival_laws.proofs.Cells.{cell_of, cells_same}
+use Rattle.state_arrival_laws.proofs.Kept.{kept-by, kept_over}
+use Rattle.state_arrival_laws.specs.Agreed.{view_equal, view_agrees}
+use Rattle.state_arrival_laws.proofs.Agreed.{termination_agrees}
 
 -- ---- every message fits what is kept at the end
 

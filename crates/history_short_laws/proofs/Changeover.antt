@@ -4,10 +4,11 @@ use Rattle.std.proofs.Common.{subst}
 use Rattle.std.proofs.Math.Path.{subst⁻¹}
 use Rattle.history_laws.specs.Definitions.{History}
 use Rattle.history_course_laws.specs.Course.{Orderly}
-use Rattle.history_course_laws.specs.Ever.{Course, supposing, stands_on}
+use Rattle.history_course_laws.specs.Ever.{Course, supposing}
+use Rattle.history_course_laws.proofs.Ever.{stands_on}
 use Rattle.history_short_laws.specs.Based.{Based, AddsOnly, BasesStay, at-first, ran, carried, gave_up}
-use Rattle.history_short_laws.specs.Bases.{run_based}
-use Rattle.history_short_laws.specs.ShortEver.{carried_based, given_up_based}
+use Rattle.history_short_laws.proofs.Bases.{run_based}
+use Rattle.history_short_laws.proofs.ShortEver.{carried_based, given_up_based}
 
 module _ {S : ℕ} {H : History} where
   pub based_on : {G : History} → Orderly H → Based S H → (c : Course S H G) → BasesStay S H G c → Based S G

@@ -18,7 +18,7 @@ use Rattle.state_planner.specs.declared.State.{State}
 use Rattle.state_planner.specs.Definitions.{fresh, planned, keeping, holding, restarted, marked, desk_ok, report_refusal, drop_refusal, decide_refusal, fetched_refusal, prepared_refusal, after_report, dropped_in, after_drop, after_fetched, after_prepared}
 use Rattle.state_laws.specs.Parts.{sound_given, entry_given, node_given, report_given, gathering_is, ordered_is, preparing_is}
 use Rattle.state_laws.specs.AfterReport.{report_sound}
-use Rattle.state_laws.specs.AfterDrop.{drop_sound}
+use Rattle.state_laws.proofs.AfterDrop.{drop_sound}
 use Rattle.state_laws.specs.AfterMarks.{fetched_sound, prepared_sound}
 use Rattle.state_laws.specs.AfterPlan.{plan-sound}
 use Rattle.state_commit_laws.specs.Events as events

@@ -7,30 +7,27 @@ use borrow.Author.Tests.{le-leb, lt-ltb}
 use Rattle.base_laws.specs.Bools.{and_both}
 use Rattle.base_laws.specs.Definitions.{has}
 use Rattle.settings_values.specs.Definitions.{nodes, shards, Settings}
-use Rattle.base_ids.specs.Definitions.{none}
 use Rattle.message_format.specs.declared.Form.TheVariants.{Order}
-use Rattle.message_format.specs.Definitions.{row6, view_ok, row7, contents_refusal}
-use Rattle.message_format.specs.Passed.{HeadPasses, ContentsPass, contents_none}
+use Rattle.message_format.specs.Definitions.{row6, view_ok, row7}
+use Rattle.message_format.specs.Passed.{HeadPasses}
 use Rattle.report_views.specs.declared.Layout.{Layout}
 use Rattle.report_views.specs.declared.Termination.{Termination}
 use Rattle.report_views.specs.declared.Plan.{Plan}
 use Rattle.report_views.specs.Definitions.{holder_at, target_at, slots_ok, kept_sound, plan_sound}
 use Rattle.report_views.specs.Updates.{updates_at, up_to, kept_updates, fetched_updates}
-use Rattle.plan_order.specs.Definitions.{cut_of, order_contents}
-use Rattle.plan_order.specs.Recorded.{len_few}
-use Rattle.plan_order_laws.specs.Says.{saying, order-body}
-use Rattle.plan_order_laws.specs.Passing.{order_records_pass}
+use Rattle.plan_order.specs.Definitions.{cut_of}
 use Rattle.plan_order_laws.specs.Sound.{KeptView, SoundPlan, kept_given, plan_given}
 use Rattle.plan_order.specs.Readable.{ReadableSlot, Holders}
-use Rattle.plan_order_laws.specs.Fits.{node_below, restored, fitting, readable, holders_readable}
+use Rattle.plan_order_laws.specs.Fits.{node_below}
+use Rattle.plan_order_laws.proofs.Fits.{restored, readable, holders_readable}
 
 module _ (σ : List ℕ) (v : Layout) (t : Termination) (held : ℕ) (d : List ℕ) (p : Plan) (w : Settings σ) (kept : kept_sound σ v t held ≡ true)
     (slots : slots_ok σ v t held d ≡ true) (plan : plan_sound σ v t held d p ≡ true) where
   -- what the tests give
-  ps : SoundPlan σ v t held d p
+  pub ps : SoundPlan σ v t held d p
   ps = plan_given σ v t held d p w plan
 
-  k : KeptView σ v t held
+  pub k : KeptView σ v t held
   k = kept_given σ v t held w kept ps.met.kept
 
   -- for the call that makes the contents: every holder's slot can be read
@@ -49,7 +46,7 @@ module _ (σ : List ℕ) (v : Layout) (t : Termination) (held : ℕ) (d : List �
     order_restored = restored σ v t held d p w k slots ps n mine
 
     -- rows 6 and 7
-    head_passes : HeadPasses Order σ n p.layout.number.0 p.layout.members
+    pub head_passes : HeadPasses Order σ n p.layout.number.0 p.layout.members
     unfolding row6 row7 view_ok
     head_passes =
         record {
@@ -60,20 +57,3 @@ module _ (σ : List ℕ) (v : Layout) (t : Termination) (held : ℕ) (d : List �
               (and_both (and_both (le-leb 2 (v.number.0 + 1) (omega (arith, k.number_from))) (le-leb (v.number.0 + 1) 4294967295 (omega (arith, k.number_to)))) k.held_within)
               mine);
         }
-
-    contents_pass : ContentsPass Order σ (order_contents σ p d n)
-    unfolding order_contents
-    contents_pass =
-        record {
-          words_pass = le-leb (order_contents σ p d n).len 127 (omega (arith, len_few σ p d n w.sizes.shards_to));
-          head_passes = head_passes;
-          records_pass =
-              order_records_pass σ n (saying p d n) (order_contents σ p d n).body (order_contents σ p d n).len (order-body σ p d n w.sizes.shards_to)
-              p.layout.number.0
-              p.layout.members
-              (fitting σ v t held d p w k slots ps n mine);
-        }
-
-    -- no row refuses it
-    pub order_accepted : contents_refusal Order σ (order_contents σ p d n) ≡ none
-    order_accepted = contents_none Order σ (order_contents σ p d n) contents_pass
