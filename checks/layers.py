@@ -18,7 +18,7 @@ def layers_of(path):
     with open(path, encoding="utf-8") as lines:
         for line in lines:
             started = re.match(r"# ([a-z]+): (.*)", line)
-            listed = re.match(r"([a-z0-9_]+):(.*)", line)
+            listed = re.match(r"([a-z0-9_]+)(?: staticlib)?:(.*)", line)
             if started:
                 layers.append((started.group(1), started.group(2), []))
             elif listed:

@@ -6,7 +6,7 @@
 - a path in backquotes that begins with a folder of the repository is there;
 - every row of docs/PROMISES.md, a line that starts with "- ", has such a link to a name, and each word in backquotes after it is a name: of
   the file that the link before it opens, else of the specs of that file's crate, else one that the specs of all crates have once;
-- docs/ and README.md together have at most 90 KB.
+- docs/ and README.md together have at most 90 KB, docs/PORT.md aside.
 
     python3 checks/promises.py [--write]     --write puts the lines where names are defined into the links
 
@@ -17,10 +17,11 @@ import os
 import re
 import sys
 
-PROMISES, READING = "docs/PROMISES.md", "docs/READING.md"
+# PORT has names as they were beside those of today, and is no page to be read
+PROMISES, READING, PORT = "docs/PROMISES.md", "docs/READING.md", "docs/PORT.md"
 MOST = 90 * 1024
 LINK = re.compile(r"\[([^\]]*)\]\(([^)\s]+)\)")
-QUALIFIED = re.compile(r"`([a-z0-9_]+)(::|/)([A-Za-z0-9_.:·-]+)`")
+QUALIFIED = re.compile(r"`([a-z0-9_]+)(::|/)([A-Za-z0-9_.:'-]+)`")
 QUOTED = re.compile(r"`([^`\s]+)`")
 PATH = re.compile(r"`([\w.*-]+(?:/[\w.*-]*)+)`")
 HEAD = re.compile(r"^(\s*)(?:(?:abbrev|unfoldable|axiom) )*pub (?:(record|data) )?([^\s:({]+)(?=[\s:({]|$)")
@@ -28,7 +29,8 @@ CODE = re.compile(r'^\s*(?:pub )?(?:extern "C" )?(?:fn|struct|enum|const) (\w+)'
 
 
 def pages():
-    return [page for page in ["README.md", "CONTRIBUTING.md", *sorted(glob.glob("docs/*.md"))] if os.path.exists(page)]
+    found = ["README.md", "CONTRIBUTING.md", *sorted(glob.glob("docs/*.md"))]
+    return [page for page in found if os.path.exists(page) and page != PORT]
 
 
 @functools.lru_cache(None)

@@ -32,7 +32,7 @@ NAME = r'[^\s(){}.;,@"]+'
 TOKEN = re.compile(r'"[^"]*"|%s(?:\.%s)*|\.%s|[(){}.;,@]' % (NAME, NAME, NAME))
 MARKS = ("pub", "abbrev", "unfoldable", "axiom")
 # Words of the language and of contracts, and names that every file has without a `use`.
-WORDS = ("record", "let", "in", "λ", "Type", "where", "→", "×", "=", ":", "_", "⌜", "⌝", "now", "self")
+WORDS = ("record", "let", "in", "λ", "Type", "where", "→", "×", "=", ":", "_", "result", "self")
 PRIM = ("⊥", "absurd", "¬", "Unit", "tt", "Dec", "yes", "no")
 KIT = "the kit's"
 
@@ -123,7 +123,7 @@ class Scope:
         self.crate, self.names, self.aliases = crate, dict.fromkeys(PRIM, KIT), {}
 
     def use(self, text):
-        """`use PATH.{a, b as c}`, `use PATH as X` or, in code, `use crate::Type`."""
+        """`use PATH.{a, b as c}`, `use PATH as X` or, in code, `use crate::Type` or `use crate::{One, Other}`."""
         path, _, rest = re.sub(r"^(pub |ghost )*use |;$", "", text).partition(" as " if ".{" not in text else ".{")
         if rest.endswith("}"):
             for item in rest[:-1].split(", "):
@@ -132,12 +132,13 @@ class Scope:
         elif rest:
             self.aliases[rest] = path
         else:
-            crate, *_, name = path.split("::")
-            self.put(name, types_of(self.crate if crate == "crate" else crate).get(name, KIT))
+            crate, *_, names = path.split("::")
+            for name in names.strip("{}").split(", "):
+                self.put(name, types_of(self.crate if crate == "crate" else crate).get(name, KIT))
 
     def put(self, name, found):
         """An operator is known by its parts too."""
-        for part in [name, *name.split("_")]:
+        for part in [name, *name.split("◌")]:
             if part:
                 self.names[part] = found
 
@@ -152,10 +153,13 @@ class Scope:
 
 def found_in(path, name):
     """What a name of a module stands for."""
-    module = re.fullmatch(r"Rattle·([a-z0-9_]+)(?:·specs)?\.specs\.(?:declared\.(?:[a-z_]+\.)?(\w+)(?:\.the-variants)?|(\w+))", path)
+    module = re.fullmatch(r"Rattle\.([a-z0-9_]+)\.(?:specs\.(?:declared\.(?:[a-z0-9_]+\.)?(\w+)(?:\.TheVariants)?|(\w+))|proofs\.(.+))", path)
     if not module or not os.path.isdir("crates/" + module.group(1)):
         return KIT
-    crate, declared, file = module.groups()
+    crate, declared, file, lemmas = module.groups()
+    if lemmas:
+        # a lemma, which no definition cites
+        return Definition(crate, "proofs/" + lemmas, name, lambda: Scope(crate))
     names = types_of(crate) if declared else specs_of(crate, file).names
     return names.get(declared or name) or sys.exit("not read: %s of %s" % (name, path))
 
@@ -168,7 +172,7 @@ class Reader:
         self.scope, self.cites, self.strange = scope, set(), set()
 
     def cite(self, token, bound):
-        if not plain(token) or token[0].isdigit() or token.split(".")[0] in bound:
+        if not plain(token) or token[0].isdigit() or token.split(".")[0] in bound or token.split(".")[0] in WORDS:
             return
         found = self.scope.find(token)
         if found is None:
@@ -353,7 +357,7 @@ def delivered(roots):
             signature, *clauses = re.split(r"(?m)^ *(?:requires|ensures)\b[^{]*\{", head)
             if signature.count("fn ") != 1 or not clauses:
                 sys.exit("not read: a function of %s without a contract: %s" % (crate, signature))
-            name, parameters = re.search(r"fn (\w+)\(([^)]*)\)", signature).groups()
+            name, parameters = re.search(r"fn (\w+)(?:<[^>]*>)?\(([^)]*)\)", signature).groups()
             if "%s::%s" % (crate, name) in INNER:
                 continue
             made = Definition(crate, "src", name, functools.partial(scope_of, crate))
@@ -398,7 +402,7 @@ def figures(order):
 @functools.lru_cache(None)
 def crates():
     with open("crates.txt", encoding="utf-8") as file:
-        return re.findall(r"(?m)^([a-z0-9_]+):", file.read())
+        return re.findall(r"(?m)^([a-z0-9_]+)(?: staticlib)?:", file.read())
 
 
 @functools.lru_cache(None)
@@ -524,7 +528,7 @@ def call_at(function):
     for path in sorted(glob.glob("crates/%s/src/**/*.rt" % function.crate, recursive=True)):
         with open(path, encoding="utf-8") as file:
             for number, line in enumerate(file, 1):
-                if re.match(r'\s*(?:pub )?(?:extern "C" )?fn %s\(' % function.name, line):
+                if re.match(r'\s*(?:pub )?(?:extern "C" )?fn %s[(<]' % function.name, line):
                     return path, number
     sys.exit("not found: %s" % label(function))
 

@@ -44,7 +44,7 @@ module _ {σ : List ℕ} {held g : ℕ} (old : ℕ → ℕ) {K : Case} (stands :
   steps_valid v (more s f) = f.is.valid
 
   -- the search's steps are rounds of the subgroup
-  pub steps_rounds : {n m : ℕ} {y z : ℕ → ℕ} → Valid K y → Steps K n y m z → GroupRounds σ held old g n (owned_masks y) m (owned_masks z)
+  pub steps_rounds : {n : ℕ} {y : ℕ → ℕ} {m : ℕ} {z : ℕ → ℕ} → Valid K y → Steps K n y m z → GroupRounds σ held old g n (owned_masks y) m (owned_masks z)
   steps_rounds v start = stays
   steps_rounds v (more {b = x} {c = z} s f) =
       betters (steps_rounds v s) (first_lighter stands right inside old counted (owned_masked σ g x) (steps_valid v s) (owned_masked σ g z) f)

@@ -42,4 +42,4 @@ shape_of-buffer c = kept_length _ _ _ _ (omega arith) c.loop-k.invariant.1
 
 pub returns : goal.returns
 unfolding message_of
-returns c = (refl, done _ _ _ _ (omega arith) c.requires.0 c.loop-k.invariant.1)
+returns c = record { answer = refl; words = done _ _ _ _ (omega arith) c.requires.0 c.loop-k.invariant.1 }

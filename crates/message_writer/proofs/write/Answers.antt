@@ -48,10 +48,7 @@ module _ (form : Form) (σ : List ℕ) (c : Contents) (buffer : List ℕ) (r : R
     taken_few = contents_few form σ c (write_given form σ c buffer taken).contents_pass
 
 pub returns-then-refusal-ne0 : goal.returns-then-refusal-ne0
-returns-then-refusal-ne0 c = (
-  refused_answer _ _ _ _ _ c.write_refusal-refusal.ensures c.if-refusal-ne0.true,
-  refused_words _ _ _ _ _ c.write_refusal-refusal.ensures c.if-refusal-ne0.true,
-)
+returns-then-refusal-ne0 c = record { answer = refused_answer _ _ _ _ _ c.write_refusal-refusal.ensures c.if-refusal-ne0.true; words = refused_words _ _ _ _ _ c.write_refusal-refusal.ensures c.if-refusal-ne0.true }
 
 pub fill-length-requires : goal.fill-length-requires
 fill-length-requires c = (
@@ -63,7 +60,4 @@ pub returns : goal.returns
 returns c =
     let judged = c.write_refusal-refusal in
     let passed = c.if-refusal-ne0.false in
-    let filled = c.fill-length.ensures in (
-      taken_answer _ _ _ _ _ judged.ensures passed _ filled.0,
-      taken_words _ _ _ _ _ judged.ensures passed _ filled.1,
-    )
+    let filled = c.fill-length.ensures in record { answer = taken_answer _ _ _ _ _ judged.ensures passed _ filled.answer; words = taken_words _ _ _ _ _ judged.ensures passed _ filled.words }

@@ -58,7 +58,7 @@ returns-then-rounds-eq0 c =
     }
 
 pub moves_of-weight-requires : goal.moves_of-weight-requires
-moves_of-weight-requires c = c.requires.0
+moves_of-weight-requires c = c.requires.settings
 
 pub onward-best-requires : goal.onward-best-requires
 onward-best-requires c =

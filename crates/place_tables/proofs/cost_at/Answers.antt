@@ -14,7 +14,7 @@ pub returns-then-n-nodes : goal.returns-then-n-nodes
 returns-then-n-nodes c =
     let a = c.args in
     sym (cost_away a.settings.now a.held (λ i. get_or a.old.now i 0) a.g a.s a.n
-    (has_past a.held (nodes a.settings.now) a.n c.requires.1.0 (omega (arith, c.nodes.ensures))))
+    (has_past a.held (nodes a.settings.now) a.n c.requires.held_bound (omega (arith, c.nodes.ensures))))
 
 pub entry-least-requires : goal.entry-least-requires
 entry-least-requires c =

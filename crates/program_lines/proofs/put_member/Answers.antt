@@ -8,4 +8,4 @@ pub returns-then-has : goal.returns-then-has
 returns-then-has c = puts_as (member_in _ _ (sym c.has.ensures ∙ c.if-has.true)) c.put_field.ensures
 
 pub returns : goal.returns
-returns c = puts_as (member_out _ _ (sym c.has.ensures ∙ c.if-has.false)) (puts_none _ _ c.requires.0)
+returns c = puts_as (member_out _ _ (sym c.has.ensures ∙ c.if-has.false)) (puts_none _ _ c.requires.at_in_bounds)

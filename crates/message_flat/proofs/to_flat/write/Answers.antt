@@ -16,7 +16,7 @@ pub word_of-requires : goal.word_of-requires
 word_of-requires c =
     let s = c in
     let p = s.requires in
-    few_own _ _ _ _ s.parts_of-parts.ensures p.0 p.1.0
+    few_own _ _ _ _ s.parts_of-parts.ensures p.settings p.len_bound
 
 pub bounds-words-k : goal.bounds-words-k
 bounds-words-k c =
@@ -36,7 +36,7 @@ pub length_of-requires : goal.length_of-requires
 length_of-requires c =
     let s = c in
     let p = s.requires in
-    few_own _ _ _ _ s.parts_of-parts.ensures p.0 p.1.0
+    few_own _ _ _ _ s.parts_of-parts.ensures p.settings p.len_bound
 
 pub shape_of-words : goal.shape_of-words
 shape_of-words c =
@@ -49,7 +49,4 @@ returns c =
     let s = c in
     let σ = s.args.settings.now in
     let x = s.args.c in
-    let all = filled_end 512 _ _ l.words l.k (omega arith) l.invariant.0 (omega arith) l.invariant.1 in (
-      c.length_of.ensures ∙ ap length_of s.parts_of-parts.ensures ∙ length_own σ x,
-      all ∙ ap (λ (p : Parts). tabulate 512 (word_of x.node x.view x.members x.body p)) s.parts_of-parts.ensures ∙ words_own σ x,
-    )
+    let all = filled_end 512 _ _ l.words l.k (omega arith) l.invariant.0 (omega arith) l.invariant.1 in record { answer = c.length_of.ensures ∙ ap length_of s.parts_of-parts.ensures ∙ length_own σ x; words = all ∙ ap (λ (p : Parts). tabulate 512 (word_of x.node x.view x.members x.body p)) s.parts_of-parts.ensures ∙ words_own σ x }

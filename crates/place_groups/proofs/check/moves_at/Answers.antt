@@ -10,4 +10,4 @@ returns-then-subgroup-g c = (simp (sym c.subgroup.ensures, ne_eqb _ _ c.if-subgr
 
 pub returns : goal.returns
 unfolding group_moves_at
-returns c = (simp (sym c.subgroup.ensures, eq-eqb _ _ c.if-subgroup-g.false, sym c.moved.ensures.0), c.moved.ensures.1)
+returns c = (simp (sym c.subgroup.ensures, eq-eqb _ _ c.if-subgroup-g.false, sym c.moved.ensures.value), c.moved.ensures.upper_bound)
