@@ -20,6 +20,8 @@ import os
 import re
 import sys
 
+from sources import FUNCTION, parts_of as code_parts
+
 # The delivered functions of a crate, by how their heads start: the calls for C, the planner's, the runs of restart and sheet, and every
 # program's.
 ROOTS = {"c_planner": 'pub extern "C" fn ', "state_planner": "pub fn ", "state_order": "pub fn ", "state_page": "pub fn ", "state_readiness": "pub fn ", "program_run": "pub fn ", "program_sheet": "pub fn ", "program_reading": "fn ", "program_arguments": "fn "}
@@ -34,6 +36,8 @@ MARKS = ("pub", "abbrev", "unfoldable", "axiom")
 # Words of the language and of contracts, and names that every file has without a `use`.
 WORDS = ("record", "let", "in", "λ", "Type", "where", "→", "×", "=", ":", "_", "result", "self")
 PRIM = ("⊥", "absurd", "¬", "Unit", "tt", "Dec", "yes", "no")
+# and types of std that code has without one
+PRIM += ("Option", "Result", "Vec", "String", "Box", "Self")
 KIT = "the kit's"
 
 
@@ -309,7 +313,7 @@ def specs_of(crate, file):
 
 # ---- Code: types and contracts.
 
-TYPE = re.compile(r"(?ms)^(?:pub )?(struct|enum) (\w+)(?:<[^>]*>)?(?: \{(.*?)^\}|\((.*?)\);)")
+TYPE = re.compile(r"(?ms)^(?:pub )?(struct|enum) (\w+)(?:<([^>]*)>)?(?: \{(.*?)^\}|\((.*?)\);)")
 
 
 @functools.lru_cache(None)
@@ -328,12 +332,12 @@ def types_of(crate):
     """The structs and enums of a crate by name, each with the types that it holds."""
     made = {}
     for found in TYPE.finditer(source_of(crate)):
-        kind, name, fields, numbered = found.groups()
+        kind, name, own, fields, numbered = found.groups()
         held = numbered or " ".join(re.findall(r"\((.*?)\)" if kind == "enum" else r":(.*)", fields))
         made[name] = Definition(crate, None, name, functools.partial(scope_of, crate))
         made[name].lines = len(found.group(0).splitlines())
         made[name].constructors = re.findall(r"(?m)^\s*([A-Z]\w*)", fields) if kind == "enum" else []
-        made[name].texts = [("type", re.findall(r"\b[A-Z]\w*", held), [])]
+        made[name].texts = [("type", re.findall(r"\b[A-Z]\w*", held), re.findall(r"(?:^|, )(\w+)", own or ""))]
     return made
 
 
@@ -347,14 +351,31 @@ def scope_of(crate):
     return scope
 
 
+def heads_of(crate):
+    """The heads of a crate's functions, up to the brace that opens the body."""
+    head = []
+    for owner, line in code_parts(source_of(crate)):
+        begins = bool(FUNCTION.match(line))
+        if head and (begins or not owner or owner[2]):
+            yield "\n".join(head)
+            head = []
+        if owner and not owner[2] and (begins or head):
+            head.append(line.strip() if begins else line)
+    if head:
+        yield "\n".join(head)
+
+
 def delivered(roots):
-    """For each function of the roots a Definition whose texts are the types of its parameters and result, and its contract."""
+    """For each function of the roots a Definition whose texts are the types of its parameters and result, and its contract. A program's function
+    that promises nothing, as its main, needs nothing to be read."""
     for crate, start in roots.items():
-        found = re.findall(r"(?ms)^ *(%s.*?)^ *\{$" % re.escape(start), source_of(crate))
+        found = [re.sub(r"\{\s*\Z", "", head) for head in heads_of(crate) if head.startswith(start)]
         if not found:
             sys.exit("not read: no %sof %s" % (start, crate))
         for head in found:
             signature, *clauses = re.split(r"(?m)^ *(?:requires|ensures)\b[^{]*\{", head)
+            if not clauses and start == "fn ":
+                continue
             if signature.count("fn ") != 1 or not clauses:
                 sys.exit("not read: a function of %s without a contract: %s" % (crate, signature))
             name, parameters = re.search(r"fn (\w+)(?:<[^>]*>)?\(([^)]*)\)", signature).groups()
@@ -362,7 +383,9 @@ def delivered(roots):
                 continue
             made = Definition(crate, "src", name, functools.partial(scope_of, crate))
             bound = re.findall(r"(\w+):", parameters)
-            made.texts = [("type", re.findall(r"\b[A-Z]\w*", signature.split("(", 1)[1]), [])]
+            # its own types, as R of `fn read<R: Read>(..)`
+            own = re.findall(r"(\w+)(?=:)", signature.split("(")[0])
+            made.texts = [("type", re.findall(r"\b[A-Z]\w*", signature.split("(", 1)[1]), own)]
             made.texts += [("type", tokens_of(clause.rstrip().removesuffix("}")), bound) for clause in clauses]
             yield made
 
