@@ -43,7 +43,6 @@ made_small σ c s l small =
 -- ---- our report, turned and turned back
 
 module _ (settings message buffer : List ℕ) (bytes : Bytes message) (h : to_flat_refused settings message buffer ≡ none) where
-
   taken_both : to_flat_refusal (words_in settings) (words_in message) room_words ≡ none
   unfolding to_flat_refused to_flat_refusal
   taken_both = unless_none (eqb (length room_words) 512) 1 _ room_long (unless_rest (eqb (length buffer) 2048) 0 _ h)

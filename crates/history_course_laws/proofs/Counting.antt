@@ -9,7 +9,6 @@ use Rattle.base_laws.specs.Masks.{has_with, subset_has, subset_of, width}
 use Rattle.history_course_laws.specs.Counting.{Copies, forgot, got, now, went, NoneBoth, all_have, OneLacks, still_apart}
 
 module _ {m a o : ℕ} (apart : NoneBoth a o) where
-
   -- never both
   pub never_both : {have out : ℕ} → Copies m a o have out → all_have m have ≡ true → OneLacks m out → ⊥
   never_both {have} c s l = clash l.lacks (((still_apart apart) c).never l.one (subset_has m have s l.one l.member))

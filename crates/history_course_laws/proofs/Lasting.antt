@@ -31,7 +31,6 @@ target_ended v t held d s e = ap (λ (b : Bool). cond b (position_at t s) (end_a
 module _ (σ : List ℕ) (v : Layout) (t : Termination) (held : ℕ) (d : List ℕ) (few : shards σ ≤ 16) (wide : v.members < 2 ^ 32)
     (slots : slots_ok σ v t held d ≡ true) (met : QuorumMet σ v t held d) (H : History) (sup : Supposed σ v held d H)
     (stands : (i : ℕ) → suc i < length H.views → Succeeded H i) where
-
   last_is : last_of H ≡ sup.place
   last_is = omega (arith, (kept_last σ v t held d few wide slots met H sup stands))
 

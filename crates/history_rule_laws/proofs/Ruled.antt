@@ -57,7 +57,6 @@ still_own m own (forgot have out k j u w c) n h = still_own m own c n (and_left 
 -- ---- a plan from an orderly history
 
 module _ {S : ℕ} {G : History} (o : Orderly G) (r : Restart S G) where
-
   -- its members are the machines that are held
   held-of : (n : ℕ) → has r.w.members n ≡ true → has r.held n ≡ true
   held-of n h = subst (λ (m : ℕ). has m n ≡ true) r.next.members h

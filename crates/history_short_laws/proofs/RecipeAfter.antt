@@ -27,13 +27,10 @@ use Rattle.history_short_laws.proofs.Recipe.{start_is, past_start, and_yes, or_n
 module _ (σ : List ℕ) (v : Layout) (t : Termination) (held : ℕ) (d : List ℕ) (few : shards σ ≤ 16) (wide : v.members < 2 ^ 32)
     (slots : slots_ok σ v t held d ≡ true) (met : QuorumMet σ v t held d) (H : History) (sup : Supposed σ v held d (short_of H))
     (orderly : Orderly H) where
-
   -- a held node
   module _ (s : ℕ) (below : s < shards σ) (n : ℕ) (small : n < 32) (is_held : has held n ≡ true) where
-
     -- if it does as the recipe says, it has the holder's log up to the target
     module _ (based : Based (shards σ) H) where
-
       -- up to such a cut the node and the holder have the same
       agrees_cut : (q : Position) → 1 ≤ q.k → is_start (its_cut σ v t held d few wide slots met H sup orderly s below n small is_held) ≡ false → not_after q (its_cut σ v t held d few wide slots met H sup orderly s below n small is_held) ≡ true → H.updated n s q ≡ wanted_of v t held d H s q
       agrees_cut q from z l = ⊎_elim (λ e. (agrees_base σ v t held d few wide slots met H sup orderly s below n small is_held based) q from k.carries (omega (arith, k.number)) e) (λ e. in_kept e)

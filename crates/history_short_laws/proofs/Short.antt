@@ -74,7 +74,6 @@ module _ (v : Layout) (base : Position) (older : base.view.0 < v.number.0) where
 -- t is kept with the desk d, u with the short one
 module _ (v : Layout) (t u : Termination) (held : ℕ) (d e : List ℕ) (s : ℕ) (base : Position) (h : Shortened v held d e s base)
     (made : u.made ≡ t.made) (ended : t.made ≡ true → Shorter v base (position_at t s) (position_at u s)) where
-
   same_best : best (candidate v held d s) (end_at d s) 32 ≡ best (candidate v held e s) (end_at e s) 32
   same_best =
       best_order (candidate v held d s) (candidate v held e s) (end_at d s) (end_at e s) 32 (same_candidate v t u held d e s base h made ended)

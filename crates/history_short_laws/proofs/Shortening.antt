@@ -55,7 +55,6 @@ short_last v base (p ∷ ps) all =
 module _ (σ : List ℕ) (v : Layout) (t u : Termination) (held : ℕ) (d e : List ℕ) (few : shards σ ≤ 16) (slots : slots_ok σ v t held d ≡ true)
     (short-slots : slots_ok σ v u held e ≡ true) (H : History) (sup : Supposed σ v held d H)
     (short : (n : ℕ) → n < 32 → has held n ≡ true → True σ (short_of H) (report_of e n)) (based : Based (shards σ) H) where
-
   -- a candidate carries the shard in the kept view
   record CandidateStands (s n : ℕ) : Type 0 where
     pub is_held : has held n ≡ true

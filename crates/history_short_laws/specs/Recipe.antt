@@ -19,7 +19,6 @@ use Rattle.history_short_laws.specs.Based.{short_of}
 module _ (σ : List ℕ) (v : Layout) (t : Termination) (held : ℕ) (d : List ℕ) (few : shards σ ≤ 16) (wide : v.members < 2 ^ 32)
     (slots : slots_ok σ v t held d ≡ true) (met : QuorumMet σ v t held d) (H : History) (sup : Supposed σ v held d (short_of H))
     (orderly : Orderly H) where
-
   -- not past the target of shard s
   abbrev pub upto_target : ℕ → Position → Bool
   upto_target s q = cond (is_start (target v t held d s)) (ltb q.view.0 v.number.0) (not_after q (target v t held d s))

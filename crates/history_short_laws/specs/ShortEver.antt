@@ -19,7 +19,6 @@ module _ (σ : List ℕ) (v : Layout) (t : Termination) (held : ℕ) (d : List �
     (slots : slots_ok σ v t held d ≡ true) (met : QuorumMet σ v t held d) (H : History) (sup : Supposed σ v held d (short_of H)) (orderly : Orderly H)
     (ended : Covers σ t (short_of H)) (based : Based (shards σ) H) (w : Layout) (next : PlannedView σ v held w) (G : History)
     (c : ShortCarried σ v t held d w H G) where
-
   pub short_stands : Orderly G
   short_stands =
       record {

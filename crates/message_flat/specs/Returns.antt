@@ -11,7 +11,6 @@ use Rattle.message_flat.specs.Definitions.{has_places, places_in, runs_first, fl
 use Rattle.message_flat.specs.Records.{few, enough, place_below}
 
 module _ (σ : List ℕ) (c : Contents) (one : 1 ≤ shards σ) (most : shards σ ≤ 16) (pass : ContentsPass Report σ c) where
-
   -- masks and positions are among the records
   pub first_le : runs_first σ c ≤ c.len
   unfolding places_in

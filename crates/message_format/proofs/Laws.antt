@@ -20,7 +20,6 @@ module _ (form : Form) (σ : List ℕ) (node : ℕ) (b : List ℕ) (len : ℕ)
     (kinds : all_below len (kind_at form b) ≡ true) (within : all_below len (shard_at σ b) ≡ true)
     (rises : all_below len (sequence_at node b) ≡ true) (whole : complete form σ node b len ≡ true)
   where
-
     -- a shard is a remainder by 256
     shard_small : (s : ℕ) → s < shards σ → s < 256
     shard_small s l = let w = every_has σ b 1 len (complete_members form σ node b len whole) s l in omega (arith, w.3)

@@ -37,7 +37,6 @@ module _ (form : Form) (σ : List ℕ) (c : Contents) (buffer : List ℕ) (h : (
 
 -- what the reader found can be written, and reads back the same
 module _ (form : Form) (σ w buffer : List ℕ) (h : (reading_of form σ w).refusal ≡ none) (l : length buffer ≡ 512) where
-
   pub read_written : (writing_of form σ (reading_of form σ w).contents buffer).refusal ≡ none
   unfolding writing_of
   read_written =

@@ -25,7 +25,6 @@ same_plain p false k a b e g = rw e
 
 -- records b, told in order, and records c that are alike, told where `at` says, which is in order as far as they go
 module _ (at : ℕ → ℕ) (b c : List ℕ) (n : ℕ) (alike : SameRecords b c n) (straight : (j : ℕ) → j ≤ n → at j ≡ j) where
-
   pub records_same : (form : Form) (σ : List ℕ) (node view members : ℕ)
       → records_refusal at form σ node view members c n ≡ records_refusal in_order form σ node view members b n
   unfolding records_refusal

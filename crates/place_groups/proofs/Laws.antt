@@ -19,7 +19,6 @@ use Rattle.place_groups.specs.Laws.{sheet_row}
 -- ---- reading the sheet
 
 module _ (σ : List ℕ) (held : ℕ) (old : ℕ → ℕ) where
-
   pub sheet_entry : (s f : ℕ) → s < 16 → f < 16 → get_or (get_or (sheet_of σ held old) s []) f 0 ≡ sheet_at σ held old s f
   sheet_entry s f l k = ap (λ (r : List ℕ). get_or r f 0) ((sheet_row σ held old) s l) ∙ get_d_tabulate 16 (sheet_at σ held old s) f 0 k
 

@@ -29,7 +29,6 @@ unfolding move_cost
 move_most σ g right = omega (arith, sum_bound 16 15 (λ s. cap_in σ g s - need_in σ g s) (λ s l. spare_most σ g s right))
 
 module _ (σ : List ℕ) (held : ℕ) (old : ℕ → ℕ) (g s n : ℕ) where
-
   -- a cost is the price times that of a move
   pub cost_price : (of_group σ g s && has held n) ≡ true → cost_in σ held old g s n ≡ price_in old s n * move_cost σ g
   unfolding price_in

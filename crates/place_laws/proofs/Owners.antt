@@ -26,7 +26,6 @@ use Rattle.place_laws.specs.Shards.{group_valid_of, shard_placed}
 use Rattle.place_laws.specs.Owners.{Masked, count_size, sets_spread, owner}
 
 module _ {σ : List ℕ} {g : ℕ} {z masks : ℕ → ℕ} (k : Masked σ g z masks) where
-
   -- a node in a shard's mask is the shard's, and the other way
   mask_owner : (s n : ℕ) → of_group σ g s ≡ true → n < 32 → has (masks s) n ≡ true → z n ≡ s
   mask_owner s n o l p = eqb-true (z n) s (sym (k.bits s o n l) ∙ p)

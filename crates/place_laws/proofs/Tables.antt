@@ -34,7 +34,6 @@ costs_skip σ held old g s l o =
         (lt_or_le k (s * 32))
 
 module _ (σ : List ℕ) (held : ℕ) (old : ℕ → ℕ) (g : ℕ) where
-
   pub case_for : Settings σ → CaseFor σ held g (group_case σ held old g)
   case_for right =
       record {

@@ -20,7 +20,6 @@ unfoldable pub masks_with : List ℕ → ℕ → List ℕ → List ℕ → List 
 masks_with σ g o masks = tabulate 16 (λ s. mask_with σ g o (get_or masks s 0) s)
 
 module _ (σ : List ℕ) (g : ℕ) (o masks : List ℕ) where
-
   pub with-length : length (masks_with σ g o masks) ≡ 16
   unfolding masks_with
   with-length = length_tabulate 16 (λ s. mask_with σ g o (get_or masks s 0) s)

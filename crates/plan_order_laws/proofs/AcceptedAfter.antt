@@ -23,9 +23,7 @@ use Rattle.plan_order_laws.proofs.Accepted.{ps, k, head_passes}
 
 module _ (σ : List ℕ) (v : Layout) (t : Termination) (held : ℕ) (d : List ℕ) (p : Plan) (w : Settings σ) (kept : kept_sound σ v t held ≡ true)
     (slots : slots_ok σ v t held d ≡ true) (plan : plan_sound σ v t held d p ≡ true) where
-
   module _ (n : ℕ) (mine : has held n ≡ true) where
-
     contents_pass : ContentsPass Order σ (order_contents σ p d n)
     unfolding order_contents
     contents_pass =

@@ -80,7 +80,6 @@ module _ (σ : List ℕ) (v : Layout) (t : Termination) (held : ℕ) (d : List �
       record { words = e; below = m; chained = (message_given Report σ (slot d n) (slot_given σ v t held d slots n m h).valid).chain_passes }
 
   module _ (n : ℕ) (mine : has held n ≡ true) where
-
     cut_legal : (s : ℕ) → s < shards σ → LegalEnd (target_at p s).view.0 (cut_of p d n s)
     cut_legal s l =
         let own = held_runs s n l (omega (arith, (node_below σ v t held d p w k slots ps n mine), w.sizes.nodes_to)) mine in

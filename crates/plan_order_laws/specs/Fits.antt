@@ -13,7 +13,6 @@ use Rattle.plan_order_laws.specs.Sound.{KeptView, SoundPlan}
 
 module _ (σ : List ℕ) (v : Layout) (t : Termination) (held : ℕ) (d : List ℕ) (p : Plan) (w : Settings σ) (k : KeptView σ v t held)
     (slots : slots_ok σ v t held d ≡ true) (ps : SoundPlan σ v t held d p) where
-
   module _ (n : ℕ) (mine : has held n ≡ true) where
     -- a held node is below N
     pub node_below : n < nodes σ

@@ -28,7 +28,6 @@ group_sum σ g f few =
     ∙ sym (sum_past (shards σ) 16 (λ s. cond (of_group σ g s) (f s) 0) few (λ s l m. ap (λ (b : Bool). cond b (f s) 0) (group_past σ g s l)))
 
 module _ {σ τ : List ℕ} {g : ℕ} (few : shards σ ≤ 16) (few' : shards τ ≤ 16) (k : AlikeGroup σ τ g) where
-
   -- sums over g's shards of what old and new masks give
   module _ {old older : ℕ → ℕ} (same : (s : ℕ) → of_group σ g s ≡ true → old s ≡ older s) (f : ℕ → ℕ → ℕ) (masks : ℕ → ℕ) where
     pub sums_alike : sum_below (shards σ) (λ s. cond (eqb (subgroup σ s) g) (f (masks s) (old s)) 0)

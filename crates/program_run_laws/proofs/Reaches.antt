@@ -30,7 +30,6 @@ reaches_opened d w h =
 
 -- a report
 module _ (σ : List ℕ) (x : State) (d w : List ℕ) (g : Gathers σ x d) where
-
   ended_number : accepted (report_refusal σ x d w) ≡ false → CanReach (Ended (report_refusal σ x d w) d)
   unfolding CanReach
   ended_number e =

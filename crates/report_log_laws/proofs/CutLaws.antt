@@ -20,12 +20,10 @@ use Rattle.report_log_laws.specs.CutLaws.{node_log, this_cut, log_rising}
 -- ---- the cut
 
 module _ (b : List ℕ) (len : ℕ) (hb : List ℕ) (hlen s : ℕ) (t : Position) where
-
   abbrev pub holder_log : List Position
   holder_log = updates_of hb s hlen
 
   module _ (own : Runs b len s) (holder : Runs hb hlen s) where
-
     to_wanted : updates_in (runs_to t (runs_of hb s hlen)) ≡ up_to t holder_log
     to_wanted = updates_to t 0 (runs_of hb s hlen) (runs_rises hb hlen s holder)
 

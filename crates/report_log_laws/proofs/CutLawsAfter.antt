@@ -21,9 +21,7 @@ use Rattle.report_log_laws.proofs.CutLaws.{holder_log, kept_fetched, kept_longes
 -- ---- the cut
 
 module _ (b : List ℕ) (len : ℕ) (hb : List ℕ) (hlen s : ℕ) (t : Position) where
-
   module _ (own : Runs b len s) (holder : Runs hb hlen s) where
-
     -- update by update: a node has an update after the fetch just where the holder has it, up to the target
     pub kept_or_fetched : (p : Position)
         → (not_after p (this_cut b len hb hlen s t) && holds b len s p

@@ -12,7 +12,6 @@ use Rattle.report_views.specs.Definitions.{start, holder_at, target_at, same_pos
 use Rattle.report_views.specs.PlanLaws.{same_shard, holders_at, targets_at}
 
 module _ (σ : List ℕ) (v : Layout) (t : Termination) (held : ℕ) (d : List ℕ) where
-
   pub planned_same : (p : Plan) (s : ℕ) → s < 16
       → same_shard p (holders_of σ v t held d) (targets_of σ v t held d) s ≡ shard_planned σ v t held d p s
   unfolding same_shard shard_planned

@@ -15,7 +15,6 @@ use Rattle.search_laws.specs.Shards.{size_in, size_by_set, unmet_nodes}
 use Rattle.search_laws.specs.Lesser.{Exact, kept_only, narrow_moves, apart, narrow}
 
 module _ (K : Case) (z : ℕ → ℕ) where
-
   -- an exact placement has at most one node of a set in a shard
   exact_once : Exact K z → (i f : ℕ) → i < 16 → size_in K z i f ≤ 1
   unfolding size_in
@@ -30,7 +29,6 @@ module _ (K : Case) (z : ℕ → ℕ) where
       set n e = eqb-true (K.set_of n) f (and_right (eqb (z n) i) (eqb (K.set_of n) f) e)
 
   module _ (small : (n : ℕ) → n < 32 → K.set_of n < 16) where
-
     -- an exact placement is valid
     exact_spread : Exact K z → (i : ℕ) → i < 16 → size z i ≤ spread K z i
     unfolding spread

@@ -9,9 +9,7 @@ use Rattle.search_laws.specs.Order.{First}
 use Rattle.search_laws.specs.Ranks.{Priced, BestPlaced, spare, placed_close, weight_is, placed_is}
 
 module _ (K : Case) (small : (n : ℕ) → n < 32 → K.set_of n < 16) where
-
   module _ {w : ℕ} {price : ℕ → ℕ → ℕ} (wide : spare K < w) (p : Priced K w price) where
-
     -- fewer moves weigh less
     fewer : (y z : ℕ → ℕ) → Valid K y → Valid K z → moves price y < moves price z → weight K y < weight K z
     fewer y z v u h =

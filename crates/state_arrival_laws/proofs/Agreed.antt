@@ -34,7 +34,6 @@ position_equal p q h =
 -- ---- what two messages of one view give to be kept
 
 module _ (σ : List ℕ) (few : shards σ ≤ 16) (b c : Contents) where
-
   position_agrees : terminated σ c ≡ true → same_termination σ (termination_of σ c) b ≡ true → (s : ℕ) → s < shards σ → terminated_at σ b s ≡ terminated_at σ c s
   unfolding same_termination
   position_agrees m h s l =
@@ -61,7 +60,6 @@ module _ (σ : List ℕ) (few : shards σ ≤ 16) (b c : Contents) where
 
 -- v with t was kept before; u with r, and y with z, are kept after the same messages
 module _ (σ : List ℕ) (v : Layout) (t : Termination) (ws : List (List ℕ)) (u : Layout) (r : Termination) (y : Layout) (z : Termination) where
-
   -- nor is the termination of the same view
   termination_apart : {A : Type 0} → u ≡ y → OldTermination v t ws u r → NewTermination σ v t ws y z → A
   termination_apart e o k =
@@ -73,7 +71,6 @@ module _ (σ : List ℕ) (v : Layout) (t : Termination) (ws : List (List ℕ)) (
 
   -- every message fits both
   module _ (few : shards σ ≤ 16) (fits : (w : List ℕ) → OneOf w ws → Fits σ u r (contents_of w)) (also : (w : List ℕ) → OneOf w ws → Fits σ y z (contents_of w)) where
-
     terminations_equal : u ≡ y → (k : NewTermination σ v t ws u r) (l : NewTermination σ v t ws y z)
         → termination_of σ (contents_of k.message) ≡ termination_of σ (contents_of l.message)
     unfolding termination_of
@@ -91,7 +88,6 @@ module _ (σ : List ℕ) (v : Layout) (t : Termination) (ws : List (List ℕ)) (
 
 module _ (σ : List ℕ) (few : shards σ ≤ 16) (v : Layout) (t : Termination) (ws : List (List ℕ)) (u : Layout) (r : Termination) (y : Layout) (z : Termination)
     (fits : (w : List ℕ) → OneOf w ws → Fits σ u r (contents_of w)) (also : (w : List ℕ) → OneOf w ws → Fits σ y z (contents_of w)) where
-
   termination-of : u ≡ y → OldTermination v t ws u r ⊎ NewTermination σ v t ws u r → OldTermination v t ws y z ⊎ NewTermination σ v t ws y z → r ≡ z
   termination-of e (inl o) (inl n) = o.given ∙ sym n.given
   termination-of e (inl o) (inr l) = termination_apart σ v t ws u r y z e o l

@@ -16,7 +16,6 @@ module _ (σ : List ℕ) {A : Type 0} (cell : State → List ℕ → ℕ → A) 
     (own : (x : State) (d w : List ℕ) → report_refusal σ x d w ≡ none → cell (reported σ x d w).state (desk_after σ x d w) (sender w) ≡ mark w)
     (other : (x : State) (d w : List ℕ) → report_refusal σ x d w ≡ none → (n : ℕ) → inside n → (n ≡ sender w → ⊥)
     → cell (reported σ x d w).state (desk_after σ x d w) n ≡ cell x d n) where
-
   -- the entry of a sender
   pub cell_of : {x : State} {d : List ℕ} {ws : List (List ℕ)} {y : State} {e : List ℕ} → AllTaken σ x d ws y e → OneEach ws → (w : List ℕ) → OneOf w ws
       → inside (sender w) → cell y e (sender w) ≡ mark w

@@ -101,7 +101,6 @@ module _ {σ : List ℕ} {x : State} {d : List ℕ} {n : ℕ} {r : DecidedWithin
 -- ---- the states that are reached
 
 module _ (σ : List ℕ) where
-
   pub reached_led : {x : State} {d : List ℕ} (r : Reached σ x d) → LedTo ((happened_on σ) r) x
   unfolding happened_on
   reached_led (reached.starting d s l) = events.begun

@@ -15,7 +15,6 @@ use Rattle.state_laws.specs.Parts.{SoundState, sound_given, sound-test, node_giv
 use Rattle.state_laws.specs.AfterDrop.{kept_fewer, slots_fewer, latest_fewer, fewer_sound}
 
 module _ (σ : List ℕ) (x : State) (d : List ℕ) (n : ℕ) (before : SoundState σ x d) where
-
   -- gathering anew
   restarted_sound : sound σ (restarted x) d ≡ true
   unfolding restarted marks_sound plan_fits plan_blank layout_blank all_below

@@ -10,7 +10,6 @@ use Rattle.state_laws.specs.Noting.{RecallsReports, report_exact}
 use Rattle.state_laws.specs.AfterReport.{taken, node_32, words, message_words}
 
 module _ (σ : List ℕ) (x : State) (d w : List ℕ) (h : report_refusal σ x d w ≡ none) where
-
   -- of each held node the view of its report is remembered, if it was so before
   pub report_recalled : RecallsReports x.held d x.latest
       → RecallsReports (after_report σ x (contents_of w)).held (desk_with d (get_or w 0 0) w) (after_report σ x (contents_of w)).latest

@@ -31,7 +31,6 @@ pub data Reached (σ : List ℕ) : State → List ℕ → Type 0 where
   preparing : (x : State) (d : List ℕ) (n : ℕ) → Reached σ x d → prepared_refusal σ x d n ≡ none → Reached σ (after_prepared x n) d
 
 module _ (σ : List ℕ) where
-
   pub reached_settings : {x : State} {d : List ℕ} → Reached σ x d → settings_ok σ ≡ true
   reached_settings (starting d s l) = s
   reached_settings (reporting x d w r h) = reached_settings r

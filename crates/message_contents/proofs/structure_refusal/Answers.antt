@@ -39,8 +39,12 @@ returns-then-place-len c = let a = c.args in
 
 pub complete-requires : goal.complete-requires
 complete-requires c = let a = c.args in
-    let shards = c.shards-shard in record { settings = search rules; len_bound = search rules; small_shards = shards_small a.settings.now a.body.now a.len (search rules)
-            (bad-holds a.len (shard_at a.settings.now a.body.now) shards.result shards.ensures c.if-shard-len.false) }
+    let shards = c.shards-shard in record {
+      settings = search rules;
+      len_bound = search rules;
+      small_shards = shards_small a.settings.now a.body.now a.len (search rules)
+          (bad-holds a.len (shard_at a.settings.now a.body.now) shards.result shards.ensures c.if-shard-len.false);
+    }
 
 pub returns-then-not-complete : goal.returns-then-not-complete
 returns-then-not-complete c = let a = c.args in
