@@ -3,7 +3,8 @@
 use Rattle.std.specs.Prelude.{ℕ, Bool, true, false, cond, not, ◌&&◌, ◌||◌, List, [], ◌∷◌, ◌++◌, ◌⊎◌, ◌≡◌, refl, eqb}
 use Rattle.std.proofs.Common.{inl, inr, ⊎_elim, sym, ap, ap₂, ◌∙◌, subst, eqb-true, eq-eqb}
 use Rattle.base_laws.specs.Bools.{either, clash, no_true, and_both, and_left, and_right, or_left, or_right, of_not_true, not_of_false}
-use Rattle.base_laws.specs.Positions.{not_after_refl, not_after_total}
+use Rattle.base_laws.specs.Positions.{not_after_refl}
+use Rattle.base_laws.proofs.Positions.{not_after_total}
 use Rattle.base_ids.specs.declared.Position.{Position}
 use Rattle.base_ids.specs.Definitions.{not_after}
 use Rattle.base_ids.specs.Order.{order_trans}
@@ -112,20 +113,20 @@ pub shared_up : (a : Position) (ps qs : List Position) → rises_after a ps ≡ 
 unfolding shared_stretch last_after those_of
 shared_up a [] qs h g = (refl, none_up_to a a qs g (order_refl a))
 shared_up a (p ∷ ps) [] h g = (none_up_to a a (p ∷ ps) h (order_refl a), refl)
-shared_up a (p ∷ ps) (q ∷ qs) h g = go (λ w. shared_up p ps qs (rises_rest a p ps h) w) (either (same_position p q))
+shared_up a (p ∷ ps) (q ∷ qs) h g = go (λ w. shared_up p ps qs (rises_rest a p ps h) w) (same_position p q) refl
   where
     go : (rises_after p qs ≡ true → (up_to (last_after p (shared_stretch ps qs)) ps ≡ shared_stretch ps qs) × (up_to (last_after p (shared_stretch ps qs)) qs ≡ shared_stretch ps qs))
-        → (same_position p q ≡ true) ⊎ (same_position p q ≡ false)
-        → (up_to (last_after a (cond (same_position p q) (p ∷ shared_stretch ps qs) [])) (p ∷ ps) ≡ cond (same_position p q) (p ∷ shared_stretch ps qs) [])
-        × (up_to (last_after a (cond (same_position p q) (p ∷ shared_stretch ps qs) [])) (q ∷ qs) ≡ cond (same_position p q) (p ∷ shared_stretch ps qs) [])
-    go on (inl e) =
+        → (b : Bool) → same_position p q ≡ b
+        → (up_to (last_after a (cond b (p ∷ shared_stretch ps qs) [])) (p ∷ ps) ≡ cond b (p ∷ shared_stretch ps qs) [])
+        × (up_to (last_after a (cond b (p ∷ shared_stretch ps qs) [])) (q ∷ qs) ≡ cond b (p ∷ shared_stretch ps qs) [])
+    go on true e =
         let same = one_same p q e in
         let c = last_after p (shared_stretch ps qs) in
         let within : not_after p c ≡ true = last_no_earlier p (shared_stretch ps qs) (shared_rises p ps qs (rises_rest a p ps h)) in
         let within-q : not_after q c ≡ true = subst (λ (x : Position). not_after x c ≡ true) same within in
         let rest = on (subst (λ (x : Position). rises_after x qs ≡ true) (sym same) (rises_rest a q qs g)) in
-        rw (e, within, within-q) (ap (λ (zs : List Position). p ∷ zs) rest.0, ap₂ (λ (x : Position) (zs : List Position). x ∷ zs) (sym same) rest.1)
-    go on (inr e) = rw e (none_up_to a a (p ∷ ps) h (order_refl a), none_up_to a a (q ∷ qs) g (order_refl a))
+        rw (within, within-q) (ap (λ (zs : List Position). p ∷ zs) rest.0, ap₂ (λ (x : Position) (zs : List Position). x ∷ zs) (sym same) rest.1)
+    go on false e = (none_up_to a a (p ∷ ps) h (order_refl a), none_up_to a a (q ∷ qs) g (order_refl a))
 
 pub shared_turned : (ps qs : List Position) → shared_stretch ps qs ≡ shared_stretch qs ps
 unfolding shared_stretch

@@ -3,7 +3,8 @@ use Rattle.std.proofs.Common.{ℕ, ◌≡◌, ◌-◌, sym, ap, ◌∙◌, arith
 use Rattle.base_laws.specs.Definitions.{has, with, without}
 use Rattle.base_laws.specs.Bools.{and_both, and_fails_left, and_fails_right, or_left, or_right, not_of_false}
 use mathlib.Core.Bool.{not, ◌&&◌}
-use Rattle.base_laws.specs.Below.{all_none, any_none, any_more, all_more}
+use Rattle.base_laws.specs.Below.{all_none, any_none, any_more}
+use Rattle.base_laws.proofs.Below.{all_more}
 use Rattle.base_laws.specs.Masks.{with_lt}
 use Rattle.game_rules.specs.Turns.{absent, outage_turn, crew_turn, saves, survives}
 use Rattle.game_turns.specs.Table.{plan_at}

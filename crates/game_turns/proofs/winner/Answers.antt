@@ -5,7 +5,8 @@ use mathlib.Core.Path.{◌≡◌, sym, ap, ◌∙◌, subst⁻¹}
 use native.Mathlib.Omega.{arith}
 use Rattle.base_laws.specs.Bools.{or_left, or_right, not_of_false}
 use Rattle.base_laws.specs.Definitions.{has, without}
-use Rattle.base_laws.specs.Below.{all_none, all_more}
+use Rattle.base_laws.specs.Below.{all_none}
+use Rattle.base_laws.proofs.Below.{all_more}
 use Rattle.base_laws.specs.Masks.{without_lt}
 use Rattle.game_rules.specs.Turns.{crew_turn, survives}
 use Rattle.game_turns.specs.Table.{plan_at}

@@ -42,10 +42,10 @@ returns-then-not-end c =
     })
 
 pub masks_with-masks-requires : goal.masks_with-masks-requires
-masks_with-masks-requires c = c.requires.0
+masks_with-masks-requires c = c.requires.settings
 
 pub group_moves-total-requires : goal.group_moves-total-requires
-group_moves-total-requires c = c.requires.0
+group_moves-total-requires c = c.requires.settings
 
 pub overflow_add-total : goal.overflow_add-total
 overflow_add-total c =

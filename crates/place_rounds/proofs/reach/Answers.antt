@@ -58,7 +58,7 @@ returns-then-rounds-eq0 c =
     }
 
 pub moves_of-weight-requires : goal.moves_of-weight-requires
-moves_of-weight-requires c = c.requires.0
+moves_of-weight-requires c = c.requires.settings
 
 pub onward-best-requires : goal.onward-best-requires
 onward-best-requires c =
@@ -73,9 +73,12 @@ onward-best-requires c =
     let k = subst (λ (K : Case). WithinAnswer K 0 u.result) t u.ensures in
     let f = c.floor-floor in
     let v = c.moves_of-weight in
-    let l = floor_told a.settings.now a.held o a.g p.0 p.1.0 n.result a.sheet.now f.result n.ensures p.1.1 f.ensures in record { low = subst (λ (K : Case). Low K f.result) (sym i)
-          (subst (Low (round_case a.settings.now a.held o a.g 1)) (sym l) (low_floor a.settings.now a.held o a.g p.0 p.1.0)); weighed = subst (λ (K : Case). Weighed K (record { exists = true; weight = v.result; owners = u.result.owners })) (sym i)
-          (start_weighed a.settings.now a.held o a.g p.0 p.1.0 u.result k (c.if-not-first.false) v.result v.ensures) }
+    let l = floor_told a.settings.now a.held o a.g p.0 p.1.0 n.result a.sheet.now f.result n.ensures p.1.1 f.ensures in record {
+      low = subst (λ (K : Case). Low K f.result) (sym i)
+          (subst (Low (round_case a.settings.now a.held o a.g 1)) (sym l) (low_floor a.settings.now a.held o a.g p.0 p.1.0));
+      weighed = subst (λ (K : Case). Weighed K (record { exists = true; weight = v.result; owners = u.result.owners })) (sym i)
+          (start_weighed a.settings.now a.held o a.g p.0 p.1.0 u.result k (c.if-not-first.false) v.result v.ensures);
+    }
 
 pub returns : goal.returns
 returns c =

@@ -6,15 +6,16 @@ use lib.ListN.{get_or}
 use borrow.Author.Tests.{not-true, not-false}
 use Rattle.base_laws.specs.Masks.{has_past}
 use Rattle.settings_values.specs.Definitions.{nodes}
-use Rattle.place_groups.specs.Laws.{entry_none, entry_moves}
-use Rattle.place_laws.specs.Cases.{group_shard, shard_below, cost_away, cost_told}
+use Rattle.place_groups.proofs.Laws.{entry_none, entry_moves}
+use Rattle.place_laws.specs.Cases.{group_shard, shard_below, cost_away}
+use Rattle.place_laws.proofs.Cases.{cost_told}
 use Rattle.place_tables.proofs.cost_at.Goals as goal
 
 pub returns-then-n-nodes : goal.returns-then-n-nodes
 returns-then-n-nodes c =
     let a = c.args in
     sym (cost_away a.settings.now a.held (λ i. get_or a.old.now i 0) a.g a.s a.n
-    (has_past a.held (nodes a.settings.now) a.n c.requires.1.0 (omega (arith, c.nodes.ensures))))
+    (has_past a.held (nodes a.settings.now) a.n c.requires.held_bound (omega (arith, c.nodes.ensures))))
 
 pub entry-least-requires : goal.entry-least-requires
 entry-least-requires c =

@@ -5,9 +5,10 @@ use mathlib.Core.Path.{◌≡◌, sym, ap, ◌∙◌}
 use mathlib.Core.Logic.{⊎_elim}
 use native.Mathlib.Omega.{arith}
 use lib.ListN.{get_or}
-use Rattle.base_laws.specs.Tables.{fill_start, fill_end}
+use Rattle.base_laws.proofs.Tables.{fill_start, fill_end}
 use Rattle.place_laws.specs.Cases.{cost_in}
-use Rattle.place_laws.specs.Tables.{costs_below, costs_skip}
+use Rattle.place_laws.specs.Tables.{costs_below}
+use Rattle.place_laws.proofs.Tables.{costs_skip}
 use Rattle.place_tables.proofs.costs.Goals as goal
 
 pub loop-s-init : goal.loop-s-init

@@ -5,7 +5,7 @@ use Prim.Native.Nat.{ℕ, ◌<◌}
 use native.Mathlib.Omega.{arith}
 use lib.ListN.{get_or}
 use Rattle.settings_values.specs.Definitions.{set_of}
-use Rattle.place_groups.specs.Laws.{sheet_entry}
+use Rattle.place_groups.proofs.Laws.{sheet_entry}
 use Rattle.place_tables.proofs.entry.Goals as goal
 
 pub bounds-sheet-f : goal.bounds-sheet-f

@@ -9,4 +9,4 @@ returns c = let s = c in
     let a = s.args in
     λ e σ v t right tables.
     walked_kept σ v t a.message.now a.tables right tables (λ k. omega (arith, c.type_inv.message k)) c.pairs-b.ensures c.told-n.ensures
-    s.requires.0.1 s.requires.0.2 (ltb-true _ _ e)
+    s.requires.in_bounds.1 s.requires.in_bounds.2 (ltb-true _ _ e)

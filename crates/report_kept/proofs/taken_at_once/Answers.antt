@@ -4,7 +4,6 @@ use mathlib.Core.Path.{◌≡◌, sym, ◌∙◌, subst}
 use native.Mathlib.Omega.{arith}
 use lib.Dec.{leb}
 use lib.ListN.{get_or}
-use Rattle.base_laws.specs.Bools.{of_not_false}
 use Rattle.base_ids.specs.declared.View.{View}
 use Rattle.report_rows.specs.Definitions.{latest_at}
 use Rattle.report_kept.specs.AtOnce.{taken_at_once}
@@ -37,6 +36,6 @@ returns c =
     let o = c.of_kept in
     λ e σ v t right tables. record {
       some = omega (arith, c.if-n-lt4.false);
-      stays = taken_at_once σ v t a.latest a.message.now (o.ensures (of_not_false o.result c.if-not-of_kept.false) σ v t right tables)
+      stays = taken_at_once σ v t a.latest a.message.now (o.ensures c.if-not-of_kept.false σ v t right tables)
           (subst (λ (x : View). leb (latest_at a.latest (get_or a.message.now 0 0)) x.0 ≡ true) tables.number (sym c.row18.ensures ∙ e));
     }

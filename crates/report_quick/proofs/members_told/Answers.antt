@@ -4,7 +4,7 @@ use mathlib.Core.Bool.{false≢true}
 use mathlib.Core.Logic.{⊎_elim}
 use mathlib.Core.Path.{sym, subst}
 use native.Mathlib.Omega.{arith}
-use Rattle.base_laws.specs.Bools.{eq_or_ne, of_not_false}
+use Rattle.base_laws.specs.Bools.{eq_or_ne}
 use Rattle.report_quick.specs.Told.{MemberTold}
 use borrow.Author.Rules.{rules}
 use Rattle.report_quick.proofs.members_told.Goals as goal
@@ -19,7 +19,7 @@ returns-then-not-member_told c =
 
 pub loop-s-preserved : goal.loop-s-preserved
 loop-s-preserved c =
-    (omega arith, λ j l. ⊎_elim (λ e. subst (MemberTold c.args.w.now) (sym e) (c.member_told.ensures (of_not_false c.member_told.result c.if-not-member_told.false))) (λ e. c.loop-s.invariant.1 j (omega arith)) (eq_or_ne j c.loop-s.s))
+    (omega arith, λ j l. ⊎_elim (λ e. subst (MemberTold c.args.w.now) (sym e) (c.member_told.ensures c.if-not-member_told.false)) (λ e. c.loop-s.invariant.1 j (omega arith)) (eq_or_ne j c.loop-s.s))
 
 pub returns : goal.returns
 returns c =

@@ -4,7 +4,7 @@ use mathlib.Core.Bool.{false≢true}
 use mathlib.Core.Logic.{⊎_elim}
 use mathlib.Core.Path.{sym, subst}
 use native.Mathlib.Omega.{arith}
-use Rattle.base_laws.specs.Bools.{eq_or_ne, of_not_false}
+use Rattle.base_laws.specs.Bools.{eq_or_ne}
 use Rattle.report_quick.specs.Told.{PositionTold}
 use borrow.Author.Rules.{rules}
 use Rattle.report_quick.proofs.positions_told.Goals as goal
@@ -19,7 +19,7 @@ returns-then-not-position_told c =
 
 pub loop-s-preserved : goal.loop-s-preserved
 loop-s-preserved c =
-    (omega arith, λ j l. ⊎_elim (λ e. subst (λ (i : ℕ). PositionTold c.args.w.now c.args.view (c.args.count + i) i) (sym e) (c.position_told.ensures (of_not_false c.position_told.result c.if-not-position_told.false))) (λ e. c.loop-s.invariant.1 j (omega arith)) (eq_or_ne j c.loop-s.s))
+    (omega arith, λ j l. ⊎_elim (λ e. subst (λ (i : ℕ). PositionTold c.args.w.now c.args.view (c.args.count + i) i) (sym e) (c.position_told.ensures c.if-not-position_told.false)) (λ e. c.loop-s.invariant.1 j (omega arith)) (eq_or_ne j c.loop-s.s))
 
 pub returns : goal.returns
 returns c =

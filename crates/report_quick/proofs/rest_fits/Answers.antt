@@ -4,7 +4,6 @@ use mathlib.Core.Bool.{false≢true}
 use mathlib.Core.Logic.{inl, inr}
 use mathlib.Core.Path.{refl}
 use borrow.Author.Tests.{leb-true}
-use Rattle.base_laws.specs.Bools.{of_not_false}
 use Rattle.report_quick.proofs.rest_fits.Goals as goal
 
 pub returns-then-w-count-ne2 : goal.returns-then-w-count-ne2
@@ -20,6 +19,6 @@ returns c = let a = c.args in
     λ e. record {
       front = a.count + a.count;
       last = c.runs_told-2.result;
-      positions = inr (refl, p.ensures (of_not_false p.result c.if-not-positions_told.false));
+      positions = inr (refl, p.ensures c.if-not-positions_told.false);
       runs = c.runs_told-2.ensures (leb-true _ _ e);
     }

@@ -1,7 +1,6 @@
 -- `report_quick::run_fits` meets its contract.
 use mathlib.Core.Bool.{false≢true}
 use native.Mathlib.Omega.{arith}
-use Rattle.base_laws.specs.Bools.{of_not_false}
 use borrow.Author.Tests.{leb-true}
 use Rattle.report_quick.proofs.run_fits.Goals as goal
 
@@ -27,4 +26,4 @@ returns-then-view-v c =
 
 pub returns : goal.returns
 returns c =
-    λ e. record { rises = c.rises.ensures (of_not_false c.rises.result c.if-not-rises.false); low = omega arith; high = omega arith; view_from = omega arith; view_to = omega arith; some = leb-true 1 _ e }
+    λ e. record { rises = c.rises.ensures c.if-not-rises.false; low = omega arith; high = omega arith; view_from = omega arith; view_to = omega arith; some = leb-true 1 _ e }

@@ -3,7 +3,7 @@ use Prim.Native.Nat.{ℕ, ◌+◌, ◌*◌, ◌-◌}
 use mathlib.Core.Logic.{⊎_elim}
 use mathlib.Core.Path.{sym, ap, subst}
 use native.Mathlib.Omega.{arith}
-use Rattle.base_laws.specs.Bools.{eq_or_ne, of_not_false}
+use Rattle.base_laws.specs.Bools.{eq_or_ne}
 use lib.ListN.{get_or}
 use Rattle.report_quick.specs.Told.{RunFits, RunTold}
 use borrow.Author.Rules.{rules}
@@ -36,7 +36,7 @@ loop-i-preserved c = (
         linked = c.if-w-i.false;
         fits = subst (λ (x : ℕ). RunFits x (get_or c.args.w.now (4 * c.loop-i.i + 1) 0) (get_or c.args.w.now (4 * c.loop-i.i + 4) 0) (get_or c.args.w.now (4 * c.loop-i.i + 5) 0) (get_or c.args.w.now (4 * c.loop-i.i + 6) 0) c.args.count c.args.view) c.loop-i.invariant.2
             (subst (λ (x : ℕ). RunFits c.loop-i.tag x (get_or c.args.w.now (4 * c.loop-i.i + 4) 0) (get_or c.args.w.now (4 * c.loop-i.i + 5) 0) (get_or c.args.w.now (4 * c.loop-i.i + 6) 0) c.args.count c.args.view) c.loop-i.invariant.3
-            (c.run_fits.ensures (of_not_false c.run_fits.result c.if-not-run_fits.false)));
+            (c.run_fits.ensures c.if-not-run_fits.false));
       }))
       (λ e. c.loop-i.invariant.4 j k (omega arith)) (eq_or_ne j c.loop-i.i),
 )

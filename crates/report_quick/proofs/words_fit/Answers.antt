@@ -3,7 +3,6 @@ use Prim.Native.Nat.{ℕ}
 use mathlib.Core.Bool.{false≢true}
 use mathlib.Core.Path.{subst}
 use native.Mathlib.Omega.{arith}
-use Rattle.base_laws.specs.Bools.{of_not_false}
 use Rattle.report_quick.specs.Accepts.{RestFits}
 use Rattle.report_quick.proofs.words_fit.Goals as goal
 
@@ -22,8 +21,8 @@ returns c = let head = c.head_told in
     let masks = c.masks_fit in
     let count = c.shards-count.ensures in
     λ e. record {
-      head = head.ensures (of_not_false head.result c.if-not-head_told.false);
-      members = λ s l. members.ensures (of_not_false members.result c.if-not-members_told.false) s (omega (arith, count));
-      masks = masks.ensures (of_not_false masks.result c.if-not-masks_fit.false);
+      head = head.ensures c.if-not-head_told.false;
+      members = λ s l. members.ensures c.if-not-members_told.false s (omega (arith, count));
+      masks = masks.ensures c.if-not-masks_fit.false;
       rest = subst (λ (x : ℕ). RestFits x c.args.w.now) count (c.rest_fits.ensures e);
     }

@@ -1,7 +1,6 @@
 -- `report_walk::front_told` meets its contract.
 use mathlib.Core.Bool.{false≢true}
 use Rattle.std.proofs.Common.{sym, ◌∙◌, eqb-true}
-use Rattle.base_laws.specs.Bools.{of_not_false}
 use Rattle.report_walk.proofs.front_told.Goals as goal
 
 pub returns-then-b-joined : goal.returns-then-b-joined
@@ -18,11 +17,11 @@ returns-then-not-same_records c = λ e. absurd (false≢true e)
 
 pub returns : goal.returns
 returns c = λ e. record {
-  head_front = c.if-b-joined.false ∙ c.joined.ensures.0;
-  head_back = c.if-b-joined-2.false ∙ c.joined-2.ensures.0;
-  node_fits = c.joined.ensures.1;
-  members_fit = c.joined-2.ensures.1;
-  member = sym c.has.ensures ∙ of_not_false c.has.result c.if-not-has.false;
-  same = c.same_records.ensures (of_not_false c.same_records.result c.if-not-same_records.false);
+  head_front = c.if-b-joined.false ∙ c.joined.ensures.value;
+  head_back = c.if-b-joined-2.false ∙ c.joined-2.ensures.value;
+  node_fits = c.joined.ensures.low_bound;
+  members_fit = c.joined-2.ensures.low_bound;
+  member = sym c.has.ensures ∙ c.if-not-has.false;
+  same = c.same_records.ensures c.if-not-same_records.false;
   last = sym c.low.ensures ∙ eqb-true _ 0 e;
 }

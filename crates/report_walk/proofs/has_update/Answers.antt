@@ -23,7 +23,7 @@ returns-then-run_has c = let a = c.args in
     let k = c.run_has in
     let f = c.joined-front in
     update_found a.b.now a.n a.s a.goal c.if-goal-eq0.false c.if-k-lt1.false f.result
-    (f.ensures.0 ∙ ap (λ (x : ℕ). 768 + a.s + 4294967296 * x) c.high.ensures) true
+    (f.ensures.value ∙ ap (λ (x : ℕ). 768 + a.s + 4294967296 * x) c.high.ensures) true
     (any_at a.n (run_has a.b.now f.result (a.goal % 4294967296)) c.loop-j.j c.loop-j-test.true (sym k.ensures ∙ c.if-run_has.true))
 
 pub loop-j-preserved : goal.loop-j-preserved
@@ -38,5 +38,5 @@ returns c = let a = c.args in
     let f = c.joined-front in
     let e : l.j ≡ a.n = omega (arith, l.invariant.0, c.loop-j-test.false) in
     update_found a.b.now a.n a.s a.goal c.if-goal-eq0.false c.if-k-lt1.false f.result
-    (f.ensures.0 ∙ ap (λ (x : ℕ). 768 + a.s + 4294967296 * x) c.high.ensures) false
+    (f.ensures.value ∙ ap (λ (x : ℕ). 768 + a.s + 4294967296 * x) c.high.ensures) false
     (ap (λ (x : ℕ). any_below x (run_has a.b.now f.result (a.goal % 4294967296))) (sym e) ∙ l.invariant.1)

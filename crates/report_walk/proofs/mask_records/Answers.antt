@@ -13,7 +13,7 @@ loop-s-preserved c =
     let l = c.loop-s in (
       omega arith,
       length-set (set l.list (2 * l.s) c.joined.result) (2 * l.s + 1) c.joined-in-loop-s.result ∙ (length-set l.list (2 * l.s) c.joined.result ∙ l.invariant.1),
-      records_turn (λ j. 256 + j + 4294967296 * get_or a.masks.now j 0) (λ j. 4294967296 * (j + 2)) l.list l.s c.joined.result c.joined-in-loop-s.result l.invariant.1 c.loop-s-test.true c.joined.ensures.0 (omega (arith, c.joined-in-loop-s.ensures.0)) l.invariant.2,
+      records_turn (λ j. 256 + j + 4294967296 * get_or a.masks.now j 0) (λ j. 4294967296 * (j + 2)) l.list l.s c.joined.result c.joined-in-loop-s.result l.invariant.1 c.loop-s-test.true c.joined.ensures.value (omega (arith, c.joined-in-loop-s.ensures.value)) l.invariant.2,
     )
 
 pub returns : goal.returns

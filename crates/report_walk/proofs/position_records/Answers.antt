@@ -15,8 +15,8 @@ loop-s-preserved c =
     let l = c.loop-s in (
       omega arith,
       length-set (set l.list (2 * l.s) c.joined.result) (2 * l.s + 1) c.joined-in-loop-s.result ∙ (length-set l.list (2 * l.s) c.joined.result ∙ l.invariant.1),
-      records_turn (λ j. 512 + j + 4294967296 * (get_or a.positions j start).view.0) (λ j. (get_or a.positions j start).k + 4294967296 * (a.count + j + 2)) l.list l.s c.joined.result c.joined-in-loop-s.result l.invariant.1 c.loop-s-test.true c.joined.ensures.0 c.joined-in-loop-s.ensures.0 l.invariant.2,
-      λ j h. ⊎_elim (λ e. subst (λ (i : ℕ). (get_or a.positions i start).k < 4294967296) (sym e) c.joined-in-loop-s.ensures.1) (λ e. l.invariant.3 j (omega arith)) (eq_or_ne j l.s),
+      records_turn (λ j. 512 + j + 4294967296 * (get_or a.positions j start).view.0) (λ j. (get_or a.positions j start).k + 4294967296 * (a.count + j + 2)) l.list l.s c.joined.result c.joined-in-loop-s.result l.invariant.1 c.loop-s-test.true c.joined.ensures.value c.joined-in-loop-s.ensures.value l.invariant.2,
+      λ j h. ⊎_elim (λ e. subst (λ (i : ℕ). (get_or a.positions i start).k < 4294967296) (sym e) c.joined-in-loop-s.ensures.low_bound) (λ e. l.invariant.3 j (omega arith)) (eq_or_ne j l.s),
     )
 
 pub returns : goal.returns

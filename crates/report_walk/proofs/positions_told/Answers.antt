@@ -1,7 +1,6 @@
 -- `report_walk::positions_told` meets its contract.
 use mathlib.Core.Bool.{false≢true}
 use Rattle.std.proofs.Common.{sym, ◌∙◌, eqb-true}
-use Rattle.base_laws.specs.Bools.{of_not_false}
 use Rattle.report_walk.proofs.positions_told.Goals as goal
 
 pub returns-then-not-made : goal.returns-then-not-made
@@ -15,8 +14,8 @@ returns-then-not-same_records c = λ e. absurd (false≢true e)
 
 pub returns : goal.returns
 returns c = λ e. record {
-  kept = of_not_false c.args.made c.if-not-made.false;
+  kept = c.if-not-made.false;
   linked = sym c.high.ensures ∙ c.if-high-count.false;
-  same = c.same_records.ensures (of_not_false c.same_records.result c.if-not-same_records.false);
+  same = c.same_records.ensures c.if-not-same_records.false;
   last = sym c.low.ensures ∙ (eqb-true _ _ e ∙ c.low-2.ensures);
 }

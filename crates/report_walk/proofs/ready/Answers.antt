@@ -1,7 +1,7 @@
 -- `report_walk::ready` meets its contract, test by test.
 use Rattle.std.proofs.Common.{◌≡◌, ℕ, true, sym, ◌∙◌, subst}
-use borrow.Author.Tests.{not-true, not-false}
 use Rattle.base_laws.specs.Definitions.{within}
+use Rattle.base_laws.specs.Bools.{of_not_false}
 use Rattle.report_walk.specs.Kept.{ready_of, ready_by}
 use Rattle.report_walk.proofs.ready.Goals as goal
 
@@ -29,5 +29,5 @@ returns c = let a = c.args in
     let masks = c.row10 in
     ready_by a.settings.now a.v a.t (sym view.ensures ∙ c.if-not-view_ok.false)
     (subst (λ (x : ℕ). within x a.v.members ≡ true) n.ensures (sym inside.ensures ∙ c.if-not-within.false))
-    (sym masks.ensures ∙ c.if-not-row10.false) (c.if-not-t.false)
+    (sym masks.ensures ∙ c.if-not-row10.false) (of_not_false a.t.made c.if-not-t.false)
     c.shards.result c.shards.ensures c.positions_legal.result c.positions_legal.ensures

@@ -1,7 +1,6 @@
 -- `report_walk::run_ends` meets its contract.
 use Rattle.std.proofs.Common.{◌≡◌, ◌+◌, ◌/◌, ◌<◌, arith, ltb-true}
 use mathlib.Core.Bool.{false≢true}
-use Rattle.base_laws.specs.Bools.{of_not_false}
 use Rattle.report_walk.specs.Seen.{key_low}
 use Rattle.report_walk.proofs.run_ends.Goals as goal
 
@@ -20,7 +19,7 @@ returns-then-back-lt1 c = λ e. absurd (false≢true e)
 pub returns : goal.returns
 returns c = λ e.
     let a = c.args in
-    let fit = c.run_view.ensures (of_not_false c.run_view.result c.if-not-run_view.false) in
+    let fit = c.run_view.ensures c.if-not-run_view.false in
     let v : c.low.result ≡ a.front / 4294967296 = key_low a.front c.low.result c.ranges.front.fits (omega (arith, c.low.ensures, c.key_of-key.ensures)) in
     let h : c.low-2.result < 768 + a.count = ltb-true _ _ e in
     record {

@@ -1,6 +1,6 @@
 -- `report_walk::runs_on` meets its contract. The invariant: the records below i are runs that go on, and noted.
 use Rattle.std.proofs.Common.{◌≡◌, ℕ, suc, ◌+◌, ◌-◌, ◌*◌, ◌%◌, List, get_or, set, sym, ap, ◌∙◌, subst, ⊎_elim, arith}
-use Rattle.base_laws.specs.Bools.{eq_or_ne, of_not_false}
+use Rattle.base_laws.specs.Bools.{eq_or_ne}
 use Rattle.report_walk.specs.Seen.{before_at, runs_noted, Goes, before_first, before_next, noted_next, noted_none}
 use Rattle.report_walk.proofs.runs_on.Goals as goal
 
@@ -15,14 +15,14 @@ pub goes_on-requires : goal.goes_on-requires
 goes_on-requires c = omega (arith, c.loop-i.invariant.0.few)
 
 pub returns-then-not-goes_on : goal.returns-then-not-goes_on
-returns-then-not-goes_on c = (c.loop-i.invariant.0, c.loop-i.invariant.2)
+returns-then-not-goes_on c = (record { runs_on = c.loop-i.invariant.0; last_after = c.loop-i.invariant.2 })
 
 pub loop-i-preserved : goal.loop-i-preserved
 loop-i-preserved c =
     let a = c.args in
     let l = c.loop-i in
     let goes : Goes (before_at a.b.now a.first l.i) (get_or a.b.now (2 * l.i) 0) (get_or a.b.now (2 * l.i + 1) 0) l.i a.view =
-    subst (λ (x : ℕ). Goes x (get_or a.b.now (2 * l.i) 0) (get_or a.b.now (2 * l.i + 1) 0) l.i a.view) l.invariant.1 (c.goes_on.ensures (of_not_false c.goes_on.result c.if-not-goes_on.false)) in
+    subst (λ (x : ℕ). Goes x (get_or a.b.now (2 * l.i) 0) (get_or a.b.now (2 * l.i + 1) 0) l.i a.view) l.invariant.1 (c.goes_on.ensures c.if-not-goes_on.false) in
     let e : l.i + 1 - a.first ≡ suc (l.i - a.first) = omega (arith, l.invariant.0.from) in (
       record {
         from = omega (arith, l.invariant.0.from);
@@ -36,4 +36,4 @@ loop-i-preserved c =
     )
 
 pub returns : goal.returns
-returns c = (c.loop-i.invariant.0, c.loop-i.invariant.2)
+returns c = (record { runs_on = c.loop-i.invariant.0; last_after = c.loop-i.invariant.2 })

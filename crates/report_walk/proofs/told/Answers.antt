@@ -12,5 +12,5 @@ returns-then-not-front_told c = λ h. absurd (omega arith)
 pub returns : goal.returns
 returns c = λ h. (
   of_not_false c.args.frame.ready c.if-not-frame.false,
-  record { front = c.front_told.ensures (of_not_false c.front_told.result c.if-not-front_told.false); rest = c.rest_told.ensures h },
+  record { front = c.front_told.ensures c.if-not-front_told.false; rest = c.rest_told.ensures h },
 )

@@ -7,11 +7,11 @@ use Rattle.search_rounds.specs.Post.{last, way_start, way_low, way_none, way_mor
 use Rattle.search_rounds.proofs.better.Goals as goal
 
 pub loop-left-init : goal.loop-left-init
-loop-left-init c = way_start c.requires.1
+loop-left-init c = way_start c.requires.weighed
 
 pub returns-then-weight-floor : goal.returns-then-weight-floor
 returns-then-weight-floor c =
-    record { standing = c.loop-left.invariant.standing; steps = c.loop-left.invariant.steps; stuck = λ e. way_low c.loop-left.invariant c.requires.0 c.if-weight-floor.true; out = λ e. absurd (true≢false e) }
+    record { standing = c.loop-left.invariant.standing; steps = c.loop-left.invariant.steps; stuck = λ e. way_low c.loop-left.invariant c.requires.low c.if-weight-floor.true; out = λ e. absurd (true≢false e) }
 
 pub returns-then-not-next : goal.returns-then-not-next
 returns-then-not-next c =

@@ -6,7 +6,8 @@ use mathlib.Core.Path.{◌≡◌, sym, ap, ◌∙◌}
 use native.Mathlib.Omega.{arith}
 use lib.ListN.{get_or}
 use Rattle.base_sum_laws.specs.Definitions.{sum_below}
-use Rattle.base_sum_laws.specs.Sums.{sum_zero, sum_next}
+use Rattle.base_sum_laws.specs.Sums.{sum_zero}
+use Rattle.base_sum_laws.proofs.Sums.{sum_next}
 use Rattle.settings_values.specs.Definitions.{shards}
 use Rattle.place_groups.specs.Definitions.{group_moves, group_moves_at}
 use borrow.Author.Rules.{rules}
@@ -19,15 +20,15 @@ pub loop-s-init : goal.loop-s-init
 loop-s-init c = let a = c.args in (search rules, sym (sum_zero (at a.settings.now a.old.now a.masks.now a.g)), search rules)
 
 pub overflow_add-total : goal.overflow_add-total
-overflow_add-total c = omega (arith, c.shards-count.ensures, c.requires.sizes.shards_to, c.moves_at-total.ensures.1)
+overflow_add-total c = omega (arith, c.shards-count.ensures, c.requires.sizes.shards_to, c.moves_at-total.ensures.upper_bound)
 
 pub loop-s-preserved : goal.loop-s-preserved
 loop-s-preserved c = let a = c.args in
     let l = c.loop-s in
     let f : ℕ → ℕ = at a.settings.now a.old.now a.masks.now a.g in (
       omega (arith, c.shards-count.ensures),
-      omega (arith, l.invariant.1, c.moves_at-total.ensures.0, sum_next l.s f),
-      omega (arith, c.moves_at-total.ensures.1),
+      omega (arith, l.invariant.1, c.moves_at-total.ensures.value, sum_next l.s f),
+      omega (arith, c.moves_at-total.ensures.upper_bound),
     )
 
 pub returns : goal.returns

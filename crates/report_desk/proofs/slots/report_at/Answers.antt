@@ -10,7 +10,8 @@ use Rattle.report_desk.proofs.slots.report_at.Goals as goal
 pub contents_of-requires : goal.contents_of-requires
 contents_of-requires c =
     let s = c in
-    slot_as (words_in s.args.desk.now) s.args.node.0 (desk_length s.args.desk.now s.requires.0.0) s.requires.0.1 s.requires.1 c.slot_words-words.ensures
+    let all = slot_as (words_in s.args.desk.now) s.args.node.0 (desk_length s.args.desk.now s.requires.desk_len.0) s.requires.desk_len.1 s.requires.node_value c.slot_words-words.ensures in
+    record { sized_message = all.0; words_value = all.1 }
 
 pub returns : goal.returns
 unfolding report_of
