@@ -145,8 +145,9 @@ def short_names(cell):
 
 def meant(word, file):
     """The files that a short name may mean."""
-    if line_of(file, word):
-        return [file]
+    for path in (file, file.replace("/specs/", "/proofs/")):
+        if os.path.exists(path) and line_of(path, word):
+            return [path]
     found = everywhere().get(word, [])
     return [path for path in found if path.split("/")[1] == file.split("/")[1]] or found
 
@@ -213,11 +214,11 @@ def write(page):
 
     def renewed(found):
         link = Link(page, *found.groups())
-        target, beside = link.target.partition("#")[0], link.file.replace("/specs/", "/proofs/")
-        for file in (link.file, beside):
+        lemmas = sorted(glob.glob("/".join(link.file.split("/")[:2]) + "/proofs/*.antt")) if link.name else []
+        for file in [link.file, link.file.replace("/specs/", "/proofs/"), *lemmas]:
             line = link.name and os.path.exists(file) and line_of(file, link.name)
             if line:
-                return "[%s](%s#L%d)" % (link.text, target if file == link.file else target.replace("/specs/", "/proofs/"), line)
+                return "[%s](%s#L%d)" % (link.text, os.path.relpath(file, os.path.dirname(page)), line)
         return found.group(0)
 
     text = "\n".join(lines_of(page))

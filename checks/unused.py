@@ -302,7 +302,7 @@ class Tree:
                 reached.add(item)
                 todo += self.named(*self.words[item])
         for crate, name, owner in self.words:
-            if (crate, name, owner) not in reached and name != "Lib" and not owner.startswith("module "):
+            if (crate, name, owner) not in reached and name.split("/")[-1] != "Lib" and not owner.startswith("module "):
                 yield "%s/%s.%s" % (crate, name, owner), "nothing reaches it"
 
 
