@@ -236,7 +236,7 @@ dist:
 	cp CHANGELOG.md target/dist/$(TREE)
 	$(PACK) target/$(TREE).tar.gz -C target/dist $(TREE)
 	if [ -e .git ]; then git archive --prefix=$(NAME)/ -o target/$(NAME).tar.gz HEAD; \
-	else $(PACK) target/$(NAME).tar.gz --exclude=./target --exclude=__pycache__ --transform='s|^\.|$(NAME)|' .; fi
+	else $(PACK) target/$(NAME).tar.gz --exclude=./target --exclude=./crates/*/out --exclude=__pycache__ --transform='s|^\.|$(NAME)|' .; fi
 	rm -rf target/dist
 
 deb:

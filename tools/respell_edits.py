@@ -260,9 +260,13 @@ def check():
         lines, pairs = pairs_of(read(edit))
         then = pairs_of(at_landed(edit) or "")
         if at_landed(edit) is not None:
-            if [f for _, _, f in pairs] != [f for _, _, f in then[1]]:
+            # what moved from specs/ to proofs/ (move_theorems.py) has its edit there
+            files_of = lambda found: {re.sub(r"^(specs|proofs)/.*", "", f) for _, _, f in found}
+            if files_of(pairs) != files_of(then[1]):
                 failed += 1
                 print("%s: its files are not those of LANDED" % edit)
+            elif len(pairs) != len(then[1]):
+                print("%s: %d programs, %d at LANDED" % (edit, len(pairs), len(then[1])))
             elif [l for l in lines if l.startswith("#")] != [l for l in then[0] if l.startswith("#")]:
                 print("%s: its comments are not those of LANDED" % edit)
         texts = {}
@@ -278,6 +282,13 @@ def check():
                 continue
             unknown = set(WORD.findall(new)) - set(WORD.findall(texts[path]))
             unknown = {w for w in unknown if not re.fullmatch(r"[\d_]+(u8|u32|u64|usize)?|.*[&|!?#].*", w)}
+            if path.endswith(".antt"):
+                # a name stands for itself where the file has it but for this text; an operator where it is imported
+                rest, brought = texts[path].replace(old, ""), set(WORD.findall(new)) - set(WORD.findall(old))
+                here = set(WORD.findall(re.sub(r"--.*", "", rest)))
+                unknown = {w for w in brought if not w.isdigit() and w not in here and w not in ("→", "λ", "=", "⊥")}
+                unknown |= {w for w in brought if re.fullmatch(r"[^\w\s]+", w) and w not in ("→", "λ", "=", "⊥") and "◌" not in w and "◌%s◌" % w not in here}
+                unknown -= {x for it in re.findall(r"[A-Z]\w*(?:\.[^\s(){}.;,]+)+", new) for x in it.split(".")} | {x for it in re.findall(r"\.([\w']+)", new) for x in [it]}
             if unknown:
                 print("%s: %s: words that the file does not have: %s: %s" % (edit, file, " ".join(sorted(unknown)), new))
             if old == new:

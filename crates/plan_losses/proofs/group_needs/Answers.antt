@@ -15,14 +15,14 @@ pub loop-s-init : goal.loop-s-init
 loop-s-init c = let a = c.args in (search rules, sym (sum_zero (need_of a.settings.now a.g a.k)), search rules)
 
 pub overflow_add-total : goal.overflow_add-total
-overflow_add-total c = omega (arith, c.shards-count.ensures, c.requires.sizes.shards_to, c.need_of-total.ensures.1)
+overflow_add-total c = omega (arith, c.shards-count.ensures, c.requires.sizes.shards_to, c.need_of-total.ensures.upper_bound)
 
 pub loop-s-preserved : goal.loop-s-preserved
 loop-s-preserved c = let a = c.args in
     let l = c.loop-s in (
       omega (arith, c.shards-count.ensures),
-      omega (arith, l.invariant.1, c.need_of-total.ensures.0, sum_next l.s (need_of a.settings.now a.g a.k)),
-      omega (arith, c.need_of-total.ensures.1),
+      omega (arith, l.invariant.1, c.need_of-total.ensures.value, sum_next l.s (need_of a.settings.now a.g a.k)),
+      omega (arith, c.need_of-total.ensures.upper_bound),
     )
 
 pub returns : goal.returns

@@ -12,7 +12,7 @@ loop-n-init c = let a = c.args in (search rules, lost_none a.settings.now a.held
 
 pub lost_with-lost-requires : goal.lost_with-lost-requires
 lost_with-lost-requires c = let s = c in
-    record { settings = s.requires.0; held_bound = (s.requires.1, c.loop-n-test.true); tight = c.tight_sets-tight.ensures; lost_below = c.loop-n.invariant.1 }
+    record { settings = s.requires.settings; held_bound = (s.requires.held_bound, c.loop-n-test.true); tight = c.tight_sets-tight.ensures; lost_below = c.loop-n.invariant.1 }
 
 pub loop-n-preserved : goal.loop-n-preserved
 loop-n-preserved c = (omega (arith, c.loop-n-test.true), c.lost_with-lost.ensures)
@@ -22,5 +22,5 @@ returns c = let s = c in
     let a = s.args in
     let l = c.loop-n in
     let z : l.n ≡ 32 = omega (arith, l.invariant.0, c.loop-n-test.false) in
-    lost_all a.settings.now a.held (quorums_in a.settings.now a.v a.masks.now) l.lost (nodes a.settings.now) s.requires.1 s.requires.0.sizes.nodes_to
+    lost_all a.settings.now a.held (quorums_in a.settings.now a.v a.masks.now) l.lost (nodes a.settings.now) s.requires.held_bound s.requires.settings.sizes.nodes_to
     (subst (λ (k : ℕ). LostBelow a.settings.now a.held (quorums_in a.settings.now a.v a.masks.now) k l.lost) z l.invariant.1)

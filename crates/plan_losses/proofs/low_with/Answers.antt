@@ -6,9 +6,9 @@ use Rattle.plan_losses.proofs.low_with.Goals as goal
 
 pub returns-then-counts-f : goal.returns-then-counts-f
 returns-then-counts-f c = let s = c in
-    let a = s.args in low_not a.counts.now a.j a.f a.sets s.requires.1
+    let a = s.args in low_not a.counts.now a.j a.f a.sets s.requires.low_below
 
 pub returns : goal.returns
 returns c = let s = c in
     let a = s.args in
-    subst (LowBelow a.counts.now a.j (a.f + 1)) (sym c.with.ensures) (low_with a.counts.now a.j a.f a.sets c.if-counts-f.false s.requires.1)
+    subst (LowBelow a.counts.now a.j (a.f + 1)) (sym c.with.ensures) (low_with a.counts.now a.j a.f a.sets c.if-counts-f.false s.requires.low_below)

@@ -9,12 +9,12 @@ use Rattle.plan_losses.proofs.need_of.Goals as goal
 pub returns-then-not-needs_at : goal.returns-then-not-needs_at
 returns-then-not-needs_at c = let a = c.args in
     let h = c.needs_at in
-    (need_other a.settings.now a.g a.k a.s.0 (sym h.ensures ∙ c.if-not-needs_at.true), search rules)
+    (record { value = need_other a.settings.now a.g a.k a.s.0 (sym h.ensures ∙ c.if-not-needs_at.true); upper_bound = search rules })
 
 pub returns : goal.returns
 returns c = let s = c in
     let a = s.args in
-    let h = c.needs_at in (
-      need_own a.settings.now a.g a.k a.s.0 c.need.result (sym h.ensures ∙ c.if-not-needs_at.false) c.need.ensures,
-      omega (arith, c.need.ensures, s.requires.0.need_to a.s.0 s.requires.1, s.requires.0.sizes.sets_to),
-    )
+    let h = c.needs_at in (record {
+      value = need_own a.settings.now a.g a.k a.s.0 c.need.result (sym h.ensures ∙ c.if-not-needs_at.false) c.need.ensures;
+      upper_bound = omega (arith, c.need.ensures, s.requires.settings.need_to a.s.0 s.requires.s_bound, s.requires.settings.sizes.sets_to);
+    })

@@ -18,10 +18,10 @@ use Rattle.plan_masks.proofs.count.Goals as goal
 
 pub loop-n-init : goal.loop-n-init
 loop-n-init c = let s = c in
-    counted_none s.args.settings.now s.args.v s.args.t s.args.all (words_in s.args.desk.now) s.requires.0
+    counted_none s.args.settings.now s.args.v s.args.t s.args.all (words_in s.args.desk.now) s.requires.settings
 
 pub see-seen-requires : goal.see-seen-requires
-see-seen-requires c = let s = c in record { settings = s.requires.0; tables_of = c.tables_of-tables.ensures; desk_len = s.requires.1 }
+see-seen-requires c = let s = c in record { settings = s.requires.settings; tables_of = c.tables_of-tables.ensures; desk_len = s.requires.desk_len }
 
 pub returns-then-not-seen : goal.returns-then-not-seen
 unfolding slots_ok
@@ -33,15 +33,15 @@ returns-then-not-seen c = let s = c in
     let h = sym c.has.ensures ∙ c.if-has.true in
     let x = c.see-seen in
     let given = x.ensures ∙ ap (λ (k : ℕ). seen_of a.settings.now a.v a.t k d) (c.with.ensures ∙ alone l.n) in
-    let own = seen_own a.settings.now a.v a.t a.all d s.requires.0 (desk_length a.desk.now s.requires.1) l.n m h x.result given in
+    let own = seen_own a.settings.now a.v a.t a.all d s.requires.settings (desk_length a.desk.now s.requires.desk_len) l.n m h x.result given in
     c.none_counted.ensures
-    ∙ counted_failed a.settings.now a.v a.t a.all d s.requires.0
+    ∙ counted_failed a.settings.now a.v a.t a.all d s.requires.settings
     (all_fails 32 (node_ok a.settings.now a.v a.t a.all d) l.n m
     (held_ok a.settings.now a.v a.t a.all d l.n false h (sym own ∙ c.if-not-seen.true)))
 
 pub count_node-requires : goal.count_node-requires
 count_node-requires c = let s = c in
-    record { masks_len = (c.loop-n.invariant.sized, c.loop-n-test.true); count_bound = omega (arith, c.wide-shards.ensures, c.shards.ensures, s.requires.0.sizes.shards_to) }
+    record { masks_len = (c.loop-n.invariant.sized, c.loop-n-test.true); count_bound = omega (arith, c.wide-shards.ensures, c.shards.ensures, s.requires.settings.sizes.shards_to) }
 
 pub loop-n-preserved : goal.loop-n-preserved
 loop-n-preserved c = let s = c in
@@ -56,11 +56,11 @@ loop-n-preserved c = let s = c in
     let given = w.2.ensures ∙ ap (λ (k : ℕ). seen_of a.settings.now a.v a.t k d) (w.1.ensures ∙ alone l.n) in
     subst⁻¹ (CountedTo a.settings.now a.v a.t a.all d (l.n + 1))
     (w.7 ∙ w.6.ensures ∙ ap (λ (k : ℕ). filled k (counted_at w.2.result.holders l.n l.masks) l.masks) many)
-    (counted_held a.settings.now a.v a.t a.all d s.requires.0 (desk_length a.desk.now s.requires.1) l.n m h w.2.result given l.masks
+    (counted_held a.settings.now a.v a.t a.all d s.requires.settings (desk_length a.desk.now s.requires.desk_len) l.n m h w.2.result given l.masks
     (not-false w.2.result.ok w.4.left) l.invariant))
     (λ w.
     subst⁻¹ (CountedTo a.settings.now a.v a.t a.all d (l.n + 1)) w.1
-    (counted_unheld a.settings.now a.v a.t a.all d s.requires.0 l.n l.masks m (sym c.has.ensures ∙ w.0.left) l.invariant))
+    (counted_unheld a.settings.now a.v a.t a.all d s.requires.settings l.n l.masks m (sym c.has.ensures ∙ w.0.left) l.invariant))
     c.if-has.branch
 
 pub returns : goal.returns
@@ -68,5 +68,5 @@ returns c = let s = c in
     let a = s.args in
     let l = c.loop-n in
     let z : l.n ≡ 32 = omega (arith, l.invariant.upto, c.loop-n-test.false) in
-    counted_sound a.settings.now a.v a.t a.all (words_in a.desk.now) s.requires.0 l.masks
+    counted_sound a.settings.now a.v a.t a.all (words_in a.desk.now) s.requires.settings l.masks
     (subst (λ (k : ℕ). CountedTo a.settings.now a.v a.t a.all (words_in a.desk.now) k l.masks) z l.invariant)

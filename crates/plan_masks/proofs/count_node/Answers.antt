@@ -14,7 +14,7 @@ use Rattle.plan_masks.proofs.count_node.Goals as goal
 pub loop-s-init : goal.loop-s-init
 loop-s-init c = let s = c in
     let m = s.args.masks.now in
-    (search rules, s.requires.0.0, sym (filled_none (counted_at s.args.seen.holders s.args.node.0 m) m))
+    (search rules, s.requires.masks_len.0, sym (filled_none (counted_at s.args.seen.holders s.args.node.0 m) m))
 
 pub loop-s-preserved : goal.loop-s-preserved
 loop-s-preserved c = let s = c in
@@ -25,7 +25,7 @@ loop-s-preserved c = let s = c in
     let old : get_or l.masks l.s 0 ≡ get_or m l.s 0 = ap (λ (x : List ℕ). get_or x l.s 0) l.invariant.2 ∙ get_or_filled_rest l.s f m l.s 0 (omega arith) in (
       omega (arith, few),
       length-set l.masks l.s c.counted_with.result ∙ l.invariant.1,
-      filled_turn l.s f m l.masks c.counted_with.result (omega (arith, few, s.requires.0.0, s.requires.1)) l.invariant.2
+      filled_turn l.s f m l.masks c.counted_with.result (omega (arith, few, s.requires.masks_len.0, s.requires.count_bound)) l.invariant.2
           (c.counted_with.ensures ∙ ap (λ (x : ℕ). counted_with x (node_at s.args.seen.holders l.s) s.args.node.0) old),
     )
 

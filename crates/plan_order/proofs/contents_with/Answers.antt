@@ -11,7 +11,7 @@ put_cuts-len-requires c =
     let holders = c.put_holders-next in
     let wide = c.wide-count in (
       omega (arith, wide.ensures, start.requires.shards_to),
-      omega (arith, holders.ensures.0, wide.ensures, start.requires.shards_to, count_le wide.result (carries start.args.plan start.args.node.0)),
+      omega (arith, holders.ensures.value, wide.ensures, start.requires.shards_to, count_le wide.result (carries start.args.plan start.args.node.0)),
     )
 
 pub returns : goal.returns
@@ -31,7 +31,7 @@ returns c d e =
     e
     members.ensures
     targets.ensures
-    holders.ensures.0
-    holders.ensures.1
-    c.put_cuts-len.ensures.0
-    c.put_cuts-len.ensures.1
+    holders.ensures.value
+    holders.ensures.body_after
+    c.put_cuts-len.ensures.value
+    c.put_cuts-len.ensures.body_after

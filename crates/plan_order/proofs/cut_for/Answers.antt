@@ -13,13 +13,13 @@ returns-then-not-has c =
 pub report_at-report-requires : goal.report_at-report-requires
 report_at-report-requires c =
     let s = c in
-    let r = s.requires.1 in
+    let r = s.requires.readable_slot in
     record { desk_len = (desk_bytes s.args.desk.now r.words, r.below); node_value = r.chained }
 
 pub cut-requires : goal.cut-requires
 cut-requires c =
     let r = c.report_at-report in
-    (c.requires.0, read_few _ _ r.result r.ensures)
+    (c.requires.len_bound, read_few _ _ r.result r.ensures)
 
 pub returns : goal.returns
 returns c =

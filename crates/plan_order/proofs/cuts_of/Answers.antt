@@ -12,14 +12,14 @@ use Rattle.plan_order.proofs.cuts_of.Goals as goal
 pub report_at-report-requires : goal.report_at-report-requires
 report_at-report-requires c =
     let s = c in
-    let r = s.requires.1.0 in
+    let r = s.requires.readable_slot in
     record { desk_len = (desk_bytes s.args.desk.now r.words, r.below); node_value = r.chained }
 
 pub loop-s-init : goal.loop-s-init
 loop-s-init c =
     let a = c.args in
     let e = c.wide-count.ensures in
-    (e, omega (arith, e, c.requires.0.shards_to), omega arith, cuts_none a.plan (words_in a.desk.now) a.node.0)
+    (e, omega (arith, e, c.requires.sizes.shards_to), omega arith, cuts_none a.plan (words_in a.desk.now) a.node.0)
 
 pub cut_for-t-requires : goal.cut_for-t-requires
 cut_for-t-requires c =

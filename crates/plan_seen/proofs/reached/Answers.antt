@@ -1,15 +1,14 @@
 -- `plan_seen::reached` meets its contract, test by test.
 use mathlib.Core.Path.{sym, ap, ◌∙◌, subst}
 use Prim.Native.Nat.{ℕ, ◌<◌, ◌≤◌, ◌/◌, ◌%◌}
-use borrow.Author.Tests.{not-true, not-false}
 use mathlib.Core.Bool.{not}
-use Rattle.base_laws.specs.Bools.{or_left, or_right, or_neither, not_of_true, not_of_false}
+use Rattle.base_laws.specs.Bools.{or_left, or_right, or_neither, of_not_false}
 use Rattle.report_walk.specs.Updates.{update_seen}
 use Rattle.plan_seen.specs.Steps.{end_looked}
 use Rattle.plan_seen.proofs.reached.Goals as goal
 
 pub returns-then-not-turn : goal.returns-then-not-turn
-returns-then-not-turn c = λ body p told. sym (or_left _ (not_of_false (c.if-not-turn.true)))
+returns-then-not-turn c = λ body p told. sym (or_left _ c.if-not-turn.true)
 
 pub returns-then-x-y : goal.returns-then-x-y
 returns-then-x-y c = let a = c.args in
@@ -17,7 +16,7 @@ returns-then-x-y c = let a = c.args in
 
 pub returns-then-x-y-2 : goal.returns-then-x-y-2
 returns-then-x-y-2 c = let a = c.args in
-    λ body p told. sym (or_neither (not_of_true (c.if-not-turn.false))
+    λ body p told. sym (or_neither c.if-not-turn.false
     (told (subst (λ (y : ℕ). a.x < y) c.goal_at-y.ensures c.if-x-y-2.true)))
 
 pub returns-then-y-ge1 : goal.returns-then-y-ge1
@@ -32,4 +31,4 @@ returns c = let s = c in
     let g = c.goal_at-y in
     λ body p told.
     c.has_update.ensures ∙ ap (λ (y : ℕ). update_seen a.b.now a.turn.last a.s y) g.ensures
-    ∙ end_looked a.b.now body a.turn.last a.s p a.x _ told s.requires.1 a.turn.made (c.if-not-turn.false)
+    ∙ end_looked a.b.now body a.turn.last a.s p a.x _ told s.requires.1 a.turn.made (of_not_false a.turn.made c.if-not-turn.false)

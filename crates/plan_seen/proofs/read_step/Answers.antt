@@ -8,44 +8,38 @@ use Rattle.plan_seen.proofs.read_step.Goals as goal
 
 pub returns-then-slot : goal.returns-then-slot
 returns-then-slot c = let s = c in
-    (s.requires.1.0, (λ e. (refl, refl, refl), λ e. clash c.if-slot.true e))
+    (record { holders_len_2 = s.requires.holders_len; value = λ e. (refl, refl, refl); stepped = λ e. clash c.if-slot.true e })
 
 pub words_fit-requires : goal.words_fit-requires
 words_fit-requires c = let s = c in
-    record { settings = s.requires.0; w_len = words_long s.args.b.now c.words_of-w.result c.words_of-w.ensures }
+    record { settings = s.requires.settings; w_len = words_long s.args.b.now c.words_of-w.result c.words_of-w.ensures }
 
 pub returns-then-words_fit : goal.returns-then-words_fit
 returns-then-words_fit c = let s = c in
     let a = s.args in
     let w = c.words_of-w in
-    (s.requires.1.0, (λ e. clash e c.if-slot.false, λ e d is. stepped_other a.settings.now a.v a.t d a.slot.node.0 a.b.now w.result s.requires.0 is s.requires.1.1.0 w.ensures a.holders.now a.tops.now (c.words_fit.ensures c.if-words_fit.true)))
+    (record { holders_len_2 = s.requires.holders_len; value = λ e. clash e c.if-slot.false; stepped = λ e d is. stepped_other a.settings.now a.v a.t d a.slot.node.0 a.b.now w.result s.requires.settings is s.requires.node_bound w.ensures a.holders.now a.tops.now (c.words_fit.ensures c.if-words_fit.true) })
 
 pub returns-then-refusal-ne0 : goal.returns-then-refusal-ne0
 returns-then-refusal-ne0 c = let s = c in
     let a = s.args in
     let w = c.words_of-w in
     let r = c.read_under-r in
-    (s.requires.1.0, (λ e. clash e c.if-slot.false, λ e d is. stepped_refused a.settings.now a.v a.t d a.slot.node.0 a.b.now w.result s.requires.0 is s.requires.1.1.0 w.ensures a.holders.now a.tops.now r.result r.ensures c.if-refusal-ne0.true))
+    (record { holders_len_2 = s.requires.holders_len; value = λ e. clash e c.if-slot.false; stepped = λ e d is. stepped_refused a.settings.now a.v a.t d a.slot.node.0 a.b.now w.result s.requires.settings is s.requires.node_bound w.ensures a.holders.now a.tops.now r.result r.ensures c.if-refusal-ne0.true })
 
 pub returns-then-not-report_fits : goal.returns-then-not-report_fits
 returns-then-not-report_fits c = let s = c in
     let a = s.args in
     let w = c.words_of-w in
     let r = c.read_under-r in
-    let f = c.report_fits in (
-      s.requires.1.0,
-      (
-        λ e. clash e c.if-slot.false,
-        λ e d is. stepped_unfit a.settings.now a.v a.t d a.slot.node.0 a.b.now w.result s.requires.0 is s.requires.1.1.0 w.ensures a.holders.now a.tops.now r.result r.ensures c.if-refusal-ne0.false
-            (sym f.ensures ∙ c.if-not-report_fits.true),
-      ),
-    )
+    let f = c.report_fits in (record { holders_len_2 = s.requires.holders_len; value = λ e. clash e c.if-slot.false; stepped = λ e d is. stepped_unfit a.settings.now a.v a.t d a.slot.node.0 a.b.now w.result s.requires.settings is s.requires.node_bound w.ensures a.holders.now a.tops.now r.result r.ensures c.if-refusal-ne0.false
+            (sym f.ensures ∙ c.if-not-report_fits.true) })
 
 pub note_report-requires : goal.note_report-requires
 note_report-requires c = let s = c in
     let w = c.words_of-w in
     let r = c.read_under-r in
-    record { settings = s.requires.0; holders_len = s.requires.1.0; position_records = s.requires.1.1.1; len_bound = read_few s.args.settings.now w.result r.result r.ensures c.if-refusal-ne0.false }
+    record { settings = s.requires.settings; holders_len = s.requires.holders_len; position_records = s.requires.position_records; len_bound = read_few s.args.settings.now w.result r.result r.ensures c.if-refusal-ne0.false }
 
 pub returns : goal.returns
 returns c = let s = c in
@@ -53,17 +47,11 @@ returns c = let s = c in
     let w = c.words_of-w in
     let r = c.read_under-r in
     let f = c.report_fits in
-    let h = c.if-refusal-ne0.false in (
-      c.note_report.ensures.0,
-      (
-        λ e. clash e c.if-slot.false,
-        λ e d is.
-            let ok = fits_sound a.settings.now a.v a.t d a.slot.node.0 a.b.now w.result s.requires.0 is s.requires.1.1.0 w.ensures a.holders.now a.tops.now r.result r.ensures h true
+    let h = c.if-refusal-ne0.false in (record { holders_len_2 = c.note_report.ensures.holders_len_2; value = λ e. clash e c.if-slot.false; stepped = λ e d is.
+            let ok = fits_sound a.settings.now a.v a.t d a.slot.node.0 a.b.now w.result s.requires.settings is s.requires.node_bound w.ensures a.holders.now a.tops.now r.result r.ensures h true
             (sym f.ensures ∙ c.if-not-report_fits.false) in
             record {
               sound = sym ok;
-              renewed = λ q. c.note_report.ensures.1 d a.b.now is s.requires.1.1.0 ok
-                  (contents_are a.settings.now a.v a.t d a.slot.node.0 a.b.now w.result s.requires.0 is s.requires.1.1.0 w.ensures a.holders.now a.tops.now r.result r.ensures h);
-            },
-      ),
-    )
+              renewed = λ q. c.note_report.ensures.by_index d a.b.now is s.requires.node_bound ok
+                  (contents_are a.settings.now a.v a.t d a.slot.node.0 a.b.now w.result s.requires.settings is s.requires.node_bound w.ensures a.holders.now a.tops.now r.result r.ensures h);
+            } })

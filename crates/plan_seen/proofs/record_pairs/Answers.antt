@@ -22,8 +22,8 @@ loop-j-preserved c = let s = c in
     let x = c.joined in
     let y = c.joined-in-loop-j in
     let few = c.loop-j-test.true in
-    let front = halves x.result (tag s.args.body.now l.j) (word1 s.args.body.now l.j) x.ensures.0 x.ensures.1 in
-    let back = halves y.result (word2 s.args.body.now l.j) 0 y.ensures.0 y.ensures.1 in (
+    let front = halves x.result (tag s.args.body.now l.j) (word1 s.args.body.now l.j) x.ensures.value x.ensures.low_bound in
+    let back = halves y.result (word2 s.args.body.now l.j) 0 y.ensures.value y.ensures.low_bound in (
       omega (arith, few),
       length-set (set l.list (2 * l.j + 2) x.result) (2 * l.j + 3) y.result ∙ (length-set l.list (2 * l.j + 2) x.result ∙ l.invariant.1),
       pairs_more l.list s.args.body.now l.j x.result y.result l.invariant.1 (omega (arith, s.requires, few)) front.0 front.1 back.0 l.invariant.2,

@@ -40,24 +40,24 @@ kept-by σ v t x right e =
 pub loop-n-init : goal.loop-n-init
 loop-n-init c = let s = c in
     let a = s.args in
-    walked_none a.settings.now a.v a.t a.held (words_in a.desk.now) s.requires.0 (desk_length a.desk.now s.requires.1.1.0) _ a.holders.now a.tops.now (length-replicate {A = ℕ} 256 0) s.requires.1.1.1.0 s.requires.1.1.1.1
+    walked_none a.settings.now a.v a.t a.held (words_in a.desk.now) s.requires.settings (desk_length a.desk.now s.requires.desk_len) _ a.holders.now a.tops.now (length-replicate {A = ℕ} 256 0) s.requires.holders_value.0 s.requires.holders_value.1
 
 pub pairs-requires : goal.pairs-requires
 pairs-requires c = let s = c in
     let l = c.loop-n in
-    record { bytes_len = length_part (2048 * l.n) (2048 * l.n + 2048) s.args.desk.now (omega (arith, s.requires.1.1.0, c.loop-n-test.true)) ∙ omega arith; out_len = l.invariant.pairs }
+    record { bytes_len = length_part (2048 * l.n) (2048 * l.n + 2048) s.args.desk.now (omega (arith, s.requires.desk_len, c.loop-n-test.true)) ∙ omega arith; out_len = l.invariant.pairs }
 
 pub overflow_cast-node : goal.overflow_cast-node
 overflow_cast-node c = omega (arith, c.loop-n-test.true)
 
 pub quick_step-told-requires : goal.quick_step-told-requires
 quick_step-told-requires c = let s = c in
-    let count = s.requires.1.0.count in
-    record { holders_len = c.loop-n.invariant.lists; le_count = (omega (arith, count, s.requires.0.sizes.shards_from), omega (arith, count, s.requires.0.sizes.shards_to)) }
+    let count = s.requires.tables_of.count in
+    record { holders_len = c.loop-n.invariant.lists; le_count = (omega (arith, count, s.requires.settings.sizes.shards_from), omega (arith, count, s.requires.settings.sizes.shards_to)) }
 
 pub read_step-requires : goal.read_step-requires
 read_step-requires c = let s = c in
-    record { settings = s.requires.0; holders_len = c.quick_step-told.ensures.0; node_bound = c.loop-n-test.true; position_records = s.requires.1.0.positions }
+    record { settings = s.requires.settings; holders_len = c.quick_step-told.ensures.holders_len_2; node_bound = c.loop-n-test.true; position_records = s.requires.tables_of.positions }
 
 pub returns-then-not-read_step : goal.returns-then-not-read_step
 unfolding slots_ok
@@ -68,14 +68,14 @@ returns-then-not-read_step c = let s = c in
     let h = c.has in
     let q = c.quick_step-told in
     let k = c.read_step in
-    let words : FitWords (words_in a.desk.now) = desk_words a.desk.now s.requires.1.1.0 (λ i. omega (arith, c.type_inv.desk i)) in
-    let is : SlotIs (words_in a.desk.now) l.n _ = record { whole = desk_length a.desk.now s.requires.1.1.0; words = words; pairs = slot_pairs a.desk.now s.requires.1.1.0 l.n m _ c.pairs.ensures } in
-    let kept = kept-by a.settings.now a.v a.t a.tables s.requires.0 s.requires.1.0 in
-    let step = stepped_both a.settings.now a.v a.t (words_in a.desk.now) l.n q.result k.result (λ e. q.ensures.1.done e a.settings.now a.v a.t (words_in a.desk.now) kept is m) q.ensures.1.same k.ensures.1.0 (λ e. k.ensures.1.1 e (words_in a.desk.now) is) in (
-      sym (all_fails 32 (node_ok a.settings.now a.v a.t a.held (words_in a.desk.now)) l.n m
-          (held_ok a.settings.now a.v a.t a.held (words_in a.desk.now) l.n false (sym h.ensures ∙ c.if-has.true) (sym step.sound ∙ c.if-not-read_step.true))),
-      λ e. clash e refl,
-    )
+    let words : FitWords (words_in a.desk.now) = desk_words a.desk.now s.requires.desk_len (λ i. omega (arith, c.type_inv.desk i)) in
+    let is : SlotIs (words_in a.desk.now) l.n _ = record { whole = desk_length a.desk.now s.requires.desk_len; words = words; pairs = slot_pairs a.desk.now s.requires.desk_len l.n m _ c.pairs.ensures } in
+    let kept = kept-by a.settings.now a.v a.t a.tables s.requires.settings s.requires.tables_of in
+    let step = stepped_both a.settings.now a.v a.t (words_in a.desk.now) l.n q.result k.result (λ e. q.ensures.quick_step.done e a.settings.now a.v a.t (words_in a.desk.now) kept is m) q.ensures.quick_step.same k.ensures.value (λ e. k.ensures.stepped e (words_in a.desk.now) is) in (record {
+      value = sym (all_fails 32 (node_ok a.settings.now a.v a.t a.held (words_in a.desk.now)) l.n m
+          (held_ok a.settings.now a.v a.t a.held (words_in a.desk.now) l.n false (sym h.ensures ∙ c.if-has.true) (sym step.sound ∙ c.if-not-read_step.true)));
+      so_far = λ e. clash e refl;
+    })
 
 pub overflow_add-n : goal.overflow_add-n
 overflow_add-n c = omega (arith, c.loop-n-test.true)
@@ -89,18 +89,18 @@ loop-n-preserved c = let s = c in
     let l = c.loop-n in
     let h = c.has in
     let m = c.loop-n-test.true in
-    let words : FitWords (words_in a.desk.now) = desk_words a.desk.now s.requires.1.1.0 (λ i. omega (arith, c.type_inv.desk i)) in
-    let kept = kept-by a.settings.now a.v a.t a.tables s.requires.0 s.requires.1.0 in
+    let words : FitWords (words_in a.desk.now) = desk_words a.desk.now s.requires.desk_len (λ i. omega (arith, c.type_inv.desk i)) in
+    let kept = kept-by a.settings.now a.v a.t a.tables s.requires.settings s.requires.tables_of in
     ⊎_elim
     (λ w.
-    let pairs = slot_pairs a.desk.now s.requires.1.1.0 l.n m _ w.3.ensures in
-    let is : SlotIs (words_in a.desk.now) l.n _ = record { whole = desk_length a.desk.now s.requires.1.1.0; words = words; pairs = pairs } in
+    let pairs = slot_pairs a.desk.now s.requires.desk_len l.n m _ w.3.ensures in
+    let is : SlotIs (words_in a.desk.now) l.n _ = record { whole = desk_length a.desk.now s.requires.desk_len; words = words; pairs = pairs } in
     walked_as a.settings.now a.v a.t a.held (words_in a.desk.now) (l.n + 1) w.17 w.18 w.19
-    (walked_held a.settings.now a.v a.t a.held (words_in a.desk.now) (desk_length a.desk.now s.requires.1.1.0) words l.n l.b l.holders l.tops m (sym h.ensures ∙ w.0.taken) l.invariant
+    (walked_held a.settings.now a.v a.t a.held (words_in a.desk.now) (desk_length a.desk.now s.requires.desk_len) words l.n l.b l.holders l.tops m (sym h.ensures ∙ w.0.taken) l.invariant
     w.15.result (not-false w.15.result w.16.left) _ _ _ (pairs_long _ _ pairs) w.15.ensures.0
     (stepped_both a.settings.now a.v a.t (words_in a.desk.now) l.n w.10.result w.15.result (λ e. w.10.ensures.1.done e a.settings.now a.v a.t (words_in a.desk.now) kept is m) w.10.ensures.1.same w.15.ensures.1.0 (λ e. w.15.ensures.1.1 e (words_in a.desk.now) is))))
     (λ w. walked_as a.settings.now a.v a.t a.held (words_in a.desk.now) (l.n + 1) w.1 w.2 w.3
-    (walked_unheld a.settings.now a.v a.t a.held (words_in a.desk.now) (desk_length a.desk.now s.requires.1.1.0) l.n l.b l.holders l.tops m (sym h.ensures ∙ w.0.left) l.invariant))
+    (walked_unheld a.settings.now a.v a.t a.held (words_in a.desk.now) (desk_length a.desk.now s.requires.desk_len) l.n l.b l.holders l.tops m (sym h.ensures ∙ w.0.left) l.invariant))
     c.if-has.branch
 
 pub returns : goal.returns
@@ -108,4 +108,4 @@ unfolding slots_ok
 returns c = let a = c.args in
     let l = c.loop-n in
     let z : l.n ≡ 32 = omega (arith, l.invariant.upto, c.loop-n-test.false) in
-    (sym (rw z at l.invariant.sound), λ e. subst (λ (x : ℕ). SoFar a.v a.t a.held (words_in a.desk.now) (shards a.settings.now) x l.holders l.tops) z l.invariant.far)
+    (record { value = sym (rw z at l.invariant.sound); so_far = λ e. subst (λ (x : ℕ). SoFar a.v a.t a.held (words_in a.desk.now) (shards a.settings.now) x l.holders l.tops) z l.invariant.far })

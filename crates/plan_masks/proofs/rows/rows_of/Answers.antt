@@ -7,10 +7,10 @@ use Rattle.plan_masks.proofs.rows.rows_of.Goals as goal
 pub fill-requires : goal.fill-requires
 fill-requires c = let s = c in
     let e = c.nodes.ensures in
-    record { settings = s.requires.0; settings_bound = (s.requires.1, omega (arith, e), refl); undecided_bound = none_up _ _ e }
+    record { settings = s.requires.settings; settings_bound = (s.requires.settings_bound, omega (arith, e), refl); undecided_bound = none_up _ _ e }
 
 pub returns : goal.returns
 returns c = let s = c in
     let a = s.args in
     rows_all a.settings.now (masks_say a.settings.now a.v a.masks.now) _ _ c.nodes.result c.nodes.ensures zeros_at
-    c.fill.ensures.0 c.fill.ensures.1
+    c.fill.ensures.rows_len c.fill.ensures.rows_filled
