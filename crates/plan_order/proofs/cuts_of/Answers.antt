@@ -28,7 +28,7 @@ cut_for-t-requires c =
     let r = c.report_at-report in
     let l = c.loop-s-test.true in
     let below : i.s < shards start.args.settings.now = omega (arith, i.invariant.0) in
-    record { len_bound = read_few _ _ r.result r.ensures; readable_slot = start.requires.readable_slot.below.holder i.s below }
+    record { len_bound = read_few _ _ r.result r.ensures; readable_slot = start.requires.holders.holder i.s below }
 
 pub loop-s-preserved : goal.loop-s-preserved
 loop-s-preserved c =
