@@ -22,14 +22,14 @@ pub returns-then-not-placed : goal.returns-then-not-placed
 returns-then-not-placed c =
     let g = c.place_group-placed in
     record {
-      laid = λ e. clash e (c.if-not-placed.true);
+      laid = λ e. clash e (not-true c.place_group-placed.result.found c.if-not-placed.true);
       unplaced = λ e. g.ensures.unplaced e;
     }
 
 pub loop-g-preserved : goal.loop-g-preserved
 loop-g-preserved c =
     let g = c.place_group-placed in
-    let e = (c.if-not-placed.false) in (omega arith, e, g.ensures.more e)
+    let e = (not-false c.place_group-placed.result.found c.if-not-placed.false) in (omega arith, e, g.ensures.more e)
 
 pub returns : goal.returns
 returns c =

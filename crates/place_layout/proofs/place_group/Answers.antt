@@ -22,7 +22,7 @@ returns-then-not-answer c =
     let s = c.solve-answer in
     record {
       more = λ e. clash e refl;
-      unplaced = λ e. none_here p.settings p.held_bound p.laid_so_far s.ensures p.g_bound (c.if-not-answer.true) refl refl refl;
+      unplaced = λ e. none_here p.settings p.held_bound p.laid_so_far s.ensures p.g_bound (not-true c.solve-answer.result.exists c.if-not-answer.true) refl refl refl;
     }
 
 pub overflow_add-result : goal.overflow_add-result
@@ -37,7 +37,7 @@ overflow_add-result c =
             p.g_bound,
             p.laid_so_far.small,
             c.group_moves-moved.ensures,
-            moved_small p.settings p.held_bound p.laid_so_far s.ensures (m.if-not-answer.false) m.masks_with-masks.ensures,
+            moved_small p.settings p.held_bound p.laid_so_far s.ensures (not-false m.solve-answer.result.exists m.if-not-answer.false) m.masks_with-masks.ensures,
           );
     }
 
@@ -48,7 +48,7 @@ returns c =
     let p = m.requires in
     record {
       more = λ e.
-          stage_more p.settings p.held_bound p.laid_so_far s.ensures (m.if-not-answer.false) m.masks_with-masks.ensures
+          stage_more p.settings p.held_bound p.laid_so_far s.ensures (not-false m.solve-answer.result.exists m.if-not-answer.false) m.masks_with-masks.ensures
           c.group_moves-moved.ensures refl refl;
       unplaced = λ e. clash refl e;
     }

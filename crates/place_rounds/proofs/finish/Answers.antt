@@ -33,7 +33,7 @@ returns-then-not-end c =
           record {
             unplaced =
                 record {
-                  lowest = ends_none p.settings p.held_bound l.invariant.1 c.loop-g-test.true (r.ensures.none (c.if-not-end.true));
+                  lowest = ends_none p.settings p.held_bound l.invariant.1 c.loop-g-test.true (r.ensures.none (not-true c.reach_end-end.result.found c.if-not-end.true));
                   masks = refl;
                   total = refl;
                 };
@@ -53,7 +53,7 @@ overflow_add-total c =
     let p = m.requires in
     let l = c.loop-g in
     let r = c.reach_end-end in
-    let u = r.ensures.ended (c.if-not-end.false) in
+    let u = r.ensures.ended (not-false c.reach_end-end.result.found c.if-not-end.false) in
     omega (arith, l.invariant.1.2.small, c.loop-g-test.true, ends_fits p.settings p.held_bound l.invariant.1 u c.loop-g-test.true c.masks_with-masks.ensures c.group_moves-total.ensures)
 
 pub overflow_add-floor : goal.overflow_add-floor
@@ -62,7 +62,7 @@ overflow_add-floor c =
     let p = m.requires in
     let l = c.loop-g in
     let r = c.reach_end-end in
-    let u = r.ensures.ended (c.if-not-end.false) in
+    let u = r.ensures.ended (not-false c.reach_end-end.result.found c.if-not-end.false) in
     let k = ends_more p.settings p.held_bound l.invariant.1 u c.loop-g-test.true c.masks_with-masks.ensures c.group_moves-total.ensures in
     omega (arith, k.2.low, k.2.small, c.loop-g-test.true)
 
@@ -72,7 +72,7 @@ loop-g-preserved c =
     let p = m.requires in
     let l = c.loop-g in
     let r = c.reach_end-end in
-    let u = r.ensures.ended (c.if-not-end.false) in
+    let u = r.ensures.ended (not-false c.reach_end-end.result.found c.if-not-end.false) in
     (omega (arith, c.loop-g-test.true), ends_more p.settings p.held_bound l.invariant.1 u c.loop-g-test.true c.masks_with-masks.ensures c.group_moves-total.ensures)
 
 pub overflow_cast-result : goal.overflow_cast-result

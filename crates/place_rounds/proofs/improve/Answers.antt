@@ -46,7 +46,7 @@ returns-then-not-one c =
           record {
             unplaced =
                 record {
-                  lowest = turns_none p.settings p.held_bound l.invariant.1 c.loop-g-test.true (r.ensures.none (c.if-not-one.true));
+                  lowest = turns_none p.settings p.held_bound l.invariant.1 c.loop-g-test.true (r.ensures.none (not-true c.reach-one.result.found c.if-not-one.true));
                   masks = refl;
                   total = refl;
                 };
@@ -67,7 +67,7 @@ overflow_add-total c =
     let p = m.requires in
     let l = c.loop-g in
     let r = c.reach-one in
-    let u = r.ensures.reached (c.if-not-one.false) in
+    let u = r.ensures.reached (not-false c.reach-one.result.found c.if-not-one.false) in
     omega (arith, l.invariant.1.small, c.loop-g-test.true, moved_fits p.settings p.held_bound l.invariant.1 u c.masks_with-masks.ensures c.group_moves-total.ensures)
 
 pub overflow_add-floor : goal.overflow_add-floor
@@ -77,7 +77,7 @@ overflow_add-floor c =
     let p = m.requires in
     let l = c.loop-g in
     let r = c.reach-one in
-    let u = r.ensures.reached (c.if-not-one.false) in
+    let u = r.ensures.reached (not-false c.reach-one.result.found c.if-not-one.false) in
     let k = turns_more p.settings p.held_bound l.invariant.1 u c.loop-g-test.true c.masks_with-masks.ensures c.group_moves-total.ensures in
     omega (arith, k.low, k.small, c.loop-g-test.true)
 
@@ -88,7 +88,7 @@ loop-g-preserved c =
     let p = m.requires in
     let l = c.loop-g in
     let r = c.reach-one in
-    let u = r.ensures.reached (c.if-not-one.false) in
+    let u = r.ensures.reached (not-false c.reach-one.result.found c.if-not-one.false) in
     (omega (arith, c.loop-g-test.true), turns_more p.settings p.held_bound l.invariant.1 u c.loop-g-test.true c.masks_with-masks.ensures c.group_moves-total.ensures)
 
 pub overflow_cast-result : goal.overflow_cast-result

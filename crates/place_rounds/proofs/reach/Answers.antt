@@ -36,7 +36,7 @@ returns-then-not-first c =
     let k = subst (λ (K : Case). WithinAnswer K 0 u.result) t u.ensures in
     record {
       reached = λ e. clash e refl;
-      none = λ e. never_placed a.settings.now a.held o a.g p.settings p.held_bound u.result k (c.if-not-first.true);
+      none = λ e. never_placed a.settings.now a.held o a.g p.settings p.held_bound u.result k (not-true c.start-first.result.exists c.if-not-first.true);
     }
 
 pub returns-then-rounds-eq0 : goal.returns-then-rounds-eq0
@@ -52,7 +52,7 @@ returns-then-rounds-eq0 c =
     let f = c.floor-floor in
     record {
       reached = λ e.
-          reached_start a.settings.now a.held o a.g p.settings p.held_bound u.result k (c.if-not-first.false) a.rounds f.result c.if-rounds-eq0.true
+          reached_start a.settings.now a.held o a.g p.settings p.held_bound u.result k (not-false c.start-first.result.exists c.if-not-first.false) a.rounds f.result c.if-rounds-eq0.true
           (floor_told a.settings.now a.held o a.g p.settings p.held_bound n.result a.sheet.now f.result n.ensures p.sheet_value f.ensures);
       none = λ e. clash refl e;
     }
@@ -77,7 +77,7 @@ onward-best-requires c =
       low = subst (λ (K : Case). Low K f.result) (sym i)
           (subst (Low (round_case a.settings.now a.held o a.g 1)) (sym l) (low_floor a.settings.now a.held o a.g p.settings p.held_bound));
       weighed = subst (λ (K : Case). Weighed K (record { exists = true; weight = v.result; owners = u.result.owners })) (sym i)
-          (start_weighed a.settings.now a.held o a.g p.settings p.held_bound u.result k (c.if-not-first.false) v.result v.ensures);
+          (start_weighed a.settings.now a.held o a.g p.settings p.held_bound u.result k (not-false c.start-first.result.exists c.if-not-first.false) v.result v.ensures);
     }
 
 pub returns : goal.returns
@@ -96,7 +96,7 @@ returns c =
     let b = c.onward-best in
     record {
       reached = λ e.
-          reached_better a.settings.now a.held o a.g p.settings p.held_bound u.result k (c.if-not-first.false) a.rounds v.result f.result b.result
+          reached_better a.settings.now a.held o a.g p.settings p.held_bound u.result k (not-false c.start-first.result.exists c.if-not-first.false) a.rounds v.result f.result b.result
           (subst (λ (K : Case). Improved K a.rounds (record { exists = true; weight = v.result; owners = u.result.owners }) b.result) i b.ensures)
           (floor_told a.settings.now a.held o a.g p.settings p.held_bound n.result a.sheet.now f.result n.ensures p.sheet_value f.ensures);
       none = λ e. clash refl e;

@@ -56,7 +56,7 @@ returns-then-not-best c =
     let k = subst (λ (K : Case). LeastAnswer K u.result) i (subst (λ (q : List ℕ). LeastAnswer (case_of x.result n.result y.result q 0) u.result) t.ensures u.ensures) in
     record {
       ended = λ e. clash e refl;
-      none = λ e. never_least a.settings.now a.held o a.g p.settings p.held_bound u.result k (c.if-not-best.true);
+      none = λ e. never_least a.settings.now a.held o a.g p.settings p.held_bound u.result k (not-true c.least-best.result.exists c.if-not-best.true);
     }
 
 pub returns : goal.returns
@@ -75,7 +75,7 @@ returns c =
     let f = c.floor-floor in
     record {
       ended = λ e.
-          ended_least a.settings.now a.held o a.g p.settings p.held_bound u.result k (c.if-not-best.false) f.result
+          ended_least a.settings.now a.held o a.g p.settings p.held_bound u.result k (not-false c.least-best.result.exists c.if-not-best.false) f.result
           (floor_told a.settings.now a.held o a.g p.settings p.held_bound n.result a.sheet.now f.result n.ensures p.sheet_value f.ensures);
       none = λ e. clash refl e;
     }

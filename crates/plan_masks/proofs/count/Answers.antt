@@ -4,7 +4,7 @@ use mathlib.Core.Bool.{false}
 use mathlib.Core.Logic.{⊎_elim}
 use mathlib.Core.Path.{◌≡◌, sym, ap, ◌∙◌, subst, subst⁻¹}
 use native.Mathlib.Omega.{arith}
-use borrow.Author.Tests.{not-true, not-false}
+use Rattle.base_laws.specs.Bools.{of_not_true, of_not_false}
 use Rattle.base_laws.proofs.Below.{all_fails}
 use Rattle.base_laws.specs.Tables.{filled}
 use Rattle.base_lent.specs.Definitions.{words_in}
@@ -15,6 +15,7 @@ use Rattle.plan_seen.specs.Sight.{seen_of}
 use Rattle.plan_masks.specs.Counting.{counted_at, alone}
 use Rattle.plan_masks.specs.Turns.{CountedTo, counted_none, counted_unheld, counted_held, counted_sound, counted_failed, seen_own}
 use Rattle.plan_masks.proofs.count.Goals as goal
+use Rattle.plan_masks.proofs.count.Goals.{then-has+else-not-seen, else-has}
 
 pub loop-n-init : goal.loop-n-init
 loop-n-init c = let s = c in
@@ -37,7 +38,7 @@ returns-then-not-seen c = let s = c in
     c.none_counted.ensures
     ∙ counted_failed a.settings.now a.v a.t a.all d s.requires.settings
     (all_fails 32 (node_ok a.settings.now a.v a.t a.all d) l.n m
-    (held_ok a.settings.now a.v a.t a.all d l.n false h (sym own ∙ c.if-not-seen.true)))
+    (held_ok a.settings.now a.v a.t a.all d l.n false h (sym own ∙ of_not_true _ c.if-not-seen.true)))
 
 pub count_node-requires : goal.count_node-requires
 count_node-requires c = let s = c in
@@ -50,18 +51,18 @@ loop-n-preserved c = let s = c in
     let l = c.loop-n in
     let m = c.loop-n-test.true in
     let many = c.wide-shards.ensures ∙ c.shards.ensures in
-    ⊎_elim
-    (λ w.
-    let h = sym c.has.ensures ∙ w.0.taken in
-    let given = w.2.ensures ∙ ap (λ (k : ℕ). seen_of a.settings.now a.v a.t k d) (w.1.ensures ∙ alone l.n) in
-    subst⁻¹ (CountedTo a.settings.now a.v a.t a.all d (l.n + 1))
-    (w.7 ∙ w.6.ensures ∙ ap (λ (k : ℕ). filled k (counted_at w.2.result.holders l.n l.masks) l.masks) many)
-    (counted_held a.settings.now a.v a.t a.all d s.requires.settings (desk_length a.desk.now s.requires.desk_len) l.n m h w.2.result given l.masks
-    (not-false w.2.result.ok w.4.left) l.invariant))
-    (λ w.
-    subst⁻¹ (CountedTo a.settings.now a.v a.t a.all d (l.n + 1)) w.1
-    (counted_unheld a.settings.now a.v a.t a.all d s.requires.settings l.n l.masks m (sym c.has.ensures ∙ w.0.left) l.invariant))
-    c.if-has.branch
+    elim c.if-has.branch [
+      then-has+else-not-seen w ↦
+          let h = sym c.has.ensures ∙ w.if-has.true in
+          let given = w.see-seen.ensures ∙ ap (λ (k : ℕ). seen_of a.settings.now a.v a.t k d) (w.with.ensures ∙ alone l.n) in
+          subst⁻¹ (CountedTo a.settings.now a.v a.t a.all d (l.n + 1))
+          (w.masks-is ∙ w.count_node.ensures ∙ ap (λ (k : ℕ). filled k (counted_at w.see-seen.result.holders l.n l.masks) l.masks) many)
+          (counted_held a.settings.now a.v a.t a.all d s.requires.settings (desk_length a.desk.now s.requires.desk_len) l.n m h w.see-seen.result given l.masks
+          (of_not_false w.see-seen.result.ok w.if-not-seen.false) l.invariant)
+      | else-has w ↦
+          subst⁻¹ (CountedTo a.settings.now a.v a.t a.all d (l.n + 1)) w.masks-is
+          (counted_unheld a.settings.now a.v a.t a.all d s.requires.settings l.n l.masks m (sym c.has.ensures ∙ w.if-has.false) l.invariant)
+    ]
 
 pub returns : goal.returns
 returns c = let s = c in

@@ -7,7 +7,7 @@ use Rattle.plan_masks.proofs.number.Goals as goal
 pub returns-in-Short : goal.returns-in-Short
 returns-in-Short c = let a = c.args in
     numbered_short a.settings.now a.held (quorum_in a.settings.now a.v a.held a.masks.now) c.reason_number.result _
-    (sym c.quorum-found.ensures ∙ c.found-1.given.1) c.reason_number.ensures
+    (sym c.quorum-found.ensures ∙ c.in-Short.is) c.reason_number.ensures
 
 pub returns-in-Met : goal.returns-in-Met
 returns-in-Met c = let a = c.args in

@@ -17,7 +17,7 @@ returns-then-x-y c = let a = c.args in
 pub returns-then-x-y-2 : goal.returns-then-x-y-2
 returns-then-x-y-2 c = let a = c.args in
     λ body p told. sym (or_neither c.if-not-turn.false
-    (told (subst (λ (y : ℕ). a.x < y) c.goal_at-y.ensures c.if-x-y-2.true)))
+    (told.before (subst (λ (y : ℕ). a.x < y) c.goal_at-y.ensures c.if-x-y-2.true)))
 
 pub returns-then-y-ge1 : goal.returns-then-y-ge1
 returns-then-y-ge1 c = let a = c.args in

@@ -2,10 +2,8 @@
 use Prim.Native.Nat.{ℕ, ◌-◌, ◌+◌, ◌*◌}
 use mathlib.Core.Path.{◌≡◌, refl, sym, ◌∙◌, subst}
 use native.Mathlib.Omega.{arith}
-use borrow.Author.Tests.{not-true, not-false}
 use mathlib.Core.Bool.{false}
 use mathlib.Core.List.{List}
-use mathlib.Core.Logic.{⊎_elim}
 use lib.ListN.{length-replicate}
 use Rattle.base_laws.proofs.Below.{all_fails}
 use Rattle.base_laws.specs.Bools.{clash}
@@ -26,6 +24,7 @@ use Rattle.base_lent.specs.Definitions.{words_in}
 use Rattle.report_desk.specs.Bytes.{desk_length}
 use Rattle.plan_seen.specs.Bytes.{desk_words, slot_pairs}
 use Rattle.plan_seen.proofs.walk_nodes.Goals as goal
+use Rattle.plan_seen.proofs.walk_nodes.Goals.{then-has+else-not-read_step, else-has}
 
 -- the tables, part by part
 kept-by : (σ : List ℕ) (v : Layout) (t : Termination) (x : Tables) → Settings σ → TablesOf σ v t x
@@ -91,17 +90,19 @@ loop-n-preserved c = let s = c in
     let m = c.loop-n-test.true in
     let words : FitWords (words_in a.desk.now) = desk_words a.desk.now s.requires.desk_len (λ i. omega (arith, c.type_inv.desk i)) in
     let kept = kept-by a.settings.now a.v a.t a.tables s.requires.settings s.requires.tables_of in
-    ⊎_elim
-    (λ w.
-    let pairs = slot_pairs a.desk.now s.requires.desk_len l.n m _ w.3.ensures in
-    let is : SlotIs (words_in a.desk.now) l.n _ = record { whole = desk_length a.desk.now s.requires.desk_len; words = words; pairs = pairs } in
-    walked_as a.settings.now a.v a.t a.held (words_in a.desk.now) (l.n + 1) w.17 w.18 w.19
-    (walked_held a.settings.now a.v a.t a.held (words_in a.desk.now) (desk_length a.desk.now s.requires.desk_len) words l.n l.b l.holders l.tops m (sym h.ensures ∙ w.0.taken) l.invariant
-    w.15.result (not-false w.15.result w.16.left) _ _ _ (pairs_long _ _ pairs) w.15.ensures.0
-    (stepped_both a.settings.now a.v a.t (words_in a.desk.now) l.n w.10.result w.15.result (λ e. w.10.ensures.1.done e a.settings.now a.v a.t (words_in a.desk.now) kept is m) w.10.ensures.1.same w.15.ensures.1.0 (λ e. w.15.ensures.1.1 e (words_in a.desk.now) is))))
-    (λ w. walked_as a.settings.now a.v a.t a.held (words_in a.desk.now) (l.n + 1) w.1 w.2 w.3
-    (walked_unheld a.settings.now a.v a.t a.held (words_in a.desk.now) (desk_length a.desk.now s.requires.desk_len) l.n l.b l.holders l.tops m (sym h.ensures ∙ w.0.left) l.invariant))
-    c.if-has.branch
+    elim c.if-has.branch [
+      then-has+else-not-read_step w ↦
+          let pairs = slot_pairs a.desk.now s.requires.desk_len l.n m _ w.pairs.ensures in
+          let is : SlotIs (words_in a.desk.now) l.n _ = record { whole = desk_length a.desk.now s.requires.desk_len; words = words; pairs = pairs } in
+          walked_as a.settings.now a.v a.t a.held (words_in a.desk.now) (l.n + 1) w.holders-is w.tops-is w.b-is
+          (walked_held a.settings.now a.v a.t a.held (words_in a.desk.now) (desk_length a.desk.now s.requires.desk_len) words l.n l.b l.holders l.tops m (sym h.ensures ∙ w.if-has.true) l.invariant
+          w.read_step.result w.if-not-read_step.false _ _ _ (pairs_long _ _ pairs) w.read_step.ensures.holders_len_2
+          (stepped_both a.settings.now a.v a.t (words_in a.desk.now) l.n w.quick_step-told.result w.read_step.result (λ e. w.quick_step-told.ensures.quick_step.done e a.settings.now a.v a.t (words_in a.desk.now) kept is m)
+          w.quick_step-told.ensures.quick_step.same w.read_step.ensures.value (λ e. w.read_step.ensures.stepped e (words_in a.desk.now) is)))
+      | else-has w ↦
+          walked_as a.settings.now a.v a.t a.held (words_in a.desk.now) (l.n + 1) w.holders-is w.tops-is w.b-is
+          (walked_unheld a.settings.now a.v a.t a.held (words_in a.desk.now) (desk_length a.desk.now s.requires.desk_len) l.n l.b l.holders l.tops m (sym h.ensures ∙ w.if-has.false) l.invariant)
+    ]
 
 pub returns : goal.returns
 unfolding slots_ok

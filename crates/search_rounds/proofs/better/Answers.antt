@@ -18,13 +18,13 @@ returns-then-not-next c =
     record {
       standing = c.loop-left.invariant.standing;
       steps = c.loop-left.invariant.steps;
-      stuck = λ e. way_none c.loop-left.invariant refl c.first_within-next.ensures (c.if-not-next.true);
+      stuck = λ e. way_none c.loop-left.invariant refl c.first_within-next.ensures (not-true c.first_within-next.result.exists c.if-not-next.true);
       out = λ e. absurd (true≢false e);
     }
 
 pub loop-left-preserved : goal.loop-left-preserved
 loop-left-preserved c =
-    way_more c.loop-left.invariant c.loop-left-test.true (let l = c.if-weight-floor.false in omega (arith, l)) refl c.first_within-next.ensures (c.if-not-next.false)
+    way_more c.loop-left.invariant c.loop-left-test.true (let l = c.if-weight-floor.false in omega (arith, l)) refl c.first_within-next.ensures (not-false c.first_within-next.result.exists c.if-not-next.false)
 
 pub returns : goal.returns
 returns c =
