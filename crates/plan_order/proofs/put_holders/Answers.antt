@@ -43,4 +43,4 @@ loop-s-preserved c =
     c.if-has.branch
 
 pub returns : goal.returns
-returns c = storing_end c.loop-s.invariant c.loop-s-test.false
+returns c = (let all = storing_end c.loop-s.invariant c.loop-s-test.false in (record { value = all.0; body_after = all.1 }))
