@@ -1,11 +1,11 @@
 # make help              these lines
-# make try               runs the program restart on the example of restart-model(7), in seconds; nothing is proved by it
+# make try               runs the program restart on the example of restart-model(7); nothing is proved by it
 # make case-a            proves and builds the program restart, says how far it is, and runs it on that example
 # make check-fast        what needs no proof: layout, names, links, linters for Python, Rust, C and shell; about ten seconds, the first time more
 # make format            formats the crates, Rust, C and C++
 # make hook              runs check-fast before every commit of this clone
 # make test              proves every crate, tries the wrong programs of the gate and runs every test
-# make wrong-programs    tries the other wrong programs, of all crates or of CRATE=NAME
+# make wrong-programs    tries all wrong programs one by one, each for a fact of its own, of all crates or of CRATE=NAME
 # make lib               target/librestart.a and target/librestart.so.1, the proved library for C
 # make example           target/c/restart-cluster, the example over it: machine, leader and client
 # make test-c            the tests in C: plainly, under valgrind, with sanitizers and as an installed library
@@ -17,7 +17,7 @@
 # make uninstall         removes them
 # make dist              two archives in target/: the sources as last committed, and the installed tree, which can be unpacked anywhere
 # make deb               Debian packages in target/: librestart1, librestart-dev and restart-tools
-# make clean             removes target/, all proofs among it
+# make clean             removes target/ and what rt keeps in the crates' folders out/, all proofs among it
 .PHONY: help try case-a check-fast format hook test wrong-programs lib example test-c fuzz simulate fuzz-guided performance install uninstall dist deb clean
 
 .DEFAULT_GOAL := try
@@ -27,9 +27,9 @@ help:
 
 try:
 	@mkdir -p target
-	@rt try restart >target/try.log 2>&1 || { cat target/try.log; exit 1; }
-	@cat crates/restart/stdout
-	@echo "(from the source as it stands, interpreted and compiled three ways; nothing is proved by it: make case-a)"
+	@cd crates/restart && rt try <stdin >../../target/try.out 2>../../target/try.log || { cat ../../target/try.log; exit 1; }
+	@cat target/try.out
+	@echo "(from the source as it stands, compiled with checks; nothing is proved by it: make case-a)"
 
 case-a: target/bin/restart
 	@target/bin/restart < crates/restart/stdin
@@ -105,7 +105,7 @@ ARCHIVE ?= target/staticlib/libc_planner.a
 PROGRAM ?= target/bin/restart
 MONDAYS ?= target/bin/mondays
 SHEET ?= target/bin/sheet
-SOURCES := crates.txt $(shell find crates -name '*.rt' -o -name '*.antt')
+SOURCES := crates.txt $(shell find crates -name out -prune -o \( -name '*.rt' -o -name '*.antt' \) -print)
 CFLAGS ?= -O2
 CHECKED := -std=c11 -Wall -Wextra -Werror -pedantic
 
@@ -113,13 +113,10 @@ lib: target/librestart.a target/librestart.so.$(SONUMBER)
 example: target/c/restart-cluster
 
 target/staticlib/libc_planner.a: $(SOURCES)
-	@[ -f target/stamp/c_planner ] || python3 gate/prove.py c_planner
-	rt staticlib c_planner
-	touch $@
+	@python3 gate/prove.py c_planner
 
 target/bin/restart target/bin/mondays target/bin/sheet: $(SOURCES)
 	@python3 gate/prove.py $(@F)
-	touch $@
 
 # Versions, texts and exported small functions, in plain C.
 target/c/restart_extra.o: c/restart_extra.c include/restart.h
@@ -239,7 +236,7 @@ dist:
 	cp CHANGELOG.md target/dist/$(TREE)
 	$(PACK) target/$(TREE).tar.gz -C target/dist $(TREE)
 	if [ -e .git ]; then git archive --prefix=$(NAME)/ -o target/$(NAME).tar.gz HEAD; \
-	else $(PACK) target/$(NAME).tar.gz --exclude=./target --exclude=__pycache__ --transform='s|^\.|$(NAME)|' .; fi
+	else $(PACK) target/$(NAME).tar.gz --exclude=./target --exclude=./crates/*/out --exclude=__pycache__ --transform='s|^\.|$(NAME)|' .; fi
 	rm -rf target/dist
 
 deb:
@@ -249,5 +246,5 @@ deb:
 	rm -rf target/deb
 
 clean:
-	rm -rf target
+	rm -rf target crates/*/out
 	find . -name __pycache__ -type d -exec rm -rf {} +

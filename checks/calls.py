@@ -18,7 +18,7 @@ CALL = re.compile(r"(?<![\w.:])((?:\w+::)*)(\w+)\(|\.(\w+)\(")
 
 def crates():
     with open(os.path.join(ROOT, "crates.txt")) as lines:
-        return [line.split(":")[0].strip() for line in lines if ":" in line and not line.startswith("#")]
+        return [line.split(":")[0].split()[0] for line in lines if ":" in line and not line.startswith("#")]
 
 
 def functions(crate):

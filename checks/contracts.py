@@ -3,7 +3,7 @@ says of each what it is, by an equation, and supposes nothing that no caller can
 the checker asks of it). Checked of every public function that is no program's, one test each:
 - no `ensures` has a hypothesis that ties an argument to something that is no argument, as `(d : List ℕ) → seen ≡ seenOf d → ..` does:
   whoever has an argument of another making is promised nothing;
-- an `ensures` has an equation about the result, whole or field by field, and one about each `&mut` argument's exit. By cases, where
+- an `ensures` has an equation about the result, whole or field by field, and one about each `&mut` argument as it is left. By cases, where
   the hypotheses are about arguments, there are two equations or more; one whose hypothesis is about the result itself does not count;
 - checks/allowed.txt, under "contracts", names what may stand all the same, and nothing else.
 Records and other definitions that a contract cites of the result or an exit are looked into.
@@ -20,7 +20,7 @@ import unused
 from sources import parts_of, read, room_of
 
 FUNCTION = re.compile(r'pub (extern "C" )?fn (\w+)(?:<[^>]*>)?\((.*?)\)(?:\s*->\s*(.*?))?\s*$', re.S)
-ENSURES = re.compile(r"ensures\s*(?:\w+\s*)?\{\s*λ\s*(\w+)\.\s*⌜(.*?)⌝\s*\}", re.S)
+ENSURES = re.compile(r"\bensures\b\s*(?:\w+\s*)?\*?\{")
 STRUCT = re.compile(r"(?ms)^(?:pub )?struct (\w+)(?:<[^>]*>)?(?: \{(.*?)^\}|\((.*?)\);)")
 TOKEN = re.compile(r'[(){},;]|[^\s(){},;]+')
 OPENS, CLOSES = ("(", "{"), (")", "}")
@@ -116,12 +116,15 @@ class Reader:
     def told(self, tokens, outputs):
         """The output that a term is: an output, a field of one, or the words that lie in one."""
         words = words_in(tokens)
-        if words[:1] == ["wordsIn"]:
+        if words[:1] == ["words_in"]:
             words = words[1:]
-        for length in (3, 1):
-            label = outputs.get(" ".join(words[:length]))
-            if label and all(word.startswith(".") for word in words[length:]):
-                return " ".join([label, *words[length : length + 1]]) if label == "result" else label
+        if not words or not all(word.startswith(".") for word in words[1:]):
+            return None
+        parts = [part for word in words for part in word.split(".") if part]
+        for length in (2, 1):
+            label = outputs.get(".".join(parts[:length]))
+            if label:
+                return " .".join([label, *parts[length : length + 1]]) if label == "result" else label
         return None
 
     def read(self, tokens, file, outputs, inputs, ties=frozenset(), cases=False, depth=0):
@@ -139,7 +142,7 @@ class Reader:
                     ties = ties | set(bound)
                 elif words & ties and words & inputs and not unfolds(said, ties):
                     tied.append(" ".join(said))
-                if any(self.told(words_in(term)[:3], outputs) or self.told(words_in(term)[:1], outputs) for term in starts(said)):
+                if any(self.told([word], outputs) for word in words_in(said)):
                     return [], tied
                 cases = cases or not bound
         parts = split_at(concluded, "⊎")
@@ -199,10 +202,15 @@ def unfolds(tokens, ties):
     return len(sides) == 2 and len(named) == 1 and not any(set(words) & ties for words in sides if words not in named)
 
 
-def starts(tokens):
-    """The rest of a text from each of its words on."""
-    words = words_in(tokens)
-    return [words[at:] for at in range(len(words))]
+def formulas(contract):
+    """What each `ensures` says, up to the brace that closes it."""
+    for clause in ENSURES.finditer(contract):
+        depth, at = 1, clause.end()
+        while depth and at < len(contract):
+            depth += (contract[at] == "{") - (contract[at] == "}")
+            at += 1
+        if not depth:
+            yield contract[clause.end() : at - 1]
 
 
 def structs():
@@ -237,11 +245,11 @@ def faults(reader, file, parameters, given, contract, fields):
     """(the hypotheses that tie an argument to what is none, the outputs without an equation)."""
     arguments = {part.split(":")[0].strip().removeprefix("mut ") for part in re.split(r",(?![^\[({<]*[\])}>])", parameters) if part.strip()}
     exits = re.findall(r"(\w+)\s*:\s*&(?:'\w+ )?mut\b", parameters)
-    found, tied, clauses = [], [], ENSURES.findall(contract)
+    found, tied, clauses = [], [], list(formulas(contract))
     if len(clauses) != len(re.findall(r"\bensures\b", contract)):
         return [], ["a clause in a form that is not read"]
-    for result, formula in clauses:
-        outputs = {result: "result", **{"now %s .exit" % name: name for name in exits}}
+    for formula in clauses:
+        outputs = {"result": "result", **{"%s.new" % name: name for name in exits}}
         more, also = reader.read(TOKEN.findall(formula), file, outputs, arguments)
         found, tied = found + more, tied + also
     labels = [label for label, _ in found]

@@ -19,7 +19,7 @@ from concurrent.futures import ThreadPoolExecutor
 
 ROOT = os.path.dirname(os.path.dirname(os.path.abspath(__file__)))
 PROCESSORS = len(os.sched_getaffinity(0))
-LEFT_OUT = {".git", "target", "__pycache__"}
+LEFT_OUT = {".git", "target", "out", "__pycache__"}
 COUNTS = re.compile(r"^(\d+) passed, (\d+) failed$")
 CARGO = re.compile(r"(\d+) passed; (\d+) failed")
 # The packages of Debian that needs_linters installs; rustfmt and clippy belong to Rust. And how long fetching may take, in seconds.
@@ -62,7 +62,9 @@ def script(name):
 
 
 def layout(root):
-    return [["rt", "fmt", "--check"]]
+    """By the formatter that `rt fmt` runs in a crate's folder, which only lays out; it stands beside rt."""
+    rattle = os.path.join(os.path.dirname(os.path.realpath(shutil.which("rt"))), "rattle")
+    return [[rattle, "fmt", "--check", *files(root, (".rt", ".antt"))]]
 
 
 def python(root):
@@ -112,7 +114,6 @@ CHECKS = {
     "layers": ("crates by layer, definitions by name", script("checks/layers.py"), []),
     "planted": ("contracts and uses on planted faults", script("checks/planted.py"), []),
     "types": ("nodes, shards and views by their types", script("checks/types.py"), []),
-    "numbers": ("limits by their names", script("checks/numbers.py"), []),
     "proofs": ("proof text that does not grow", script("checks/proofs.py"), []),
     "judge": ("the judge of wrong programs", script("gate/judge.py"), []),
 }
@@ -154,8 +155,9 @@ def formatted(root):
     fails = [fault for name in ("layout", "rust", "c") for fault in lacking(CHECKS[name][2])]
     if fails:
         sys.exit("\n".join(fails))
-    for command in (["rt", "fmt"], [word for word in rust(root)[0] if word != "--check"], ["-i" if word == "--dry-run" else word for word in c(root)[0]]):
-        fails += [command[0]] * bool(subprocess.run(command, cwd=root).returncode)
+    crates = ["--write" if word == "--check" else word for word in layout(root)[0]]
+    for command in (crates, [word for word in rust(root)[0] if word != "--check"], ["-i" if word == "--dry-run" else word for word in c(root)[0]]):
+        fails += [os.path.basename(command[0])] * bool(subprocess.run(command, cwd=root).returncode)
     sys.exit("failed: %s" % ", ".join(fails) if fails else 0)
 
 

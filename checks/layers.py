@@ -18,7 +18,7 @@ def layers_of(path):
     with open(path, encoding="utf-8") as lines:
         for line in lines:
             started = re.match(r"# ([a-z]+): (.*)", line)
-            listed = re.match(r"([a-z0-9_]+):(.*)", line)
+            listed = re.match(r"([a-z0-9_]+)(?: staticlib)?:(.*)", line)
             if started:
                 layers.append((started.group(1), started.group(2), []))
             elif listed:
@@ -91,7 +91,7 @@ TYPE = re.compile(r"^\s*(?:pub )?(?:struct|enum|type) (\w+)")
 
 def definitions():
     """(name, file) of each definition, constructor and type."""
-    for path in sorted(glob.glob("crates/*/specs/*.antt")):
+    for path in sorted(glob.glob("crates/*/specs/*.antt") + glob.glob("crates/*/proofs/*.antt")):
         in_data = False
         with open(path, encoding="utf-8") as lines:
             for line in lines:

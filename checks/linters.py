@@ -58,7 +58,7 @@ def linted(name):
 # ---- The scripts: the repository with one file changed, and what is told then
 
 
-LAST = re.findall(r"(?m)^(\w+):", read(os.path.join(ROOT, "crates.txt")))[-1]
+LAST = re.findall(r"(?m)^(\w+)(?: staticlib)?:", read(os.path.join(ROOT, "crates.txt")))[-1]
 NEW = r"\A"
 # a script, a file, a pattern and what stands there instead (of a file that is new, its whole text), and what is told
 SCRIPTS = [
@@ -66,11 +66,9 @@ SCRIPTS = [
     ("layers.py", ("crates.txt", r"(?m)^# ([a-z]+): ", r"# \1: planted "), "where crates.txt has"),
     ("layers.py", ("crates/base_ids/specs/Planted.antt", NEW, "abbrev pub Planted : ℕ\nabbrev pub planted : ℕ\n"), "planted is defined in"),
     ("types.py", ("crates/state_rows/src/planted.rt", NEW, "pub fn planted(node: u32) {\n}\n"), "state_rows::planted::planted.node is u32"),
-    ("numbers.py", ("crates/state_rows/src/planted.rt", NEW, "fn planted() -> u32 {\n    4294967296\n}\n"), "4294967296"),
-    ("numbers.py", ("include/restart.h", r"(?m)^(#define RESTART_STATE_BYTES) .*$", r"\1 641"), "641"),
     ("read.py", ("docs/READING.md", r"\Z", "planted\n"), "docs/READING.md is not current"),
-    ("proofs.py", ("crates/base_ids/proofs/planted/Proof.antt", NEW, "p = c%s\n" % (" .before" * 31)), "31 `.before` in a row"),
-    ("proofs.py", ("crates/base_ids/proofs/planted/Proof.antt", NEW, "-- %s\n" % ("x" * 1536)), "1539 characters in a line"),
+    ("proofs.py", ("crates/base_ids/proofs/planted/Proof.antt", NEW, "p = c%s\n" % (".before" * 31)), "31 `.before` in a row"),
+    ("proofs.py", ("crates/base_ids/proofs/planted/Answers.antt", NEW, "-- %s\n" % ("x" * 1536)), "1539 characters in a line"),
     ("promises.py", ("docs/PROMISES.md", r"\Z", "\n`base_ids/Nowhere.nothing`\n"), "Nowhere.nothing"),
     ("promises.py", ("README.md", r"\Z", "\n[nowhere](docs/NOWHERE.md)\n"), "docs/NOWHERE.md"),
 ]
@@ -84,7 +82,7 @@ def tree(root, file):
         os.makedirs(os.path.join(root, folder), exist_ok=True)
         there = os.path.join(ROOT, folder)
         for name in os.listdir(there) if os.path.isdir(there) else ():
-            if name not in (parts[depth], ".git", "target"):
+            if name not in (parts[depth], ".git", "target", "out"):
                 os.symlink(os.path.join(there, name), os.path.join(root, folder, name))
 
 

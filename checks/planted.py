@@ -12,14 +12,14 @@ from sources import written
 # ---- contracts.py: a contract, and what is found of a function `f(x: u32, out: &mut [u32], seen: Seen) -> Pair`
 
 POST = """-- what the contracts below cite
-use Rattle·toy·specs.specs.declared.Pair.{Pair}
+use Rattle.toy.specs.declared.Pair.{Pair}
 
-unfoldable pub seenOf : List ℕ → ℕ
-seenOf d = 0
+unfoldable pub seen_of : List ℕ → ℕ
+seen_of d = 0
 
 pub record Exact (x : ℕ) (o : List ℕ) (r : Pair) : Type 0 where
-  pub left : r .left ≡ x
-  pub right : r .right ≡ x
+  pub left : r.left ≡ x
+  pub right : r.right ≡ x
   pub words : o ≡ []
 
 pub record Cased (x : ℕ) (o : List ℕ) (r : Pair) : Type 0 where
@@ -30,7 +30,7 @@ pub record Half (x : ℕ) (o : List ℕ) (r : Pair) : Type 0 where
   pub small : x ≡ 0 → (r ≡ record { left = 0; right = 0 }) × (o ≡ [])
 
 pub record Tied (x seen : ℕ) (o : List ℕ) (r : Pair) : Type 0 where
-  pub given : (d : List ℕ) → seen ≡ seenOf d → r ≡ record { left = 0; right = 0 }
+  pub given : (d : List ℕ) → seen ≡ seen_of d → r ≡ record { left = 0; right = 0 }
   pub words : o ≡ []
 
 abbrev pub Other : ℕ → List ℕ → Pair → Type 0
@@ -40,7 +40,7 @@ module _ (x : ℕ) where
   pub record Inside (o : List ℕ) (r : Pair) : Type 0 where
     pub both : (o ≡ []) × (r ≡ record { left = x; right = x })
 """
-OPEN = """ghost use Rattle·toy·specs.specs.Post.{Exact, Cased, Half, Tied, Other, Inside, seenOf};
+OPEN = """ghost use Rattle.toy.specs.Post.{Exact, Cased, Half, Tied, Other, Inside, seen_of};
 
 pub struct Pair {
     pub left: u32,
@@ -52,36 +52,36 @@ pub fn f(x: u32, out: &mut [u32], seen: u32) -> Pair
     g(x)
 }
 """
-LEFT, RIGHT, OUT = "r .left ≡ x", "r .right ≡ x", "now (out .exit) ≡ []"
+LEFT, RIGHT, OUT = "result.left ≡ x", "result.right ≡ x", "out.new ≡ []"
 # the formulas of a contract, how many hypotheses tie an argument, and what has no equation
 CONTRACTS = [
-    (["r ≡ pair x", OUT], 0, []),
-    (["(r ≡ pair x) × (now (out .exit) ≡ [])"], 0, []),
-    (["pair x ≡ r", OUT], 0, []),
+    (["result ≡ pair x", OUT], 0, []),
+    (["(result ≡ pair x) × (out.new ≡ [])"], 0, []),
+    (["pair x ≡ result", OUT], 0, []),
     ([LEFT, RIGHT, OUT], 0, []),
     ([LEFT, OUT], 0, ["the result"]),
     ([], 0, ["the result", "out"]),
-    (["r ≡ pair x", "length (now (out .exit)) ≡ length (now (out .entry))"], 0, ["out"]),
-    (["r ≡ pair x", "now (out .entry) ≡ []"], 0, ["out"]),
-    (["r .left ≤ x", "r .right ≤ x", OUT], 0, ["the result"]),
-    (["r .left ≡ 0 → r ≡ pair x", OUT], 0, ["the result"]),
-    (["(r .left ≡ 0 → now (out .exit) ≡ []) × (r ≡ pair x)"], 0, ["out"]),
-    (["x ≡ 0 → r ≡ pair x", OUT], 0, ["the result"]),
-    (["x ≡ 0 → r ≡ pair x", "(x ≡ 0 → ⊥) → r ≡ pair 0", OUT], 0, []),
-    (["(r ≡ pair x) ⊎ (r ≡ pair 0)", OUT], 0, ["the result"]),
-    (["((d : List ℕ) → seen ≡ seenOf d → r ≡ pair x)", OUT], 1, ["the result"]),
-    (["((d : List ℕ) → length d ≡ 4 → seen ≡ seenOf d → r ≡ pair x)", "r ≡ pair x", OUT], 1, []),
-    (["((n : ℕ) → n < x → getD out n ≡ 0)", "r ≡ pair x", OUT], 0, []),
-    (["((k : Kind) → kindOf x ≡ Some k → r ≡ pair x)", "(kindOf x ≡ None → r ≡ pair 0)", OUT], 0, []),
-    (["r ≡ pair x ⌝ }\n    ensures { ⌜ x ≡ x", OUT], 0, ["a clause in a form that is not read"]),
-    (["Exact x (now (out .exit)) r"], 0, []),
-    (["Other x (now (out .exit)) r"], 0, []),
-    (["Inside x (now (out .exit)) r"], 0, []),
-    (["Cased x (now (out .exit)) r"], 0, []),
-    (["Half x (now (out .exit)) r"], 0, ["the result", "out"]),
-    (["Exact x [] r"], 0, ["out"]),
-    (["Tied x seen (now (out .exit)) r"], 1, ["the result"]),
-    (["Tied x 0 (now (out .exit)) r"], 0, ["the result"]),
+    (["result ≡ pair x", "length out.new ≡ length out.old"], 0, ["out"]),
+    (["result ≡ pair x", "out.old ≡ []"], 0, ["out"]),
+    (["result.left ≤ x", "result.right ≤ x", OUT], 0, ["the result"]),
+    (["result.left ≡ 0 → result ≡ pair x", OUT], 0, ["the result"]),
+    (["(result.left ≡ 0 → out.new ≡ []) × (result ≡ pair x)"], 0, ["out"]),
+    (["x ≡ 0 → result ≡ pair x", OUT], 0, ["the result"]),
+    (["x ≡ 0 → result ≡ pair x", "(x ≡ 0 → ⊥) → result ≡ pair 0", OUT], 0, []),
+    (["(result ≡ pair x) ⊎ (result ≡ pair 0)", OUT], 0, ["the result"]),
+    (["((d : List ℕ) → seen ≡ seen_of d → result ≡ pair x)", OUT], 1, ["the result"]),
+    (["((d : List ℕ) → length d ≡ 4 → seen ≡ seen_of d → result ≡ pair x)", "result ≡ pair x", OUT], 1, []),
+    (["((n : ℕ) → n < x → getD out n ≡ 0)", "result ≡ pair x", OUT], 0, []),
+    (["((k : Kind) → kindOf x ≡ Some k → result ≡ pair x)", "(kindOf x ≡ None → result ≡ pair 0)", OUT], 0, []),
+    (["result ≡ pair x }\n    ensures out.new ≡ [] {", OUT], 0, ["a clause in a form that is not read"]),
+    (["Exact x out.new result"], 0, []),
+    (["Other x out.new result"], 0, []),
+    (["Inside x out.new result"], 0, []),
+    (["Cased x out.new result"], 0, []),
+    (["Half x out.new result"], 0, ["the result", "out"]),
+    (["Exact x [] result"], 0, ["out"]),
+    (["Tied x seen out.new result"], 1, ["the result"]),
+    (["Tied x 0 out.new result"], 0, ["the result"]),
 ]
 
 # ---- unused.py: a tree of two crates, and for each change of a file what is found
@@ -93,8 +93,8 @@ TREE = {
     "checks/allowed.txt": "# what may stand\n\n[unused]\n",
     "crates/toy/specs/Lib.antt": "pub mod Low\n",
     "crates/toy/specs/Low.antt": """-- a definition, a record, and laws
-use mathlib.Core.Path.{_≡_, refl}
-use Prim.Native.Nat.{ℕ, suc, _+_}
+use Rattle.std.specs.Prelude.{◌≡◌, refl}
+use Rattle.std.proofs.Common.{ℕ, suc, ◌+◌}
 
 unfoldable pub low : ℕ → ℕ
 low n = n + 1
@@ -113,8 +113,8 @@ module _ (n : ℕ)
         helper : low n ≡ suc n
         helper = refl
 """,
-    "crates/toy/src/lib.rt": """ghost use mathlib.Core.Path.{_≡_};
-ghost use Rattle·toy·specs.specs.Low.{low, Both};
+    "crates/toy/src/lib.rt": """ghost use Rattle.std.specs.Prelude.{◌≡◌};
+ghost use Rattle.toy.specs.Low.{low, Both};
 
 // a pair
 pub struct Pair {
@@ -122,33 +122,33 @@ pub struct Pair {
 }
 
 pub fn get(n: u32) -> u32
-    ensures { λ r. ⌜ (r ≡ low n) × Both n ⌝ }
+    ensures { (result ≡ low n) × Both n }
 {
     n + 1
 }
 
 impl Pair {
     pub fn first(self) -> u32
-        ensures { λ r. ⌜ r ≡ self .left ⌝ }
+        ensures { result ≡ self.left }
     {
         self.left
     }
 }
 """,
-    "crates/toy/must-fail/code_1.edit": "# wrong\nfile: src/lib.rt\nold: r ≡ low n\nnew: r ≡ n × leb r n\n",
-    "crates/user/src/lib.rt": """ghost use mathlib.Core.Path.{_≡_};
+    "crates/toy/must-fail/code_1.edit": "# wrong\nfile: src/lib.rt\nold: result ≡ low n\nnew: result ≡ n × leb result n\n",
+    "crates/user/src/lib.rt": """ghost use Rattle.std.specs.Prelude.{◌≡◌};
 use toy::Pair;
 
 pub fn use_it(p: Pair) -> u32
-    ensures { λ r. ⌜ r ≡ r ⌝ }
+    ensures { result ≡ result }
 {
     toy::get(p.first())
 }
 """,
-    "crates/user/proofs/use_it/Proof.antt": """use Rattle·user·proofs.proofs.use_it.Tie as tie
+    "crates/user/proofs/use_it/Answers.antt": """use Rattle.user.proofs.use_it.Goals as goal
 
-returns : tie.Need-returns
-returns c = tie.done
+pub returns : goal.returns
+returns c = search rules
 """,
     "crates/last/src/main.rt": """// it gets at the type toy::Pair only by a call
 fn main() {
@@ -160,17 +160,17 @@ LOW, TOY, USER, LAST = "crates/toy/specs/Low.antt", "crates/toy/src/lib.rt", "cr
 # a change (file, old text, new text), and the names or crates that are found then; the wrong program above uses the name leb
 CHANGES = [
     ((LOW, "", ""), []),
-    ((LOW, "{_≡_, refl}", "{_≡_, refl, sym}"), ["sym"]),
-    ((LOW, "{ℕ, suc, _+_}", "{ℕ, suc, _+_, _*_}"), ["_*_"]),
-    ((LOW, "use Prim", "use lib.ListN as lists\nuse Prim"), ["lists"]),
-    ((LOW, "{_≡_, refl}", "{_≡_, refl, same as alike}"), ["alike"]),
+    ((LOW, "{◌≡◌, refl}", "{◌≡◌, refl, sym}"), ["sym"]),
+    ((LOW, "{ℕ, suc, ◌+◌}", "{ℕ, suc, ◌+◌, ◌*◌}"), ["◌*◌"]),
+    ((LOW, "use Rattle.std.proofs", "use Rattle.std.lists.ListN as lists\nuse Rattle.std.proofs"), ["lists"]),
+    ((LOW, "{◌≡◌, refl}", "{◌≡◌, refl, same as alike}"), ["alike"]),
     ((LOW, "-- a definition", "-- sym and a definition"), []),
     ((LOW, "  pub same :", "  pub other :"), []),
     ((TOY, "{low, Both}", "{low, Both, law, get}"), ["law", "get"]),
-    ((TOY, "ghost use Rattle", "ghost use lib.Dec.{ltb};\nghost use Rattle"), ["ltb"]),
-    ((TOY, "ghost use Rattle", "ghost use lib.Dec.{leb};\nghost use Rattle"), []),
+    ((TOY, "ghost use Rattle.toy", "ghost use lib.Dec.{ltb};\nghost use Rattle.toy"), ["ltb"]),
+    ((TOY, "ghost use Rattle.toy", "ghost use lib.Dec.{leb};\nghost use Rattle.toy"), []),
     ((USER, "use toy::Pair;", "use toy::Pair;\nuse toy::Other;"), ["Other"]),
-    ((USER, "ghost use", "ghost use Rattle·toy.specs.Low.{low};\nghost use"), ["low"]),
+    ((USER, "ghost use", "ghost use Rattle.toy.specs.Low.{low};\nghost use"), ["low"]),
     (("crates.txt", "last: toy user", "last: toy user base"), ["base"]),
     (("crates.txt", "toy:\n", "toy: user\n"), ["user"]),
     ((LAST, "user::use_it(made())", "user::made()"), ["toy", "user::use_it"]),
@@ -182,9 +182,9 @@ CHANGES = [
     ((TOY, "× Both n", "× (n ≡ n)"), ["Both", "toy/Low.Both"]),
     ((LOW, "law n = inner n", "law n = refl"), ["toy/Low.inner"]),
     ((LOW, "unfoldable pub low", "pub more : (n : ℕ) → n ≡ n\nmore n = refl\n\nunfoldable pub low"), ["toy/Low.more"]),
-    ((LOW, "unfoldable pub low", "pub more-rows : (n : ℕ) → n ≡ n\nmore-rows n = refl\n\nunfoldable pub low"), []),
+    ((LOW, "unfoldable pub low", "pub more_rows : (n : ℕ) → n ≡ n\nmore_rows n = refl\n\nunfoldable pub low"), []),
     (("docs/PROMISES.md", "law`", "lost`"), ["toy/Low.inner", "toy/Low.law"]),
-    (("crates/user/proofs/use_it/Proof.antt", "use Rattle", "use Rattle·toy.specs.Low.{law}\nuse Rattle"), ["law"]),
+    (("crates/user/proofs/use_it/Answers.antt", "use Rattle", "use Rattle.toy.specs.Low.{law}\nuse Rattle"), ["law"]),
     (("checks/allowed.txt", "[unused]\n", "[unused]\ntoy::get\n    law is why\n"), ["toy::get"]),
     (("checks/allowed.txt", "[unused]\n", "[unused]\ntoy::get\nlaw\n    for both\n\ntoy::first\n    more\n"), ["toy::get", "law", "toy::first"]),
     (("checks/allowed.txt", "[unused]\n", "[unused]\ntoy::get\n"), []),
@@ -247,7 +247,7 @@ def pages():
 def clauses():
     """The cases of contracts.py that go wrong."""
     for formulas, ties, without in CONTRACTS:
-        clauses = "".join("    ensures { λ r. ⌜ %s ⌝ }\n" % formula for formula in formulas)
+        clauses = "".join("    ensures { %s }\n" % formula for formula in formulas)
         written("crates/toy/src/lib.rt", OPEN % clauses)
         tree = unused.Tree()
         ((_, _, parameters, result, text),) = contracts.functions()
@@ -281,7 +281,7 @@ def findings(tree):
 
 def mended():
     """What --mend leaves of a file with unused names."""
-    written(LOW, TREE[LOW].replace("{_≡_, refl}", "{_≡_, sym, refl}").replace("use Prim", "use lib.Dec.{ltb}\nuse Prim"))
+    written(LOW, TREE[LOW].replace("{◌≡◌, refl}", "{◌≡◌, sym, refl}").replace("use Rattle.std.proofs", "use lib.Dec.{ltb}\nuse Rattle.std.proofs"))
     unused.mend(unused.Tree(), ("",))
     if unused.read(LOW) != TREE[LOW] or unused.read("crates.txt") != TREE["crates.txt"]:
         yield "mended: %s" % unused.read(LOW)

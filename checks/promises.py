@@ -2,11 +2,12 @@
 - a file that a page, or a README.md inside, links to is there, and of a page the heading that the link names;
 - a link into crates/ whose text is a name, as [`name`](../crates/a/specs/B.antt#L12), opens the line where that file defines the name;
   and a link to a line there has a name for its text (docs/READING.md aside, which read.py writes and compares);
-- a name that is given as `crate::name` or `crate/File.name` is there: a function or type of the crate's code, a declaration of its specs;
+- a name that is given as `crate::name` or `crate/File.name` is there: a function or type of the crate's code, a declaration of its specs or of a
+  file of lemmas beside them, proofs/File.antt;
 - a path in backquotes that begins with a folder of the repository is there;
 - every row of docs/PROMISES.md, a line that starts with "- ", has such a link to a name, and each word in backquotes after it is a name: of
   the file that the link before it opens, else of the specs of that file's crate, else one that the specs of all crates have once;
-- docs/ and README.md together have at most 90 KB.
+- docs/ and README.md together have at most 90 KB, docs/PORT.md aside.
 
     python3 checks/promises.py [--write]     --write puts the lines where names are defined into the links
 
@@ -17,10 +18,11 @@ import os
 import re
 import sys
 
-PROMISES, READING = "docs/PROMISES.md", "docs/READING.md"
+# PORT has names as they were beside those of today, and is no page to be read
+PROMISES, READING, PORT = "docs/PROMISES.md", "docs/READING.md", "docs/PORT.md"
 MOST = 90 * 1024
 LINK = re.compile(r"\[([^\]]*)\]\(([^)\s]+)\)")
-QUALIFIED = re.compile(r"`([a-z0-9_]+)(::|/)([A-Za-z0-9_.:·-]+)`")
+QUALIFIED = re.compile(r"`([a-z0-9_]+)(::|/)([A-Za-z0-9_.:'-]+)`")
 QUOTED = re.compile(r"`([^`\s]+)`")
 PATH = re.compile(r"`([\w.*-]+(?:/[\w.*-]*)+)`")
 HEAD = re.compile(r"^(\s*)(?:(?:abbrev|unfoldable|axiom) )*pub (?:(record|data) )?([^\s:({]+)(?=[\s:({]|$)")
@@ -28,7 +30,8 @@ CODE = re.compile(r'^\s*(?:pub )?(?:extern "C" )?(?:fn|struct|enum|const) (\w+)'
 
 
 def pages():
-    return [page for page in ["README.md", "CONTRIBUTING.md", *sorted(glob.glob("docs/*.md"))] if os.path.exists(page)]
+    found = ["README.md", "CONTRIBUTING.md", *sorted(glob.glob("docs/*.md"))]
+    return [page for page in found if os.path.exists(page) and page != PORT]
 
 
 @functools.lru_cache(None)
@@ -65,9 +68,9 @@ def line_of(path, name):
 
 @functools.lru_cache(None)
 def everywhere():
-    """The files of specs that declare a name: {name: [path]}."""
+    """The files of specs and of lemmas that declare a name: {name: [path]}."""
     found = {}
-    for path in sorted(glob.glob("crates/*/specs/*.antt")):
+    for path in sorted(glob.glob("crates/*/specs/*.antt") + glob.glob("crates/*/proofs/*.antt")):
         for name in defined_in(path)[0]:
             found.setdefault(name, []).append(path)
     return found
@@ -77,8 +80,8 @@ def is_there(crate, kind, name):
     """Whether `crate::name` or `crate/File.name` is; `crate/File` and, of code, `crate::name.part`, a parameter, field or case, too."""
     file, _, item = name.partition(".")
     if kind == "/":
-        path = "crates/%s/specs/%s.antt" % (crate, file)
-        return os.path.exists(path) and (not item or line_of(path, item))
+        paths = [path for path in ("crates/%s/%s/%s.antt" % (crate, part, file) for part in ("specs", "proofs")) if os.path.exists(path)]
+        return any(not item or line_of(path, item) for path in paths)
     for path in glob.glob("crates/%s/src/**/*.rt" % crate, recursive=True):
         line = line_of(path, file.split("::")[-1])
         if line:
@@ -142,8 +145,9 @@ def short_names(cell):
 
 def meant(word, file):
     """The files that a short name may mean."""
-    if line_of(file, word):
-        return [file]
+    for path in (file, file.replace("/specs/", "/proofs/")):
+        if os.path.exists(path) and line_of(path, word):
+            return [path]
     found = everywhere().get(word, [])
     return [path for path in found if path.split("/")[1] == file.split("/")[1]] or found
 
@@ -170,7 +174,9 @@ def promised():
     for page in (PROMISES, "docs/ASSUMPTIONS.md"):
         for crate, kind, name in QUALIFIED.findall("\n".join(lines_of(page))):
             if kind == "/" and "." in name:
-                yield crate, *name.split(".", 1)
+                file, item = name.split(".", 1)
+                yield crate, file, item
+                yield crate, "proofs/" + file, item
         for link in links_of(page):
             if link.name and link.file.endswith(".antt"):
                 yield placed(link.file, link.name)
@@ -180,8 +186,8 @@ def promised():
 
 
 def placed(path, name):
-    _, crate, _, file = path.split("/")
-    return crate, file[: -len(".antt")], name
+    _, crate, part, file = path.split("/")
+    return crate, ("proofs/" if part == "proofs" else "") + file[: -len(".antt")], name
 
 
 def link_faults(page):
@@ -204,12 +210,16 @@ def page_faults(page):
 
 
 def write(page):
-    """Puts the lines into a page's links."""
+    """Puts the lines into a page's links, and the file of lemmas where a name has moved there."""
 
     def renewed(found):
         link = Link(page, *found.groups())
-        line = link.name and os.path.exists(link.file) and line_of(link.file, link.name)
-        return "[%s](%s#L%d)" % (link.text, link.target.partition("#")[0], line) if line else found.group(0)
+        lemmas = sorted(glob.glob("/".join(link.file.split("/")[:2]) + "/proofs/*.antt")) if link.name else []
+        for file in [link.file, link.file.replace("/specs/", "/proofs/"), *lemmas]:
+            line = link.name and os.path.exists(file) and line_of(file, link.name)
+            if line:
+                return "[%s](%s#L%d)" % (link.text, os.path.relpath(file, os.path.dirname(page)), line)
+        return found.group(0)
 
     text = "\n".join(lines_of(page))
     new = LINK.sub(renewed, text)

@@ -1,12 +1,12 @@
-"""Proof text that an edit of the code upsets most does not grow: the longest way back through the steps of a function (`c .before .before ..`)
-and the longest line. Where one of them is passed, the fact at its end gets a name of its own.
+"""Proof text that an edit of the code upsets most does not grow: the longest way back through the steps of a function (`c.before.before ..`, in the
+proofs that walk the code by hand) and the longest line. Where one of them is passed, the fact at its end gets a name of its own.
 
 `--list` prints the ten longest of each. Prints a last line `N passed, M failed`."""
 import glob
 import re
 import sys
 
-WAY = re.compile(r"\.before(?:\s+\.before)*(?![\w·′-])")
+WAY = re.compile(r"\.before(?:\s*\.before)*(?![\w'-])")
 # what they were when this was first asked
 LONGEST_WAY, LONGEST_LINE = 30, 1535
 

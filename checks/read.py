@@ -20,6 +20,8 @@ import os
 import re
 import sys
 
+from sources import FUNCTION, parts_of as code_parts
+
 # The delivered functions of a crate, by how their heads start: the calls for C, the planner's, the runs of restart and sheet, and every
 # program's.
 ROOTS = {"c_planner": 'pub extern "C" fn ', "state_planner": "pub fn ", "state_order": "pub fn ", "state_page": "pub fn ", "state_readiness": "pub fn ", "program_run": "pub fn ", "program_sheet": "pub fn ", "program_reading": "fn ", "program_arguments": "fn "}
@@ -32,8 +34,10 @@ NAME = r'[^\s(){}.;,@"]+'
 TOKEN = re.compile(r'"[^"]*"|%s(?:\.%s)*|\.%s|[(){}.;,@]' % (NAME, NAME, NAME))
 MARKS = ("pub", "abbrev", "unfoldable", "axiom")
 # Words of the language and of contracts, and names that every file has without a `use`.
-WORDS = ("record", "let", "in", "λ", "Type", "where", "→", "×", "=", ":", "_", "⌜", "⌝", "now", "self")
+WORDS = ("record", "let", "in", "λ", "Type", "where", "→", "×", "=", ":", "_", "result", "self")
 PRIM = ("⊥", "absurd", "¬", "Unit", "tt", "Dec", "yes", "no")
+# and types of std that code has without one
+PRIM += ("Option", "Result", "Vec", "String", "Box", "Self")
 KIT = "the kit's"
 
 
@@ -123,7 +127,7 @@ class Scope:
         self.crate, self.names, self.aliases = crate, dict.fromkeys(PRIM, KIT), {}
 
     def use(self, text):
-        """`use PATH.{a, b as c}`, `use PATH as X` or, in code, `use crate::Type`."""
+        """`use PATH.{a, b as c}`, `use PATH as X` or, in code, `use crate::Type` or `use crate::{One, Other}`."""
         path, _, rest = re.sub(r"^(pub |ghost )*use |;$", "", text).partition(" as " if ".{" not in text else ".{")
         if rest.endswith("}"):
             for item in rest[:-1].split(", "):
@@ -132,12 +136,13 @@ class Scope:
         elif rest:
             self.aliases[rest] = path
         else:
-            crate, *_, name = path.split("::")
-            self.put(name, types_of(self.crate if crate == "crate" else crate).get(name, KIT))
+            crate, *_, names = path.split("::")
+            for name in names.strip("{}").split(", "):
+                self.put(name, types_of(self.crate if crate == "crate" else crate).get(name, KIT))
 
     def put(self, name, found):
         """An operator is known by its parts too."""
-        for part in [name, *name.split("_")]:
+        for part in [name, *name.split("◌")]:
             if part:
                 self.names[part] = found
 
@@ -152,10 +157,13 @@ class Scope:
 
 def found_in(path, name):
     """What a name of a module stands for."""
-    module = re.fullmatch(r"Rattle·([a-z0-9_]+)(?:·specs)?\.specs\.(?:declared\.(?:[a-z_]+\.)?(\w+)(?:\.the-variants)?|(\w+))", path)
+    module = re.fullmatch(r"Rattle\.([a-z0-9_]+)\.(?:specs\.(?:declared\.(?:[a-z0-9_]+\.)?(\w+)(?:\.TheVariants)?|(\w+))|proofs\.(.+))", path)
     if not module or not os.path.isdir("crates/" + module.group(1)):
         return KIT
-    crate, declared, file = module.groups()
+    crate, declared, file, lemmas = module.groups()
+    if lemmas:
+        # a lemma, which no definition cites
+        return Definition(crate, "proofs/" + lemmas, name, lambda: Scope(crate))
     names = types_of(crate) if declared else specs_of(crate, file).names
     return names.get(declared or name) or sys.exit("not read: %s of %s" % (name, path))
 
@@ -168,7 +176,7 @@ class Reader:
         self.scope, self.cites, self.strange = scope, set(), set()
 
     def cite(self, token, bound):
-        if not plain(token) or token[0].isdigit() or token.split(".")[0] in bound:
+        if not plain(token) or token[0].isdigit() or token.split(".")[0] in bound or token.split(".")[0] in WORDS:
             return
         found = self.scope.find(token)
         if found is None:
@@ -305,7 +313,7 @@ def specs_of(crate, file):
 
 # ---- Code: types and contracts.
 
-TYPE = re.compile(r"(?ms)^(?:pub )?(struct|enum) (\w+)(?:<[^>]*>)?(?: \{(.*?)^\}|\((.*?)\);)")
+TYPE = re.compile(r"(?ms)^(?:pub )?(struct|enum) (\w+)(?:<([^>]*)>)?(?: \{(.*?)^\}|\((.*?)\);)")
 
 
 @functools.lru_cache(None)
@@ -324,12 +332,12 @@ def types_of(crate):
     """The structs and enums of a crate by name, each with the types that it holds."""
     made = {}
     for found in TYPE.finditer(source_of(crate)):
-        kind, name, fields, numbered = found.groups()
+        kind, name, own, fields, numbered = found.groups()
         held = numbered or " ".join(re.findall(r"\((.*?)\)" if kind == "enum" else r":(.*)", fields))
         made[name] = Definition(crate, None, name, functools.partial(scope_of, crate))
         made[name].lines = len(found.group(0).splitlines())
         made[name].constructors = re.findall(r"(?m)^\s*([A-Z]\w*)", fields) if kind == "enum" else []
-        made[name].texts = [("type", re.findall(r"\b[A-Z]\w*", held), [])]
+        made[name].texts = [("type", re.findall(r"\b[A-Z]\w*", held), re.findall(r"(?:^|, )(\w+)", own or ""))]
     return made
 
 
@@ -343,22 +351,41 @@ def scope_of(crate):
     return scope
 
 
+def heads_of(crate):
+    """The heads of a crate's functions, up to the brace that opens the body."""
+    head = []
+    for owner, line in code_parts(source_of(crate)):
+        begins = bool(FUNCTION.match(line))
+        if head and (begins or not owner or owner[2]):
+            yield "\n".join(head)
+            head = []
+        if owner and not owner[2] and (begins or head):
+            head.append(line.strip() if begins else line)
+    if head:
+        yield "\n".join(head)
+
+
 def delivered(roots):
-    """For each function of the roots a Definition whose texts are the types of its parameters and result, and its contract."""
+    """For each function of the roots a Definition whose texts are the types of its parameters and result, and its contract. A program's function
+    that promises nothing, as its main, needs nothing to be read."""
     for crate, start in roots.items():
-        found = re.findall(r"(?ms)^ *(%s.*?)^ *\{$" % re.escape(start), source_of(crate))
+        found = [re.sub(r"\{\s*\Z", "", head) for head in heads_of(crate) if head.startswith(start)]
         if not found:
             sys.exit("not read: no %sof %s" % (start, crate))
         for head in found:
             signature, *clauses = re.split(r"(?m)^ *(?:requires|ensures)\b[^{]*\{", head)
+            if not clauses and start == "fn ":
+                continue
             if signature.count("fn ") != 1 or not clauses:
                 sys.exit("not read: a function of %s without a contract: %s" % (crate, signature))
-            name, parameters = re.search(r"fn (\w+)\(([^)]*)\)", signature).groups()
+            name, parameters = re.search(r"fn (\w+)(?:<[^>]*>)?\(([^)]*)\)", signature).groups()
             if "%s::%s" % (crate, name) in INNER:
                 continue
             made = Definition(crate, "src", name, functools.partial(scope_of, crate))
             bound = re.findall(r"(\w+):", parameters)
-            made.texts = [("type", re.findall(r"\b[A-Z]\w*", signature.split("(", 1)[1]), [])]
+            # its own types, as R of `fn read<R: Read>(..)`
+            own = re.findall(r"(\w+)(?=:)", signature.split("(")[0])
+            made.texts = [("type", re.findall(r"\b[A-Z]\w*", signature.split("(", 1)[1]), own)]
             made.texts += [("type", tokens_of(clause.rstrip().removesuffix("}")), bound) for clause in clauses]
             yield made
 
@@ -398,7 +425,7 @@ def figures(order):
 @functools.lru_cache(None)
 def crates():
     with open("crates.txt", encoding="utf-8") as file:
-        return re.findall(r"(?m)^([a-z0-9_]+):", file.read())
+        return re.findall(r"(?m)^([a-z0-9_]+)(?: staticlib)?:", file.read())
 
 
 @functools.lru_cache(None)
@@ -524,7 +551,7 @@ def call_at(function):
     for path in sorted(glob.glob("crates/%s/src/**/*.rt" % function.crate, recursive=True)):
         with open(path, encoding="utf-8") as file:
             for number, line in enumerate(file, 1):
-                if re.match(r'\s*(?:pub )?(?:extern "C" )?fn %s\(' % function.name, line):
+                if re.match(r'\s*(?:pub )?(?:extern "C" )?fn %s[(<]' % function.name, line):
                     return path, number
     sys.exit("not found: %s" % label(function))
 

@@ -7,7 +7,7 @@
 - checks/allowed.txt, under "unused", names what may stand all the same, and nothing else.
 
 Names are read off the words of the texts, so that rather too little is found than too much: a name that a text binds itself is taken for
-a use of the one that its file has. A table of worked values, a declaration whose name ends in -clauses or -rows, serves by itself.
+a use of the one that its file has. A table of worked values, a declaration whose name ends in _clauses or _rows, serves by itself.
 
     python3 checks/unused.py [--mend [LAYER ..]]     --mend takes unused names out of the lines `use`, and crates out of crates.txt
 
@@ -22,8 +22,11 @@ from promises import promised
 
 NAME = r'[^\s(){}.;,@"]+'
 TOKEN = re.compile(r'"[^"]*"|%s(?:\.%s)*|\.%s|[(){}.;,@]' % (NAME, NAME, NAME))
-USE = re.compile(r"^(?:ghost )?use (.*?)(?:\.\{(.*)\}| as (\S+?)|::(\w+))?;?$")
-MODULE = re.compile(r"Rattle·([a-z0-9_]+)(?:·specs)?\.specs\.(\w+)(?:\.(\w+))?")
+USE = re.compile(r"^(?:ghost )?use (.*?)(?:\.\{(.*)\}| as (\S+?)|::(\w+)|::\{(.*)\})?;?$")
+# a file of specs, or one of lemmas in proofs/; a third name is a type or function of the code
+MODULE = re.compile(r"Rattle\.([a-z0-9_]+)\.(specs|proofs)\.(\w+)(?:\.(\w+))?")
+# a lemma or definition that an attribute of the code names
+NAMED = re.compile(r"\b(crate|[a-z0-9_]+)::(specs|proofs)::(\w+)::([\w'-]+)")
 PUBLIC = re.compile(r'^( *)pub (extern "C" )?fn (\w+)')
 TYPE = re.compile(r"(?m)^(?:pub )?(?:struct|enum) (\w+)")
 BUILT = re.compile(r"(?ms)^(?:pub )?(?:struct|enum) (\w+)(?:<[^>]*>)?(?: \{(.*?)^\}|\((.*?)\);)")
@@ -36,13 +39,22 @@ def words_of(text):
     for at, token in enumerate(tokens):
         label = tokens[at + 1 : at + 2] == ["="] and at and tokens[at - 1] in ("{", ";", "let")
         if token[0] not in '(){}.;,@"' and not label:
-            words.update((token, token.split(".")[0], token.strip("_")))
+            words.update((token, token.split(".")[0], token.strip("◌")))
     return words
 
 
 def in_words(name, words):
     """Whether the words have a name, or part of it if it is an operator's."""
-    return name in words or any(part in words for part in name.split("_") if part)
+    return name in words or any(part in words for part in name.split("◌") if part)
+
+
+def module_named(path):
+    """The file of definitions or lemmas that a path of a line `use` names, (crate, file); None if it names none."""
+    module = MODULE.fullmatch(path)
+    if not module or module.group(4):
+        return None
+    crate, kind, name, _ = module.groups()
+    return crate, name if kind == "specs" else "proofs/" + name
 
 
 class Used:
@@ -50,10 +62,10 @@ class Used:
 
     def __init__(self, at, line):
         self.at, self.line = at, line
-        self.path, listed, self.alias, typed = USE.match(line.strip()).groups()
-        items = [item.strip().partition(" as ") for item in (listed or typed or "").split(",") if item.strip()]
+        self.path, listed, self.alias, typed, several = USE.match(line.strip()).groups()
+        items = [item.strip().partition(" as ") for item in (listed or typed or several or "").split(",") if item.strip()]
         self.names = [(name, renamed or name) for name, _, renamed in items]
-        self.plain = typed is not None
+        self.plain = listed is None and bool(items)
 
     def without(self, unused):
         """The line without some names; None if none is left."""
@@ -76,6 +88,10 @@ class File:
         self.texts = ["" if at in lines else text for at, text in enumerate(self.texts)]
         self.wrong = " ".join(new for program in programs for file, _, new in program.pairs if path.endswith("%s/%s" % (self.crate, file)))
         self.contracts = "\n".join(self.contract_lines()) if path.endswith(".rt") else ""
+        # the name under which it declares what others can name: a file of specs, or one of lemmas beside the folders of functions
+        self.module = None
+        if self.kind == "specs" or self.kind == "proofs" and "/" not in self.inside:
+            self.module = ("proofs/" if self.kind == "proofs" else "") + self.inside[: -len(".antt")]
 
     def contract_lines(self):
         clause = None
@@ -114,7 +130,7 @@ class Tree:
     def __init__(self):
         self.edges = {}
         for line in read("crates.txt").split("\n"):
-            listed = re.match(r"([a-z0-9_]+):(.*)", line)
+            listed = re.match(r"([a-z0-9_]+)(?: staticlib)?:(.*)", line)
             if listed:
                 self.edges[listed.group(1)] = listed.group(2).split()
         self.files = []
@@ -134,7 +150,7 @@ class Tree:
                 self.signatures.setdefault((file.crate, name), []).extend(re.findall(r"\b[A-Z]\w*", head))
         self.words, self.items = {}, {}
         for file in self.files:
-            if file.kind == "specs":
+            if file.module:
                 self.declare(file)
         self.pass_on()
 
@@ -171,7 +187,7 @@ class Tree:
             text = "\n".join("\n".join(file.texts + [use.line for use in file.uses]) for file in self.files if file.crate == crate)
             touched = self.touched(crate)
             for other in used:
-                if not re.search(r"Rattle·%s\b|\b%s::" % (other, other), text) and other not in touched:
+                if not re.search(r"\bRattle\.%s\b|\b%s::" % (other, other), text) and other not in touched:
                     yield crate, other
 
     def unused_crates(self):
@@ -207,7 +223,7 @@ class Tree:
 
     def declare(self, file):
         """The declarations of a file, (crate, file, name) each, and their words; the head of a module is one too."""
-        name = file.inside[: -len(".antt")]
+        name = file.module
         names = self.items.setdefault((file.crate, name), {})
         data = item = None
         for owner, line, heads in declarations_of("\n".join(file.texts)):
@@ -221,7 +237,7 @@ class Tree:
             words[1] += line + "\n"
             for head in heads:
                 words[1] += head.replace(" ", "·") + "\n"
-            for known in [owner.replace(" ", "·"), *owner.split("_")]:
+            for known in [owner.replace(" ", "·"), *owner.split("◌")]:
                 if known:
                     names.setdefault(known, item)
             if first:
@@ -233,29 +249,29 @@ class Tree:
 
     def pass_on(self):
         """The names that a file hands on (`pub use`) stand for what they stand for in the file that they come from."""
-        for file in self.of("specs"):
+        for file in [file for file in self.files if file.module]:
             for use in (Used(0, text.split("pub ", 1)[1]) for text in file.texts if re.match("(unfoldable )?pub use ", text)):
-                module = MODULE.fullmatch(use.path)
-                if module and not module.group(3):
-                    own = self.items.get(module.groups()[:2], {})
-                    handed = self.items.setdefault((file.crate, file.inside[: -len(".antt")]), {})
+                module = module_named(use.path)
+                if module:
+                    own = self.items.get(module, {})
+                    handed = self.items.setdefault((file.crate, file.module), {})
                     handed.update((here, own[name]) for name, here in use.names if name in own)
 
     def scope(self, file):
         """What the names of a file stand for, and what its aliases of modules do."""
         names, aliases = {}, {}
         for use in file.uses:
-            module = MODULE.fullmatch(use.path)
-            if module and not module.group(3):
-                own = self.items.get(module.groups()[:2], {})
+            module = module_named(use.path)
+            if module:
+                own = self.items.get(module, {})
                 if use.alias:
                     aliases[use.alias] = own
                 for name, here in use.names:
                     if name in own:
-                        for known in [here, *here.split("_")]:
+                        for known in [here, *here.split("◌")]:
                             names[known] = own[name]
-        if file.kind == "specs":
-            names.update(self.items[file.crate, file.inside[: -len(".antt")]])
+        if file.module:
+            names.update(self.items[file.crate, file.module])
         names.pop("", None)
         return names, aliases
 
@@ -273,18 +289,20 @@ class Tree:
         todo, reached = [], set()
         for file in self.of("src"):
             todo += self.named(file, file.contracts)
+            for crate, kind, name, item in NAMED.findall("\n".join(file.texts)):
+                todo += [self.items.get((file.crate if crate == "crate" else crate, name if kind == "specs" else "proofs/" + name), {}).get(item)]
         for file in self.of("proofs"):
-            todo += self.named(file, "\n".join(file.texts))
+            todo += self.named(file, "\n".join(file.texts)) if not file.module else []
         for crate, name, item in promised():
             todo += [self.items.get((crate, name), {}).get(item)]
-        todo += [item for item in self.words if item[2].endswith(("-clauses", "-rows"))]
+        todo += [item for item in self.words if item[2].endswith(("_clauses", "_rows"))]
         while todo:
             item = todo.pop()
             if item and item not in reached:
                 reached.add(item)
                 todo += self.named(*self.words[item])
         for crate, name, owner in self.words:
-            if (crate, name, owner) not in reached and name != "Lib" and not owner.startswith("module "):
+            if (crate, name, owner) not in reached and name.split("/")[-1] != "Lib" and not owner.startswith("module "):
                 yield "%s/%s.%s" % (crate, name, owner), "nothing reaches it"
 
 

@@ -1,11 +1,12 @@
-"""The judge of wrong programs (edits.py) on a crate and logs made up here: which programs of a file it counts, and which it does not; and which
-crates have too many checks.
+"""The judge of wrong programs (edits.py) on a crate and logs made up here: which programs of a file it counts, and which it does not; which
+crates have too many checks; and what the gate reads off the last lines of rt ci.
 Prints a last line `N passed, M failed`."""
 import os
 import sys
 import tempfile
 
 import edits
+import run
 from sources import written
 
 CRATE = {
@@ -13,16 +14,16 @@ CRATE = {
 unfoldable pub low : ℕ → ℕ
 low n = n + 1
 
-pub low-law : (n : ℕ) → low n ≡ suc n
-low-law n = refl
+pub low_law : (n : ℕ) → low n ≡ suc n
+low_law n = refl
 
 unfoldable pub other : ℕ → ℕ
 other n = n
 
-pub other-law : (n : ℕ) → other n ≡ n
-other-law n = refl
+pub other_law : (n : ℕ) → other n ≡ n
+other_law n = refl
 """,
-    "specs/High.antt": """use Rattle·toy·specs.specs.Low.{low, low-law as lows}
+    "specs/High.antt": """use Rattle.toy.specs.Low.{low, low_law as lows}
 
 module _ (n : ℕ) (small : n < 16) where
   pub high : low n ≡ suc n
@@ -31,22 +32,48 @@ module _ (n : ℕ) (small : n < 16) where
 pub apart : (n : ℕ) → n ≡ n
 apart n = refl
 """,
-    "src/lib.rt": """ghost use Rattle·toy·specs.specs.Low.{low};
+    "src/lib.rt": """ghost use Rattle.toy.specs.Low.{low};
 
 pub fn inner(n: u32) -> u32
-    ensures { λ r. ⌜ r ≡ low n ⌝ }
+    ensures { result ≡ low n }
 {
     n + 1
 }
 
 pub fn outer(n: u32) -> u32
-    ensures { λ r. ⌜ r ≡ n ⌝ }
+    ensures { result ≡ n }
 {
     inner(n) - 1
 }
+
+#[cycle(there_and_back)]
+pub fn there(n: u32) -> u32
+    ensures { result ≡ 2 }
+{
+    back(n) + 1
+}
+
+#[cycle(there_and_back)]
+pub fn back(n: u32) -> u32
+    ensures { result ≡ 1 }
+{
+    there(n) - 1
+}
+
+pub fn none(n: u32) -> u32
+    ensures { result ≡ n }
+{
+    n + 0
+}
 """,
-    "proofs/inner/Proof.antt": "returns c = refl\n",
-    "proofs/outer/Proof.antt": "returns c = refl\n",
+    "proofs/Lemmas.antt": """use Rattle.toy.specs.Low.{other}
+
+pub lemma : (n : ℕ) → other (other n) ≡ n
+lemma n = refl
+""",
+    "proofs/inner/Answers.antt": "returns c = refl\n",
+    "proofs/outer/Answers.antt": "returns c = refl\n",
+    "proofs/+there_and_back/Invariants.antt": "returns c = refl\n",
 }
 PROGRAMS = {
     "low": ("specs/Low.antt", "low n = n + 1", "low n = n + 2"),
@@ -54,14 +81,21 @@ PROGRAMS = {
     "high": ("specs/High.antt", "pub high : low n ≡ suc n", "pub high : low n ≡ n"),
     "head": ("specs/High.antt", "(small : n < 16)", "(small : n < 17)"),
     "apart": ("specs/High.antt", "(n : ℕ) → n ≡ n", "(n : ℕ) → n ≡ 0"),
+    "lemma": ("proofs/Lemmas.antt", "other (other n) ≡ n", "other (other n) ≡ 0"),
     "inner_body": ("src/lib.rt", "    n + 1", "    n + 2"),
-    "inner_contract": ("src/lib.rt", "r ≡ low n", "r ≡ n"),
+    "inner_contract": ("src/lib.rt", "result ≡ low n", "result ≡ n"),
     "outer_body": ("src/lib.rt", "inner(n) - 1", "inner(n) - 2"),
+    "there_body": ("src/lib.rt", "back(n) + 1", "back(n) + 2"),
+    "none_body": ("src/lib.rt", "n + 0", "n + 1"),
 }
-LOW_LAW, OTHER_LAW = "specs/Low.antt:6:15: error: `low-law`: differ", "specs/Low.antt:12:17: error: `other-law`: differ"
+LOW_LAW, OTHER_LAW = "specs/Low.antt:6:15: error: `low_law`: differ", "specs/Low.antt:12:17: error: `other_law`: differ"
 HIGH, APART = "specs/High.antt:5:10: error: `high`: differ", "specs/High.antt:8:11: error: `apart`: differ"
-INNER, OUTER = "proofs/inner/Proof.antt:1:1: error: `returns`: differ", "proofs/outer/Proof.antt:1:1: error: `returns`: differ"
-FOLLOWS = "specs/High.antt:5:10: error: `high`: `low-law` was not admitted, so this cannot be checked"
+LEMMA = "proofs/Lemmas.antt:4:11: error: `lemma`: differ"
+INNER, OUTER = "proofs/inner/Answers.antt:1:1: error: `returns`: differ", "proofs/outer/Answers.antt:1:1: error: `returns`: differ"
+THERE = "proofs/+there_and_back/Invariants.antt:1:1: error: `returns`: differ"
+NONE = "fn toy::none: no proof: expected answers in ./proofs/none/Answers.antt; `search` did not prove `returns`"
+LEFT_OVER = "proofs/inner/Answers.antt:1:1: error: `returns-if-n`: `goal` has no `returns-if-n`"
+FOLLOWS = "specs/High.antt:5:10: error: `high`: `low_law` was not admitted, so this cannot be checked"
 
 # the programs of a file, the errors of its log, and the programs that count
 CASES = [
@@ -74,14 +108,27 @@ CASES = [
     (["high", "head"], [HIGH], []),
     (["head", "apart"], [HIGH, APART], ["head", "apart"]),
     (["head", "other"], [FOLLOWS, OTHER_LAW], ["other"]),
+    (["other", "apart"], [LEMMA, APART], ["other", "apart"]),
+    (["lemma", "apart"], [LEMMA], ["lemma"]),
     (["inner_body", "outer_body"], [INNER, OUTER], ["inner_body", "outer_body"]),
+    (["inner_body", "outer_body"], [LEFT_OVER, OUTER], ["outer_body"]),
     (["inner_contract", "outer_body"], [INNER, OUTER], ["inner_contract"]),
     (["low", "outer_body"], [LOW_LAW, INNER, OUTER], ["low"]),
     (["other", "outer_body"], [OTHER_LAW, OUTER], ["other", "outer_body"]),
+    (["there_body", "outer_body"], [THERE, OUTER], ["there_body", "outer_body"]),
+    (["none_body", "outer_body"], [NONE, OUTER], ["none_body", "outer_body"]),
     (["high"], [HIGH], ["high"]),
     (["high"], [FOLLOWS], []),
     (["outer_body"], [INNER], []),
     (["apart"], [], []),
+]
+# what rt ci ends with, its status, and how many failures it does not count
+SAID = [
+    (["rt: ok; handles allowed: none; must-fail edits: 12 refused; done in this run: 3 of 9"], 0, 0),
+    (["rt: ok; handles allowed: none; must-fail edits: 12 refused, 2 bad; done in this run: 3 of 9"], 0, 2),
+    (["rt: ok; handles allowed: none; must-fail edits: 12 refused, 1 of them only by a limit, 3 bad; every proof"], 0, 3),
+    (["12 passed, 0 failed"], 0, 1),
+    (["rt: FAILED: toy", "12 passed, 1 failed"], 1, 0),
 ]
 
 
@@ -94,8 +141,8 @@ def main():
         for names, errors, counting in CASES:
             edit = "".join("# %s: right\nfile: %s\nold: %s\nnew: %s\n" % (name, *PROGRAMS[name]) for name in names)
             written("crates/toy/must-fail/laws_1.edit", edit)
-            written("target/log", "".join("/room/%s\n" % error for error in errors))
-            found = [name for name, _, reason in edits.judged("toy", "crates/toy/must-fail/laws_1.edit", "target/log") if reason is None]
+            lines = [error if error.startswith("fn ") else "./" + error for error in errors]
+            found = [name for name, _, reason in edits.judged("toy", "crates/toy/must-fail/laws_1.edit", lines) if reason is None]
             if found != counting:
                 failed += 1
                 print("%s by %s: %s count" % (names, errors, found))
@@ -104,7 +151,11 @@ def main():
     if edits.over_two(["crates/%s.edit" % name for name in names]) != ["much"]:
         failed += 1
         print("of a crate with two and one with three checks of wrong bodies the latter has too many")
-    print("%d passed, %d failed" % (len(CASES) + 1 - failed, failed))
+    for lines, status, bad in SAID:
+        if run.bad_edits(status, lines) != bad:
+            failed += 1
+            print("%s: not %d" % (lines, bad))
+    print("%d passed, %d failed" % (len(CASES) + 1 + len(SAID) - failed, failed))
     sys.exit(1 if failed else 0)
 
 

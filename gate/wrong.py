@@ -1,10 +1,12 @@
-"""Try the wrong programs that the gate leaves aside, crates/NAME/wrong/*.edit, and judge them as edits.py does.
+"""Try wrong programs and judge each as edits.py does: whether it is refused for a fact of its own.
 
-    wrong.py [NAME ..]          those of all crates, or of these
-    wrong.py --gate NAME ..     those of these crates that the gate tries, crates/NAME/must-fail/*.edit
+    wrong.py [NAME ..]             of all crates, or of these: those that `rt ci` tries too, crates/NAME/must-fail/*.edit, and the others,
+                                   crates/NAME/wrong/*.edit
+    wrong.py --gate [NAME ..]      the first alone
+    wrong.py --aside [NAME ..]     the others alone
 
-It works in target/wrong/, a copy of the sources in which only these edits are left; what is proved there is kept for the gate, and the
-other way about. Prints a last line `N passed, M failed`: one for each wrong program."""
+It first proves the crates (`rt check`), then checks each with its wrong programs, in copies outside the checkout. What a check printed lies at
+target/wrong/NAME/LABEL.log. Prints a last line `N passed, M failed`: one for each wrong program."""
 import glob
 import os
 import shutil
@@ -12,44 +14,34 @@ import subprocess
 import sys
 
 import edits
-from prove import ROOT, environment
+import tries
+from prove import ROOT, folder_of
 
-ROOM = os.path.join(ROOT, "target", "wrong")
-
-
-def copy(folder, names):
-    """The sources, with the edits in that folder of these crates as those that rt tries, and the proofs of the repository itself."""
-    shutil.rmtree(ROOM, ignore_errors=True)
-    shutil.copytree(os.path.join(ROOT, "crates"), os.path.join(ROOM, "crates"), ignore=shutil.ignore_patterns("must-fail", "wrong"))
-    shutil.copy(os.path.join(ROOT, "crates.txt"), ROOM)
-    for name in names:
-        shutil.copytree(os.path.join(ROOT, "crates", name, folder), os.path.join(ROOM, "crates", name, "must-fail"))
-    os.mkdir(os.path.join(ROOM, "target"))
-    for part in ("rlib", "stamp"):
-        os.makedirs(os.path.join(ROOT, "target", part), exist_ok=True)
-        os.symlink(os.path.join(ROOT, "target", part), os.path.join(ROOM, "target", part))
+LOGS = os.path.join(ROOT, "target", "wrong")
 
 
 def main():
     words = sys.argv[1:]
-    folder = "must-fail" if "--gate" in words else "wrong"
-    having = sorted(path.split("/")[-2] for path in glob.glob(os.path.join(ROOT, "crates", "*", folder)))
-    names = [word for word in words if word != "--gate"] or having
+    folders = [folder for folder, other in (("must-fail", "--aside"), ("wrong", "--gate")) if other not in words]
+    os.chdir(ROOT)
+    paths = sorted(path for folder in folders for path in glob.glob("crates/*/%s/*.edit" % folder))
+    names = [word for word in words if not word.startswith("--")]
     for name in names:
-        if name not in having:
-            sys.exit("crates/%s has no folder %s" % (name, folder))
-    copy(folder, names)
-    os.chdir(ROOM)
-    subprocess.run(["rt", "must-fail", *names], env=environment())
-    passed = failed = 0
-    for path in sorted(glob.glob("crates/*/must-fail/*.edit")):
-        _, crate, _, label = path[: -len(".edit")].split("/")
-        for name, _, reason in edits.judged(crate, path, "target/must-fail/%s/%s/.log" % (crate, label)):
-            passed, failed = passed + (reason is None), failed + (reason is not None)
-            if reason:
-                print("%s/%s: %s %s" % (crate, label, name, reason))
-    print("%d passed, %d failed" % (passed, failed))
-    sys.exit(1 if failed else 0)
+        if not any(path.split("/")[1] == name for path in paths):
+            sys.exit("crates/%s has no folder %s" % (name, " or ".join(folders)))
+    paths = [path for path in paths if not names or path.split("/")[1] in names]
+    failed = 0
+    for name in sorted({path.split("/")[1] for path in paths}):
+        shutil.rmtree(os.path.join(LOGS, name), ignore_errors=True)
+        done = subprocess.run(["rt", "check"], cwd=folder_of(name), stdout=subprocess.PIPE, stderr=subprocess.STDOUT, text=True, errors="replace")
+        if done.returncode:
+            print(done.stdout + "%s is not proved, so its wrong programs are not tried" % name)
+            failed += 1
+            paths = [path for path in paths if path.split("/")[1] != name]
+    passed, more = tries.judge(paths, edits.judged, LOGS)
+    print("%d passed, %d failed" % (passed, failed + more))
+    sys.exit(1 if failed + more else 0)
 
 
-main()
+if __name__ == "__main__":
+    main()

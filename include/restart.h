@@ -52,9 +52,9 @@ extern "C" {
 
 #define RESTART_VERSION_MAJOR 0
 #define RESTART_VERSION_MINOR 6
-#define RESTART_VERSION_PATCH 1
-#define RESTART_VERSION "0.6.1"
-#define RESTART_VERSION_NUMBER 601 /* major * 10000 + minor * 100 + patch */
+#define RESTART_VERSION_PATCH 0
+#define RESTART_VERSION "0.6.0"
+#define RESTART_VERSION_NUMBER 600 /* major * 10000 + minor * 100 + patch */
 
 /* Of the state. It is raised when a saved state is no longer taken; save it beside a state, and start
  * fresh where it differs. restart(3), COMPATIBILITY, says what else stays. */

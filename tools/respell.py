@@ -9,7 +9,6 @@ src/, and exported names. Where two names would fall together, the one with a da
 are spelled anew. The table of old and new names is written to tools/respelled.tsv, which tools/respell_pages.py reads. --list prints what would be done."""
 import collections
 import glob
-import os
 import re
 import sys
 

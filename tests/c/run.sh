@@ -122,7 +122,7 @@ help_names_all() {
 
 # Nothing names a document that is not in the repository.
 no_document_01() {
-    ! grep -rnE --exclude-dir=target --exclude-dir=.git \
+    ! grep -rnE --exclude-dir=target --exclude-dir=out --exclude-dir=.git \
         '[Dd]ocuments? 0[1-9]|[Rr]equests? (One|Two|Three|Four|Five|Six|Seven|Eight|Nine|Ten|Eleven|Twelve|Thirteen)' .
 }
 

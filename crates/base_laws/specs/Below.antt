@@ -4,7 +4,7 @@ use Rattle.std.specs.Prelude.{◌≡◌, refl, ◌⊎◌, Bool, true, false, con
 use Rattle.std.proofs.Common.{sym, ap, ap₂, ◌∙◌, subst, inl, inr, ⊎_elim, zero-le, not-suc-le-zero, le_of_suc-le-suc, eq-or-lt_of_le, le_refl, add-zero, add_comm, add_assoc, add-one, arith, eq-eqb, ne_eqb, eqb-true}
 use Rattle.std.proofs.Math.Path.{subst⁻¹}
 use Rattle.std.proofs.Math.Arith.{le-zero}
-use Rattle.base_laws.specs.Bools.{either, clash, no_true, and_both, and_left, and_right, and_fails, and_fails_left, and_fails_right, or-holds, or_neither, or_fails_left, or_fails_right}
+use Rattle.base_laws.specs.Bools.{either, clash, and_both, and_left, and_right, and_fails, and_fails_left, and_fails_right, or-holds, or_neither, or_fails_left, or_fails_right}
 use Rattle.base_laws.specs.Definitions.{all_below, any_below, lowest, count_below}
 
 -- what holds below n and at n holds below suc n
@@ -24,10 +24,6 @@ pub all_step : (n : ℕ) (f : ℕ → Bool) → all_below (n + 1) f ≡ (all_bel
 unfolding all_below
 all_step n f = ap (λ (k : ℕ). all_below k f) (add-one n)
 
--- a turn of a loop in which f held
-pub all_more : (n : ℕ) (f : ℕ → Bool) → all_below n f ≡ true → f n ≡ true → all_below (n + 1) f ≡ true
-all_more n f h p = all_step n f ∙ and_both h p
-
 pub all_at : (n : ℕ) (f : ℕ → Bool) → all_below n f ≡ true → (k : ℕ) → k < n → f k ≡ true
 unfolding all_below
 all_at zero f h k l = absurd (not-suc-le-zero l)
@@ -38,10 +34,6 @@ pub all_of : (n : ℕ) (f : ℕ → Bool) → ((k : ℕ) → k < n → f k ≡ t
 unfolding all_below
 all_of zero f h = refl
 all_of (suc n) f h = and_both (all_of n f (below_less h)) (h n (le_refl (suc n)))
-
--- one number of which f fails
-pub all_fails : (n : ℕ) (f : ℕ → Bool) (k : ℕ) → k < n → f k ≡ false → all_below n f ≡ false
-all_fails n f k l p = no_true (all_below n f) (λ h. clash (all_at n f h k l) p)
 
 pub all_counter : (n : ℕ) (f : ℕ → Bool) → all_below n f ≡ false → (k : ℕ) × (k < n) × (f k ≡ false)
 unfolding all_below
@@ -57,10 +49,6 @@ pub all_cong : (n : ℕ) (f g : ℕ → Bool) → ((k : ℕ) → k < n → f k �
 unfolding all_below
 all_cong zero f g h = refl
 all_cong (suc n) f g h = ap₂ ◌&&◌ (all_cong n f g (below_less h)) (h n (le_refl (suc n)))
-
--- all below a bound, all below a lower one
-pub all_fewer : (m n : ℕ) (f : ℕ → Bool) → m ≤ n → all_below n f ≡ true → all_below m f ≡ true
-all_fewer m n f l h = all_of m f (λ k j. all_at n f h k (omega arith))
 
 -- ---- anyBelow
 
@@ -139,10 +127,6 @@ lowest_unique (suc n) f k l p q = go (lowest_unique n f k) (eq-or-lt_of_le (le_o
         rw (any_none_of n f (λ j m. q j (subst⁻¹ (λ (x : ℕ). j < x) e m)), subst (λ (x : ℕ). f x ≡ true) e p) (sym e)
     go rest (inr m) = rw (any_at n f k m p) (rest m p q)
 
--- the turn of a loop in which f first held
-pub lowest_at : (n : ℕ) (f : ℕ → Bool) (k : ℕ) → k < n → any_below k f ≡ false → f k ≡ true → lowest n f ≡ k
-lowest_at n f k l h p = lowest_unique n f k l p (any_fails k f h)
-
 -- some number holds: the lowest does, is below the bound, and no lower one does
 pub lowest-holds : (n : ℕ) (f : ℕ → Bool) → any_below n f ≡ true → f (lowest n f) ≡ true
 unfolding lowest any_below
@@ -164,10 +148,6 @@ lowest_below (suc n) f h = go (lowest_below n f) (either (any_below n f))
     go rest (inl e) = rw e (omega (arith, rest e))
     go rest (inr e) = let p : f n ≡ true = rw e at h in rw (e, p) (le_refl (suc n))
 
-pub lowest_le : (n : ℕ) (f : ℕ → Bool) → lowest n f ≤ n
-lowest_le n f =
-    ⊎_elim (λ h. omega (arith, lowest_below n f h)) (λ h. omega (arith, lowest_none n f h)) (either (any_below n f))
-
 pub lowest_first : (n : ℕ) (f : ℕ → Bool) (k : ℕ) → k < lowest n f → f k ≡ false
 unfolding lowest
 lowest_first zero f k l = absurd (not-suc-le-zero l)
@@ -177,11 +157,6 @@ lowest_first (suc n) f k l = go (lowest_first n f k) (either (any_below n f)) (e
     go rest (inl e) p = rest (rw e at l)
     go rest (inr e) (inl p) = any_fails n f e k (rw (e, p) at l)
     go rest (inr e) (inr p) = below_suc (λ j. f j ≡ false) n (any_fails n f e) p k (rw (e, p) at l)
-
--- the lowest is below the bound just where some number holds
-pub lowest_some : (n : ℕ) (f : ℕ → Bool) → lowest n f < n → any_below n f ≡ true
-lowest_some n f l =
-    ⊎_elim (λ h. h) (λ h. absurd (let e : lowest n f ≡ n = lowest_none n f h in omega arith)) (either (any_below n f))
 
 pub lowest_cong : (n : ℕ) (f g : ℕ → Bool) → ((k : ℕ) → k < n → f k ≡ g k) → lowest n f ≡ lowest n g
 unfolding lowest

@@ -1,8 +1,7 @@
 -- Laws of the order of positions by their two numbers.
-use Rattle.std.specs.Prelude.{◌≡◌, refl, ◌⊎◌, Bool, true, false, not, ◌&&◌, ◌||◌, ℕ, ◌≤◌, ◌<◌, eqb, ltb, leb}
-use Rattle.std.proofs.Common.{sym, ◌∙◌, subst, inl, inr, ⊎_elim, arith, eqb-true, eq-eqb, ltb-true, lt-ltb, leb-true, le-leb}
-use Rattle.std.proofs.Math.Arith.{lt_of_le-ne}
-use Rattle.base_laws.specs.Bools.{either, clash, same, no_true, and_both, and_left, and_right, or_left, or_right, or-holds, not_of_false, of_not_true, lt_or_le, eq_or_ne}
+use Rattle.std.specs.Prelude.{◌≡◌, refl, ◌⊎◌, Bool, true, ◌&&◌, ◌||◌, ℕ, ◌≤◌, ◌<◌, eqb, ltb, leb}
+use Rattle.std.proofs.Common.{◌∙◌, subst, inl, inr, ⊎_elim, arith, eqb-true, eq-eqb, ltb-true, lt-ltb, leb-true, le-leb}
+use Rattle.base_laws.specs.Bools.{and_both, and_left, and_right, or_left, or_right, or-holds}
 use Rattle.base_laws.specs.Definitions.{pair_not_after}
 
 -- position v k comes before position u j
@@ -69,34 +68,3 @@ not_after_antisym v k u j p q = go (not_after_cases v k u j p) (not_after_cases 
     go (inl a) (inr b) = absurd (omega (arith, b.0))
     go (inr a) (inl b) = absurd (omega (arith, a.0))
     go (inr a) (inr b) = (a.0, omega (arith, a.1, b.1))
-
--- one is before the other, or is not after it the other way
-pub before_not_after : (v k u j : ℕ) → pair_before v k u j ≡ not (pair_not_after u j v k)
-before_not_after v k u j =
-    same (pair_before v k u j) (not (pair_not_after u j v k))
-    (λ h. not_of_false (no_true (pair_not_after u j v k) (λ q. go h q)))
-    (λ h. back (of_not_true (pair_not_after u j v k) h) (lt_or_le v u) (eq_or_ne v u) (lt_or_le k j))
-  where
-    go : pair_before v k u j ≡ true → pair_not_after u j v k ≡ true → ⊥
-    go h q = meet (before_cases v k u j h) (not_after_cases u j v k q)
-      where
-        meet : (v < u) ⊎ ((v ≡ u) × (k < j)) → (u < v) ⊎ ((u ≡ v) × (j ≤ k)) → ⊥
-        meet (inl a) (inl b) = omega arith
-        meet (inl a) (inr b) = omega (arith, b.0)
-        meet (inr a) (inl b) = omega (arith, a.0)
-        meet (inr a) (inr b) = omega (arith, a.1, b.1)
-
-    back : pair_not_after u j v k ≡ false → (v < u) ⊎ (u ≤ v) → (v ≡ u) ⊎ (v ≡ u → ⊥) → (k < j) ⊎ (j ≤ k) → pair_before v k u j ≡ true
-    back h (inl l) e m = before_view v k u j l
-    back h (inr l) (inl e) (inl m) = subst (λ (x : ℕ). pair_before v k x j ≡ true) e (before_place v k j m)
-    back h (inr l) (inl e) (inr m) = clash (subst (λ (x : ℕ). pair_not_after x j v k ≡ true) e (not_after_place v j k m)) h
-    back h (inr l) (inr n) m = clash (not_after_view u j v k (lt_of_le-ne l (λ e. n (sym e)))) h
-
-pub before_weak : (v k u j : ℕ) → pair_before v k u j ≡ true → pair_not_after v k u j ≡ true
-before_weak v k u j h =
-    ⊎_elim (λ l. not_after_view v k u j l)
-    (λ e. subst (λ (x : ℕ). pair_not_after v k x j ≡ true) e.0 (not_after_place v k j (omega (arith, e.1)))) (before_cases v k u j h)
-
-pub not_after_total : (v k u j : ℕ) → (pair_not_after v k u j ≡ true) ⊎ (pair_not_after u j v k ≡ true)
-not_after_total v k u j =
-    ⊎_elim (λ h. inl h) (λ h. inr (before_weak u j v k (before_not_after u j v k ∙ not_of_false h))) (either (pair_not_after v k u j))

@@ -8,7 +8,8 @@ use Rattle.std.proofs.Math.ListN.{length, length-append, length-take, length-dro
 use Rattle.std.proofs.Math.Seq.{take_at}
 use Rattle.base_laws.specs.Bools.{either, same}
 use Rattle.base_laws.specs.Definitions.{padded}
-use Rattle.base_laws.specs.Tables.{padded_append, zeros, zeros_left}
+use Rattle.base_laws.specs.Tables.{zeros, zeros_left}
+use Rattle.base_laws.proofs.Tables.{padded_append}
 use Rattle.base_bytes.specs.Definitions.{words_of}
 use Rattle.base_bytes.specs.Words.{length_words}
 use Rattle.base_lent.specs.Definitions.{word_count, words_in}

@@ -8,7 +8,8 @@ use Rattle.base_ids.specs.Definitions.{accepted}
 use Rattle.report_views.specs.Agreeing.{SameReports}
 use Rattle.state_planner.specs.declared.Decided.{Decided}
 use Rattle.state_planner.specs.Definitions.{decide_refusal}
-use Rattle.state_laws.specs.Once.{SameAsked, SameSaid, same_said, same_state, decides_unique}
+use Rattle.state_laws.specs.Once.{SameAsked, SameSaid}
+use Rattle.state_laws.proofs.Once.{same_said, same_state, decides_unique}
 use Rattle.c_state.specs.Definitions.{state_lent}
 use Rattle.c_events.specs.Definitions.{decision_word, decision_leaves, decide_entry, ByOutcome, DecideCall}
 

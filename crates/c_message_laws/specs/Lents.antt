@@ -12,7 +12,8 @@ use Rattle.std.proofs.Math.ListN.{length, get_or, get_or-eq_default}
 use borrow.Author.Tests.{lt-ltb, le-ltb, eq-eqb, eqb-true, leb-true, le-leb}
 use Rattle.base_laws.specs.Bools.{either, and_left, and_right, lt_or_le}
 use Rattle.base_laws.specs.Definitions.{tabulate, padded}
-use Rattle.base_laws.specs.Tables.{tabulate_ext, length_tabulate, get_d_tabulate, get_or_tabulate_past, tabulate_cong, padded_ext, get_or_padded_all, length_padded}
+use Rattle.base_laws.specs.Tables.{tabulate_ext, length_tabulate, get_d_tabulate, get_or_tabulate_past, tabulate_cong, padded_ext, length_padded}
+use Rattle.base_laws.proofs.Tables.{get_or_padded_all}
 use Rattle.base_bytes.specs.Definitions.{words_of, byte_at, bytes_of}
 use Rattle.base_bytes.specs.Words.{byte_lt, length_words, length_bytes, get_d_words, get_or_bytes, word_lt, words_bytes, bytes_words}
 use Rattle.base_lent.specs.Definitions.{word_count, words_in}

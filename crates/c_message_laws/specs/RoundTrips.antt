@@ -16,7 +16,8 @@ use Rattle.message_format.specs.declared.Contents.{Contents}
 use Rattle.message_format.specs.Definitions.{contents_of, message_refusal, read_refusal, contents_refusal, message_of}
 use Rattle.message_format.specs.Messages.{tidy}
 use Rattle.message_format.specs.Passed.{contents_few}
-use Rattle.message_inverse_laws.specs.RoundTrip.{ReadsAs, buffer_reads, read_writes, read_tidy}
+use Rattle.message_inverse_laws.specs.RoundTrip.{ReadsAs, read_writes, read_tidy}
+use Rattle.message_inverse_laws.proofs.RoundTrip.{buffer_reads}
 use Rattle.c_messages.specs.Definitions.{contents_word, contents_words, contents_length, read_refused, read_answer, read_leaves, contents_lent, write_refused, write_leaves}
 use Rattle.c_message_laws.specs.Lents.{Bytes, Words, words_lent, lent_words, bytes_taken, made_bytes, lent_length, lent_back, message_words, contents-words, words_taken, lent_small, read_small, read_few, read_lent}
 

@@ -5,7 +5,8 @@ use Rattle.std.proofs.Common.{◌∙◌, ⊎_elim, arith, length-set, get_or-set
 use Rattle.std.proofs.Math.ListN.{get_or}
 use Rattle.std.proofs.lemmas.List.{length-replicate, get_or-replicate}
 use Rattle.base_laws.specs.Bools.{lt_or_le}
-use Rattle.base_laws.specs.Tables.{tabulate_ext, filled, filled_more, filled_ext, length_filled, get_or_filled, get_or_filled_rest}
+use Rattle.base_laws.specs.Tables.{tabulate_ext, filled, filled_more, length_filled, get_or_filled, get_or_filled_rest}
+use Rattle.base_laws.proofs.Tables.{filled_ext}
 use Rattle.message_format.specs.declared.Contents.{Contents}
 use Rattle.message_format.specs.Definitions.{head_word}
 use Rattle.c_messages.specs.Definitions.{contents_word, contents_words}

@@ -5,7 +5,7 @@ use Rattle.std.proofs.Math.Path.{sym, ap}
 use Rattle.std.proofs.Common.{◌∙◌, arith}
 use Rattle.std.proofs.Math.Bool.{true}
 use borrow.Author.Tests.{eq-eqb, ne_eqb}
-use Rattle.base_laws.specs.Below.{lowest_le}
+use Rattle.base_laws.proofs.Below.{lowest_le}
 use Rattle.base_bytes.specs.Definitions.{bytes_of}
 use Rattle.base_lent.specs.Definitions.{words_in, with_length}
 use Rattle.base_lent.specs.Answers.{Told, told_refused, told_accepted}

@@ -7,7 +7,7 @@ use Rattle.std.proofs.Math.Logic.{⊎_elim}
 use Rattle.std.proofs.Math.Path.{sym, ap}
 use borrow.Author.Tests.{eq-eqb, ne_eqb, leb-true}
 use Rattle.base_laws.specs.Bools.{either, clash}
-use Rattle.base_laws.specs.Below.{lowest_le}
+use Rattle.base_laws.proofs.Below.{lowest_le}
 use Rattle.base_bytes.specs.Definitions.{bytes_of}
 use Rattle.base_lent.specs.Definitions.{words_in, answer_word, with_length, bytes_left}
 use Rattle.base_lent.specs.Lent.{words_within}

@@ -6,7 +6,8 @@ use Rattle.std.proofs.Common.{ap₂, ◌∙◌, inl, inr, ⊎_elim, arith, lit<}
 use borrow.Author.Tests.{eq-eqb, ne_eqb, lt-leb, leb-true, eqb-true}
 use Rattle.base_laws.specs.Bools.{either, and_right}
 use Rattle.base_laws.specs.Definitions.{tabulate, padded}
-use Rattle.base_laws.specs.Tables.{tabulate_cong, get_or_padded_all}
+use Rattle.base_laws.specs.Tables.{tabulate_cong}
+use Rattle.base_laws.proofs.Tables.{get_or_padded_all}
 use Rattle.base_bytes.specs.Definitions.{bytes_of}
 use Rattle.base_lent.specs.Definitions.{words_in, with_length}
 use Rattle.base_lent.specs.Lent.{words_within, within_cases, HoldsWords}

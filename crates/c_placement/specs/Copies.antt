@@ -4,7 +4,8 @@ use Rattle.std.proofs.Math.Path.{refl, sym, ap}
 use Rattle.std.proofs.Common.{◌∙◌}
 use Rattle.std.proofs.Math.ListN.{length, get_or}
 use Rattle.base_laws.specs.Definitions.{tabulate}
-use Rattle.base_laws.specs.Tables.{filled, filled_none, filled_turn, filled_end, length_filled, tabulate_self}
+use Rattle.base_laws.specs.Tables.{filled, filled_none, length_filled, tabulate_self}
+use Rattle.base_laws.proofs.Tables.{filled_turn, filled_end}
 
 unfoldable pub copied : ℕ → List ℕ → List ℕ → List ℕ
 copied i m l = filled i (λ k. get_or m k 0) l

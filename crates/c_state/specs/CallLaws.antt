@@ -15,7 +15,8 @@ use Rattle.std.proofs.Math.Bool.{true, false}
 use Rattle.std.proofs.Math.ListN.{length, take}
 use borrow.Author.Tests.{eqb-true, eq-eqb, ne_eqb}
 use Rattle.base_laws.specs.Bools.{either, no_true, and_left, and_right}
-use Rattle.base_laws.specs.Tables.{length_padded, front_padded}
+use Rattle.base_laws.specs.Tables.{length_padded}
+use Rattle.base_laws.proofs.Tables.{front_padded}
 use Rattle.base_bytes.specs.Definitions.{bytes_of}
 use Rattle.base_bytes.specs.Words.{length_words}
 use Rattle.base_lent.specs.Definitions.{words_in}

@@ -7,7 +7,8 @@ use mathlib.Core.List.{List}
 use Rattle.std.proofs.Math.ListN.{get_or, length-replicate, get_or-replicate}
 use Rattle.base_laws.specs.Bools.{lt_or_le}
 use Rattle.base_laws.specs.Loops.{turns, turns_hold}
-use Rattle.base_laws.specs.Tables.{zeros, filled, filled_none, filled_turn, length_filled, get_or_filled, get_or_filled_rest, tabulate_ext}
+use Rattle.base_laws.specs.Tables.{zeros, filled, filled_none, length_filled, get_or_filled, get_or_filled_rest, tabulate_ext}
+use Rattle.base_laws.proofs.Tables.{filled_turn}
 use Rattle.base_ids.specs.declared.Position.{Position}
 use Rattle.base_ids.specs.declared.View.{View}
 use Rattle.report_views.specs.declared.Layout.{Layout}

@@ -1,7 +1,7 @@
 -- Never both sides can force the win.
 use Prim.Native.Nat.{ℕ, zero, suc}
 use Rattle.std.proofs.Math.Logic.{⊎_elim}
-use Rattle.game_rules.specs.Definitions.{CrewRule, after_turns, CrewHolds, CrewWins, OutageRule, Beats, OutageWins}
+use Rattle.game_rules.specs.Definitions.{CrewRule, after_turns, CrewHolds, OutageRule, Beats}
 
 module _ (n : ℕ) (ok : ℕ → Type 0) where
   -- no rule wins against a rule that wins
@@ -13,7 +13,3 @@ module _ (n : ℕ) (ok : ℕ → Type 0) where
       let b = (s o).0 in
       let r = p o q.0 in
       ⊎_elim (λ no. no r.1) (λ more. rules_clash k (after_turns h o b) (s o).1 (t.1 b) r.2 more) (q.1 b r.0)
-
-  -- never both sides
-  pub not_both : (k h o : ℕ) → CrewWins n ok k h → OutageWins n ok k h o → ⊥
-  not_both k h o c w = rules_clash k h c.rule w.rule c.holds w.beats

@@ -3,6 +3,5 @@
 pub mod Definitions
 pub mod Game
 pub mod Turns
-pub mod Decided
 pub mod Once
 pub mod Rows

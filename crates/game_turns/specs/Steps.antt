@@ -7,7 +7,8 @@ use Rattle.std.proofs.Common.{sym, ap, ◌∙◌, arith, lt_of_lt_of_le, pow_mon
 use borrow.Author.Tests.{eq-eqb, ne_eqb, lt-ltb}
 use Rattle.base_laws.specs.Bools.{and_both, and_fails_left, and_fails_right, or_neither, or-holds, not_of_false, not_of_true, of_not_true}
 use Rattle.base_laws.specs.Definitions.{all_below, any_below, lowest, has, without}
-use Rattle.base_laws.specs.Below.{all_at, all_fails, any_at, any_none_of, lowest_at}
+use Rattle.base_laws.specs.Below.{all_at, any_at, any_none_of}
+use Rattle.base_laws.proofs.Below.{all_fails, lowest_at}
 use Rattle.game_rules.specs.declared.Lead.TheVariants.{Taking, Passing}
 use Rattle.game_rules.specs.declared.Winner.TheVariants.{Crew, Outage}
 use Rattle.game_rules.specs.Definitions.{lead_by}

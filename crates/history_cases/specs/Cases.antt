@@ -1,20 +1,16 @@
 -- Document 01's cases A to I, Request Five's case J and cases K and L of caps from the rules: the one table. Reports are those of case A, and held masks name who is back.
 -- What decide answers in them stands in state_cases, what the program prints in program_cases; both cite this table.
 use Rattle.std.specs.Prelude.{ℕ, ◌<◌, true, not, ◌||◌, List, [], ◌∷◌, ◌≡◌, refl, eqb}
-use Rattle.std.proofs.Common.{⊎_elim, eq-eqb}
 use Rattle.std.specs.Int.Count.{ones, ones_in}
-use Rattle.base_laws.specs.Bools.{clash, or-holds, of_not_true}
-use Rattle.base_laws.specs.Definitions.{all_below, any_below, lowest, count, tabulate, pair_not_after}
-use Rattle.base_laws.specs.Below.{all_at}
-use Rattle.message_format.specs.Definitions.{place, following, body_word, body_of, contents_of}
+use Rattle.base_laws.specs.Definitions.{all_below, count}
 use Rattle.place_groups.specs.Definitions.{group_valid, group_moves, Impossible, LeastMoves, Chosen}
 use Rattle.report_views.specs.declared.Reason.TheVariants.{NoView, NoMajority, TooFew, NoHolder}
 use Rattle.report_views.specs.declared.Quorum.TheVariants.{Met, Short}
-use Rattle.report_views.specs.Definitions.{pos, end_of, runs_from, runs_of, reaches, holds, has_update, slot, report_of, mask_at, candidate, greatest, best, target, able, holder, majority, first_unheld, quorum_of, runs_to, shared_after, cut_from, no_view, no_termination}
+use Rattle.report_views.specs.Definitions.{pos, mask_at, target, holder, majority, quorum_of, no_view, no_termination}
 use Rattle.report_views.specs.Cuts.{cut}
 use Rattle.history_cases.specs.Runs.{case_settings, settings_with, desk, view7, six_members, log_of}
-use Rattle.history_cases.specs.Placed.{three, plan_a, a_valid, a_moves, a_least, a_chosen, i_none}
-use Rattle.history_cases.specs.Caps.{cap_of_four, four_chosen, four_move, four_kept, prefix_settings, prefix_chosen}
+use Rattle.history_cases.specs.Placed.{three, plan_a}
+use Rattle.history_cases.specs.Caps.{cap_of_four, prefix_settings}
 
 pub record Cases : Type 0 where
   -- A: nodes 0 to 5. Every quorum condition is met; holders and targets of the three shards; the plan's placement is valid with two
@@ -59,50 +55,6 @@ pub record Cases : Type 0 where
   pub l : Chosen prefix_settings 15 (three 3 12 0) (three 1 12 2) 0
 
 -- B, tried with every mask of the seven nodes: one of three nodes is no majority
-b-test : all_below 128 (λ held. not (eqb (count held) 3) || not (majority view7 held)) ≡ true
+pub b-test : all_below 128 (λ held. not (eqb (count held) 3) || not (majority view7 held)) ≡ true
 unfolding ones ones_in all_below majority
 b-test = refl
-
--- a view whose members are no majority waits for them
-short : (held : ℕ) (d : List ℕ) → not (majority view7 held) ≡ true → quorum_of case_settings view7 no_termination held d ≡ Short NoMajority
-unfolding quorum_of
-short held d h = rw h
-
-b_short : (held : ℕ) → held < 128 → count held ≡ 3 → (d : List ℕ) → quorum_of case_settings view7 no_termination held d ≡ Short NoMajority
-b_short held l three d =
-    ⊎_elim (λ n. clash (eq-eqb (count held) 3 three) (of_not_true (eqb (count held) 3) n)) (λ m. short held d m)
-    (or-holds (not (eqb (count held) 3)) (not (majority view7 held)) (all_at 128 (λ m. not (eqb (count m) 3) || not (majority view7 m)) b-test held l))
-
-pub cases : Cases
-unfolding desk ones ones_in all_below any_below lowest tabulate pair_not_after place following body_word body_of contents_of end_of reaches holds has_update slot report_of candidate greatest best target able holder majority first_unheld quorum_of runs_from runs_of runs_to shared_after cut_from
-cases =
-    record {
-      a_met = refl;
-      a_holder0 = refl;
-      a_holder1 = refl;
-      a_holder2 = refl;
-      a_target0 = refl;
-      a_target1 = refl;
-      a_target2 = refl;
-      a_placed = a_valid;
-      a_moved = a_moves;
-      a_only = a_least;
-      a_first = a_chosen;
-      b = b_short;
-      c_three = refl;
-      c_four = refl;
-      d = refl;
-      e = refl;
-      f = refl;
-      g = refl;
-      h_later = refl;
-      h_within = refl;
-      h_empty = refl;
-      j = refl;
-      i_met = refl;
-      i = i_none;
-      k = four_chosen;
-      k_moves = four_move;
-      k_only = four_kept;
-      l = prefix_chosen;
-    }

@@ -12,7 +12,7 @@ use Rattle.report_views.specs.declared.Termination.{Termination}
 use Rattle.report_views.specs.declared.Quorum.TheVariants.{Met}
 use Rattle.report_views.specs.Definitions.{no_view, no_termination, pos, start, end_of, reaches, holds, has_update, slot, report_of, mask_at, same_view, row12, same_termination, row13, term_kept, slot_ok, slots_ok, candidate, greatest, best, target, able, holder, majority, first_unheld, quorum_of}
 use Rattle.history_laws.specs.Definitions.{History, KeepsRule, Full, True, Listed, Supposed, number_at}
-use Rattle.history_cases.specs.Told.{told_by, overlaps_test, rises_test, rule_of, full_of, true_test, reports_test, reports_of, true_somewhere, listed_at}
+use Rattle.history_cases.specs.Told.{told_by, full_of, true_test, reports_test, reports_of, true_somewhere, listed_at}
 use Rattle.history_cases.specs.Supposing.{one_shard_settings, view_of_all, report_of_all, desk_of_three, three_views, history_of_three, supposed_three, slots_three, met_three, all_logged}
 
 -- ---- without the rule of views: of nodes 1 to 3 of view 6 only node 3 is a member of view 7, and all members logged each view
@@ -65,23 +65,11 @@ rule_needed =
 unfoldable pub desk_of_two : List ℕ
 desk_of_two = report_of_all 0 5 7 1 ++ report_of_all 1 5 7 1 ++ replicate 15360 0
 
-abbrev skipped_views : List Layout
+abbrev pub skipped_views : List Layout
 skipped_views = view_of_all 5 7 ∷ view_of_all 6 62 ∷ view_of_all 9 28 ∷ []
 
 abbrev pub skipped_history : History
 skipped_history = told_by skipped_views (7 ∷ 60 ∷ 28 ∷ []) desk_of_two
-
-skipped_reports : reports_test one_shard_settings skipped_views (7 ∷ 60 ∷ 28 ∷ []) desk_of_two 3 [] ≡ true
-unfolding desk_of_two all_below slot report_of contents_of body_of body_word tabulate place following lowest any_below
-skipped_reports = refl
-
-skipped_rises : rises_test skipped_history ≡ true
-unfolding all_below
-skipped_rises = refl
-
-skipped_overlaps : overlaps_test skipped_history ≡ true
-unfolding all_below ones ones_in
-skipped_overlaps = refl
 
 -- view 9 was logged by all its members while view 6 was not, and nodes 0 and 1 keep view 5
 pub record OlderNeeded : Type 0 where
@@ -91,27 +79,6 @@ pub record OlderNeeded : Type 0 where
   pub full : Full skipped_history 2
   pub older : Full skipped_history 1 → ⊥
   pub newer : (view_of_all 5 7).number.0 < number_at skipped_history 2
-
-older_supposed : Supposed one_shard_settings (view_of_all 5 7) 3 desk_of_two skipped_history
-older_supposed =
-    record {
-      rule = rule_of skipped_history skipped_rises skipped_overlaps;
-      true_reports = reports_of one_shard_settings skipped_views (7 ∷ 60 ∷ 28 ∷ []) desk_of_two 3 [] skipped_reports;
-      place = 0;
-      listed = listed_at one_shard_settings skipped_history 0 (omega arith);
-    }
-
-pub older_needed : OlderNeeded
-unfolding desk_of_two ones ones_in all_below any_below lowest tabulate pair_not_after unless unless_at first_of place following row5 row8 precedes shards_where row6 view_ok row7 kind_ok plain kind_at shard_at surplus sequence_at complete shard_apart row10_at row10 is_position view_fits legal row11_at body_word body_of contents_of records_refusal head_refusal message_refusal slot report_of same_view row12 same_termination row13 term_kept slot_ok slots_ok end_of reaches holds has_update candidate greatest best target able holder majority first_unheld quorum_of
-older_needed =
-    record {
-      supposed = older_supposed;
-      slots = refl;
-      met = refl;
-      full = full_of skipped_history 2 refl;
-      older = λ f. clash (f.all 1 (omega arith) refl) refl;
-      newer = omega arith;
-    }
 
 -- ---- a kept termination: that of view 6 ends the shard at (6, 2), and all members logged (6, 3)
 

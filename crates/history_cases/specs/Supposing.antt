@@ -12,7 +12,7 @@ use Rattle.report_views.specs.declared.Quorum.TheVariants.{Met}
 use Rattle.report_views.specs.Definitions.{no_termination, pos, end_of, reaches, holds, has_update, slot, report_of, holds_at, same_view, row12, same_termination, row13, term_kept, slot_ok, slots_ok, candidate, greatest, best, target, able, holder, majority, first_unheld, quorum_of}
 use Rattle.report_views.specs.Meets.{quorum_given}
 use Rattle.history_laws.specs.Definitions.{History, Full, Supposed, Claims}
-use Rattle.history_laws.specs.Claims.{claims}
+use Rattle.history_laws.proofs.Claims.{claims}
 use Rattle.history_cases.specs.Runs.{case_settings, slot_of, desk, view7}
 use Rattle.history_cases.specs.Told.{told_by, implies, implies_at, rises_test, overlaps_test, rule_of, full_of, reports_test, reports_of, listed_at}
 

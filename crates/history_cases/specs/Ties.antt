@@ -6,7 +6,8 @@ use Rattle.std.specs.Int.Count.{ones, ones_in}
 use Rattle.base_laws.specs.Bools.{clash, and_both, and_left, or-holds, of_not_true}
 use Rattle.base_laws.specs.Definitions.{all_below, any_below, count_below, count, minus, subset}
 use Rattle.base_laws.specs.Below.{all_at}
-use Rattle.base_laws.specs.Masks.{subset_le, and_subset_right, count_subset}
+use Rattle.base_laws.specs.Masks.{subset_le}
+use Rattle.base_laws.proofs.Masks.{and_subset_right, count_subset}
 use Rattle.base_sum_laws.specs.Definitions.{sum_below, list_from, list_before}
 use Rattle.base_sum_laws.specs.Lists.{before_self, before_both}
 use Rattle.settings_values.specs.Definitions.{subgroup, need, cap}

@@ -7,7 +7,8 @@ use Rattle.std.proofs.lemmas.Nat.{and_le_r}
 use Rattle.std.specs.Int.Count.{ones, ones_in}
 use Rattle.base_laws.specs.Bools.{clash, and_both, and_left}
 use Rattle.base_laws.specs.Definitions.{all_below, any_below, has, subset, pair_not_after}
-use Rattle.base_laws.specs.Masks.{has_and, has_zero, subset_of, count_subset}
+use Rattle.base_laws.specs.Masks.{has_and, has_zero, subset_of}
+use Rattle.base_laws.proofs.Masks.{count_subset}
 use Rattle.base_ids.specs.declared.Position.{Position}
 use Rattle.report_views.specs.declared.Layout.{Layout}
 use Rattle.report_views.specs.declared.Termination.{Termination}

@@ -33,8 +33,9 @@ use Rattle.history_course_laws.specs.Course.{Succeeded, Orderly, Settled, cut_fo
 use Rattle.history_course_laws.specs.Ever.{Restart}
 use Rattle.history_short_laws.specs.Based.{last_place, latest_of, latest_number, carries_latest, short_of, Based, AddsOnly, kept_by, wanted_of, ByRecipe, ShortCourse, here, carrying}
 use Rattle.history_short_laws.specs.Bases.{place_is, latest_listed, latest_up_to}
-use Rattle.history_short_laws.specs.Recipe.{stale_cut, wanted_recipe}
-use Rattle.history_short_laws.specs.ShortEver.{short_settles_on, short_logged_lasts}
+use Rattle.history_short_laws.proofs.Recipe.{stale_cut}
+use Rattle.history_short_laws.proofs.RecipeAfter.{wanted_recipe}
+use Rattle.history_short_laws.proofs.ShortEver.{short_settles_on, short_logged_lasts}
 
 -- three nodes in three failure sets, and a shard of two
 abbrev pub long_settings : List ℕ

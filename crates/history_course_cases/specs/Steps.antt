@@ -22,7 +22,7 @@ use Rattle.report_views.specs.Updates.{updates_at, up_to}
 use Rattle.report_log_laws.specs.Stretches.{among, among_those, one_same}
 use Rattle.report_log_laws.specs.UpdateLaws.{holds_runs}
 use Rattle.report_views.specs.RunLaws as runs
-use Rattle.report_log_laws.specs.CutLaws.{kept_or_fetched}
+use Rattle.report_log_laws.proofs.CutLawsAfter.{kept_or_fetched}
 use Rattle.history_laws.specs.Definitions.{History, view_at, members_at}
 use Rattle.history_cases.specs.Told.{told_by, implies, implies_at, rises_test, overlaps_test, rule_of, reports_test, reports_of}
 use Rattle.history_course_laws.specs.Course.{last_of, Succeeded, Orderly, Settled, PlannedView, Covers, CarriedOut, GivenUp, cut_for, as_ordered}

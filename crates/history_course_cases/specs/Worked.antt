@@ -4,27 +4,26 @@
 use Rattle.std.specs.Prelude.{ℕ, ◌<◌, Bool, true, not, ◌&&◌, ◌||◌, List, [], ◌∷◌, ◌++◌, ◌≡◌, refl, eqb, get_or, replicate}
 use Rattle.std.proofs.Common.{arith}
 use Rattle.std.specs.Int.Count.{ones, ones_in}
-use Rattle.base_laws.specs.Definitions.{all_below, any_below, lowest, count_below, has, pair_not_after, tabulate}
-use Rattle.base_sum_laws.specs.Definitions.{sum_below}
-use Rattle.settings_values.specs.Definitions.{sizes_ok, nodes_ok, cap, shard_ok, shards_ok, settings_ok}
+use Rattle.base_laws.specs.Definitions.{all_below, any_below, lowest, has, pair_not_after, tabulate}
+use Rattle.settings_values.specs.Definitions.{settings_ok}
 use Rattle.base_ids.specs.Definitions.{not_after, unless, unless_at, first_of}
 use Rattle.base_ids.specs.declared.Position.{Position}
 use Rattle.message_format.specs.Definitions.{place, following, row5, row8, precedes, shards_where, row6, view_ok, row7, kind_ok, plain, kind_at, shard_at, surplus, sequence_at, complete, shard_apart, row10_at, row10, is_position, view_fits, legal, row11_at, body_word, body_of, contents_of, records_refusal, head_refusal, message_refusal}
 use Rattle.report_views.specs.declared.Layout.{Layout}
 use Rattle.report_views.specs.declared.Termination.{Termination}
-use Rattle.report_views.specs.Definitions.{no_termination, pos, start, end_of, reaches, holds, has_update, runs_from, runs_of, slot, report_of, holds_at, mask_at, same_view, row12, same_termination, row13, term_kept, slot_ok, slots_ok, candidate, greatest, best, target, able, holder, runs_to, shared_after, cut_from}
+use Rattle.report_views.specs.Definitions.{no_termination, pos, start, end_of, reaches, holds, has_update, runs_from, runs_of, slot, report_of, holds_at, mask_at, same_view, row12, same_termination, row13, term_kept, slot_ok, slots_ok, candidate, greatest, best, target, able, holder}
 use Rattle.report_views.specs.Meets.{QuorumMet}
 use Rattle.report_views.specs.Updates.{updates_after, updates_in, those_of}
 use Rattle.report_log_laws.specs.Stretches.{among}
-use Rattle.place_groups.specs.Definitions.{meets_set, sets_in, shard_valid, group_valid_at, group_valid, group_moves_at, group_moves}
-use Rattle.history_laws.specs.Definitions.{History, Full}
+use Rattle.place_groups.specs.Definitions.{group_valid, group_moves}
+use Rattle.history_laws.specs.Definitions.{History}
 use Rattle.history_cases.specs.Runs.{slot_of}
 use Rattle.history_cases.specs.Told.{told_by, reports_test}
 use Rattle.history_cases.specs.Supposing.{view_of_all, report_of_all}
-use Rattle.history_course_laws.specs.Course.{Orderly, Settled, Serves, PlannedView, Covers, CarriedOut, GivenUp, cut_for, as_ordered}
-use Rattle.history_course_laws.specs.Ever.{Restart, Course, here, running, carrying, giving_up, never_lost, logged_lasts}
-use Rattle.history_course_laws.specs.Counting.{counted_carried, counted_full, first_orderly}
-use Rattle.history_course_cases.specs.Steps.{of_every, same_log, orderly_of, settled_of, next_of, met_of, none_ended, covers_of, plan_from, cut_of, planned_log, planned_of, ordered_of, remembered_of, given_up_of, keeps_of}
+use Rattle.history_course_laws.specs.Course.{Orderly, Settled, PlannedView, Covers, GivenUp, cut_for, as_ordered}
+use Rattle.history_course_laws.specs.Ever.{Restart, Course}
+use Rattle.history_course_laws.specs.Counting.{first_orderly}
+use Rattle.history_course_cases.specs.Steps.{of_every, same_log, orderly_of, settled_of, next_of, met_of, none_ended, covers_of, plan_from, planned_log, planned_of, ordered_of, remembered_of, given_up_of}
 
 -- three nodes of three failure sets; the shard needs two of them and may have all three
 abbrev pub course_settings : List ℕ
@@ -176,11 +175,6 @@ pub remembered_second : (n i : ℕ) → i < 1 → has (get_or (7 ∷ []) i 0) n 
 unfolding all_below
 remembered_second = remembered_of (7 ∷ []) (7 ∷ 3 ∷ []) 1 refl
 
-pub carried : CarriedOut course_settings (view_of_all 1 7) no_termination 3 desk_given_up (view_of_all 2 3) after_given_up after_carried
-carried =
-    counted_carried course_settings (view_of_all 1 7) no_termination 3 desk_given_up carried_plan.met (view_of_all 2 3) next_second
-    after_given_up after_carried refl remembered_second ordered_second 3 (λ n l h. h) refl
-
 -- ---- the service runs: both store update 1 of view 2, node 1 also update 2, and a termination ends the shard at update 1
 
 unfoldable pub desk_served : List ℕ
@@ -189,23 +183,9 @@ desk_served = report_of_shard 0 2 3 3 (ended_runs 1) ++ report_of_shard 1 2 3 3 
 abbrev pub after_run : History
 after_run = told_by later_views (7 ∷ 3 ∷ []) desk_served
 
-full_second : Full after_carried 1
-full_second =
-    counted_full course_settings (view_of_all 1 7) no_termination 3 desk_given_up carried_plan.met (view_of_all 2 3) next_second
-    after_given_up after_carried refl remembered_second ordered_second 3 (λ n l h. h) refl
-
-orderly_run : Orderly after_run
+pub orderly_run : Orderly after_run
 unfolding all_below any_below ones ones_in
 orderly_run = orderly_of after_run (3 ∷ []) refl refl refl
-
-pub served : Serves 1 after_carried after_run
-unfolding desk_carried desk_served all_below any_below lowest tabulate place following body_word body_of contents_of slot report_of runs_from runs_of updates_after updates_in among of_every same_log
-served =
-    record {
-      begun = full_second;
-      standing = orderly_run;
-      keeps = keeps_of 1 later_views (7 ∷ 3 ∷ []) desk_carried later_views (7 ∷ 3 ∷ []) desk_served 0 (omega arith) refl;
-    }
 
 -- ---- all come back
 
@@ -255,20 +235,6 @@ last_log = (pos 1 1 ∷ pos 1 2 ∷ pos 1 3 ∷ pos 2 1 ∷ []) ∷ []
 
 -- ---- the course
 
-abbrev pub worked_course : Course 1 at_first after_run
-worked_course =
-    running after_carried after_run
-    (carrying after_given_up after_carried (giving_up at_first after_given_up here given_up_plan given_up) carried_plan carried) served
-
--- all members of the shard have logged update 1 at the beginning
-all_first : (n : ℕ) → n < 32 → has 7 n ≡ true → at_first.updated n 0 (pos 1 1) ≡ true
-all_first n l m = settled_first.all n l m m
-
--- what both have stored in the run
-settled_run : Settled after_run 0 (pos 2 1)
-unfolding desk_served all_below any_below lowest tabulate place following body_word body_of contents_of reaches holds slot report_of
-settled_run = settled_of after_run 0 (pos 2 1) refl
-
 -- the mask is a valid placement of the last plan, and without moves
 abbrev pub unmoved : ℕ → Bool
 unmoved m = group_valid course_settings 7 (λ s. m) 0 && eqb (group_moves course_settings (λ s. 3) (λ s. m) 0) 0
@@ -299,26 +265,3 @@ pub record CourseRows : Type 0 where
   pub holder_last : holder (view_of_all 2 3) end_of_run 7 desk_served 0 ≡ 1
   pub target_last : target (view_of_all 2 3) end_of_run 7 desk_served 0 ≡ pos 2 1
   pub log_last : all_below 1 (λ s. same_log (planned_log last_plan s) (get_or last_log s [])) ≡ true
-
-pub course_rows : CourseRows
-unfolding desk_given_up desk_served sizes_ok nodes_ok cap shard_ok shards_ok settings_ok meets_set sets_in shard_valid group_valid_at group_valid group_moves_at group_moves count_below sum_below ones ones_in all_below any_below lowest tabulate pair_not_after place following body_word body_of contents_of slot report_of runs_from runs_of updates_after updates_in those_of same_log runs_to shared_after cut_from shard_apart
-course_rows =
-    record {
-      settings = refl;
-      placed_first = refl;
-      placed_second = refl;
-      placed_last = refl;
-      orderly = orderly_first;
-      settled = settled_first;
-      course = worked_course;
-      plan = last_plan;
-      kept = logged_lasts orderly_first 0 (omega arith) (pos 1 1) all_first worked_course last_plan;
-      stored = never_lost served.standing 0 (omega arith) (pos 2 1) settled_run here last_plan;
-      holder_first = holder_first;
-      holder_second = holder_second;
-      cut_second = cut_of (view_of_all 1 7) no_termination 3 desk_given_up 0 target_second holder_second refl;
-      target_second = target_second;
-      holder_last = holder_last;
-      target_last = target_last;
-      log_last = planned_of last_plan refl (pos 1 1 ∷ pos 1 2 ∷ pos 1 3 ∷ pos 2 1 ∷ []) (pos 2 1) 1 target_last holder_last refl;
-    }

@@ -7,7 +7,8 @@ use Rattle.std.proofs.Math.Path.{subst⁻¹}
 use Rattle.std.specs.Int.Bits.{bit_and, bit_or}
 use Rattle.base_laws.specs.Bools.{either, clash, and_left, no_true, or_left, or-holds}
 use Rattle.base_laws.specs.Definitions.{has, count, subset, with, without}
-use Rattle.base_laws.specs.Masks.{has_or, has_with, has_without, subset_has, subset_of, subset_counter, width}
+use Rattle.base_laws.specs.Masks.{has_or, has_with, has_without, subset_has, width}
+use Rattle.base_laws.proofs.Masks.{subset_counter}
 use Rattle.settings_values.specs.Definitions.{shards}
 use Rattle.base_ids.specs.declared.Position.{Position}
 use Rattle.report_views.specs.declared.Layout.{Layout}
@@ -65,18 +66,6 @@ module _ {m a o : ℕ} (apart : NoneBoth a o) where
       left : (x : Bool) {y : Bool} {A : Type 0} → y ≡ true → (x && not y) ≡ true → A
       left true {y} e f = clash f (ap (λ (z : Bool). not z) e)
       left false e f = clash f refl
-
-  -- never both
-  pub never_both : {have out : ℕ} → Copies m a o have out → all_have m have ≡ true → OneLacks m out → ⊥
-  never_both {have} c s l = clash l.lacks ((still_apart c).never l.one (subset_has m have s l.one l.member))
-
-  -- once all members have it, they have it for ever
-  pub still_have : {have out : ℕ} → all_have m a ≡ true → Copies m a o have out → all_have m have ≡ true
-  still_have s now = s
-  still_have s (got have out n i f c) =
-      subset_of m m (with have n) (width m) (λ k l p. has_with have n k ∙ or_left (eqb n k) (subset_has m have (still_have s c) k p))
-  still_have s (went have out n f c) = still_have s c
-  still_have s (forgot have out n k u w c) = absurd (never_both c (still_have s c) (record { one = k; member = u; lacks = w }))
 
   -- once a member has reported without it, that stands for ever
   pub still_lacks : {have out : ℕ} → OneLacks m o → Copies m a o have out → OneLacks m out

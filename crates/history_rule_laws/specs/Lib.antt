@@ -2,6 +2,5 @@
 pub mod Disks
 pub mod Sent
 pub mod Ruled
-pub mod Found
 pub mod Stored
 pub mod Lost

@@ -1,18 +1,13 @@
 -- What is stored stays stored in a group that keeps the rule. While a view is open the disks tell two histories: with the view, where it
 -- counts and the copies beside the old logs are the logs; and as before, where it is forgotten. Nothing else is to be decided.
-use Rattle.std.specs.Prelude.{ℕ, ◌<◌, Bool, true, cond, ◌&&◌, List, [], ◌∷◌, ◌++◌, ◌≡◌, refl, eqb, length}
+use Rattle.std.specs.Prelude.{ℕ, Bool, cond, ◌&&◌, [], ◌∷◌, ◌++◌, ◌≡◌, refl, eqb, length}
 use Rattle.std.proofs.Common.{inl, sym, ap, ◌∙◌, arith, eq-eqb, ne_eqb}
 use Rattle.base_laws.specs.Bools.{and_both}
 use Rattle.base_laws.specs.Definitions.{has}
-use Rattle.base_ids.specs.declared.Position.{Position}
-use Rattle.base_ids.specs.Definitions.{not_after}
-use Rattle.report_views.specs.declared.Layout.{Layout}
-use Rattle.report_views.specs.Definitions.{holds_at, mask_at, target, holder}
-use Rattle.history_laws.specs.Definitions.{History, view_at}
-use Rattle.history_course_laws.specs.Course.{last_of, Orderly, Settled, GivenUp, as_ordered}
-use Rattle.history_course_laws.specs.Ever.{Restart, never_lost, logged_lasts}
-use Rattle.history_rule_laws.specs.Disks.{Attempt, plan_view, Counted, Disks}
-use Rattle.history_rule_laws.specs.Ruled.{ruled}
+use Rattle.report_views.specs.Definitions.{mask_at}
+use Rattle.history_laws.specs.Definitions.{History}
+use Rattle.history_course_laws.specs.Course.{GivenUp, as_ordered}
+use Rattle.history_rule_laws.specs.Disks.{Attempt, plan_view, Counted}
 
 -- the history with an attempt's view: a machine that has it has logged it, and its copies are the logs of the shards that it carries there
 abbrev pub with_view : {S : ℕ} → Attempt S → History
@@ -48,15 +43,3 @@ with-view a =
 pub decided_against : {S : ℕ} (a : Attempt S)
     → GivenUp a.plan.σ a.plan.v a.plan.t a.plan.held a.plan.d (plan_view a) a.since a.since
 decided_against a = record { views = refl; logged = λ n i. refl; updated = λ s l n k. inl (λ q. refl) }
-
-module _ {S : ℕ} {H G : History} {lists : ℕ → List Layout} {l : List (Attempt S)} (o : Orderly H) (disks : Disks S H G lists l) (r : Restart S G)
-    (s : ℕ) (below : s < S) (p : Position) where
-  -- what was settled is in the holder's log of every later plan, and not past its target
-  pub stays_stored : Settled H s p
-      → (not_after p (target r.v r.t r.held r.d s) ≡ true) × (holds_at r.d s p (holder r.v r.t r.held r.d s) ≡ true)
-  stays_stored u = never_lost o s below p u (ruled o disks).course r
-
-  -- and so is what all members of a shard in the last view had logged
-  pub logged_stays : ((n : ℕ) → n < 32 → has (mask_at (view_at H (last_of H)) s) n ≡ true → H.updated n s p ≡ true)
-      → (not_after p (target r.v r.t r.held r.d s) ≡ true) × (holds_at r.d s p (holder r.v r.t r.held r.d s) ≡ true)
-  logged_stays all = logged_lasts o s below p all (ruled o disks).course r

@@ -7,5 +7,4 @@ pub mod Recipe
 pub mod ShortEver
 pub mod UpdateLists
 pub mod Shortening
-pub mod Changeover
 pub mod Few

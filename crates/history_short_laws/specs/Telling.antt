@@ -13,7 +13,7 @@ use Rattle.report_views.specs.Definitions.{report_of, holds_at, mask_at, slots_o
 use Rattle.report_views.specs.Shorthands.{view_of}
 use Rattle.report_views.specs.Meets.{QuorumMet, SlotSound, slot_given, report_records, candidate_given, holder_given, able_candidate}
 use Rattle.report_views.specs.RunLaws as runs
-use Rattle.report_log_laws.specs.CutLaws.{kept_or_fetched}
+use Rattle.report_log_laws.proofs.CutLawsAfter.{kept_or_fetched}
 use Rattle.history_laws.specs.Definitions.{History, True, Supposed, view_at, number_at}
 use Rattle.history_course_laws.specs.Course.{last_of, Orderly, as_ordered}
 use Rattle.history_course_laws.specs.Lasting.{kept_last}

@@ -2,7 +2,8 @@
 use Rattle.std.specs.Prelude.{ℕ, Bool, true, false, cond, List, [], ◌∷◌, ◌⊎◌, ◌≡◌, refl}
 use Rattle.std.proofs.Common.{inl, inr, ⊎_elim, sym, ap, ap₂, ◌∙◌, subst}
 use Rattle.base_laws.specs.Bools.{either, clash, same, no_true, or_left, or_right, or-holds}
-use Rattle.base_laws.specs.Positions.{not_after_refl, not_after_total}
+use Rattle.base_laws.specs.Positions.{not_after_refl}
+use Rattle.base_laws.proofs.Positions.{not_after_total}
 use Rattle.base_ids.specs.declared.Position.{Position}
 use Rattle.base_ids.specs.Definitions.{not_after}
 use Rattle.base_ids.specs.Order.{order_trans}

@@ -3,7 +3,8 @@ use Rattle.std.specs.Prelude.{◌≡◌, refl, Bool, true, false, List, ℕ, suc
 use Rattle.std.proofs.Math.Path.{sym}
 use Rattle.std.proofs.Common.{ap, ◌∙◌, add-one, arith, eq-eqb, ne_eqb}
 use Rattle.base_laws.specs.Definitions.{all_below}
-use Rattle.base_laws.specs.Loops.{first_bad, bad_fails, bad-holds}
+use Rattle.base_laws.specs.Loops.{first_bad}
+use Rattle.base_laws.proofs.Loops.{bad_fails, bad-holds}
 use Rattle.base_ids.specs.Definitions.{none, refused, refused_at, unless, unless_at, first_of}
 use Rattle.base_ids.specs.Refusals.{accepted_none, unless_true, unless_false, unless_at_true, unless_at_false, first_none, first_refused, rows_refused}
 use Rattle.base_ids.specs.declared.Refusal.{Refusal}

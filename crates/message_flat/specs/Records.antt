@@ -14,7 +14,8 @@ use Rattle.message_format.specs.declared.Contents.{Contents}
 use Rattle.message_format.specs.declared.Form.TheVariants.{Report}
 use Rattle.message_format.specs.Definitions.{tag, word2, kind, record_shard, shards_of, kind_ok, plain, kind_at, shard_at, sequence_at, complete}
 use Rattle.message_format.specs.Rising.{rising, precedes_cases}
-use Rattle.message_format.specs.Laws.{members_record, members_enough, members_only, position-record, position_below, some_position}
+use Rattle.message_format.specs.Laws.{members_record, members_enough, some_position}
+use Rattle.message_format.proofs.Laws.{members_only, position-record, position_below}
 use Rattle.message_format.specs.Passed.{RecordsPass, ContentsPass}
 use Rattle.message_flat.specs.Definitions.{has_places, places_in, runs_first}
 

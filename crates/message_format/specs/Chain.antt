@@ -1,6 +1,6 @@
 -- How long a chain can be.
 use Rattle.std.specs.Prelude.{ℕ, ◌≤◌, List}
-use Rattle.base_laws.specs.Below.{lowest_le}
+use Rattle.base_laws.proofs.Below.{lowest_le}
 use Rattle.message_format.specs.Definitions.{ends, place, following}
 
 -- a law: at most 127 records follow the head

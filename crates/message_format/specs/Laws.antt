@@ -5,7 +5,7 @@ use Rattle.std.specs.Prelude.{Bool, true, false, cond, ◌&&◌, ◌||◌, List,
 use Rattle.std.proofs.Common.{inl, inr, sym, ap, ◌∙◌, subst, not-suc-le-zero}
 use Rattle.std.proofs.Math.Logic.{⊎_elim}
 use native.Mathlib.Omega.{arith}
-use borrow.Author.Tests.{ltb-true, leb-true, eqb-true, eq-eqb}
+use borrow.Author.Tests.{leb-true, eqb-true, eq-eqb}
 use Rattle.base_laws.specs.Bools.{and_left, and_right, or_left, or_right, or-holds, clash, lt_or_le, eq_or_ne}
 use Rattle.base_laws.specs.Definitions.{all_below, has, with, subset}
 use Rattle.base_laws.specs.Below.{all_at}
@@ -138,25 +138,21 @@ module _ (form : Form) (σ : List ℕ) (node : ℕ) (b : List ℕ) (len : ℕ)
     (rises : all_below len (sequence_at node b) ≡ true) (whole : complete form σ node b len ≡ true)
   where
     -- up to kind 2 tags rise strictly
-    tags_strict : (i j : ℕ) → i < j → j < len → tag b j < 768 → tag b i < tag b j
+    pub tags_strict : (i j : ℕ) → i < j → j < len → tag b j < 768 → tag b i < tag b j
     tags_strict i j l m t =
         ⊎_elim (λ p. p) (λ p. absurd (omega (arith, p.1))) (precedes_cases b i j (rising node b len rises i j l m))
 
-    kind_one : (j : ℕ) → j < len → 256 ≤ tag b j
+    pub kind_one : (j : ℕ) → j < len → 256 ≤ tag b j
     unfolding kind_at
     kind_one j l =
         let k = kind_from form (kind b j) (and_left (kind_ok form (kind b j)) (plain (kind b j) (word2 b j)) (all_at len (kind_at form b) kinds j l)) in
         omega arith
 
-    of-kind : (k : ℕ) → k < 3 → subset (every_shard σ) (shards_of k b len) ≡ true → (s : ℕ) → s < shards σ
+    pub of-kind : (k : ℕ) → k < 3 → subset (every_shard σ) (shards_of k b len) ≡ true → (s : ℕ) → s < shards σ
         → (j : ℕ) × (j < len) × (tag b j ≡ 256 * k + s) × (tag b j < 768)
     of-kind k small h s l =
         let w = every_has σ b k len h s l in
         (w.0, w.1, omega (arith, w.2, w.3), omega (arith, w.2))
-
-    -- a shard is a remainder by 256
-    shard_small : (s : ℕ) → s < shards σ → s < 256
-    shard_small s l = let w = every_has σ b 1 len (complete_members form σ node b len whole) s l in omega (arith, w.3)
 
     members_block : (s : ℕ) → s < shards σ → (0 + s < len) × (tag b (0 + s) ≡ 256 + s)
     members_block =
@@ -177,46 +173,6 @@ module _ (form : Form) (σ : List ℕ) (node : ℕ) (b : List ℕ) (len : ℕ)
         enough : (n : ℕ) → shards σ ≡ n → n ≤ len
         enough zero e = omega arith
         enough (suc n) e = members-below n (omega arith)
-
-    -- and no other is of kind 1
-    pub members_only : (j : ℕ) → j < len → kind b j ≡ 1 → record_shard b j ≡ j
-    unfolding shard_at
-    members_only j l k =
-        let s : record_shard b j < shards σ = ltb-true (record_shard b j) (shards σ) (all_at len (shard_at σ b) within j l) in
-        let e : tag b (record_shard b j) ≡ tag b j = members_record (record_shard b j) s ∙ omega arith in
-        ⊎_elim (λ m. absurd (let r = tags_strict (record_shard b j) j m l (omega arith) in omega arith))
-        (λ m.
-        ⊎_elim (λ q. q) (λ q. absurd (let r = tags_strict j (record_shard b j) (omega arith) (members-below (record_shard b j) s) (omega arith) in omega arith))
-        (eq_or_ne (record_shard b j) j))
-        (lt_or_le (record_shard b j) j)
-
-    positions_block : (shards_of 2 b len ≡ 0 → ⊥) → (s : ℕ) → s < shards σ
-        → (shards σ + s < len) × (tag b (shards σ + s) ≡ 512 + s)
-    unfolding shard_at
-    positions_block z =
-        block b len tags_strict (shards σ) 512 (shards σ) after before
-        (of-kind 2 (omega arith) (complete_positions form σ node b len whole z))
-      where
-        after : (i : ℕ) → shards σ ≤ i → i < len → 512 ≤ tag b i
-        after i l m =
-            ⊎_elim
-            (λ q.
-            let k : kind b i ≡ 1 = omega (arith, kind_one i m) in
-            let s = ltb-true (record_shard b i) (shards σ) (all_at len (shard_at σ b) within i m) in
-            absurd (omega (arith, members_only i m k)))
-            (λ q. q)
-            (lt_or_le (tag b i) 512)
-
-        before : (j : ℕ) → j < len → 512 ≤ tag b j → shards σ ≤ j
-        before j m t =
-            ⊎_elim (λ q. absurd (omega (arith, members_record j q, shard_small j q))) (λ q. q) (lt_or_le j (shards σ))
-
-    -- with a termination record S + s is that of kind 2 and shard s
-    pub position-record : (shards_of 2 b len ≡ 0 → ⊥) → (s : ℕ) → s < shards σ → tag b (shards σ + s) ≡ 512 + s
-    position-record z s l = (positions_block z s l).1
-
-    pub position_below : (shards_of 2 b len ≡ 0 → ⊥) → (s : ℕ) → s < shards σ → shards σ + s < len
-    position_below z s l = (positions_block z s l).0
 
     -- there is a termination where some record is of kind 2
     pub some_position : (j : ℕ) → j < len → kind b j ≡ 2 → shards_of 2 b len ≡ 0 → ⊥

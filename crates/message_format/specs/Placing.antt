@@ -7,7 +7,8 @@ use Rattle.std.proofs.Common.{ap, ⊎_elim, ne_eqb}
 use native.Mathlib.Omega.{arith}
 use Rattle.base_laws.specs.Bools.{clash, lt_or_le}
 use Rattle.base_laws.specs.Definitions.{all_below}
-use Rattle.base_laws.specs.Loops.{first_bad, bad-holds}
+use Rattle.base_laws.specs.Loops.{first_bad}
+use Rattle.base_laws.proofs.Loops.{bad-holds}
 use Rattle.base_ids.specs.Definitions.{none, refused, refused_at, accepted, number_in, index_in, unless, unless_at}
 use Rattle.base_ids.specs.Refusals.{number_at, index_at}
 use Rattle.base_ids.specs.declared.Refusal.{Refusal}

@@ -10,7 +10,8 @@ use Rattle.std.proofs.Math.ListN.{get_or}
 use Rattle.base_laws.specs.Bools.{either, and_both, or_left, or_right}
 use Rattle.base_laws.specs.Below.{all_at, all_of, lowest_cong}
 use Rattle.base_laws.specs.Definitions.{padded}
-use Rattle.base_laws.specs.Tables.{tabulate_cong, length_padded, get_or_padded_all}
+use Rattle.base_laws.specs.Tables.{tabulate_cong, length_padded}
+use Rattle.base_laws.proofs.Tables.{get_or_padded_all}
 use Rattle.base_ids.specs.Definitions.{none}
 use Rattle.message_format.specs.declared.Form.{Form}
 use Rattle.message_format.specs.Definitions.{next, place, following, row5, row8, body_word, body_of, contents_of, message_refusal}

@@ -6,8 +6,9 @@ use Rattle.std.proofs.Math.Bool.{true}
 use Prim.Native.Nat.{ℕ, zero, suc, ◌+◌, ◌*◌, ◌%◌, ◌≤◌, ◌<◌, zero-le, suc-le-suc}
 use Rattle.base_laws.specs.Bools.{clash, no_false, and_both, and_left, and_right, and_fails_left, and_fails_right, or_left, or_right, or_neither, lt_or_le}
 use Rattle.base_laws.specs.Definitions.{all_below, any_below, lowest}
-use Rattle.base_laws.specs.Below.{all_none, all_more, all_at, all_fails, any_none, any_more, any_fails, lowest_at, lowest_none, lowest_first, lowest-holds, lowest_some}
-use Rattle.base_laws.specs.Loops.{bad_at}
+use Rattle.base_laws.specs.Below.{all_none, all_at, any_none, any_more, any_fails, lowest_none, lowest_first, lowest-holds}
+use Rattle.base_laws.proofs.Below.{all_more, all_fails, lowest_at, lowest_some}
+use Rattle.base_laws.proofs.Loops.{bad_at}
 use Rattle.base_ids.specs.declared.Refusal.{Refusal}
 use Rattle.base_ids.specs.Definitions.{none, refused_at, unless_at}
 use Rattle.base_ids.specs.Refusals.{unless_at_true, unless_at_false}

@@ -6,9 +6,11 @@
 ghost use Rattle.std.specs.Prelude.{◌≡◌, length, take};
 ghost use Rattle.mondays.specs.Definitions.{takes_more, PrintedBlock, TakesTurn, ShowsAll};
 
-use libc::STDOUT_FILENO;
 use mondays_moves::Tally;
-use program_input::Input;
+use program_arguments::Output;
+use program_input::{Input, Stream};
+use std::env::Env;
+use std::io::{Read, Write};
 
 // What came of printing a block: the tally after it, the length of its text, and whether all of it was written.
 #[derive(Clone, Copy)]
@@ -43,14 +45,20 @@ fn is_going_on(tallied: Tallied) -> bool
 }
 
 // Takes the first len bytes of a block and prints what they add.
-fn print_block(tally: Tally, block: &[u8; 32768], len: usize, out: &mut [u8; 98304]) -> ShownText
+fn print_block<W: Write>(
+    output: &mut Output<W>,
+    tally: Tally,
+    block: &[u8; 32768],
+    len: usize,
+    out: &mut [u8; 98304],
+) -> ShownText
     requires { length block.now ≡ 32768 }
     ensures { PrintedBlock tally (take len block.now) result.tally out.new result.len }
 {
     let taken = tally.take(block, len, out);
     let n = taken.len;
     let whole = &out[..];
-    let written = io::write_all(STDOUT_FILENO, &whole[0..n]);
+    let written = output.write_all(&whole[0..n]);
     let after = taken.tally;
     ShownText {
         tally: after,
@@ -60,11 +68,17 @@ fn print_block(tally: Tally, block: &[u8; 32768], len: usize, out: &mut [u8; 983
 }
 
 // Reads one block more and prints what it adds; nothing where reading was cut.
-fn turn(tallied: Tallied, block: &mut [u8; 32768], out: &mut [u8; 98304]) -> Tallied
+fn turn<R: Read, W: Write>(
+    stream: &mut Stream<R>,
+    output: &mut Output<W>,
+    tallied: Tallied,
+    block: &mut [u8; 32768],
+    out: &mut [u8; 98304],
+) -> Tallied
     ensures { TakesTurn tallied block.new out.new result }
 {
     let input = tallied.input;
-    let filled = input.fill(block);
+    let filled = input.fill(stream, block);
     let next = filled.input;
     let tally = tallied.tally;
     if next.is_cut() {
@@ -74,7 +88,7 @@ fn turn(tallied: Tallied, block: &mut [u8; 32768], out: &mut [u8; 98304]) -> Tal
             written: true,
         };
     }
-    let shown = print_block(tally, block, filled.len, out);
+    let shown = print_block(output, tally, block, filled.len, out);
     let after = shown.tally;
     Tallied {
         tally: after,
@@ -84,7 +98,12 @@ fn turn(tallied: Tallied, block: &mut [u8; 32768], out: &mut [u8; 98304]) -> Tal
 }
 
 // Prints block after block: to the end of the input, to a bad line, or until a read or a write fails.
-fn print_all(block: &mut [u8; 32768], out: &mut [u8; 98304]) -> Tallied
+fn print_all<R: Read, W: Write>(
+    stream: &mut Stream<R>,
+    output: &mut Output<W>,
+    block: &mut [u8; 32768],
+    out: &mut [u8; 98304],
+) -> Tallied
     ensures { ShowsAll result }
 {
     let mut tallied = Tallied {
@@ -93,13 +112,13 @@ fn print_all(block: &mut [u8; 32768], out: &mut [u8; 98304]) -> Tallied
         written: true,
     };
     while is_going_on(tallied) {
-        tallied = turn(tallied, block, out);
+        tallied = turn(stream, output, tallied, block, out);
     }
     tallied
 }
 
 // Answers an argument.
-fn tell() {
+fn tell<E: Env, O: Write, T: Write>(env: &E, output: &mut Output<O>, told: &mut Output<T>) {
     let help = b"\
         Usage: mondays < MOVES\n\
         \n\
@@ -111,24 +130,27 @@ fn tell() {
         --version  print the version\n\
         \n\
         See mondays(1).\n";
-    program_arguments::tell(b"mondays", help);
+    program_arguments::tell(env, output, told, b"mondays", help);
 }
 
-fn main() {
-    if os::arg_count() > 1 {
-        tell();
+fn main(rt: HostRuntime) {
+    let mut output = Output::new(rt.stdout());
+    let mut told = Output::new(rt.stderr());
+    if program_arguments::is_given(&rt) {
+        tell(&rt, &mut output, &mut told);
         return;
     }
+    let mut stream = Stream::new(rt.stdin());
     let mut block = [0u8; 32768];
     let mut out = [0u8; 98304];
-    let tallied = print_all(&mut block, &mut out);
+    let tallied = print_all(&mut stream, &mut output, &mut block, &mut out);
     let input = tallied.input;
     if input.is_cut() {
-        os::fail(b"mondays: standard input");
+        program_arguments::fail(&mut told, b"mondays: standard input", stream.error());
         return;
     }
     let written = tallied.written;
     if !written {
-        os::fail(b"mondays: standard output");
+        program_arguments::fail(&mut told, b"mondays: standard output", output.error());
     }
 }

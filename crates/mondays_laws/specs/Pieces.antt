@@ -14,7 +14,8 @@ use Rattle.std.proofs.Math.Seq.{get_or-append-add}
 use borrow.Author.Tests.{eqb-true, eq-eqb}
 use Rattle.base_laws.specs.Bools.{either, clash, and_left, and_right, cond_of}
 use Rattle.base_laws.specs.Definitions.{tabulate, padded}
-use Rattle.base_laws.specs.Tables.{tabulate_add, tabulate_cong, front_padded}
+use Rattle.base_laws.specs.Tables.{tabulate_add, tabulate_cong}
+use Rattle.base_laws.proofs.Tables.{front_padded}
 use Rattle.base_ids.specs.declared.Refusal.{Refusal}
 use Rattle.base_ids.specs.Definitions.{none, accepted, unless, first_of}
 use Rattle.base_ids.specs.Refusals.{accepted_none, unless_true, first_none, first_refused, first_left}

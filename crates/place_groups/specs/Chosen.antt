@@ -7,7 +7,8 @@ use Rattle.base_laws.specs.Definitions.{has, count, minus}
 use Rattle.base_laws.specs.Masks.{ext, count_and_minus}
 use Rattle.base_sum_laws.specs.Definitions.{sum_below, list_from, list_before}
 use Rattle.base_sum_laws.specs.Sums.{sum_add, sum_cong}
-use Rattle.base_sum_laws.specs.Lists.{before_self, before_both, list_cong, list_tells}
+use Rattle.base_sum_laws.specs.Lists.{before_self, list_cong}
+use Rattle.base_sum_laws.proofs.Lists.{list_tells}
 use Rattle.settings_values.specs.Definitions.{shards, subgroup}
 use Rattle.place_groups.specs.Definitions.{group_moves_at, group_moves, group_stays_at, group_stays, LowestUnplaced, plan_moves, nodes_in, SameNodes, Sooner, NotLater, AllValid}
 
@@ -76,25 +77,6 @@ module _ {of : ℕ → Bool} {a b : ℕ → ℕ} where
   pub sooner_parts : (f : Sooner of a b) → nodes_in (a f.shard) ≡ nodes_in (b f.shard) → ⊥
   sooner_parts f e =
       before_self (nodes_in (b f.shard)) (subst (λ (l : List ℕ). list_before l (nodes_in (b f.shard)) ≡ true) e f.smaller)
-
-module _ {of : ℕ → Bool} {a b : ℕ → ℕ} where
-  -- not both come before the other
-  sooner_both : Sooner of a b → Sooner of b a → ⊥
-  sooner_both f h =
-      ⊎_elim (λ l. sooner_parts f (sym (h.alike f.shard l f.picked)))
-      (λ l.
-      ⊎_elim (λ k. sooner_parts h (sym (f.alike h.shard k h.picked)))
-      (λ k.
-      let e : h.shard ≡ f.shard = omega arith in
-      before_both (nodes_in (a f.shard)) (nodes_in (b f.shard)) f.smaller
-      (subst (λ (s : ℕ). list_before (nodes_in (b s)) (nodes_in (a s)) ≡ true) e h.smaller))
-      (lt_or_le h.shard f.shard))
-      (lt_or_le f.shard h.shard)
-
-  pub not_later_both : NotLater of a b → NotLater of b a → SameNodes of a b
-  not_later_both (inl e) y = e
-  not_later_both (inr f) (inl e) = same_back e
-  not_later_both (inr f) (inr h) = absurd (sooner_both f h)
 
 -- masks that are equal at these shards stand in the same place
 pub not_later_alike : {of : ℕ → Bool} {a b c d : ℕ → ℕ} → ((s : ℕ) → of s ≡ true → a s ≡ c s) → ((s : ℕ) → of s ≡ true → b s ≡ d s)

@@ -1,14 +1,13 @@
 -- The case of subgroup g, from the settings σ, the mask of held nodes and the members that each shard had in the kept view (old).
-use Rattle.std.specs.Prelude.{◌≡◌, Bool, ◌&&◌, List, ℕ, ◌+◌, ◌*◌, ◌-◌, ◌^◌, ◌≤◌, ◌<◌, eqb, ltb}
+use Rattle.std.specs.Prelude.{◌≡◌, Bool, ◌&&◌, List, ℕ, ◌+◌, ◌-◌, ◌^◌, ◌≤◌, ◌<◌, eqb, ltb}
 use Rattle.std.proofs.Math.Path.{refl, ap}
 use Rattle.std.proofs.Common.{sym, ◌∙◌, ⊎_elim, ltb-true, lt-ltb, le-ltb, eqb-true, eq-eqb}
 use Rattle.std.proofs.Math.Bool.{true, false, cond}
 use native.Mathlib.Omega.{arith}
-use Rattle.base_laws.specs.Bools.{either, and_both, and_left, and_right, and_fails_left, and_fails_right, no_true, lt_or_le}
+use Rattle.base_laws.specs.Bools.{and_both, and_left, and_right, and_fails_left, and_fails_right, no_true, lt_or_le}
 use Rattle.base_laws.specs.Definitions.{has}
 use Rattle.base_laws.specs.Masks.{has_below}
 use Rattle.base_sum_laws.specs.Definitions.{sum_below}
-use Rattle.base_sum_laws.specs.Sums.{sum_bound}
 use Rattle.settings_values.specs.Definitions.{nodes, shards, set_of, subgroup, need, cap, Settings}
 use Rattle.place_groups.specs.Definitions.{of_group}
 use Rattle.search_laws.specs.Case.{Case}
@@ -93,23 +92,6 @@ pub cap_none : (σ : List ℕ) (g s : ℕ) → of_group σ g s ≡ false → cap
 unfolding cap_in
 cap_none σ g s h = ap (λ (b : Bool). cond b (cap σ s) 0) h
 
--- a need is no more than the cap
-pub need_cap : (σ : List ℕ) (g s : ℕ) → Settings σ → need_in σ g s ≤ cap_in σ g s
-need_cap σ g s right =
-    ⊎_elim (λ o. omega (arith, need-of σ g s o, cap_of σ g s o, right.cap_from s (group_shard σ g s o))) (λ o. omega (arith, need_none σ g s o))
-    (either (of_group σ g s))
-
--- a shard may have at most 15 nodes more than it needs, so a move costs at most 241
-pub spare_most : (σ : List ℕ) (g s : ℕ) → Settings σ → cap_in σ g s - need_in σ g s ≤ 15
-spare_most σ g s right =
-    ⊎_elim
-    (λ o. omega (arith, need-of σ g s o, cap_of σ g s o, right.need_from s (group_shard σ g s o), right.cap_to s (group_shard σ g s o)))
-    (λ o. omega (arith, cap_none σ g s o)) (either (of_group σ g s))
-
-pub move_most : (σ : List ℕ) (g : ℕ) → Settings σ → move_cost σ g ≤ 241
-unfolding move_cost
-move_most σ g right = omega (arith, sum_bound 16 15 (λ s. cap_in σ g s - need_in σ g s) (λ s l. spare_most σ g s right))
-
 pub move_least : (σ : List ℕ) (g : ℕ) → 1 ≤ move_cost σ g
 unfolding move_cost
 move_least σ g = omega arith
@@ -143,15 +125,6 @@ module _ (σ : List ℕ) (held : ℕ) (old : ℕ → ℕ) (g s n : ℕ) where
   unfolding cost_in
   cost_held h = ap (λ (b : Bool). cond b (cond (has (old s) n) 0 (move_cost σ g)) 255) h
 
-  -- a cost is the price times that of a move
-  pub cost_price : (of_group σ g s && has held n) ≡ true → cost_in σ held old g s n ≡ price_in old s n * move_cost σ g
-  unfolding price_in
-  cost_price h = cost_held h ∙ times (has (old s) n)
-    where
-      times : (b : Bool) → cond b 0 (move_cost σ g) ≡ cond b 0 1 * move_cost σ g
-      times true = omega arith
-      times false = omega arith
-
   pub cost_out : of_group σ g s ≡ false → cost_in σ held old g s n ≡ 255
   unfolding cost_in
   cost_out h = ap (λ (b : Bool). cond (b && has held n) (cond (has (old s) n) 0 (move_cost σ g)) 255) h
@@ -168,14 +141,3 @@ module _ (σ : List ℕ) (held : ℕ) (old : ℕ → ℕ) (g s n : ℕ) where
       low : (b : Bool) → cond b (cond (has (old s) n) 0 (move_cost σ g)) 255 < 255 → b ≡ true
       low true i = refl
       low false i = absurd (omega arith)
-
-  pub cost_low : Settings σ → (of_group σ g s && has held n) ≡ true → cost_in σ held old g s n < 255
-  cost_low right h = omega (arith, cost_held h, low (has (old s) n))
-    where
-      low : (b : Bool) → cond b 0 (move_cost σ g) < 255
-      low true = omega arith
-      low false = omega (arith, move_most σ g right)
-
-  -- the three tests, one after the other
-  pub cost_told : {b : Bool} → of_group σ g s ≡ true → has held n ≡ true → has (old s) n ≡ b → cost_in σ held old g s n ≡ cond b 0 (move_cost σ g)
-  cost_told o h e = cost_held (and_both o h) ∙ ap (λ (b : Bool). cond b 0 (move_cost σ g)) e

@@ -8,7 +8,8 @@ use Rattle.base_laws.specs.Tables.{get_d_tabulate, get_or_tabulate_past}
 use Rattle.base_laws.specs.Definitions.{any_below}
 use Rattle.base_laws.specs.Below.{any_fails}
 use Rattle.base_sum_laws.specs.Definitions.{sum_below}
-use Rattle.base_sum_laws.specs.Sums.{sum_zero, sum_next}
+use Rattle.base_sum_laws.specs.Sums.{sum_zero}
+use Rattle.base_sum_laws.proofs.Sums.{sum_next}
 use Rattle.settings_values.specs.Definitions.{nodes, Settings}
 use Rattle.place_groups.specs.Definitions.{group_moves, Impossible, Chosen, of_group}
 use Rattle.search_laws.specs.Case.{Case}
@@ -18,12 +19,15 @@ use Rattle.search_total.specs.declared.Solution.{Solution}
 use Rattle.search_total.specs.Post.{LeastAnswer}
 use Rattle.place_groups.specs.Sheet.{sheet_of}
 use Rattle.place_laws.specs.Cases.{group_past}
-use Rattle.place_laws.specs.Floor.{sheet_for}
-use Rattle.place_laws.specs.Tables.{sets_table, needs_table, caps_table, costs_table, group_case, case_for, case_priced, case_spare}
-use Rattle.place_laws.specs.Owners.{moves_small, impossible}
-use Rattle.place_laws.specs.Choice.{chosen_local, none_moves, chosen_none, first_chosen}
+use Rattle.place_laws.proofs.Floor.{sheet_for}
+use Rattle.place_laws.specs.Tables.{sets_table, needs_table, caps_table, costs_table, group_case, case_spare}
+use Rattle.place_laws.proofs.Tables.{case_for, case_priced}
+use Rattle.place_laws.proofs.Owners.{moves_small, impossible}
+use Rattle.place_laws.specs.Choice.{chosen_local, none_moves, chosen_none}
+use Rattle.place_laws.proofs.Choice.{first_chosen}
 use Rattle.place_laws.specs.Definitions.{masks_of}
-use Rattle.place_laws.specs.Adding.{owned_by, mask_with, masks_with, with_masked, with_alike, with_rest, with_total, with-length}
+use Rattle.place_laws.specs.Adding.{owned_by, mask_with, masks_with, with-length}
+use Rattle.place_laws.proofs.Adding.{with_masked, with_alike, with_rest, with_total}
 use Rattle.place_layout.specs.declared.Placed.{Placed}
 use Rattle.place_layout.specs.declared.Offer.{Offer}
 use Rattle.place_layout.specs.Definitions.{PlacedAlone}

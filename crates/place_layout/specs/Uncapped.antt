@@ -9,7 +9,8 @@ use Rattle.place_groups.specs.Definitions.{group_moves}
 use Rattle.place_groups.specs.Chosen.{lowest_one}
 use Rattle.place_laws.specs.Definitions.{masks_of}
 use Rattle.place_laws.specs.Exactly.{CapsAtNeeds}
-use Rattle.place_laws.specs.Uncapped.{uncapped, uncapped_shards, uncapped_moves, impossible_low, impossible_wide, lowest_low, lowest_wide, least_alike, chosen_wide}
+use Rattle.place_laws.specs.Uncapped.{uncapped}
+use Rattle.place_laws.proofs.Uncapped.{uncapped_shards, uncapped_moves, impossible_low, impossible_wide, lowest_low, lowest_wide, least_alike, chosen_wide}
 use Rattle.place_layout.specs.declared.Placed.{Placed}
 use Rattle.place_layout.specs.Post.{Laid, Unplaced, Placement}
 use Rattle.place_layout.specs.Unique.{placement_unique}

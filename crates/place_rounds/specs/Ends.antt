@@ -7,7 +7,7 @@ use Rattle.base_laws.specs.Bools.{lt_or_le}
 use Rattle.base_laws.specs.Definitions.{any_below, has}
 use Rattle.settings_values.specs.Definitions.{nodes, Settings}
 use Rattle.place_groups.specs.Definitions.{group_valid, group_moves, Impossible, LowestUnplaced, of_group}
-use Rattle.place_groups.specs.Chosen.{not_later_both}
+use Rattle.place_groups.proofs.Chosen.{not_later_both}
 use Rattle.search_laws.specs.Case.{Case, Valid, WeighsWithin, LeastWeight, weight}
 use Rattle.search_laws.specs.Tables.{owners_of}
 use Rattle.search_laws.specs.Order.{First, HasNone}
@@ -17,14 +17,18 @@ use Rattle.search_total.specs.Post.{LeastAnswer}
 use Rattle.search_rounds.specs.Post.{Fewer}
 use Rattle.search_rounds.specs.Exists.{AllRounds, first_or_none, first_own, rounds_to_the_end}
 use Rattle.place_groups.specs.Sheet.{sheet_of}
-use Rattle.place_laws.specs.Cases.{move_cost, price_in, cost_in, CaseFor, move_most}
+use Rattle.place_laws.specs.Cases.{move_cost, price_in, cost_in, CaseFor}
+use Rattle.place_laws.proofs.Cases.{move_most}
 use Rattle.place_laws.specs.Tables.{cost_at}
 use Rattle.place_laws.specs.Local.{AlikeInGroup}
-use Rattle.place_laws.specs.Owners.{owner, masks_valid, moves_small, from_masks, impossible}
-use Rattle.place_laws.specs.Choice.{same_masks, first_by_masks}
+use Rattle.place_laws.specs.Owners.{owner}
+use Rattle.place_laws.proofs.Owners.{masks_valid, moves_small, from_masks, impossible}
+use Rattle.place_laws.specs.Choice.{same_masks}
+use Rattle.place_laws.proofs.Choice.{first_by_masks}
 use Rattle.place_laws.specs.Definitions.{masks_of}
 use Rattle.place_laws.specs.Adding.{masks_with}
-use Rattle.place_laws.specs.Floor.{group_floor, sheet_for}
+use Rattle.place_laws.specs.Floor.{group_floor}
+use Rattle.place_laws.proofs.Floor.{sheet_for}
 use Rattle.place_rounds.specs.Definitions.{FirstValid}
 use Rattle.place_rounds.specs.Owners.{CountsMoves, owned_masks, owned_masked, weight_moves, weight_from, none_lighter}
 use Rattle.place_rounds.specs.Tables.{round_case, round_cost, round-case, counts_moves}

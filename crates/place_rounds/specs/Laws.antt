@@ -5,17 +5,19 @@ use Rattle.std.proofs.Math.Bool.{cond}
 use Rattle.std.proofs.Math.Path.{sym, ap}
 use Rattle.base_laws.specs.Bools.{either, lt_or_le, eq_or_ne}
 use Rattle.base_sum_laws.specs.Definitions.{sum_below}
-use Rattle.base_sum_laws.specs.Sums.{sum_cong, sum_mono, sum_add, sum_single, sum_swap, sum_bound}
+use Rattle.base_sum_laws.specs.Sums.{sum_cong, sum_mono, sum_add, sum_single}
+use Rattle.base_sum_laws.proofs.Sums.{sum_swap, sum_bound}
 use Rattle.settings_values.specs.Definitions.{nodes, shards, subgroup, Settings}
 use Rattle.place_groups.specs.Definitions.{group_valid, group_moves, LeastMoves, of_group, plan_moves, AllValid}
-use Rattle.place_groups.specs.Chosen.{not_later_both}
+use Rattle.place_groups.proofs.Chosen.{not_later_both}
 use Rattle.place_laws.specs.Cases.{of-group, group_shard, group_other}
 use Rattle.place_laws.specs.Local.{AlikeInGroup, valid_local, moves_local}
-use Rattle.place_laws.specs.Tables.{case_for}
-use Rattle.place_laws.specs.Owners.{owner_masked, from_masks, moves_small}
+use Rattle.place_laws.proofs.Tables.{case_for}
+use Rattle.place_laws.proofs.Owners.{owner_masked, from_masks, moves_small}
 use Rattle.place_laws.specs.Choice.{same_masks}
 use Rattle.place_laws.specs.Definitions.{lacking}
-use Rattle.place_laws.specs.Floor.{group_floor, floor_least}
+use Rattle.place_laws.specs.Floor.{group_floor}
+use Rattle.place_laws.proofs.Floor.{floor_least}
 use Rattle.place_rounds.specs.Definitions.{FirstValid, FirstFewer, NoneFewer, Round, SamePlan, Rounds, over, done, more, plan_floor, gap_of, Bettered}
 
 -- the same nodes for every shard, within a subgroup

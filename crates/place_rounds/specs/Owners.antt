@@ -5,16 +5,19 @@ use Rattle.std.proofs.Common.{◌∙◌, ⊎_elim, arith, ltb-true}
 use Rattle.base_laws.specs.Bools.{lt_or_le}
 use Rattle.base_sum_laws.specs.Definitions.{mask_below}
 use Rattle.base_sum_laws.specs.Picked.{mask_lt, mask-at}
-use Rattle.base_sum_laws.specs.Sums.{sum_cong, sum_none}
+use Rattle.base_sum_laws.specs.Sums.{sum_cong}
+use Rattle.base_sum_laws.proofs.Sums.{sum_none}
 use Rattle.settings_values.specs.Definitions.{nodes, Settings}
 use Rattle.place_groups.specs.Definitions.{group_valid, group_moves}
 use Rattle.search_laws.specs.Case.{Case, Valid, WeighsWithin, has_owner, moves, weight}
 use Rattle.search_laws.specs.Order.{First, HasNone}
 use Rattle.search_rounds.specs.Post.{Fewer, Low}
 use Rattle.place_laws.specs.Cases.{price_in, CaseFor}
-use Rattle.place_laws.specs.Owners.{Masked, owner, masks_valid, moves_same, from_masks, from_moves}
-use Rattle.place_laws.specs.Choice.{first_by_masks}
-use Rattle.place_laws.specs.Floor.{group_floor, floor_least}
+use Rattle.place_laws.specs.Owners.{Masked, owner}
+use Rattle.place_laws.proofs.Owners.{masks_valid, moves_same, from_masks, from_moves}
+use Rattle.place_laws.proofs.Choice.{first_by_masks}
+use Rattle.place_laws.specs.Floor.{group_floor}
+use Rattle.place_laws.proofs.Floor.{floor_least}
 use Rattle.place_rounds.specs.Definitions.{FirstValid, FirstFewer, NoneFewer}
 
 -- a move costs 1, a stay 0, and a node placed nowhere nothing

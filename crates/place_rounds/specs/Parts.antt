@@ -146,7 +146,7 @@ module _ {σ : List ℕ} {held : ℕ} {old : ℕ → ℕ} where
   pub part_group : {g n k : ℕ} {a b y : ℕ → ℕ} {m : ℕ} {z : ℕ → ℕ} → g < 4 → (k ≡ 0) ⊎ ((h : ℕ) → h < g → NoneFewer σ held old b h)
       → RoundsSoFar σ held old (g + 1) n a k (mix σ g y b) → GroupRounds σ held old g k y m z → RoundsSoFar σ held old (g + 1) n a m (mix σ g z b)
   part_group l d p stays = p
-  part_group {g} {n} {k} {m} {a} {b} {y} {z} l d p (betters {b = x} s f) =
+  part_group {g} {n} {k} {a} {b} {y} {m} {z} l d p (betters {b = x} s f) =
       ⊎_elim (λ e. absurd (omega (arith, rounds_used s))) (λ none. part_round g x z l none f (part_group l d p s)) d
 
   -- the end is told by its masks of the subgroup's shards

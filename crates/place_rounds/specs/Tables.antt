@@ -12,9 +12,12 @@ use Rattle.search_laws.specs.Tables.{case_of}
 use Rattle.search_laws.specs.Floor.{floor_of, lack_at}
 use Rattle.place_groups.specs.Sheet.{sheet_of}
 use Rattle.place_groups.specs.Definitions.{of_group}
-use Rattle.place_laws.specs.Cases.{move_cost, price_in, cost_in, CaseFor, move_most, move_least}
-use Rattle.place_laws.specs.Tables.{sets_table, needs_table, caps_table, costs_table, cost_at, case_for}
-use Rattle.place_laws.specs.Floor.{group_floor, floor_is}
+use Rattle.place_laws.specs.Cases.{move_cost, price_in, cost_in, CaseFor, move_least}
+use Rattle.place_laws.proofs.Cases.{move_most}
+use Rattle.place_laws.specs.Tables.{sets_table, needs_table, caps_table, costs_table, cost_at}
+use Rattle.place_laws.proofs.Tables.{case_for}
+use Rattle.place_laws.specs.Floor.{group_floor}
+use Rattle.place_laws.proofs.Floor.{floor_is}
 use Rattle.place_rounds.specs.Owners.{CountsMoves}
 
 -- a cost of decide's table where a move costs w: a stay remains 0, and what is not allowed 255

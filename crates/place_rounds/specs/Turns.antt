@@ -9,7 +9,8 @@ use Rattle.base_laws.specs.Bools.{either, clash, lt_or_le, eq_or_ne}
 use Rattle.base_laws.specs.Definitions.{any_below}
 use Rattle.base_laws.specs.Below.{any_fails}
 use Rattle.base_laws.specs.Tables.{get_d_tabulate}
-use Rattle.base_sum_laws.specs.Sums.{sum_zero, sum_next, sum_none}
+use Rattle.base_sum_laws.specs.Sums.{sum_zero}
+use Rattle.base_sum_laws.proofs.Sums.{sum_next, sum_none}
 use Rattle.settings_values.specs.Definitions.{nodes, shards, subgroup, Settings}
 use Rattle.place_groups.specs.Definitions.{group_valid, group_moves, Impossible, LowestUnplaced, of_group}
 use Rattle.search_laws.specs.Case.{Case, Valid, meets, spread}
@@ -22,11 +23,13 @@ use Rattle.place_laws.specs.Cases.{price_in, CaseFor, group_shard, group_past, g
 use Rattle.place_laws.specs.Tables.{sets_table, needs_table, caps_table, costs_table}
 use Rattle.place_laws.specs.Local.{AlikeInGroup, valid_local, moves_local}
 use Rattle.place_laws.specs.Shards.{group_valid_of}
-use Rattle.place_laws.specs.Owners.{masks_valid, moves_small, impossible}
+use Rattle.place_laws.proofs.Owners.{masks_valid, moves_small, impossible}
 use Rattle.place_laws.specs.Choice.{none_moves}
 use Rattle.place_laws.specs.Definitions.{lacking, masks_of}
-use Rattle.place_laws.specs.Floor.{group_floor, floor_least}
-use Rattle.place_laws.specs.Adding.{owned_by, mask_with, masks_with, with_masked, with_alike, with_rest, with_total, with-length}
+use Rattle.place_laws.specs.Floor.{group_floor}
+use Rattle.place_laws.proofs.Floor.{floor_least}
+use Rattle.place_laws.specs.Adding.{owned_by, mask_with, masks_with, with-length}
+use Rattle.place_laws.proofs.Adding.{with_masked, with_alike, with_rest, with_total}
 use Rattle.place_rounds.specs.Definitions.{FirstValid, NoneFewer, SamePlan, gap_of}
 use Rattle.place_rounds.specs.Owners.{CountsMoves, owned_masks, owned_masked, free_weight, first_free, weight_moves, first_lighter, none_lighter, floor_weight}
 use Rattle.place_rounds.specs.Tables.{repriced_table, round_case, round-case, counts_moves, counts_nothing}

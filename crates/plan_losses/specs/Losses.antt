@@ -3,7 +3,8 @@ use Rattle.std.specs.Prelude.{ℕ, ◌+◌, ◌^◌, ◌<◌, ◌≤◌, Bool, t
 use Rattle.std.proofs.Common.{inl, inr, ⊎_elim, sym, ◌∙◌, subst, arith, eqb-true, eq-eqb}
 use Rattle.base_laws.specs.Bools.{either, clash, or-holds, or_fails_left, or_fails_right, lt_or_le, eq_or_ne}
 use Rattle.base_laws.specs.Definitions.{has, with, without}
-use Rattle.base_laws.specs.Masks.{has_with, has_zero, has_below, minus_subset, without_lt, ext_all}
+use Rattle.base_laws.specs.Masks.{has_with, has_zero, has_below, without_lt, ext_all}
+use Rattle.base_laws.proofs.Masks.{minus_subset}
 use Rattle.settings_values.specs.Definitions.{nodes, Settings}
 use Rattle.place_groups.specs.Definitions.{group_valid, LowestUnplaced}
 use Rattle.report_views.specs.declared.Quorum.{Quorum}

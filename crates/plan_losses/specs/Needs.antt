@@ -13,10 +13,12 @@ use borrow.Author.Tests.{eqb-true, eq-eqb, ne_eqb}
 use Rattle.base_laws.specs.Bools.{either, clash, no_true, and_both, and_left, and_right, and_fails_left, or-holds, lt_or_le}
 use Rattle.base_laws.specs.Definitions.{count_below, has, with, without, tabulate}
 use Rattle.base_laws.specs.Below.{count_mono, count_none, count_pos, count_single, count_without, any_none_of, any_witness}
-use Rattle.base_laws.specs.Masks.{has_or, has_zero, has_with, has_without, has_below, subset_has, minus_subset, disjoint_has}
+use Rattle.base_laws.specs.Masks.{has_or, has_zero, has_with, has_without, has_below, subset_has, disjoint_has}
+use Rattle.base_laws.proofs.Masks.{minus_subset}
 use Rattle.base_laws.specs.Tables.{get_d_tabulate}
 use Rattle.base_sum_laws.specs.Definitions.{sum_below}
-use Rattle.base_sum_laws.specs.Sums.{sum_add, sum_mono, sum_swap, sum_cong, count_sum, count_once}
+use Rattle.base_sum_laws.specs.Sums.{sum_add, sum_mono, sum_cong, count_sum, count_once}
+use Rattle.base_sum_laws.proofs.Sums.{sum_swap}
 use Rattle.settings_values.specs.Definitions.{nodes, shards, set_of, subgroup, need, Settings}
 use Rattle.place_groups.specs.Definitions.{meets_set, sets_in, group_valid}
 use Rattle.place_laws.specs.Cases.{of-group}

@@ -10,7 +10,8 @@ use borrow.Author.Tests.{ltb-true, ltb-false, lt-ltb, le-ltb}
 use Rattle.base_laws.specs.Bools.{either, clash, and_both, and_left, and_right}
 use Rattle.base_laws.specs.Definitions.{lowest, any_below, has, count, subset}
 use Rattle.base_laws.specs.Below.{any_at, any_witness, lowest_below, lowest_none}
-use Rattle.base_laws.specs.Masks.{width, has_and, subset_has, subset_of, subset_le, disjoint_has, disjoint_of, count_subset}
+use Rattle.base_laws.specs.Masks.{width, has_and, subset_has, subset_of, subset_le, disjoint_has, disjoint_of}
+use Rattle.base_laws.proofs.Masks.{count_subset}
 use Rattle.settings_values.specs.Definitions.{nodes, least, shards, Settings}
 use Rattle.place_laws.specs.Shards.{group_valid_of, shard_placed}
 use Rattle.report_views.specs.Definitions.{majority}

@@ -7,7 +7,8 @@ use Rattle.std.proofs.Common.{ap, ◌∙◌, arith, lt-ltb, le-ltb}
 use Rattle.std.proofs.Math.ListN.{length-replicate}
 use Rattle.base_laws.specs.Bools.{lt_or_le, and_fails_left, and_fails_right}
 use Rattle.base_laws.specs.Definitions.{all_below, has, with}
-use Rattle.base_laws.specs.Below.{all_none, all_more}
+use Rattle.base_laws.specs.Below.{all_none}
+use Rattle.base_laws.proofs.Below.{all_more}
 use Rattle.base_sum_laws.specs.Definitions.{mask_below}
 use Rattle.base_sum_laws.specs.Picked.{mask_none, mask_turn}
 use Rattle.base_laws.specs.Tables.{filled, get_d_tabulate, tabulate_same, tabulate_cong, tabulate_ext, length_filled, get_or_filled, get_or_filled_rest}

@@ -4,7 +4,8 @@ use Rattle.std.proofs.Common.{arith, sym, ◌∙◌, lt-ltb}
 use Rattle.std.proofs.Math.Bool.{cond}
 use Rattle.std.proofs.Math.Path.{ap}
 use Rattle.std.proofs.lemmas.List.{length-replicate}
-use Rattle.base_laws.specs.Tables.{filled, filled_none, filled_turn, filled_else, get_d_tabulate}
+use Rattle.base_laws.specs.Tables.{filled, filled_none, get_d_tabulate}
+use Rattle.base_laws.proofs.Tables.{filled_turn, filled_else}
 use Rattle.settings_values.specs.Definitions.{shards}
 use Rattle.base_ids.specs.declared.Position.{Position}
 use Rattle.message_format.specs.declared.Contents.{Contents}

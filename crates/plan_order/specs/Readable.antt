@@ -2,7 +2,7 @@
 use Rattle.std.specs.Prelude.{ℕ, ◌<◌, ◌≤◌, Bool, true, false, cond, List, ◌≡◌, length}
 use Rattle.std.proofs.Common.{ap, ◌∙◌}
 use Rattle.std.proofs.Math.Path.{subst⁻¹}
-use Rattle.base_laws.specs.Below.{lowest_le}
+use Rattle.base_laws.proofs.Below.{lowest_le}
 use Rattle.message_format.specs.Definitions.{place, ends, following, row8, contents_of}
 use Rattle.base_ids.specs.declared.Position.{Position}
 use Rattle.message_format.specs.declared.Contents.{Contents}

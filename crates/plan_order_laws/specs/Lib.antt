@@ -4,4 +4,3 @@ pub mod Passing
 pub mod Says
 pub mod Sound
 pub mod Fits
-pub mod Accepted

@@ -10,7 +10,7 @@ use Rattle.base_laws.specs.Below.{count_longer}
 use Rattle.base_ids.specs.declared.Position.{Position}
 use Rattle.message_format.specs.Definitions.{tag, word1, word2, kind, record_shard}
 use Rattle.base_sum_laws.specs.Definitions.{nth}
-use Rattle.base_sum_laws.specs.Ranks.{nth_below, nth-holds, rank_nth}
+use Rattle.base_sum_laws.proofs.Ranks.{nth_below, nth-holds, rank_nth}
 
 -- record j of a body has kind k, shard s and words 1 and 2 x and y
 pub record RecordSays (b : List ℕ) (j k s x y : ℕ) : Type 0 where

@@ -9,7 +9,8 @@ use Rattle.std.proofs.Math.ListN.{get_or-eq_default}
 use Rattle.base_laws.specs.Bools.{clash, and_both, or-holds, of_not_true, lt_or_le}
 use Rattle.base_laws.specs.Definitions.{all_below, any_below, count_below, lowest, has, count, pair_not_after, tabulate}
 use Rattle.base_laws.specs.Below.{all_at}
-use Rattle.base_laws.specs.Masks.{subset_le, and_subset_right, count_subset, within_has}
+use Rattle.base_laws.specs.Masks.{subset_le, within_has}
+use Rattle.base_laws.proofs.Masks.{and_subset_right, count_subset}
 use Rattle.base_sum_laws.specs.Definitions.{mask_below, sum_below}
 use Rattle.settings_values.specs.Definitions.{set_of, need, cap, sizes_ok, nodes_ok, shard_ok, shards_ok, settings_ok, Settings}
 use Rattle.settings_values.specs.Laws.{settings_give}
@@ -27,7 +28,8 @@ use Rattle.report_views.specs.Definitions.{no_termination, no_plan, pos, start, 
 use Rattle.report_views.specs.Shorthands.{view_of}
 use Rattle.history_cases.specs.Runs.{slot_of}
 use Rattle.plan_page.specs.Holders.{runs_at}
-use Rattle.plan_page.specs.Choices.{AlikeGroup, chosen_alike}
+use Rattle.plan_page.specs.Choices.{AlikeGroup}
+use Rattle.plan_page.proofs.Choices.{chosen_alike}
 use Rattle.plan_page.specs.declared.Page.{Page}
 use Rattle.plan_page.specs.Definitions.{shown, holder_shown, target_shown, PageOf}
 use Rattle.plan_page.specs.Same.{AgreeOn}

@@ -29,7 +29,7 @@ use Rattle.history_cases.specs.Runs.{case_settings, settings_with, desk, view7}
 use Rattle.history_cases.specs.Placed.{plan_a, everywhere, OneGroup, placed_at, one_group, a_chosen, i_none}
 use Rattle.plan_page.specs.declared.Page.{Page}
 use Rattle.plan_page.specs.Definitions.{shown, holder_shown, target_shown, mask_shown, PageOf}
-use Rattle.plan_page.specs.Same.{one_page}
+use Rattle.plan_page.proofs.Same.{one_page}
 
 -- ---- pages of three shards
 

@@ -6,7 +6,8 @@ use native.Mathlib.Omega.{arith}
 use Rattle.std.specs.Int.Bits.{bit_and}
 use borrow.Author.Tests.{lt-ltb, le-ltb, ne_eqb, eq-eqb}
 use Rattle.base_laws.specs.Definitions.{lowest, count}
-use Rattle.base_masks.specs.Majority.{LeastMajority, enough_is_more}
+use Rattle.base_masks.specs.Majority.{LeastMajority}
+use Rattle.base_masks.proofs.MajorityLaws.{enough_is_more}
 use Rattle.settings_values.specs.Definitions.{least, shards}
 use Rattle.base_ids.specs.declared.Node.{Node}
 use Rattle.report_views.specs.Definitions.{node_at}

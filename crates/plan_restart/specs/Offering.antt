@@ -11,7 +11,7 @@ use Rattle.report_views.specs.declared.Quorum.{Quorum}
 use Rattle.report_views.specs.declared.Quorum.TheVariants.{Met, Short}
 use Rattle.report_views.specs.Definitions.{mask_at, slots_ok, quorum_of, all_moves, kept_sound}
 use Rattle.report_views.specs.Meets.{quorum_given}
-use Rattle.history_laws.specs.Claims.{claims}
+use Rattle.history_laws.proofs.Claims.{claims}
 use Rattle.place_rounds.specs.declared.PlacedWithin.{PlacedWithin}
 use Rattle.place_rounds.specs.Laws.{bettered_valid}
 use Rattle.place_rounds.specs.Post.{LaidWithin, NoneWithin, PlacementWithin}

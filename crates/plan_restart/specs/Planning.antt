@@ -15,7 +15,7 @@ use Rattle.report_views.specs.declared.Quorum.{Quorum}
 use Rattle.report_views.specs.declared.Quorum.TheVariants.{Met, Short}
 use Rattle.report_views.specs.Definitions.{mask_at, slots_ok, quorum_of, layout_tidy, all_moves, kept_sound}
 use Rattle.report_views.specs.Meets.{quorum_given}
-use Rattle.history_laws.specs.Claims.{claims}
+use Rattle.history_laws.proofs.Claims.{claims}
 use Rattle.place_layout.specs.declared.Placed.{Placed}
 use Rattle.place_layout.specs.Post.{Laid, Unplaced, Placement}
 use Rattle.plan_quorum.specs.Quorum.{quorum_by}

@@ -4,7 +4,8 @@ use Rattle.std.proofs.Common.{sym, ap, ◌∙◌, arith}
 use Rattle.std.proofs.Math.Path.{subst⁻¹}
 use Rattle.std.proofs.lemmas.List.{length-replicate}
 use Rattle.base_laws.specs.Definitions.{all_below, has}
-use Rattle.base_laws.specs.Below.{all_none, all_more}
+use Rattle.base_laws.specs.Below.{all_none}
+use Rattle.base_laws.proofs.Below.{all_more}
 use Rattle.base_laws.specs.Tables.{length_tabulate}
 use Rattle.settings_values.specs.Definitions.{shards, Settings}
 use Rattle.report_views.specs.declared.Layout.{Layout}

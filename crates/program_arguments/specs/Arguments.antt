@@ -2,7 +2,7 @@
 use Rattle.std.specs.Prelude.{ℕ, ◌<◌, ◌≤◌, true, false, List, [], ◌∷◌, ◌≡◌, length, get_or}
 use Rattle.std.proofs.Common.{eq-eqb, ne_eqb}
 use Rattle.base_laws.specs.Definitions.{all_below}
-use Rattle.base_laws.specs.Below.{all_fails, all_fewer}
+use Rattle.base_laws.proofs.Below.{all_fails, all_fewer}
 use Rattle.program_arguments.specs.Definitions.{version_word, help_word, unknown_label, alike_at, same_text, told_line, is_known, answer_text}
 
 -- texts of two lengths, with two bytes at a place, and with the same bytes at every place

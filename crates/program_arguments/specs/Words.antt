@@ -1,5 +1,5 @@
 -- Words and their answers: a program of the name "r", the version "1" and the help "h".
-use Rattle.std.specs.Prelude.{ℕ, true, false, List, [], ◌∷◌, ◌≡◌, refl}
+use Rattle.std.specs.Prelude.{ℕ, false, List, [], ◌∷◌, ◌≡◌, refl}
 use Rattle.base_laws.specs.Definitions.{all_below}
 use Rattle.program_arguments.specs.Definitions.{version_word, help_word, unknown_label, same_text, told_line, is_known, answer_text}
 

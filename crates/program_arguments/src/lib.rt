@@ -1,18 +1,71 @@
 // The argument of a program: --version and --help are answered on standard output, any other word is told on standard error. The first
-// argument decides, and no other is looked at.
+// argument decides, and no other is looked at. And how a program writes: all that it has, or it tells why not.
 #![tactic(auto)]
 
-ghost use Rattle.std.specs.Prelude.{◌≡◌};
+ghost use Rattle.std.specs.Prelude.{◌≡◌, ◌≤◌, length, None};
+ghost use Rattle.std.specs.Bool.{OnTrue};
+ghost use Rattle.std.specs.Io.KnownBytes.{Appends};
 ghost use Rattle.program_text.specs.Definitions.{Puts};
 ghost use Rattle.program_arguments.specs.Definitions.{same_text, told_line, is_known, answer_text};
 
-use libc::{STDERR_FILENO, STDOUT_FILENO};
+use std::env::{Env, FillError};
+use std::io::{Error, Write};
+use std::write;
 
 // The answer to a word: the length of its text, and whether the word is one that a program knows.
 #[derive(Clone, Copy)]
 struct WordAnswer {
     len: usize,
     known: bool,
+}
+
+// What is written to, and why the last write to it that failed did.
+#[derive(Drop)]
+pub struct Output<W: Write> {
+    writer: W,
+    error: Option<Error>,
+}
+
+impl<W: Write> Output<W> {
+    // A writer of which no write has failed.
+    pub fn new(writer: W) -> Output<W>
+        ensures writer { result.writer ≡ writer }
+        ensures error { result.error ≡ None }
+    {
+        Output {
+            writer,
+            error: None,
+        }
+    }
+
+    // Why the last write that failed did; none if no write has.
+    pub fn error(&self) -> Option<Error>
+        ensures { result ≡ self.now.error }
+    {
+        self.error
+    }
+
+    // Writes all bytes, or stops at the first write that takes nothing or fails. Whether all were written.
+    pub fn write_all(&mut self, bytes: &[u8]) -> bool
+        ensures { OnTrue result (Appends (W.contents self.old.writer) (W.contents self.new.writer) bytes.now) }
+    {
+        let mut done = 0;
+        while done < bytes.len() {
+            match self.writer.write(&bytes[done..]) {
+                Ok(n) => {
+                    if n == 0 {
+                        return false;
+                    }
+                    done += n;
+                }
+                Err(error) => {
+                    self.error = Some(error);
+                    return false;
+                }
+            }
+        }
+        true
+    }
 }
 
 // Whether two texts are the same.
@@ -59,26 +112,85 @@ fn answer(out: &mut [u8], word: &[u8], name: &[u8], version: &[u8], help: &[u8])
     WordAnswer { len, known: false }
 }
 
+// Where the number of an error of the system begins in its text: it is not told.
+fn reason_len(text: &[u8]) -> usize
+    ensures { result ≤ length text.now }
+{
+    let mark = b" (os error ";
+    let mut i = 0;
+    while i < text.len() && !text[i..].starts_with(mark) {
+        i += 1;
+    }
+    i
+}
+
+// The text of an error in lent bytes, as the system tells it.
+fn put_reason(out: &mut [u8], error: Error) -> usize
+    ensures { result ≤ length out.new }
+{
+    let room = out.len();
+    let mut rest = &mut out[0..];
+    let _ = write!(rest, "{error}");
+    let len = room.saturating_sub(rest.len());
+    reason_len(&out[0..len])
+}
+
+// Tells on standard error what failed and why.
+pub fn fail<W: Write>(told: &mut Output<W>, what: &[u8], error: Option<Error>) {
+    let mut reason = [0u8; 256];
+    // without an error of the system its text is that of none: a write took nothing, or no read more could be counted
+    let error = error.unwrap_or(Error::from_raw_os_error(0));
+    let n = put_reason(&mut reason, error);
+    let mut line = [0u8; 512];
+    let len = put_told(&mut line, what, b": ", &reason[0..n]);
+    told.write_all(&line[0..len]);
+}
+
 // Tells that standard output cannot be written.
-fn fail_output(name: &[u8]) {
+fn fail_output<W: Write>(told: &mut Output<W>, name: &[u8], error: Option<Error>) {
     let mut out = [0u8; 64];
     let next = program_text::put_text(&mut out, 0, name);
     let len = program_text::put_text(&mut out, next, b": standard output");
-    os::fail(&out[0..len]);
+    fail(told, &out[0..len], error);
+}
+
+// Whether the program was given an argument.
+pub fn is_given<E: Env>(env: &E) -> bool {
+    let mut word = [0u8; 1];
+    match env.arg(1, &mut word) {
+        Err(FillError::NotPresent) => false,
+        _ => true,
+    }
+}
+
+// The first argument, in lent bytes; nothing where it does not fit.
+fn first_argument<E: Env>(env: &E, word: &mut [u8]) -> usize
+    ensures { result ≤ length word.new }
+{
+    match env.arg(1, word) {
+        Ok(n) => n,
+        Err(_) => 0,
+    }
 }
 
 // Answers the program's first argument. The version is that of include/restart.h.
-pub fn tell(name: &[u8], help: &[u8]) {
+pub fn tell<E: Env, O: Write, T: Write>(
+    env: &E,
+    output: &mut Output<O>,
+    told: &mut Output<T>,
+    name: &[u8],
+    help: &[u8],
+) {
     let mut word = [0u8; 256];
-    let n = os::arg(1, &mut word);
+    let n = first_argument(env, &mut word);
     let mut out = [0u8; 2048];
     let said = answer(&mut out, &word[0..n], name, b"0.6.0", help);
     let len = said.len;
     if said.known {
-        if !io::write_all(STDOUT_FILENO, &out[0..len]) {
-            fail_output(name);
+        if !output.write_all(&out[0..len]) {
+            fail_output(told, name, output.error());
         }
         return;
     }
-    io::write_all(STDERR_FILENO, &out[0..len]);
+    told.write_all(&out[0..len]);
 }

@@ -6,7 +6,8 @@ use Rattle.std.proofs.Math.Path.{ap, ap₂}
 use native.Mathlib.Omega.{arith}
 use Rattle.std.proofs.Math.ListN.{length, drop, length-take, length-replicate}
 use Rattle.base_laws.specs.Definitions.{padded}
-use Rattle.base_laws.specs.Tables.{padded_append, zeros, zeros_left}
+use Rattle.base_laws.specs.Tables.{zeros, zeros_left}
+use Rattle.base_laws.proofs.Tables.{padded_append}
 use Rattle.base_bytes.specs.Definitions.{words_of}
 use Rattle.program_blocks.specs.declared.Block.{Block}
 use Rattle.program_blocks.specs.Definitions.{whole_words}

@@ -110,6 +110,22 @@ module _ (bytes : List ℕ) (at w : ℕ) (lacks : Lacks bytes at) (e : w ≡ nee
     pub gathers_fit : at + n ≤ length bytes
     gathers_fit = omega (arith, f, own, lacks.room, lacks.coming, (needed_ends (take at bytes)).1)
 
+    pub gathers_copied : (part last : List ℕ) → part ≡ take (from + n - from) (drop from fed) → last ≡ part
+        → BytesCome bytes at fed from (put_mid at (at + n - at) bytes last) (at + n)
+    gathers_copied part last p all =
+        let n₁ : from + n - from ≡ n = omega arith in
+        let n₂ : at + n - at ≡ n = omega arith in
+        let size : length part ≡ n =
+        ap length p ∙ ap (λ (k : ℕ). length (take k (drop from fed))) n₁
+        ∙ length-take-le n (drop from fed) (omega (arith, f, length-drop from fed)) in
+        record {
+          reached = ap (λ (k : ℕ). at + k) (f ∙ ap (λ (k : ℕ). min (k - at) (length fed - from)) own);
+          stored =
+              put_replaced at (at + n - at) bytes last (ap length all ∙ size ∙ sym n₂)
+              ∙ ap (λ (l : List ℕ). replaced at l bytes)
+              (all ∙ p ∙ ap (λ (k : ℕ). take k (drop from fed)) (n₁ ∙ sym n₂));
+        }
+
     pub gathers_stored : (part last : List ℕ) → part ≡ take (from + n - from) (drop from fed)
         → last ≡ take (length part) part ++ drop (length part) (take (at + n - at) (drop at bytes))
         → BytesCome bytes at fed from (put_mid at (at + n - at) bytes last) (at + n)
@@ -120,14 +136,7 @@ module _ (bytes : List ℕ) (at w : ℕ) (lacks : Lacks bytes at) (e : w ≡ nee
         ap length p ∙ ap (λ (k : ℕ). length (take k (drop from fed))) n₁
         ∙ length-take-le n (drop from fed) (omega (arith, f, length-drop from fed)) in
         let none : length (take (at + n - at) (drop at bytes)) ≤ length part = omega (arith, length-take (at + n - at) (drop at bytes)) in
-        let all : last ≡ part = q ∙ ap₂ ◌++◌ (take-length part) (drop_of_length-le (take (at + n - at) (drop at bytes)) none) ∙ append-nil part in
-        record {
-          reached = ap (λ (k : ℕ). at + k) (f ∙ ap (λ (k : ℕ). min (k - at) (length fed - from)) own);
-          stored =
-              put_replaced at (at + n - at) bytes last (ap length all ∙ size ∙ sym n₂)
-              ∙ ap (λ (l : List ℕ). replaced at l bytes)
-              (all ∙ p ∙ ap (λ (k : ℕ). take k (drop from fed)) (n₁ ∙ sym n₂));
-        }
+        gathers_copied part last p (q ∙ ap₂ ◌++◌ (take-length part) (drop_of_length-le (take (at + n - at) (drop at bytes)) none) ∙ append-nil part)
 
 -- what has come
 module _ (bytes : List ℕ) (at : ℕ) (fed : List ℕ) (from : ℕ) (after : List ℕ) (r : ℕ) (lacks : Lacks bytes at) (g : BytesCome bytes at fed from after r) where

@@ -14,8 +14,9 @@ use Rattle.state_planner.specs.declared.State.{State}
 use Rattle.state_planner.specs.Definitions.{fresh, keeping, decide_refusal, after_report}
 use Rattle.state_cases.specs.Start.{gathered, report_of_six}
 use Rattle.program_run.specs.Definitions.{Underway, at_start, after}
-use Rattle.program_run_laws.specs.Reaches.{decide_none}
-use Rattle.program_run_laws.specs.Accepted.{state_after, desk_of, all_accepted, run_leads}
+use Rattle.program_run_laws.proofs.Reaches.{decide_none}
+use Rattle.program_run_laws.specs.Accepted.{state_after, desk_of, all_accepted}
+use Rattle.program_run_laws.proofs.Accepted.{run_leads}
 
 -- the reports of case A: nodes 0 to 2, 0 to 4, and all
 abbrev pub first_three : List (List ℕ) → List (List ℕ)

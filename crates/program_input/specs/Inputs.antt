@@ -103,7 +103,7 @@ module _ {x : Input} where
       (λ l. omega (arith, reads_no_more y b r q)) (reads_fewer h p))
 
   -- reads, and then others
-  pub reads_then : {a b : List ℕ} {y r : Input} → Reads x a y → Reads y b r → Reads x (a ++ b) r
+  pub reads_then : {a : List ℕ} {y : Input} {b : List ℕ} {r : Input} → Reads x a y → Reads y b r → Reads x (a ++ b) r
   reads_then {a} {r = r} p no_read = subst (λ (l : List ℕ). Reads x l r) (sym (append-nil a)) p
   reads_then {a} {r = r} p (one_more c d z _ q s) =
       subst (λ (l : List ℕ). Reads x l r) (append_assoc a c d) (one_more (a ++ c) d z r (reads_then p q) s)

@@ -2,10 +2,10 @@
 // `fill` make one, so whoever holds an Input that is at its end, or that failed, has read.
 #![tactic(auto)]
 
-ghost use Rattle.std.specs.Prelude.{◌≡◌, ◌≤◌, ◌<◌, max, length, take};
+ghost use Rattle.std.specs.Prelude.{◌≡◌, ◌≤◌, ◌<◌, max, length, take, None};
 ghost use Rattle.program_input.specs.Definitions.{unread, after_bytes, after_failure, may_come, is_cut, read_to, most, most_counted, ReadsOn, Fills};
 
-use libc::{EINTR, STDIN_FILENO};
+use std::io::{Error, ErrorKind, Read};
 
 // What may still come.
 #[derive(Clone, Copy)]
@@ -35,6 +35,33 @@ pub struct Input {
 pub struct FilledInput {
     pub input: Input,
     pub len: usize,
+}
+
+// What is read from, and why the last read of it that failed did.
+#[derive(Drop)]
+pub struct Stream<R: Read> {
+    reader: R,
+    error: Option<Error>,
+}
+
+impl<R: Read> Stream<R> {
+    // A reader of which no read has failed.
+    pub fn new(reader: R) -> Stream<R>
+        ensures reader { result.reader ≡ reader }
+        ensures error { result.error ≡ None }
+    {
+        Stream {
+            reader,
+            error: None,
+        }
+    }
+
+    // Why the last read that failed did; none if no read has.
+    pub fn error(&self) -> Option<Error>
+        ensures { result ≡ self.now.error }
+    {
+        self.error
+    }
 }
 
 // Bytes, their sum and reads are counted so far: one read more fits.
@@ -135,7 +162,7 @@ impl Input {
     }
 
     // Reads once more.
-    pub fn read(self, buffer: &mut [u8]) -> Input
+    pub fn read<R: Read>(self, stream: &mut Stream<R>, buffer: &mut [u8]) -> Input
         requires { (0 < length buffer.old) × (length buffer.old ≤ 32768) }
         ensures got_in_bounds { result.got ≤ length buffer.new }
         ensures reads_on { ReadsOn self (take result.got buffer.new) result }
@@ -147,23 +174,25 @@ impl Input {
                 ..self
             };
         }
-        let answer = libc::read(STDIN_FILENO, buffer);
-        if answer < 0 {
-            return read_to(self, &buffer[0..0], after_failure(os::errno() == EINTR));
+        match stream.reader.read(buffer) {
+            Ok(n) => read_to(self, &buffer[0..n], after_bytes(n)),
+            Err(error) => {
+                let interrupted = error.kind() == ErrorKind::Interrupted;
+                stream.error = Some(error);
+                read_to(self, &buffer[0..0], after_failure(interrupted))
+            }
         }
-        let n = io::count(answer, buffer);
-        read_to(self, &buffer[0..n], after_bytes(n))
     }
 
     // Reads until the block is full, the input is at its end or reading was cut.
-    pub fn fill(self, block: &mut [u8]) -> FilledInput
+    pub fn fill<R: Read>(self, stream: &mut Stream<R>, block: &mut [u8]) -> FilledInput
         requires { (0 < length block.old) × (length block.old ≤ 32768) }
         ensures { Fills self block.new result.input result.len }
     {
         let mut input = self;
         let mut len = 0;
         while input.is_open() && len < block.len() {
-            input = input.read(&mut block[len..]);
+            input = input.read(stream, &mut block[len..]);
             len += input.got();
         }
         FilledInput { input, len }

@@ -7,8 +7,9 @@ ghost use Rattle.program_run.specs.Definitions.{ReadyRun, Feeds};
 ghost use Rattle.program_reading.specs.Definitions.{goes_on, ReadsMore, ReadsAll};
 ghost use Rattle.program_reading.specs.Reading.{ReadsRun};
 
-use program_input::Input;
+use program_input::{Input, Stream};
 use program_run::Run;
+use std::io::Read;
 
 // The run to which the input has led, and the input as far as it was read.
 #[derive(Clone, Copy)]
@@ -46,13 +47,19 @@ fn fed(run: Run, desk: &mut [u8], bytes: &mut [u8], buffer: &[u8], n: usize) -> 
 }
 
 // One read more, and what it put into the buffer is fed to the run.
-fn turn(intake: Intake, desk: &mut [u8], bytes: &mut [u8], buffer: &mut [u8; 4096]) -> Intake
+fn turn<R: Read>(
+    stream: &mut Stream<R>,
+    intake: Intake,
+    desk: &mut [u8],
+    bytes: &mut [u8],
+    buffer: &mut [u8; 4096],
+) -> Intake
     requires ready_run { ReadyRun intake.run bytes.old }
     requires desk_len { length desk.old ≡ 65536 }
     ensures { ReadsMore intake (words_in desk.old) bytes.old (take result.input.got buffer.new) result (words_in desk.new) bytes.new }
 {
     let input = intake.input;
-    let next = input.read(buffer);
+    let next = input.read(stream, buffer);
     let n = next.got();
     let run = intake.run;
     Intake {
@@ -62,7 +69,7 @@ fn turn(intake: Intake, desk: &mut [u8], bytes: &mut [u8], buffer: &mut [u8; 409
 }
 
 // Feeds a run with the input: to its end, to a read that fails, or until the run is closed.
-fn read_all(desk: &mut [u8], bytes: &mut [u8]) -> Intake
+fn read_all<R: Read>(stream: &mut Stream<R>, desk: &mut [u8], bytes: &mut [u8]) -> Intake
     requires bytes_len { length bytes.old ≡ 2056 }
     requires desk_len { length desk.old ≡ 65536 }
     ensures { ReadsAll (words_in desk.old) bytes.old result (words_in desk.new) bytes.new }
@@ -73,18 +80,18 @@ fn read_all(desk: &mut [u8], bytes: &mut [u8]) -> Intake
     };
     let mut buffer = [0u8; 4096];
     while is_going_on(intake) {
-        intake = turn(intake, desk, bytes, &mut buffer);
+        intake = turn(stream, intake, desk, bytes, &mut buffer);
     }
     intake
 }
 
 // The run to which the whole input leads; where the input was cut, as far as it was read.
-pub fn read_run(desk: &mut [u8]) -> Intake
+pub fn read_run<R: Read>(stream: &mut Stream<R>, desk: &mut [u8]) -> Intake
     requires { length desk.old ≡ 65536 }
     ensures { ReadsRun (words_in desk.old) result (words_in desk.new) }
 {
     let mut bytes = [0u8; 2056];
-    let intake = read_all(desk, &mut bytes);
+    let intake = read_all(stream, desk, &mut bytes);
     let input = intake.input;
     if input.is_cut() {
         return intake;

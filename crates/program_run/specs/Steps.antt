@@ -6,7 +6,8 @@ use Rattle.std.proofs.Math.Path.{refl, sym, ap, ap₂, subst}
 use Rattle.std.proofs.Math.ListN.{length, take}
 use Rattle.base_laws.specs.Bools.{either}
 use Rattle.base_laws.specs.Definitions.{padded}
-use Rattle.base_laws.specs.Tables.{part_front, part_end, length_padded, front_padded}
+use Rattle.base_laws.specs.Tables.{part_front, part_end, length_padded}
+use Rattle.base_laws.proofs.Tables.{front_padded}
 use Rattle.settings_values.specs.Definitions.{settings_ok, Settings}
 use Rattle.settings_values.specs.Laws.{settings_give}
 use Rattle.base_ids.specs.declared.Refusal.{Refusal}

@@ -21,7 +21,7 @@ use Rattle.program_run.specs.declared.Stage.TheVariants.{Opening, Open, Closed}
 use Rattle.program_run.specs.declared.Run.{Run}
 use Rattle.program_run.specs.Definitions.{Progress, progress_at, progress_of}
 use Rattle.program_sheet_text.specs.Definitions.{sheet_text}
-use Rattle.program_sheet_text.specs.Laws.{sheet_length}
+use Rattle.program_sheet_text.proofs.Laws.{sheet_length}
 use Rattle.program_sheet.specs.Definitions.{readiness_text, SheetPrints, SheetWrites}
 
 -- what it means that readiness refuses nothing

@@ -17,7 +17,7 @@ use Rattle.program_text.specs.Puts.{puts_first}
 use Rattle.program_run.specs.declared.Run.{Run}
 use Rattle.program_run.specs.Definitions.{Progress, Started, Underway, Ended, after, at_start, started_run, progress_of, Feeds, Closes}
 use Rattle.program_run.specs.Whole.{run_comes}
-use Rattle.program_run_laws.specs.Reaches.{decide_taken}
+use Rattle.program_run_laws.proofs.Reaches.{decide_taken}
 use Rattle.program_sheet_text.specs.Definitions.{rows_with}
 use Rattle.program_sheet_text.specs.Laws.{counts_add_up}
 use Rattle.program_sheet.specs.Definitions.{readiness_text, SheetPrints, Sheeted, SheetWrites}

@@ -7,7 +7,8 @@ use native.Mathlib.Omega.{arith}
 use Rattle.std.proofs.lemmas.List.{length-replicate, get_or-replicate}
 use Rattle.std.proofs.Math.ListN.{get_or-eq_default}
 use borrow.Author.Tests.{eq-eqb, ne_eqb, le-leb, lt-leb, lt-ltb, le-ltb}
-use Rattle.base_laws.specs.Below.{any_none, lowest_at}
+use Rattle.base_laws.specs.Below.{any_none}
+use Rattle.base_laws.proofs.Below.{lowest_at}
 use Rattle.base_laws.specs.Bools.{and_fails_right, lt_or_le, eq_or_ne}
 use Rattle.base_laws.specs.Definitions.{tabulate}
 use Rattle.base_laws.specs.Tables.{tabulate_ext, tabulate_cong, length_tabulate, get_d_tabulate}

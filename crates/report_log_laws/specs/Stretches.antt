@@ -3,7 +3,8 @@
 use Rattle.std.specs.Prelude.{ℕ, Bool, true, false, cond, not, ◌&&◌, ◌||◌, List, [], ◌∷◌, ◌++◌, ◌⊎◌, ◌≡◌, refl, eqb}
 use Rattle.std.proofs.Common.{inl, inr, ⊎_elim, sym, ap, ap₂, ◌∙◌, subst, eqb-true, eq-eqb}
 use Rattle.base_laws.specs.Bools.{either, clash, no_true, and_both, and_left, and_right, or_left, or_right, of_not_true, not_of_false}
-use Rattle.base_laws.specs.Positions.{not_after_refl, not_after_total}
+use Rattle.base_laws.specs.Positions.{not_after_refl}
+use Rattle.base_laws.proofs.Positions.{not_after_total}
 use Rattle.base_ids.specs.declared.Position.{Position}
 use Rattle.base_ids.specs.Definitions.{not_after}
 use Rattle.base_ids.specs.Order.{order_trans}

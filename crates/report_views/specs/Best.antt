@@ -8,8 +8,10 @@ use Rattle.std.proofs.Math.Path.{refl}
 use borrow.Author.Tests.{eq-eqb, ne_eqb}
 use Rattle.base_laws.specs.Bools.{either, clash, and_both, and_left, and_right, and_fails_left, or_left, or_right, or-holds, or_neither, not_of_false, of_not_true, no_true, eq_or_ne}
 use Rattle.base_laws.specs.Definitions.{all_below, any_below}
-use Rattle.base_laws.specs.Below.{any_suc, all_at, all_of, any_at, any_fails, any_witness, lowest_le, any_none_of, lowest_none, lowest_unique, lowest_below, lowest-holds, lowest_some, lowest_first}
-use Rattle.base_laws.specs.Positions.{not_after_refl, not_after_trans, not_after_total}
+use Rattle.base_laws.specs.Below.{any_suc, all_at, all_of, any_at, any_fails, any_witness, any_none_of, lowest_none, lowest_unique, lowest_below, lowest-holds, lowest_first}
+use Rattle.base_laws.proofs.Below.{lowest_le, lowest_some}
+use Rattle.base_laws.specs.Positions.{not_after_refl, not_after_trans}
+use Rattle.base_laws.proofs.Positions.{not_after_total}
 use Rattle.base_ids.specs.declared.Position.{Position}
 use Rattle.base_ids.specs.Definitions.{not_after}
 use Rattle.report_views.specs.Definitions.{greatest, best}

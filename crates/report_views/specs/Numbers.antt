@@ -2,7 +2,8 @@
 use Rattle.std.specs.Prelude.{ℕ, ◌+◌, ◌*◌, ◌/◌, ◌%◌, ◌<◌, ◌≤◌, true, not, ◌⊎◌, ◌≡◌, refl, ltb}
 use Rattle.std.proofs.Common.{inl, inr, ap₂, ◌∙◌, arith, ltb-true, lt-ltb}
 use Rattle.base_laws.specs.Bools.{same, lt_or_le}
-use Rattle.base_laws.specs.Positions.{pair_before, before_cases, before_view, before_place, before_not_after}
+use Rattle.base_laws.specs.Positions.{pair_before, before_cases, before_view, before_place}
+use Rattle.base_laws.proofs.Positions.{before_not_after}
 use Rattle.base_ids.specs.declared.Position.{Position}
 use Rattle.base_ids.specs.Definitions.{not_after}
 use Rattle.report_views.specs.Definitions.{pos, start}

@@ -1,8 +1,8 @@
 -- A plan's holders and targets shard by shard: they are the definitions' just where they equal the entries of the standing's
 -- tables.
 use Prim.Native.Nat.{ℕ, ◌<◌}
-use Rattle.std.specs.Prelude.{Bool, ◌&&◌, List, ◌≡◌, refl, eqb, get_or}
-use Rattle.std.proofs.Math.Bool.{true, false, cond}
+use Rattle.std.specs.Prelude.{Bool, ◌&&◌, List, ◌≡◌, eqb, get_or}
+use Rattle.std.proofs.Math.Bool.{cond}
 use Rattle.std.proofs.Math.Path.{ap}
 use Rattle.std.proofs.Math.Dec.{ltb}
 use Rattle.base_laws.specs.Tables.{get_d_tabulate}
@@ -12,7 +12,7 @@ use Rattle.base_ids.specs.declared.Position.{Position}
 use Rattle.report_views.specs.declared.Layout.{Layout}
 use Rattle.report_views.specs.declared.Termination.{Termination}
 use Rattle.report_views.specs.declared.Plan.{Plan}
-use Rattle.report_views.specs.Definitions.{start, node_at, holder_at, target_at, same_position, target, holder, holders_of, targets_of, shard_planned}
+use Rattle.report_views.specs.Definitions.{start, node_at, holder_at, target_at, same_position, target, holder, holders_of, targets_of}
 
 -- the entries of a plan and of the standing's tables are equal at shard s
 unfoldable pub same_shard : Plan → List Node → List Position → ℕ → Bool
@@ -28,15 +28,3 @@ module _ (σ : List ℕ) (v : Layout) (t : Termination) (held : ℕ) (d : List �
   pub targets_at : (s : ℕ) → s < 16 → get_or (targets_of σ v t held d) s start ≡ cond (ltb s (shards σ)) (target v t held d s) start
   unfolding targets_of
   targets_at s l = get_d_tabulate 16 (λ i. cond (ltb i (shards σ)) (target v t held d i) start) s start l
-
-  pub planned_same : (p : Plan) (s : ℕ) → s < 16
-      → same_shard p (holders_of σ v t held d) (targets_of σ v t held d) s ≡ shard_planned σ v t held d p s
-  unfolding same_shard shard_planned
-  planned_same p s l = simp (holders_at s l, targets_at s l) (by (ltb s (shards σ)) refl)
-    where
-      by : (b : Bool) → ltb s (shards σ) ≡ b
-          → (eqb (holder_at p s) (cond (ltb s (shards σ)) (holder v t held d s) 0)
-          && same_position (target_at p s) (cond (ltb s (shards σ)) (target v t held d s) start))
-          ≡ shard_planned σ v t held d p s
-      by true e = simp e
-      by false e = simp e

@@ -5,15 +5,18 @@
 ghost use Rattle.program_run.specs.Definitions.{Printed};
 ghost use Rattle.program_reading.specs.Definitions.{Answers};
 
-use libc::STDOUT_FILENO;
+use program_arguments::Output;
+use program_input::Stream;
 use program_reading::Reply;
+use std::env::Env;
+use std::io::{Read, Write};
 
 // The answer to the input, as text in lent bytes; none if the input was cut.
-fn answer(out: &mut [u8; 8192]) -> Reply
+fn answer<R: Read>(stream: &mut Stream<R>, out: &mut [u8; 8192]) -> Reply
     ensures { Answers Printed out.new result }
 {
     let mut desk = [0u8; 65536];
-    let intake = program_reading::read_run(&mut desk);
+    let intake = program_reading::read_run(stream, &mut desk);
     let input = intake.input;
     if input.is_cut() {
         return Reply { len: 0, input };
@@ -24,7 +27,7 @@ fn answer(out: &mut [u8; 8192]) -> Reply
 }
 
 // Answers an argument.
-fn tell() {
+fn tell<E: Env, O: Write, T: Write>(env: &E, output: &mut Output<O>, told: &mut Output<T>) {
     let help = b"\
         Usage: restart < INPUT\n\
         \n\
@@ -36,23 +39,26 @@ fn tell() {
         --version  print the version\n\
         \n\
         See restart(1).\n";
-    program_arguments::tell(b"restart", help);
+    program_arguments::tell(env, output, told, b"restart", help);
 }
 
-fn main() {
-    if os::arg_count() > 1 {
-        tell();
+fn main(rt: HostRuntime) {
+    let mut output = Output::new(rt.stdout());
+    let mut told = Output::new(rt.stderr());
+    if program_arguments::is_given(&rt) {
+        tell(&rt, &mut output, &mut told);
         return;
     }
+    let mut stream = Stream::new(rt.stdin());
     let mut out = [0u8; 8192];
-    let reply = answer(&mut out);
+    let reply = answer(&mut stream, &mut out);
     let input = reply.input;
     if input.is_cut() {
-        os::fail(b"restart: standard input");
+        program_arguments::fail(&mut told, b"restart: standard input", stream.error());
         return;
     }
     let n = reply.len;
-    if !io::write_all(STDOUT_FILENO, &out[0..n]) {
-        os::fail(b"restart: standard output");
+    if !output.write_all(&out[0..n]) {
+        program_arguments::fail(&mut told, b"restart: standard output", output.error());
     }
 }

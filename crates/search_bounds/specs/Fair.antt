@@ -4,10 +4,12 @@ use Rattle.std.specs.Prelude.{◌≡◌, refl, Bool, true, cond, List, ℕ, ◌+
 use Rattle.std.proofs.Common.{sym, ap, subst, ⊎_elim, arith, eq-eqb, ne_eqb, lt-ltb}
 use Rattle.base_laws.specs.Bools.{lt_or_le, eq_or_ne}
 use Rattle.base_laws.specs.Definitions.{has}
-use Rattle.base_sum_laws.specs.Sums.{sum_none, sum_single}
+use Rattle.base_sum_laws.specs.Sums.{sum_single}
+use Rattle.base_sum_laws.proofs.Sums.{sum_none}
 use Rattle.search_laws.specs.Case.{Case, Valid, weight}
 use Rattle.search_laws.specs.Order.{Agree, Begun}
-use Rattle.search_laws.specs.Duality.{DualWeights, Modest, Bounds, asked, gain, toll, weak}
+use Rattle.search_laws.specs.Duality.{DualWeights, Modest, Bounds, asked, gain, toll}
+use Rattle.search_laws.proofs.Duality.{weak}
 use Rattle.search_laws.specs.Cut.{keeps, open_pair}
 use Rattle.search_bounds.specs.Post.{OpenFor}
 

@@ -10,7 +10,8 @@ use Rattle.base_laws.specs.Definitions.{any_below}
 use Rattle.base_laws.specs.Below.{any_witness}
 use Rattle.search_laws.specs.Case.{Case, Valid, WeighsWithin, size, spread, moves}
 use Rattle.search_laws.specs.Order.{takes, Agree, Begun, From, HasNone}
-use Rattle.search_laws.specs.Tests.{none_thin, none_dear, owned, dearest, full}
+use Rattle.search_laws.specs.Tests.{none_dear}
+use Rattle.search_laws.proofs.Tests.{none_thin, owned, dearest, full}
 
 -- r tells whether z is valid with a weight of at most k
 pub record WeightJudged (K : Case) (k : ℕ) (z : ℕ → ℕ) (r : Bool) : Type 0 where

@@ -2,7 +2,7 @@
 use Rattle.std.specs.Prelude.{cond, ℕ, ◌-◌, ◌≤◌, ◌<◌}
 use Rattle.std.proofs.Common.{⊎_elim, arith, lt-ltb, le-ltb}
 use Rattle.base_laws.specs.Bools.{lt_or_le}
-use Rattle.base_sum_laws.specs.Sums.{sum_bound}
+use Rattle.base_sum_laws.proofs.Sums.{sum_bound}
 use Rattle.search_laws.specs.Case.{Case, Valid, WeighsWithin, LeastWeight, has_owner, weight}
 use Rattle.search_laws.specs.Order.{First, HasNone}
 
@@ -34,11 +34,3 @@ first_least {K} {k} {z} a f =
       is = record { valid = f.is.valid; least = λ y v. omega (arith, f.is.cheap, a.bound y v) };
       first = λ y g. f.first y (record { valid = g.valid; cheap = omega (arith, g.least z f.is.valid, f.is.cheap) });
     }
-
--- none within 8192: none at all
-pub none_all : {K : Case} {k : ℕ} → K.idle < 256 → 8192 ≤ k → HasNone (WeighsWithin K k) → HasNone (Valid K)
-none_all d h n = record { none = λ y v. n.none y (record { valid = v; cheap = omega (arith, weight_most d v) }) }
-
--- a bound above 8192 is none
-pub none_above : {K : Case} {k : ℕ} → K.idle < 256 → 8192 < k → AtLeast K k → HasNone (Valid K)
-none_above d h a = record { none = λ y v. omega (arith, weight_most d v, a.bound y v) }

@@ -14,7 +14,7 @@ use Rattle.base_laws.specs.Definitions.{count_below, any_below, lowest}
 use Rattle.base_laws.specs.Below.{any_at, any_none_of, any_fails, lowest-holds, lowest_below, lowest_first, count_pos, count_none}
 use Rattle.base_sum_laws.specs.Sums.{sum_cong, sum_mono, count_sum, count_once}
 use Rattle.search_laws.specs.Case.{Case, Valid, has_owner, size, meets, spread, moves}
-use Rattle.search_laws.specs.Shards.{size_in, size_by_set, unmet_nodes}
+use Rattle.search_laws.specs.Shards.{size_in, size_by_set}
 
 -- each placed node is allowed, each shard has exactly its need, and no two nodes of a shard are of one failure set
 pub record Exact (K : Case) (z : ℕ → ℕ) : Type 0 where
@@ -71,19 +71,6 @@ module _ (K : Case) (z : ℕ → ℕ) where
           (λ h. simp (le-ltb (kept_only K z n) 16 h) (omega arith))
           (lt_or_le (kept_only K z n) 16)
 
-  -- an exact placement has at most one node of a set in a shard
-  exact_once : Exact K z → (i f : ℕ) → i < 16 → size_in K z i f ≤ 1
-  unfolding size_in
-  exact_once x i f p =
-      count_once 32 (λ n. eqb (z n) i && eqb (K.set_of n) f)
-      (λ j k a b c d. x.apart j k a b (omega (arith, here j c)) (here j c ∙ sym (here k d)) (set j c ∙ sym (set k d)))
-    where
-      here : (n : ℕ) → (eqb (z n) i && eqb (K.set_of n) f) ≡ true → z n ≡ i
-      here n e = eqb-true (z n) i (and_left (eqb (z n) i) (eqb (K.set_of n) f) e)
-
-      set : (n : ℕ) → (eqb (z n) i && eqb (K.set_of n) f) ≡ true → K.set_of n ≡ f
-      set n e = eqb-true (K.set_of n) f (and_right (eqb (z n) i) (eqb (K.set_of n) f) e)
-
   module _ (small : (n : ℕ) → n < 32 → K.set_of n < 16) where
     -- set f is among the first that shard i meets and needs
     among : ℕ → ℕ → Bool
@@ -98,7 +85,7 @@ module _ (K : Case) (z : ℕ → ℕ) where
         (and_left (not (any_below n (λ j. eqb (z j) (z n) && eqb (K.set_of j) (K.set_of n)))) (ltb (count_below (K.set_of n) (meets K z (z n))) (K.need (z n))) k) in
         clash (and_both (eq-eqb (z m) (z n) e) (eq-eqb (K.set_of m) (K.set_of n) d)) (any_fails n (λ j. eqb (z j) (z n) && eqb (K.set_of j) (K.set_of n)) none m h)
 
-    apart : (n m : ℕ) → n < 32 → m < 32 → kept_only K z n < 16 → kept_only K z n ≡ kept_only K z m → K.set_of n ≡ K.set_of m → n ≡ m
+    pub apart : (n m : ℕ) → n < 32 → m < 32 → kept_only K z n < 16 → kept_only K z n ≡ kept_only K z m → K.set_of n ≡ K.set_of m → n ≡ m
     apart n m l q p e d =
         let a : kept_only K z n ≡ z n = narrow_same n p in
         let b : kept_only K z m ≡ z m = narrow_same m (omega arith) in
@@ -175,31 +162,3 @@ module _ (K : Case) (z : ℕ → ℕ) where
           sized = λ i p. omega (arith, narrow_size i p, v.sets i p);
           apart = apart;
         }
-
-    -- an exact placement is valid
-    exact_spread : Exact K z → (i : ℕ) → i < 16 → size z i ≤ spread K z i
-    unfolding spread
-    exact_spread x i p =
-        omega (
-          arith,
-          count_sum 16 (meets K z i),
-          size_by_set K z i (λ n l e. small n l),
-          sum_mono 16 (size_in K z i) (λ f. cond (meets K z i f) 1 0) (λ f l. most f (meets K z i f) refl),
-        )
-      where
-        most : (f : ℕ) → (b : Bool) → meets K z i f ≡ b → size_in K z i f ≤ cond (meets K z i f) 1 0
-        most f true e = simp e (exact_once x i f p)
-        most f false e = simp e (omega (arith, unmet_nodes K z i f e))
-
-    pub widen : ((i : ℕ) → i < 16 → K.need i ≤ K.cap i) → Exact K z → Valid K z
-    widen room x =
-        record {
-          allowed = x.allowed;
-          most = λ i p. omega (arith, x.sized i p, room i p);
-          sets = λ i p. omega (arith, x.sized i p, exact_spread x i p);
-        }
-
--- the least moves are the same: what no exact placement stays below, no valid one does
-pub least_same : {K : Case} (small : (n : ℕ) → n < 32 → K.set_of n < 16) (price : ℕ → ℕ → ℕ) {k : ℕ} → ((y : ℕ → ℕ) → Exact K y → k ≤ moves price y) →
-    (y : ℕ → ℕ) → Valid K y → k ≤ moves price y
-least_same {K} small price h y v = omega (arith, h (kept_only K y) (narrow K y small v), narrow_moves K y price)

@@ -1,15 +1,14 @@
 -- Fewest moves, then most stays, as one number: a stay costs 0, a move w, and a node that is placed nowhere 1, where w is more than the
 -- nodes that the caps leave over the needs.
 use Rattle.std.specs.Prelude.{◌≡◌, refl, Bool, ℕ, ◌+◌, ◌*◌, ◌-◌, ◌≤◌, ◌<◌}
-use Rattle.std.proofs.Common.{ap, ◌∙◌, ⊎_elim, mul-le-mul_right, ltb-true}
+use Rattle.std.proofs.Common.{◌∙◌, ltb-true}
 use Rattle.std.proofs.Math.Bool.{true, false, cond}
 use native.Mathlib.Omega.{arith}
-use Rattle.base_laws.specs.Bools.{lt_or_le, eq_or_ne}
 use Rattle.base_sum_laws.specs.Definitions.{sum_below}
-use Rattle.base_sum_laws.specs.Sums.{sum_cong, sum_mono, sum_add, sum_none, sum_const, sum_scale, sum_by_key}
-use Rattle.search_laws.specs.Case.{Case, Valid, LeastWeight, has_owner, size, spread, moves, weight}
+use Rattle.base_sum_laws.specs.Sums.{sum_cong, sum_mono, sum_add, sum_const, sum_scale}
+use Rattle.base_sum_laws.proofs.Sums.{sum_none, sum_by_key}
+use Rattle.search_laws.specs.Case.{Case, Valid, has_owner, size, spread, moves, weight}
 use Rattle.search_laws.specs.Duality.{shard_cover}
-use Rattle.search_laws.specs.Order.{First}
 
 -- by the same prices, the stays
 unfoldable pub stays : (ℕ → ℕ → ℕ) → (ℕ → ℕ) → ℕ
@@ -58,7 +57,7 @@ module _ (K : Case) (small : (n : ℕ) → n < 32 → K.set_of n < 16) where
       )
 
   module _ {w : ℕ} {price : ℕ → ℕ → ℕ} (wide : spare K < w) (p : Priced K w price) where
-    weight_is : (z : ℕ → ℕ) → Valid K z → weight K z + placed_count z ≡ moves price z * w + 32
+    pub weight_is : (z : ℕ → ℕ) → Valid K z → weight K z + placed_count z ≡ moves price z * w + 32
     unfolding weight placed_count moves
     weight_is z v =
         omega (
@@ -74,7 +73,7 @@ module _ (K : Case) (small : (n : ℕ) → n < 32 → K.set_of n < 16) where
         at n l true e = simp e (omega (arith, p.cost (z n) n (ltb-true (z n) 16 e) l (v.allowed n l (ltb-true (z n) 16 e))))
         at n l false e = simp e (omega (arith, p.idle))
 
-    placed_is : (z : ℕ → ℕ) → Valid K z → placed_count z ≡ moves price z + stays price z
+    pub placed_is : (z : ℕ → ℕ) → Valid K z → placed_count z ≡ moves price z + stays price z
     unfolding placed_count moves stays
     placed_is z v =
         sum_cong 32 (λ n. cond (has_owner z n) 1 0) (λ n. cond (has_owner z n) (price (z n) n) 0 + cond (has_owner z n) (1 - price (z n) n) 0) (λ n l. at n l (has_owner z n) refl)
@@ -83,30 +82,3 @@ module _ (K : Case) (small : (n : ℕ) → n < 32 → K.set_of n < 16) where
         at : (n : ℕ) → n < 32 → (b : Bool) → has_owner z n ≡ b → cond (has_owner z n) 1 0 ≡ cond (has_owner z n) (price (z n) n) 0 + cond (has_owner z n) (1 - price (z n) n) 0
         at n l true e = simp e (omega (arith, p.low (z n) n (ltb-true (z n) 16 e) l (v.allowed n l (ltb-true (z n) 16 e))))
         at n l false e = simp e
-
-    -- fewer moves weigh less
-    fewer : (y z : ℕ → ℕ) → Valid K y → Valid K z → moves price y < moves price z → weight K y < weight K z
-    fewer y z v u h =
-        omega (arith, weight_is y v, weight_is z u, placed_close z y u v, mul-le-mul_right w h)
-
-    pub least_best : {z : ℕ → ℕ} → LeastWeight K z → BestPlaced K price z
-    least_best {z} l =
-        record {
-          valid = l.valid;
-          fewest = λ y v. ⊎_elim (λ h. absurd (omega (arith, fewer y z v l.valid h, l.least y v))) (λ h. h) (lt_or_le (moves price y) (moves price z));
-          most = λ y v e. omega (arith, weight_is y v, weight_is z l.valid, placed_is y v, placed_is z l.valid, l.least y v, ap (λ (m : ℕ). m * w) e);
-        }
-
-    pub best_least : {z : ℕ → ℕ} → BestPlaced K price z → LeastWeight K z
-    best_least {z} b =
-        record {
-          valid = b.valid;
-          least = λ y v. ⊎_elim
-              (λ e. omega (arith, weight_is y v, weight_is z b.valid, placed_is y v, placed_is z b.valid, b.most y v e, ap (λ (m : ℕ). m * w) e))
-              (λ e. omega (arith, fewer z y b.valid v (omega (arith, b.fewest y v))))
-              (eq_or_ne (moves price y) (moves price z));
-        }
-
-    -- the first of least weight is the first of the best
-    pub first_best : {z : ℕ → ℕ} → First (LeastWeight K) z → First (BestPlaced K price) z
-    first_best {z} f = record { is = least_best f.is; first = λ y b. f.first y (best_least b) }

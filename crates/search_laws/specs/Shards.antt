@@ -7,7 +7,8 @@ use Rattle.std.proofs.Math.Dec.{eqb}
 use Rattle.base_laws.specs.Definitions.{count_below}
 use Rattle.base_laws.specs.Below.{any_witness, count_none, count_pos}
 use Rattle.base_sum_laws.specs.Definitions.{sum_below}
-use Rattle.base_sum_laws.specs.Sums.{sum_cong, sum_none, sum_swap, sum_single, count_sum, count_times}
+use Rattle.base_sum_laws.specs.Sums.{sum_cong, sum_single, count_sum, count_times}
+use Rattle.base_sum_laws.proofs.Sums.{sum_none, sum_swap}
 use Rattle.search_laws.specs.Case.{Case, has_owner, size, meets}
 
 -- how many nodes of set f shard i has

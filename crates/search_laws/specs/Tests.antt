@@ -1,17 +1,17 @@
 -- Validity by tests that a program can make, and what the owners given so far rule out.
-use Rattle.std.specs.Prelude.{◌≡◌, refl, Bool, true, false, ◌&&◌, ◌||◌, ℕ, ◌+◌, ◌*◌, ◌/◌, ◌%◌, ◌≤◌, ◌<◌, ltb, leb}
+use Rattle.std.specs.Prelude.{◌≡◌, refl, Bool, true, false, ◌&&◌, ℕ, ◌+◌, ◌*◌, ◌≤◌, ◌<◌, ltb, leb}
 use Rattle.std.proofs.Common.{sym, ◌∙◌, subst, arith}
 use Rattle.std.proofs.Math.Path.{ap}
 use Rattle.std.proofs.Math.Bool.{cond}
 use Rattle.std.proofs.Math.Logic.{⊎_elim}
 use Rattle.std.proofs.Math.Dec.{eqb}
-use borrow.Author.Tests.{eqb-true, eq-eqb, ne_eqb, ltb-true, lt-ltb, le-ltb, leb-true, le-leb, lt-leb}
-use Rattle.base_laws.specs.Bools.{clash, same, lt_or_le, and_left, and_right, and_both, or-holds}
+use borrow.Author.Tests.{eqb-true, eq-eqb, ltb-true, lt-ltb, le-ltb, leb-true, le-leb, lt-leb}
+use Rattle.base_laws.specs.Bools.{clash, same, lt_or_le, and_left, and_right, and_both}
 use Rattle.base_laws.specs.Definitions.{all_below}
-use Rattle.base_laws.specs.Below.{all_at, all_of, count_mono, count_with, count_cong, any_cong}
+use Rattle.base_laws.specs.Below.{all_at, all_of, count_cong, any_cong}
 use Rattle.base_sum_laws.specs.Sums.{sum_mono, sum_cong}
 use Rattle.search_laws.specs.Case.{Case, Valid, WeighsWithin, has_owner, size, meets, spread, moves, weight}
-use Rattle.search_laws.specs.Order.{takes, takes_at, Agree, From, Begun, HasNone, Same}
+use Rattle.search_laws.specs.Order.{takes_at, Agree, From, Begun, HasNone, Same}
 use Rattle.search_laws.specs.Cut.{keeps}
 
 -- node n is placed nowhere, or where it is allowed
@@ -74,38 +74,6 @@ module _ {y o : ℕ → ℕ} (s : Same y o) where
       (λ q. simp (le-ltb (y n) 16 q, le-ltb (o n) 16 (omega (arith, s.owner n l))))
       (lt_or_le (y n) 16))
 
-pub within_same : {K : Case} {k : ℕ} (o y : ℕ → ℕ) → Same y o → WeighsWithin K k y → WeighsWithin K k o
-within_same {K} o y s w = record { valid = valid_same s w.valid; cheap = omega (arith, weight_same s K, w.cheap) }
-
--- ---- what the owners given so far rule out
-
--- pair t can't be taken: its node has an owner, is not allowed there, or the shard is full
-module _ {K : Case} {o y : ℕ → ℕ} {t : ℕ} (l : t < 512) (b : Begun o t) (a : Agree y o t) (v : Valid K y) (e : takes y t ≡ true) where
-  here : y (t % 32) ≡ t / 32
-  here = eqb-true (y (t % 32)) (t / 32) e
-
-  pub owned : o (t % 32) < 16 → ⊥
-  owned h = clash (eq-eqb (o (t % 32)) (t / 32) (sym (keeps b a (t % 32) (omega arith) h) ∙ here)) (b.rest t (omega arith) l)
-
-  pub dearest : 255 ≤ K.cost (t / 32) (t % 32) → ⊥
-  dearest h = omega (arith, subst (λ (i : ℕ). K.cost i (t % 32) < 255) here (v.allowed (t % 32) (omega arith) (omega (arith, here))))
-
-  pub full : 16 ≤ o (t % 32) → K.cap (t / 32) ≤ size o (t / 32) → ⊥
-  full h w =
-      omega (
-        arith,
-        v.most (t / 32) (omega arith),
-        count_mono 32 (λ j. eqb (o j) (t / 32) || eqb (t % 32) j) (λ j. eqb (y j) (t / 32)) more,
-        count_with 32 (λ j. eqb (o j) (t / 32)) (t % 32) (omega arith) (ne_eqb (o (t % 32)) (t / 32) (λ d. omega arith)),
-      )
-    where
-      more : (j : ℕ) → j < 32 → (eqb (o j) (t / 32) || eqb (t % 32) j) ≡ true → eqb (y j) (t / 32) ≡ true
-      more j q d =
-          ⊎_elim
-          (λ r. let there : o j ≡ t / 32 = eqb-true (o j) (t / 32) r in eq-eqb (y j) (t / 32) (keeps b a j q (omega arith) ∙ there))
-          (λ r. eq-eqb (y j) (t / 32) (ap y (sym (eqb-true (t % 32) j r)) ∙ here))
-          (or-holds (eqb (o j) (t / 32)) (eqb (t % 32) j) d)
-
 -- a shard whose pairs are all decided
 decided_at : {o y : ℕ → ℕ} {t : ℕ} → Agree y o t → (i n : ℕ) → i * 32 + 32 ≤ t → n < 32 → eqb (y n) i ≡ eqb (o n) i
 decided_at {o} {y} a i n l q = sym (takes_at y n i q) ∙ (a.same (i * 32 + n) (omega arith) ∙ takes_at o n i q)
@@ -119,10 +87,6 @@ decided_spread {K} {o} {y} a v i l q =
       count_cong 16 (meets K y i) (meets K o i)
           (λ f p. any_cong 32 (λ n. eqb (y n) i && eqb (K.set_of n) f) (λ n. eqb (o n) i && eqb (K.set_of n) f) (λ n r. ap (λ (c : Bool). c && eqb (K.set_of n) f) (decided_at a i n q r))),
     )
-
--- no placement from here: a shard that is decided has too few sets, or the owners cost too much already
-pub none_thin : {K : Case} {k : ℕ} {o : ℕ → ℕ} {t : ℕ} (i : ℕ) → i < 16 → i * 32 + 32 ≤ t → spread K o i < K.need i → HasNone (From (WeighsWithin K k) o t)
-none_thin i l q h = record { none = λ y f. omega (arith, decided_spread f.agree f.has.valid i l q) }
 
 pub none_dear : {K : Case} {k : ℕ} {o : ℕ → ℕ} {t : ℕ} → Begun o t → k < moves K.cost o → HasNone (From (WeighsWithin K k) o t)
 unfolding weight moves

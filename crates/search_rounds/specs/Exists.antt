@@ -10,7 +10,8 @@ use Rattle.base_laws.specs.Bools.{either, clash, and_both, and_left, and_right, 
 use Rattle.base_laws.specs.Definitions.{all_below}
 use Rattle.search_laws.specs.Case.{Case, WeighsWithin, weight}
 use Rattle.search_laws.specs.Order.{takes, shard_end, First, HasNone, From, Begun, TakesPair, begun_leave, first_leave, none_leave, begun_close, first_close, begun_take, first_take, none_take, first_end, none_end, first_start, none_start, begun_start}
-use Rattle.search_laws.specs.Tests.{stands, needs_met, valid_of, valid_stands, valid_met, within_same, owned}
+use Rattle.search_laws.specs.Tests.{stands, needs_met, valid_of, valid_stands, valid_met}
+use Rattle.search_laws.proofs.Tests.{within_same, owned}
 use Rattle.search_rounds.specs.Post.{Fewer, within_fewer, within_none, Steps, start, more}
 
 module _ (K : Case) (k : ℕ) where

@@ -6,7 +6,8 @@ use Rattle.base_laws.specs.Bools.{clash}
 use Rattle.search_laws.specs.Case.{Case, Valid, WeighsWithin, weight}
 use Rattle.search_laws.specs.Tables.{owners_of}
 use Rattle.search_laws.specs.Order.{First, HasNone, begun_start}
-use Rattle.search_laws.specs.Least.{AtLeast, first_least, none_all}
+use Rattle.search_laws.specs.Least.{AtLeast, first_least}
+use Rattle.search_laws.proofs.Least.{none_all}
 use Rattle.search_total.specs.declared.Solution.{Solution}
 use Rattle.search_total.specs.Post.{Owners, ReadyFrom, WithinAnswer, LeastAnswer, no_owners}
 

@@ -8,7 +8,7 @@ use Rattle.base_laws.specs.Bools.{eq_or_ne, lt_or_le}
 use Rattle.search_laws.specs.Case.{Case, WeighsWithin}
 use Rattle.search_laws.specs.Tables.{owners_of}
 use Rattle.search_laws.specs.Order.{takes, shard_end, Begun, HasNone, From, TakesPair, begun_leave, begun_close, begun_take, first_leave, none_leave, first_close, first_take, none_take, first_end, none_end}
-use Rattle.search_laws.specs.Tests.{within_same}
+use Rattle.search_laws.proofs.Tests.{within_same}
 use Rattle.search_judge.specs.Post.{WeightJudged, is_barred, barred_never, hopeless_from, hopeless_none}
 use Rattle.search_total.specs.Post.{Owners, ReadyFrom, Sought}
 

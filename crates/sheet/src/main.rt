@@ -6,15 +6,18 @@
 ghost use Rattle.program_reading.specs.Definitions.{Answers};
 ghost use Rattle.program_sheet.specs.Definitions.{Sheeted};
 
-use libc::STDOUT_FILENO;
+use program_arguments::Output;
+use program_input::Stream;
 use program_reading::Reply;
+use std::env::Env;
+use std::io::{Read, Write};
 
 // The sheet of the input, as text in lent bytes; none if the input was cut.
-fn answer(out: &mut [u8; 32768]) -> Reply
+fn answer<R: Read>(stream: &mut Stream<R>, out: &mut [u8; 32768]) -> Reply
     ensures { Answers Sheeted out.new result }
 {
     let mut desk = [0u8; 65536];
-    let intake = program_reading::read_run(&mut desk);
+    let intake = program_reading::read_run(stream, &mut desk);
     let input = intake.input;
     if input.is_cut() {
         return Reply { len: 0, input };
@@ -25,7 +28,7 @@ fn answer(out: &mut [u8; 32768]) -> Reply
 }
 
 // Answers an argument.
-fn tell() {
+fn tell<E: Env, O: Write, T: Write>(env: &E, output: &mut Output<O>, told: &mut Output<T>) {
     let help = b"\
         Usage: sheet < INPUT\n\
         \n\
@@ -37,23 +40,26 @@ fn tell() {
         --version  print the version\n\
         \n\
         See sheet(1).\n";
-    program_arguments::tell(b"sheet", help);
+    program_arguments::tell(env, output, told, b"sheet", help);
 }
 
-fn main() {
-    if os::arg_count() > 1 {
-        tell();
+fn main(rt: HostRuntime) {
+    let mut output = Output::new(rt.stdout());
+    let mut told = Output::new(rt.stderr());
+    if program_arguments::is_given(&rt) {
+        tell(&rt, &mut output, &mut told);
         return;
     }
+    let mut stream = Stream::new(rt.stdin());
     let mut out = [0u8; 32768];
-    let reply = answer(&mut out);
+    let reply = answer(&mut stream, &mut out);
     let input = reply.input;
     if input.is_cut() {
-        os::fail(b"sheet: standard input");
+        program_arguments::fail(&mut told, b"sheet: standard input", stream.error());
         return;
     }
     let n = reply.len;
-    if !io::write_all(STDOUT_FILENO, &out[0..n]) {
-        os::fail(b"sheet: standard output");
+    if !output.write_all(&out[0..n]) {
+        program_arguments::fail(&mut told, b"sheet: standard output", output.error());
     }
 }

@@ -14,7 +14,7 @@ use Rattle.report_views.specs.declared.Layout.{Layout}
 use Rattle.report_views.specs.declared.Plan.{Plan}
 use Rattle.report_views.specs.Definitions.{pos, start, end_of, reaches, holds, has_update, slot, report_of, mask_at, candidate, greatest, best, target, able, holder, holders_of, targets_of, layout_tidy, all_moves, no_termination}
 use Rattle.history_cases.specs.Runs.{case_settings, desk, view7}
-use Rattle.history_cases.specs.Cases.{cases}
+use Rattle.history_cases.proofs.Cases.{cases}
 use Rattle.history_cases.specs.Placed.{plan_a, a_least}
 use Rattle.state_planner.specs.declared.Decision.{Decision}
 use Rattle.state_planner.specs.declared.Decided.{Decided}

@@ -14,7 +14,7 @@ use Rattle.report_views.specs.declared.Reason.TheVariants.{NoHolder}
 use Rattle.report_views.specs.Definitions.{slots_ok, layout_tidy, layout_blank, view_sound, term_sound_at, term_sound, nothing_kept, kept_sound, marks_sound, plan_blank, plan_fits}
 use Rattle.report_rows.specs.Definitions.{no_latest, recalled, latest_sound}
 use Rattle.history_cases.specs.Runs.{case_settings, desk, view7}
-use Rattle.history_cases.specs.Cases.{cases}
+use Rattle.history_cases.proofs.Cases.{cases}
 use Rattle.plan_masks.specs.Numbered.{short_met}
 use Rattle.state_rows.specs.Definitions.{node_refusal}
 use Rattle.state_planner.specs.declared.State.{State}

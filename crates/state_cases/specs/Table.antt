@@ -10,7 +10,7 @@ use Rattle.report_views.specs.declared.Reason.TheVariants.{NoView, NoMajority, T
 use Rattle.report_views.specs.declared.Quorum.TheVariants.{Short}
 use Rattle.report_views.specs.Definitions.{end_of, reaches, holds, has_update, slot, report_of, candidate, greatest, best, target, able, holder, majority, first_unheld, quorum_of, no_termination}
 use Rattle.history_cases.specs.Runs.{case_settings, settings_with, desk, view7, six_members}
-use Rattle.history_cases.specs.Cases.{cases}
+use Rattle.history_cases.proofs.Cases.{cases}
 use Rattle.state_planner.specs.declared.State.{State}
 use Rattle.state_planner.specs.declared.Decision.{Decision}
 use Rattle.state_planner.specs.declared.Decided.{Decided}

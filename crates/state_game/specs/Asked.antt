@@ -6,7 +6,8 @@ use Rattle.std.proofs.Math.Path.{ap}
 use Rattle.base_laws.specs.Bools.{either}
 use Rattle.base_ids.specs.Definitions.{accepted}
 use Rattle.settings_values.specs.Definitions.{nodes}
-use Rattle.game_rules.specs.Once.{won_unique, NoOther, no_other}
+use Rattle.game_rules.specs.Once.{NoOther}
+use Rattle.game_rules.proofs.Once.{won_unique, no_other}
 use Rattle.state_planner.specs.declared.State.{State}
 use Rattle.state_planner.specs.declared.Decision.{Decision}
 use Rattle.state_planner.specs.declared.Decided.{Decided}

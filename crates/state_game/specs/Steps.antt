@@ -13,7 +13,7 @@ use Rattle.plan_masks.specs.Numbered.{plan_exists, wait_none}
 use Rattle.game_rules.specs.declared.Winner.{Winner}
 use Rattle.game_rules.specs.Definitions.{WonBy}
 use Rattle.game_rules.specs.Turns.{winner_of}
-use Rattle.game_rules.specs.Decided.{decided}
+use Rattle.game_rules.proofs.Decided.{decided}
 use Rattle.game_turns.specs.Table.{plan_at}
 use Rattle.state_planner.specs.declared.State.{State}
 use Rattle.state_planner.specs.Definitions.{desk_ok}

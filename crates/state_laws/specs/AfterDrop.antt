@@ -6,22 +6,22 @@ use Rattle.std.proofs.Math.Path.{refl}
 use Rattle.std.proofs.Math.Dec.{eqb}
 use borrow.Author.Tests.{eqb-true, eq-eqb}
 use Rattle.base_laws.specs.Bools.{and_both, and_left, and_right, clash}
-use Rattle.base_laws.specs.Definitions.{all_below, has, subset, without}
-use Rattle.base_laws.specs.Masks.{subset_has, subset_le, subset_zero, has_zero, minus_subset, within_subset}
+use Rattle.base_laws.specs.Definitions.{subset, without}
+use Rattle.base_laws.specs.Masks.{subset_has, subset_le, has_zero}
+use Rattle.base_laws.proofs.Masks.{minus_subset, within_subset}
 use Rattle.settings_values.specs.Definitions.{nodes}
-use Rattle.base_ids.specs.Definitions.{none}
 use Rattle.report_views.specs.declared.Layout.{Layout}
 use Rattle.report_views.specs.declared.Termination.{Termination}
 use Rattle.report_views.specs.declared.Phase.{Phase}
 use Rattle.report_views.specs.declared.Phase.TheVariants.{Gathering, Ordered, Preparing, Committed}
 use Rattle.report_views.specs.Meets.{slot_given}
-use Rattle.report_views.specs.Definitions.{layout_blank, nothing_kept, kept_sound, marks_sound, plan_blank, plan_fits, slots_ok, is_committed}
+use Rattle.report_views.specs.Definitions.{layout_blank, nothing_kept, kept_sound, slots_ok}
 use Rattle.report_rows.specs.declared.latest.Latest.{Latest}
 use Rattle.report_rows.specs.Definitions.{latest_sound}
 use Rattle.report_rows.specs.Laws.{latest_given, latest-test}
 use Rattle.state_planner.specs.declared.State.{State}
-use Rattle.state_planner.specs.Definitions.{sound, holding, restarted, desk_ok, drop_refusal, dropped_in, after_drop}
-use Rattle.state_laws.specs.Parts.{SoundState, sound_given, sound-test, kept_given, kept_test, slots_of, marks_still, plan_still, node_given}
+use Rattle.state_planner.specs.Definitions.{sound, holding, restarted, dropped_in}
+use Rattle.state_laws.specs.Parts.{SoundState, sound-test, kept_given, kept_test, slots_of, marks_still, plan_still}
 use Rattle.state_laws.specs.Fitting.{slot_reported, reported_slot}
 use Rattle.state_laws.specs.Noting.{RecallsReports}
 
@@ -36,7 +36,7 @@ module _ (σ : List ℕ) (v : Layout) (t : Termination) (held fewer : ℕ) (s : 
       and_both (and_both (and_left (layout_blank v) (eqb held 0) e) (eq-eqb fewer 0 (omega (arith, subset_le fewer held s))))
       (and_right (layout_blank v && eqb held 0) (not t.made) h)
 
-  kept_fewer : kept_sound σ v t held ≡ true → kept_sound σ v t fewer ≡ true
+  pub kept_fewer : kept_sound σ v t held ≡ true → kept_sound σ v t fewer ≡ true
   kept_fewer h =
       let k = kept_given σ v t held h in
       kept_test σ v t fewer
@@ -46,13 +46,13 @@ module _ (σ : List ℕ) (v : Layout) (t : Termination) (held fewer : ℕ) (s : 
         held_within = within_subset (nodes σ) fewer held s k.held_within;
       })
 
-  slots_fewer : (d : List ℕ) → slots_ok σ v t held d ≡ true → slots_ok σ v t fewer d ≡ true
+  pub slots_fewer : (d : List ℕ) → slots_ok σ v t held d ≡ true → slots_ok σ v t fewer d ≡ true
   slots_fewer d h =
       slots_of σ v t fewer d (λ n l p.
       reported_slot σ v t d n (slot_reported σ v t d n (slot_given σ v t held d h n l (subset_has fewer held s n p))))
 
 -- what is remembered of fewer held nodes
-latest_fewer : (σ : List ℕ) (number held fewer : ℕ) (d : List ℕ) (m : Latest) → subset fewer held ≡ true → latest_sound σ number held d m ≡ true
+pub latest_fewer : (σ : List ℕ) (number held fewer : ℕ) (d : List ℕ) (m : Latest) → subset fewer held ≡ true → latest_sound σ number held d m ≡ true
     → latest_sound σ number fewer d m ≡ true
 latest_fewer σ number held fewer d m s h =
     let r = latest_given σ number held d m h in
@@ -65,7 +65,7 @@ latest_fewer σ number held fewer d m s h =
 
 module _ (σ : List ℕ) (x : State) (d : List ℕ) (n : ℕ) (before : SoundState σ x d) where
   -- while gathering, the node is no longer held
-  fewer_sound : x.phase ≡ Gathering → sound σ (holding x (without x.held n)) d ≡ true
+  pub fewer_sound : x.phase ≡ Gathering → sound σ (holding x (without x.held n)) d ≡ true
   unfolding holding
   fewer_sound g =
       let fewer = without x.held n in
@@ -78,26 +78,6 @@ module _ (σ : List ℕ) (x : State) (d : List ℕ) (n : ℕ) (before : SoundSta
         latest-sound = latest_fewer σ x.kept.number.0 x.held fewer d x.latest s before.latest-sound;
         plan-fits = plan_still x.phase σ x.kept x.kept x.termination x.termination x.held fewer d d x.plan g before.plan-fits;
       })
-
-  -- gathering anew
-  restarted_sound : sound σ (restarted x) d ≡ true
-  unfolding restarted marks_sound plan_fits plan_blank layout_blank all_below
-  restarted_sound =
-      sound-test σ (restarted x) d
-      (record {
-        kept-sound = kept_fewer σ x.kept x.termination x.held 0 (subset_zero x.held) before.kept-sound;
-        slots-ok = slots_fewer σ x.kept x.termination x.held 0 (subset_zero x.held) d before.slots-ok;
-        marks-sound = refl;
-        latest-sound = latest_fewer σ x.kept.number.0 x.held 0 d x.latest (subset_zero x.held) before.latest-sound;
-        plan-fits = refl;
-      })
-
-  dropped_sound : (p : Phase) → x.phase ≡ p → not (is_committed p) ≡ true → sound σ (dropped_in p x n) d ≡ true
-  unfolding dropped_in
-  dropped_sound Gathering e g = fewer_sound e
-  dropped_sound Ordered e g = restarted_sound
-  dropped_sound Preparing e g = restarted_sound
-  dropped_sound Committed e g = clash g refl
 
 -- nothing that is remembered goes
 pub drop_latest : (p : Phase) (x : State) (n : ℕ) → (dropped_in p x n).latest ≡ x.latest
@@ -115,9 +95,3 @@ drop_exact Gathering x d n r m l h = r m l (subset_has (without x.held n) x.held
 drop_exact Ordered x d n r m l h = clash h (has_zero m)
 drop_exact Preparing x d n r m l h = clash h (has_zero m)
 drop_exact Committed x d n r m l h = r m l h
-
-pub drop_sound : (σ : List ℕ) (x : State) (d : List ℕ) (n : ℕ) → drop_refusal σ x d n ≡ none → sound σ (after_drop x n) d ≡ true
-unfolding drop_refusal
-drop_sound σ x d n h =
-    let taken = node_given (desk_ok d) σ x d (not (is_committed x.phase)) n (has x.held n) h in
-    dropped_sound σ x d n (sound_given σ x d taken.entered.state_sound) x.phase refl taken.entered.in-phase

@@ -5,7 +5,8 @@ use Rattle.std.proofs.Math.Bool.{true}
 use Rattle.std.proofs.Common.{eqb-true, eq-eqb}
 use Rattle.base_laws.specs.Bools.{and_both, and_left, and_right, not_of_false}
 use Rattle.base_laws.specs.Definitions.{has, subset, with}
-use Rattle.base_laws.specs.Masks.{subset_zero, subset_with, not_empty}
+use Rattle.base_laws.specs.Masks.{not_empty}
+use Rattle.base_laws.proofs.Masks.{subset_zero, subset_with}
 use Rattle.base_ids.specs.Definitions.{none}
 use Rattle.report_views.specs.declared.Phase.{Phase}
 use Rattle.report_views.specs.declared.Phase.TheVariants.{Ordered, Preparing, Committed}

@@ -7,7 +7,8 @@ use Rattle.std.proofs.lemmas.Nat.{and_le_l}
 use borrow.Author.Tests.{eqb-true, ne_eqb}
 use Rattle.base_laws.specs.Bools.{clash, and_both, and_left, and_right, not_of_false}
 use Rattle.base_laws.specs.Definitions.{count}
-use Rattle.base_laws.specs.Masks.{subset_zero, count_empty}
+use Rattle.base_laws.specs.Masks.{count_empty}
+use Rattle.base_laws.proofs.Masks.{subset_zero}
 use Rattle.base_ids.specs.Definitions.{none}
 use Rattle.report_views.specs.declared.Layout.{Layout}
 use Rattle.report_views.specs.declared.Termination.{Termination}

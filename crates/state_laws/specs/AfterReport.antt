@@ -34,7 +34,7 @@ use Rattle.state_laws.specs.Parts.{SoundState, sound_given, sound-test, SoundKep
 use Rattle.state_laws.specs.Keeping.{Passes, view_of_report, term_of_report}
 use Rattle.state_laws.specs.Fitting.{Fits, slot_reported, reported_slot, greater_fits, added_fits, known_fits, own_masks, own_fits}
 use Rattle.state_laws.specs.Desks.{desk_length, slot_own, slot_other}
-use Rattle.state_laws.specs.Noting.{RecallsReports, report_recalls, report_exact}
+use Rattle.state_laws.specs.Noting.{report_recalls}
 
 -- view v with termination t can be kept after the report c where u with r was kept
 record CanRenew (σ : List ℕ) (u : Layout) (r : Termination) (c : Contents) (v : Layout) (t : Termination) : Type 0 where
@@ -45,7 +45,7 @@ record CanRenew (σ : List ℕ) (u : Layout) (r : Termination) (c : Contents) (v
   fits_still : (b : Contents) → Fits σ u r b → Fits σ v t b
 
 module _ (σ : List ℕ) (x : State) (d w : List ℕ) (h : report_refusal σ x d w ≡ none) where
-  taken : ReportRows σ x d w
+  pub taken : ReportRows σ x d w
   taken = report_given σ x d w h
 
   settings : Settings σ
@@ -112,13 +112,13 @@ module _ (σ : List ℕ) (x : State) (d w : List ℕ) (h : report_refusal σ x d
 
   -- ---- the slots
 
-  node_32 : get_or w 0 0 < 32
+  pub node_32 : get_or w 0 0 < 32
   node_32 = omega (arith, node_below, settings.sizes.nodes_to)
 
-  words : length d ≡ 16384
+  pub words : length d ≡ 16384
   words = eqb-true (length d) 16384 taken.entered.lengths-ok
 
-  message_words : length w ≤ 512
+  pub message_words : length w ≤ 512
   message_words = let s = row5_gives w (message_given Report σ w taken.message_taken).words_pass in omega (arith, s.few, s.whole)
 
   -- what is remembered afterwards
@@ -199,12 +199,6 @@ module _ (σ : List ℕ) (x : State) (d w : List ℕ) (h : report_refusal σ x d
       leads : Kept → Type 0
       leads k =
           sound σ (keeping x k.view k.termination (with x.held (contents_of w).node.0) noticed) (desk_with d (get_or w 0 0) w) ≡ true
-
-  -- of each held node the view of its report is remembered, if it was so before
-  pub report_recalled : RecallsReports x.held d x.latest
-      → RecallsReports (after_report σ x (contents_of w)).held (desk_with d (get_or w 0 0) w) (after_report σ x (contents_of w)).latest
-  unfolding after_report keeping contents_of
-  report_recalled = report_exact x.held d w x.latest words message_words node_32 taken.row18-holds
 
   -- and the desk keeps its length
   pub report-desk : length (desk_with d (get_or w 0 0) w) ≡ 16384

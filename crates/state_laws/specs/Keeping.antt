@@ -16,7 +16,8 @@ use Rattle.message_format.specs.declared.Contents.{Contents}
 use Rattle.message_format.specs.Definitions.{kind, members_of, view_ok, row7, view_fits, legal, row11_at}
 use Rattle.message_format.specs.Alike.{row10_same}
 use Rattle.message_format.specs.Passed.{HeadPasses, RecordsPass}
-use Rattle.message_format.specs.Laws.{position-record, position_below, some_position}
+use Rattle.message_format.specs.Laws.{some_position}
+use Rattle.message_format.proofs.Laws.{position-record, position_below}
 use Rattle.report_views.specs.declared.Layout.{Layout}
 use Rattle.report_views.specs.Definitions.{start, is_start, terminated, terminated_at, mask_at, position_at, layout_tidy, view_sound, position_sound, term_sound_at, term_sound}
 use Rattle.report_kept.specs.Definitions.{layout_of, termination_of}

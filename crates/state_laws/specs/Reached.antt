@@ -1,15 +1,12 @@
 -- The states and desks that accepted events lead to from the fresh state. Each is sound, so rows 1 to 3 refuse no event of a run
 -- that goes by what the planner hands back. (An order changes neither state nor desk.)
-use Rattle.std.specs.Prelude.{ℕ, max, ◌<◌, Bool, true, List, ◌≡◌, eqb, length, get_or}
+use Rattle.std.specs.Prelude.{ℕ, max, ◌<◌, true, List, ◌≡◌, eqb, length, get_or}
 use Rattle.std.proofs.Math.Bool.{cond}
 use Rattle.std.proofs.Math.Logic.{⊎_elim}
-use Rattle.std.proofs.Math.Path.{ap, subst⁻¹}
+use Rattle.std.proofs.Math.Path.{ap}
 use Rattle.std.proofs.Common.{◌∙◌, eq-eqb}
-use Rattle.base_laws.specs.Bools.{clash}
-use Rattle.base_laws.specs.Masks.{has_zero}
 use Rattle.settings_values.specs.Definitions.{settings_ok}
-use Rattle.base_ids.specs.Definitions.{none, unless}
-use Rattle.base_ids.specs.Refusals.{unless_true}
+use Rattle.base_ids.specs.Definitions.{none}
 use Rattle.message_format.specs.Definitions.{contents_of}
 use Rattle.report_rows.specs.declared.latest.Latest.{Latest}
 use Rattle.report_rows.specs.Definitions.{latest_at}
@@ -17,14 +14,11 @@ use Rattle.report_rows.specs.Laws.{noted-at, none_latest}
 use Rattle.state_planner.specs.declared.State.{State}
 use Rattle.state_planner.specs.declared.Decided.{Decided}
 use Rattle.state_planner.specs.declared.DecidedWithin.{DecidedWithin}
-use Rattle.state_planner.specs.Definitions.{sound, fresh, keeping, marked, planned, desk_ok, entry_refusal, report_refusal, drop_refusal, decide_refusal, fetched_refusal, prepared_refusal, after_report, after_drop, after_fetched, after_prepared, Decides, DecidesWithin}
+use Rattle.state_planner.specs.Definitions.{fresh, keeping, marked, planned, desk_ok, report_refusal, drop_refusal, decide_refusal, fetched_refusal, prepared_refusal, after_report, after_drop, after_fetched, after_prepared, Decides, DecidesWithin}
 use Rattle.report_desk.specs.Definitions.{desk_with}
-use Rattle.state_laws.specs.Fresh.{fresh_sound}
-use Rattle.state_laws.specs.Noting.{RecallsReports}
-use Rattle.state_laws.specs.AfterReport.{report_sound, report_recalled, report-desk}
-use Rattle.state_laws.specs.AfterDrop.{drop_latest, drop_exact, drop_sound}
-use Rattle.state_laws.specs.AfterMarks.{fetched_sound, prepared_sound}
-use Rattle.state_laws.specs.AfterDecide.{SoundPlanned, decided_state, decide_sound, within_state, within_sound}
+use Rattle.state_laws.specs.AfterReport.{report-desk}
+use Rattle.state_laws.specs.AfterDrop.{drop_latest}
+use Rattle.state_laws.specs.AfterDecide.{SoundPlanned, decided_state, within_state}
 
 pub data Reached (σ : List ℕ) : State → List ℕ → Type 0 where
   starting : (d : List ℕ) → settings_ok σ ≡ true → desk_ok d ≡ true → Reached σ fresh d
@@ -37,15 +31,6 @@ pub data Reached (σ : List ℕ) : State → List ℕ → Type 0 where
   preparing : (x : State) (d : List ℕ) (n : ℕ) → Reached σ x d → prepared_refusal σ x d n ≡ none → Reached σ (after_prepared x n) d
 
 module _ (σ : List ℕ) where
-  pub reached_sound : {x : State} {d : List ℕ} → Reached σ x d → sound σ x d ≡ true
-  reached_sound (starting d s l) = fresh_sound σ d
-  reached_sound (reporting x d w r h) = report_sound σ x d w h
-  reached_sound (dropping x d n r h) = drop_sound σ x d n h
-  reached_sound (deciding x d a r h w) = decide_sound σ x d a h w
-  reached_sound (improving x d n a r h w) = within_sound σ x d n a h w
-  reached_sound (fetching x d n r h) = fetched_sound σ x d n h
-  reached_sound (preparing x d n r h) = prepared_sound σ x d n h
-
   pub reached_settings : {x : State} {d : List ℕ} → Reached σ x d → settings_ok σ ≡ true
   reached_settings (starting d s l) = s
   reached_settings (reporting x d w r h) = reached_settings r
@@ -64,27 +49,9 @@ module _ (σ : List ℕ) where
   reached_desk (fetching x d n r h) = reached_desk r
   reached_desk (preparing x d n r h) = reached_desk r
 
-  -- a decision leaves held nodes and what is remembered
-  recalls_on : (x y : State) (d : List ℕ) → SoundPlanned σ x d y → RecallsReports x.held d x.latest → RecallsReports y.held d y.latest
-  unfolding planned
-  recalls_on x y d k r =
-      ⊎_elim (λ e. subst⁻¹ (λ (z : State). RecallsReports z.held d z.latest) e r)
-      (λ b. subst⁻¹ (λ (z : State). RecallsReports z.held d z.latest) b.1 r) k
-
   latest_on : (x y : State) (d : List ℕ) → SoundPlanned σ x d y → y.latest ≡ x.latest
   unfolding planned
   latest_on x y d k = ⊎_elim (λ e. ap (λ (z : State). z.latest) e) (λ b. ap (λ (z : State). z.latest) b.1) k
-
-  -- of each held node the view of its report is remembered
-  pub reached_recalls : {x : State} {d : List ℕ} → Reached σ x d → RecallsReports x.held d x.latest
-  unfolding fresh planned after_fetched after_prepared marked
-  reached_recalls (starting d s l) = λ n k h. clash h (has_zero n)
-  reached_recalls (reporting x d w r h) = report_recalled σ x d w h (reached_recalls r)
-  reached_recalls (dropping x d n r h) = drop_exact x.phase x d n (reached_recalls r)
-  reached_recalls (deciding x d a r h w) = recalls_on x a.state d (decided_state σ x d a h w) (reached_recalls r)
-  reached_recalls (improving x d n a r h w) = recalls_on x a.state d (within_state σ x d n a h w) (reached_recalls r)
-  reached_recalls (fetching x d n r h) = reached_recalls r
-  reached_recalls (preparing x d n r h) = reached_recalls r
 
   -- the greatest view that node n has reported on the way, 0: none
   unfoldable pub greatest_reported : {x : State} {d : List ℕ} → Reached σ x d → ℕ → ℕ
@@ -108,11 +75,3 @@ module _ (σ : List ℕ) where
   reached_greatest (improving x d m a r h w) n k = ap (λ (q : Latest). latest_at q n) (latest_on x a.state d (within_state σ x d m a h w)) ∙ reached_greatest r n k
   reached_greatest (fetching x d m r h) n k = reached_greatest r n k
   reached_greatest (preparing x d m r h) n k = reached_greatest r n k
-
-  -- of rows 1 to 4 only the last can refuse
-  pub reached_entry : (x : State) (d : List ℕ) → Reached σ x d → (inPhase : Bool) → entry_refusal (desk_ok d) σ x d inPhase ≡ unless inPhase 4 none
-  unfolding entry_refusal
-  reached_entry x d r inPhase =
-      unless_true (desk_ok d) 1 _ (reached_desk r)
-      ∙ unless_true (settings_ok σ) 2 _ (reached_settings r)
-      ∙ unless_true (sound σ x d) 3 _ (reached_sound r)

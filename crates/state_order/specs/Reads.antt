@@ -14,7 +14,8 @@ use Rattle.report_views.specs.declared.Plan.{Plan}
 use Rattle.report_views.specs.Definitions.{holder_at, target_at}
 use Rattle.report_views.specs.Updates.{updates_at, up_to, kept_updates, fetched_updates}
 use Rattle.plan_order.specs.Definitions.{cut_of, order_len, order_word, order_body, order_contents}
-use Rattle.message_inverse_laws.specs.Calls.{read_as, written_buffer, written_words}
+use Rattle.message_inverse_laws.specs.Calls.{read_as}
+use Rattle.message_inverse_laws.proofs.Calls.{written_buffer, written_words}
 use Rattle.state_planner.specs.declared.State.{State}
 use Rattle.state_order.specs.Definitions.{ordered, order_buffer}
 use Rattle.state_order.specs.Taken.{taken_restored, writer_takes, written_answer, written_leaves}

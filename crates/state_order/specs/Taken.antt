@@ -29,7 +29,8 @@ use Rattle.report_views.specs.Definitions.{holder_at, target_at, plan_sound, pla
 use Rattle.report_views.specs.Updates.{updates_at, up_to, kept_updates, fetched_updates}
 use Rattle.plan_order.specs.Definitions.{cut_of, order_contents}
 use Rattle.plan_order.specs.Readable.{ReadableSlot, Holders}
-use Rattle.plan_order_laws.specs.Accepted.{planned_holders, held_readable, order_restored, order_accepted}
+use Rattle.plan_order_laws.proofs.Accepted.{planned_holders, held_readable, order_restored}
+use Rattle.plan_order_laws.proofs.AcceptedAfter.{order_accepted}
 use Rattle.state_planner.specs.declared.State.{State}
 use Rattle.state_planner.specs.Definitions.{desk_ok, entry_refusal, event_refusal, order_refusal}
 use Rattle.state_planner.specs.Refusing.{call_refusal}

@@ -14,7 +14,8 @@ use Rattle.report_views.specs.declared.Phase.{Phase}
 use Rattle.plan_restart.specs.Kept.{held_below}
 use Rattle.plan_page.specs.declared.Page.{Page}
 use Rattle.plan_page.specs.Definitions.{PageOf, blank_page}
-use Rattle.plan_page.specs.Same.{AgreeOn, same_page}
+use Rattle.plan_page.specs.Same.{AgreeOn}
+use Rattle.plan_page.proofs.Same.{same_page}
 use Rattle.state_planner.specs.declared.State.{State}
 use Rattle.state_planner.specs.Definitions.{sound, desk_ok}
 use Rattle.state_planner.specs.Entry.{sound_given}

@@ -8,7 +8,8 @@ use Rattle.std.proofs.Common.{◌∙◌, arith}
 use borrow.Author.Tests.{eqb-true, lt-ltb}
 use Rattle.base_laws.specs.Bools.{either, clash, no_true}
 use Rattle.base_laws.specs.Definitions.{has, without}
-use Rattle.base_laws.specs.Masks.{has_zero, minus_subset}
+use Rattle.base_laws.specs.Masks.{has_zero}
+use Rattle.base_laws.proofs.Masks.{minus_subset}
 use Rattle.base_ids.specs.declared.Refusal.{Refusal}
 use Rattle.base_ids.specs.Definitions.{none, accepted, unless, first_of}
 use Rattle.base_ids.specs.Refusals.{accepted_none, first_left}
@@ -29,7 +30,7 @@ use Rattle.state_planner.specs.Entry.{NodeTaken, node_given, entry_given}
 use Rattle.state_planner.specs.Events.{is_accepted}
 use Rattle.state_planner.specs.EventLaws.{outcome_accepted, answer_accepts}
 use Rattle.state_laws.specs.Exactly.{plans_where_possible, possible_where_planned}
-use Rattle.state_laws.specs.Once.{decides_unique}
+use Rattle.state_laws.proofs.Once.{decides_unique}
 use Rattle.state_laws.specs.Parts.{gathering_is}
 use Rattle.state_preview.specs.declared.Warning.{Warning}
 use Rattle.state_preview.specs.Definitions.{preview_refusal, Previews, Warns}

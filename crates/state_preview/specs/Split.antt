@@ -10,7 +10,8 @@ use borrow.Author.Tests.{eqb-true, eq-eqb}
 use Rattle.base_laws.specs.Bools.{either, clash, and_both, and_left, and_right, or-holds, not_of_false, of_not_true}
 use Rattle.base_laws.specs.Below.{all_at}
 use Rattle.base_laws.specs.Definitions.{has, within, subset, minus}
-use Rattle.base_laws.specs.Masks.{has_minus, has_zero, has_full, subset_has, subset_of, subset_le, within_has, lt_within, within_subset, width}
+use Rattle.base_laws.specs.Masks.{has_minus, has_zero, has_full, subset_has, subset_of, subset_le, within_has, lt_within, width}
+use Rattle.base_laws.proofs.Masks.{within_subset}
 use Rattle.settings_values.specs.Definitions.{nodes}
 use Rattle.report_views.specs.declared.Phase.TheVariants.{Gathering}
 use Rattle.report_views.specs.Definitions.{slot_ok, slots_ok, layout_blank, nothing_kept}

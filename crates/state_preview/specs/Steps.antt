@@ -7,7 +7,8 @@ use Rattle.std.proofs.Math.Path.{ap, ap₂}
 use borrow.Author.Tests.{eqb-true, eq-eqb, lt-ltb}
 use Rattle.base_laws.specs.Bools.{either, clash, no_true, and_fails_right, not_of_true}
 use Rattle.base_laws.specs.Definitions.{has, minus, without}
-use Rattle.base_laws.specs.Masks.{has_without, minus_subset, subset_of, within_has, width}
+use Rattle.base_laws.specs.Masks.{has_without, subset_of, within_has, width}
+use Rattle.base_laws.proofs.Masks.{minus_subset}
 use Rattle.base_ids.specs.declared.Refusal.{Refusal}
 use Rattle.base_ids.specs.Definitions.{refused, none, accepted, unless, first_of}
 use Rattle.settings_values.specs.Definitions.{nodes, Settings}

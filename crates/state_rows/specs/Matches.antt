@@ -12,7 +12,8 @@ use Rattle.report_views.specs.declared.Plan.{Plan}
 use Rattle.report_views.specs.declared.Phase.{Phase}
 use Rattle.report_views.specs.declared.Phase.TheVariants.{Gathering, Ordered, Preparing, Committed}
 use Rattle.report_views.specs.Definitions.{mask_at, quorum_of, slots_ok, holders_of, targets_of, is_met, layout_tidy, shard_planned, all_moves, plan_blank, plan_sound, plan_fits}
-use Rattle.report_views.specs.PlanLaws.{same_shard, planned_same}
+use Rattle.report_views.specs.PlanLaws.{same_shard}
+use Rattle.report_views.proofs.PlanLaws.{planned_same}
 use Rattle.plan_quorum.specs.Quorum.{quorum_by}
 use Rattle.plan_seen.specs.declared.Seen.{Seen}
 use Rattle.plan_seen.specs.Sight.{seen_of, seen_holders, seen_targets, quorum_seen}

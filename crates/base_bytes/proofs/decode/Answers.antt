@@ -4,7 +4,8 @@ use mathlib.Core.Path.{refl, sym, ◌∙◌}
 use Prim.Native.Nat.{◌-◌}
 use native.Mathlib.Omega.{arith}
 use lib.ListN.{length-set}
-use Rattle.base_laws.specs.Tables.{filled_none, filled_turn}
+use Rattle.base_laws.specs.Tables.{filled_none}
+use Rattle.base_laws.proofs.Tables.{filled_turn}
 use Rattle.base_bytes.specs.Definitions.{word_at}
 use Rattle.base_bytes.specs.Words.{words_filled}
 use borrow.Author.Rules.{rules}

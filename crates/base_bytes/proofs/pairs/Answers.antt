@@ -4,7 +4,8 @@ use mathlib.Core.Path.{sym}
 use Prim.Native.Nat.{◌-◌, ◌≤◌}
 use native.Mathlib.Omega.{arith}
 use lib.Dec.{lit≤}
-use Rattle.base_laws.specs.Tables.{filled_none, filled_turn, filled_end}
+use Rattle.base_laws.specs.Tables.{filled_none}
+use Rattle.base_laws.proofs.Tables.{filled_turn, filled_end}
 use Rattle.base_bytes.specs.Words.{pair_at}
 use Rattle.base_bytes.proofs.pairs.Goals as goal
 

@@ -2,7 +2,8 @@
 use mathlib.Core.Path.{sym}
 use native.Mathlib.Omega.{arith}
 use Prim.Native.Nat.{◌^◌}
-use Rattle.base_laws.specs.Masks.{shl-single, single_lt, and_not, without_same, has_past}
+use Rattle.base_laws.specs.Masks.{shl-single, single_lt, and_not, has_past}
+use Rattle.base_laws.proofs.Masks.{without_same}
 use Rattle.base_masks.proofs.without.Goals as goal
 
 pub returns-then-n-lt32 : goal.returns-then-n-lt32

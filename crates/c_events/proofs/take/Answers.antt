@@ -14,7 +14,9 @@ use borrow.Author.Rules.{rules}
 use Rattle.c_events.proofs.take.Goals as goal
 
 pub returns-then-refusal-ne0 : goal.returns-then-refusal-ne0
-returns-then-refusal-ne0 c = take_refused _ _ _ _ _ _ _ c.enter_planner-entry.ensures c.if-refusal-ne0.true
+returns-then-refusal-ne0 c =
+    let t = take_refused c.args.role c.args.event c.args.settings.now c.args.state.now c.args.desk.now c.args.node _ c.enter_planner-entry.ensures c.if-refusal-ne0.true in
+    record { answer = t.0; bytes = t.1 }
 
 pub slice_bounds-outcome-count : goal.slice_bounds-outcome-count
 slice_bounds-outcome-count c = search rules
@@ -42,5 +44,6 @@ returns c =
     let a = c.args in
     let e = c.enter_planner-entry.ensures in
     let p = desk_passes (by_planner a.role) a.settings.now a.state.now a.desk.now _ e c.if-refusal-ne0.false in
-    take_done _ _ _ _ _ _ _ e c.if-refusal-ne0.false _
-    (c.outcome-o.ensures ∙ ap (λ (s : List ℕ). happened a.event s c.enter_planner-entry.result.state (words_in a.desk.now) a.node) (settings_front _ _ _ _ _ e p.settings-ok)) c.keep.ensures
+    let t = take_done c.args.role c.args.event c.args.settings.now c.args.state.now c.args.desk.now c.args.node _ e c.if-refusal-ne0.false _
+    (c.outcome-o.ensures ∙ ap (λ (s : List ℕ). happened a.event s c.enter_planner-entry.result.state (words_in a.desk.now) a.node) (settings_front _ _ _ _ _ e p.settings-ok)) c.keep.ensures in
+    record { answer = t.0; bytes = t.1 }

@@ -7,4 +7,4 @@ pub returns : goal.returns
 returns c =
     let front = c.settings_of-s.ensures.front in
     let given = c.write.ensures in
-    (given.0 ∙ writing_within _ _ _ _ _ front, given.1 ∙ buffer_within _ _ _ _ _ front)
+    (record { answer = given.answer ∙ writing_within _ _ _ _ _ front; words = given.words ∙ buffer_within _ _ _ _ _ front })

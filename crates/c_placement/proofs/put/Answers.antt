@@ -5,7 +5,7 @@ use Rattle.c_placement.specs.Copies.{copy_start, copy_turn, copy_long, copy_end}
 use Rattle.c_placement.proofs.put.Goals as goal
 
 pub loop-n-init : goal.loop-n-init
-loop-n-init c = (omega arith, c.requires.0, copy_start c.args.from.now c.args.owners.now)
+loop-n-init c = (omega arith, c.requires.owners_len, copy_start c.args.from.now c.args.owners.now)
 
 pub bounds-owners-n : goal.bounds-owners-n
 bounds-owners-n c =
@@ -29,4 +29,4 @@ pub returns : goal.returns
 returns c =
     let l = c.loop-n in
     let a = c.args in
-    copy_end a.from.now a.owners.now 32 l.n l.owners c.requires.1 l.invariant.1 l.invariant.0 c.loop-n-test.false l.invariant.2
+    copy_end a.from.now a.owners.now 32 l.n l.owners c.requires.from_len l.invariant.1 l.invariant.0 c.loop-n-test.false l.invariant.2

@@ -5,7 +5,7 @@ use mathlib.Core.Path.{refl}
 use native.Mathlib.Omega.{arith}
 use lib.Dec.{lit≤}
 use lib.ListN.{get_or}
-use Rattle.base_laws.specs.Tables.{fill_start, fill_turn, fill_end}
+use Rattle.base_laws.proofs.Tables.{fill_start, fill_turn, fill_end}
 use Rattle.base_ids.specs.declared.Node.{Node}
 use Rattle.c_state_words.specs.Definitions.{nodes_at}
 use Rattle.c_state_words.proofs.nodes_at.Goals as goal

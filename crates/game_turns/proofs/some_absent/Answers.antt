@@ -1,6 +1,4 @@
 -- meets its contract
-use Prim.Native.Nat.{◌-◌}
-use mathlib.Core.Bool.{false}
 use mathlib.Core.Path.{◌≡◌, sym, ◌∙◌}
 use native.Mathlib.Omega.{arith}
 use Rattle.base_laws.specs.Below.{any_none, any_more, any_at}

@@ -1,19 +1,19 @@
 -- Who wins: each return is a case of the turns. Assumes nothing.
 use Prim.Native.Nat.{ℕ, ◌<◌, ◌-◌, ◌*◌, ◌^◌}
-use mathlib.Core.Bool.{true, not}
-use mathlib.Core.Logic.{⊎_elim}
+use mathlib.Core.Bool.{not}
 use mathlib.Core.Path.{◌≡◌, sym, ap, ◌∙◌, subst⁻¹}
 use native.Mathlib.Omega.{arith}
-use borrow.Author.Tests.{not-true, not-false}
 use Rattle.base_laws.specs.Bools.{or_left, or_right, not_of_false}
 use Rattle.base_laws.specs.Definitions.{has, without}
-use Rattle.base_laws.specs.Below.{all_none, all_more}
+use Rattle.base_laws.specs.Below.{all_none}
+use Rattle.base_laws.proofs.Below.{all_more}
 use Rattle.base_laws.specs.Masks.{without_lt}
 use Rattle.game_rules.specs.Turns.{crew_turn, survives}
 use Rattle.game_turns.specs.Table.{plan_at}
 use Rattle.game_turns.specs.Steps.{outage_none, outage_passes, outage_lost, outage_kept, won_crew, won_passing, won_taking}
 use borrow.Author.Rules.{rules}
 use Rattle.game_turns.proofs.winner.Goals as goal
+use Rattle.game_turns.proofs.winner.Goals.{then-has+else-not-crew, else-has}
 
 pub returns-then-rounds-eq0 : goal.returns-then-rounds-eq0
 returns-then-rounds-eq0 c =
@@ -53,8 +53,8 @@ crew-requires-then-has c =
     let s = c in
     let a = s.args in
     let o = c.loop-o.o in (
-      s.requires.0.0,
-      subst⁻¹ (λ (x : ℕ). x < 2 ^ a.nodes) c.without.ensures (without_lt a.nodes a.held o s.requires.0.1),
+      s.requires.nodes_bound.0,
+      subst⁻¹ (λ (x : ℕ). x < 2 ^ a.nodes) c.without.ensures (without_lt a.nodes a.held o s.requires.nodes_bound.1),
     )
 
 pub returns-then-not-crew : goal.returns-then-not-crew
@@ -70,7 +70,7 @@ returns-then-not-crew c =
     let q =
     ap (λ (x : ℕ). crew_turn a.nodes (plan_at a.table.now) (2 * a.rounds - 1) x l.o) (sym c.without.ensures)
     ∙ sym k.ensures ∙ c.if-not-crew.true in
-    won_taking a.nodes a.table.now a.rounds a.held l.o s.requires.0.0 z below l.invariant.1 p q
+    won_taking a.nodes a.table.now a.rounds a.held l.o s.requires.nodes_bound.0 z below l.invariant.1 p q
     (outage_lost a.nodes a.table.now (2 * a.rounds) a.held l.o (λ e. some (omega (arith, e))) z below p q)
 
 pub loop-o-preserved : goal.loop-o-preserved
@@ -80,10 +80,11 @@ loop-o-preserved c =
     let h = c.has in (
       omega (arith, c.loop-o-test.true),
       all_more l.o (survives a.nodes (plan_at a.table.now) (2 * a.rounds - 1) a.held) l.invariant.1
-          (⊎_elim (λ w. or_right (not (has a.held l.o))
-          (ap (λ (x : ℕ). crew_turn a.nodes (plan_at a.table.now) (2 * a.rounds - 1) x l.o) (sym w.1.ensures) ∙ sym w.2.ensures ∙ not-false w.2.result w.3.left))
-          (λ w. or_left (crew_turn a.nodes (plan_at a.table.now) (2 * a.rounds - 1) (without a.held l.o) l.o) (not_of_false (sym h.ensures ∙ w.left)))
-          c.if-has.branch),
+          (elim c.if-has.branch [
+            | then-has+else-not-crew w ↦ or_right (not (has a.held l.o))
+                (ap (λ (x : ℕ). crew_turn a.nodes (plan_at a.table.now) (2 * a.rounds - 1) x l.o) (sym w.without.ensures) ∙ sym w.if-not-crew.ensures)
+            | else-has w ↦ or_left (crew_turn a.nodes (plan_at a.table.now) (2 * a.rounds - 1) (without a.held l.o) l.o) (not_of_false (sym w.if-has.ensures))
+          ]),
     )
 
 pub returns : goal.returns

@@ -9,7 +9,7 @@ use Rattle.settings_values.specs.Definitions.{shards, Settings}
 use Rattle.message_format.specs.Definitions.{members_of, row10, row11_at}
 use Rattle.message_contents.specs.Gathered.{shard_masks}
 use Rattle.message_contents.specs.Laws.{masks_row10}
-use Rattle.base_laws.specs.Loops.{bad_fails, bad-holds}
+use Rattle.base_laws.proofs.Loops.{bad_fails, bad-holds}
 use Rattle.message_contents.specs.Structure.{records_structure, records_10, records_11, records_pass}
 use Rattle.message_contents.proofs.records_refusal.Goals as goal
 

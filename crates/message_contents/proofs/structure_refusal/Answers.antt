@@ -3,7 +3,7 @@ use mathlib.Core.Path.{sym, ◌∙◌}
 use borrow.Author.Tests.{not-true, not-false}
 use Rattle.message_format.specs.Definitions.{shard_at}
 use Rattle.message_contents.specs.Laws.{shards_small}
-use Rattle.base_laws.specs.Loops.{bad-holds}
+use Rattle.base_laws.proofs.Loops.{bad-holds}
 use Rattle.message_contents.specs.Structure.{kind_told, shard_told, sequence_told, missing_told, nothing_told}
 use borrow.Author.Rules.{rules}
 use Rattle.message_contents.proofs.structure_refusal.Goals as goal
@@ -39,8 +39,12 @@ returns-then-place-len c = let a = c.args in
 
 pub complete-requires : goal.complete-requires
 complete-requires c = let a = c.args in
-    let shards = c.shards-shard in record { settings = search rules; len_bound = search rules; small_shards = shards_small a.settings.now a.body.now a.len (search rules)
-            (bad-holds a.len (shard_at a.settings.now a.body.now) shards.result shards.ensures c.if-shard-len.false) }
+    let shards = c.shards-shard in record {
+      settings = search rules;
+      len_bound = search rules;
+      small_shards = shards_small a.settings.now a.body.now a.len (search rules)
+          (bad-holds a.len (shard_at a.settings.now a.body.now) shards.result shards.ensures c.if-shard-len.false);
+    }
 
 pub returns-then-not-complete : goal.returns-then-not-complete
 returns-then-not-complete c = let a = c.args in

@@ -5,15 +5,15 @@ use Rattle.program_input.specs.Filling.{fills_fall}
 use Rattle.mondays.specs.Program.{stands_none, stands_turn, stands_all, goes_open}
 use Rattle.mondays.proofs.print_all.Goals as goal
 
-pub loop-block-init : goal.loop-block-init
-loop-block-init c = stands_none _ _ c.start.ensures c.start-2.ensures
+pub loop-stream-init : goal.loop-stream-init
+loop-stream-init g c = stands_none _ _ c.start.ensures c.start-2.ensures
 
-pub loop-block-smaller : goal.loop-block-smaller
-loop-block-smaller c =
-    fills_fall (omega (arith, c.turn-tallied.ensures.room)) (goes_open c.loop-block.tallied (sym c.is_going_on.ensures ∙ c.loop-block-test.true)) c.turn-tallied.ensures.fills
+pub loop-stream-smaller : goal.loop-stream-smaller
+loop-stream-smaller g c =
+    fills_fall (omega (arith, c.turn-tallied.ensures.room)) (goes_open c.loop-stream.tallied (sym c.is_going_on.ensures ∙ c.loop-stream-test.true)) c.turn-tallied.ensures.fills
 
-pub loop-block-preserved : goal.loop-block-preserved
-loop-block-preserved c = stands_turn c.loop-block.invariant (sym c.is_going_on.ensures ∙ c.loop-block-test.true) c.turn-tallied.ensures
+pub loop-stream-preserved : goal.loop-stream-preserved
+loop-stream-preserved g c = stands_turn c.loop-stream.invariant (sym c.is_going_on.ensures ∙ c.loop-stream-test.true) c.turn-tallied.ensures
 
 pub returns : goal.returns
-returns c = stands_all c.loop-block.invariant (sym c.is_going_on.ensures ∙ c.loop-block-test.false)
+returns g c = stands_all c.loop-stream.invariant (sym c.is_going_on.ensures ∙ c.loop-stream-test.false)

@@ -5,7 +5,7 @@ use borrow.Author.Rules.{rules}
 use Rattle.mondays.proofs.turn.Goals as goal
 
 pub returns-then-is_cut : goal.returns-then-is_cut
-returns-then-is_cut c = turn_cut (search rules) c.fill-filled.ensures (sym c.is_cut.ensures ∙ c.if-is_cut.true)
+returns-then-is_cut g c = turn_cut (search rules) c.fill-filled.ensures (sym c.is_cut.ensures ∙ c.if-is_cut.true)
 
 pub returns : goal.returns
-returns c = turn_taken (search rules) c.fill-filled.ensures (sym c.is_cut.ensures ∙ c.if-is_cut.false) c.print_block-shown.ensures
+returns g c = turn_taken (search rules) c.fill-filled.ensures (sym c.is_cut.ensures ∙ c.if-is_cut.false) c.print_block-shown.ensures

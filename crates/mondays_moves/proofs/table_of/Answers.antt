@@ -3,7 +3,8 @@ use Prim.Native.Nat.{ℕ, ◌-◌}
 use mathlib.Core.Path.{refl, sym}
 use native.Mathlib.Omega.{arith}
 use lib.ListN.{get_or, replicate, length-replicate}
-use Rattle.base_laws.specs.Tables.{filled_none, filled_turn, padded_stored}
+use Rattle.base_laws.specs.Tables.{filled_none}
+use Rattle.base_laws.proofs.Tables.{filled_turn, padded_stored}
 use borrow.Author.Rules.{rules}
 use Rattle.mondays_moves.proofs.table_of.Goals as goal
 

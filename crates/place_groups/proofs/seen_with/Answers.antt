@@ -11,7 +11,7 @@ returns-then-not-has c = simp (sym c.has.ensures, c.if-not-has.true)
 pub with-requires : goal.with-requires
 with-requires c =
     let s = c.requires.settings in
-    omega (arith, c.set_of.ensures, s.set_below c.args.n.settings c.requires.n_bound, s.sizes.sets_to)
+    omega (arith, c.set_of.ensures, s.set_below c.args.n.0 c.requires.n_bound, s.sizes.sets_to)
 
 pub returns : goal.returns
 unfolding seen_with

@@ -16,20 +16,20 @@ loop-g-init c = (omega arith, refl, stage_start refl refl refl)
 
 pub place_group-placed-requires : goal.place_group-placed-requires
 place_group-placed-requires c =
-    let p = c.requires in record { settings = p.0; held_bound = p.1; sheet_value = c.sheet-sheet.ensures; g_bound = omega arith; laid_so_far = c.loop-g.invariant.2 }
+    let p = c.requires in record { settings = p.settings; held_bound = p.held_bound; sheet_value = c.sheet-sheet.ensures; g_bound = omega arith; laid_so_far = c.loop-g.invariant.2 }
 
 pub returns-then-not-placed : goal.returns-then-not-placed
 returns-then-not-placed c =
     let g = c.place_group-placed in
     record {
-      laid = λ e. clash e (c.if-not-placed.true);
+      laid = λ e. clash e (not-true c.place_group-placed.result.found c.if-not-placed.true);
       unplaced = λ e. g.ensures.unplaced e;
     }
 
 pub loop-g-preserved : goal.loop-g-preserved
 loop-g-preserved c =
     let g = c.place_group-placed in
-    let e = c.if-not-placed.false in (omega arith, e, g.ensures.more e)
+    let e = (not-false c.place_group-placed.result.found c.if-not-placed.false) in (omega arith, e, g.ensures.more e)
 
 pub returns : goal.returns
 returns c =

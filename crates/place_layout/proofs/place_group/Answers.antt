@@ -12,7 +12,7 @@ returns-then-not-has_shards c =
     let p = c.requires in
     let h = c.has_shards in
     record {
-      more = λ e. stage_none p.0 p.1.1.1.1 (sym h.ensures ∙ c.if-not-has_shards.true) refl refl refl;
+      more = λ e. stage_none p.settings p.laid_so_far (sym h.ensures ∙ c.if-not-has_shards.true) refl refl refl;
       unplaced = λ e. clash refl e;
     }
 
@@ -22,7 +22,7 @@ returns-then-not-answer c =
     let s = c.solve-answer in
     record {
       more = λ e. clash e refl;
-      unplaced = λ e. none_here p.0 p.1.0 p.1.1.1.1 s.ensures p.1.1.1.0 (c.if-not-answer.true) refl refl refl;
+      unplaced = λ e. none_here p.settings p.held_bound p.laid_so_far s.ensures p.g_bound (not-true c.solve-answer.result.exists c.if-not-answer.true) refl refl refl;
     }
 
 pub overflow_add-result : goal.overflow_add-result
@@ -34,10 +34,10 @@ overflow_add-result c =
       fits =
           omega (
             arith,
-            p.1.1.1.0,
-            p.1.1.1.1.small,
+            p.g_bound,
+            p.laid_so_far.small,
             c.group_moves-moved.ensures,
-            moved_small p.0 p.1.0 p.1.1.1.1 s.ensures (m.if-not-answer.false) m.masks_with-masks.ensures,
+            moved_small p.settings p.held_bound p.laid_so_far s.ensures (not-false m.solve-answer.result.exists m.if-not-answer.false) m.masks_with-masks.ensures,
           );
     }
 
@@ -48,7 +48,7 @@ returns c =
     let p = m.requires in
     record {
       more = λ e.
-          stage_more p.0 p.1.0 p.1.1.1.1 s.ensures (m.if-not-answer.false) m.masks_with-masks.ensures
+          stage_more p.settings p.held_bound p.laid_so_far s.ensures (not-false m.solve-answer.result.exists m.if-not-answer.false) m.masks_with-masks.ensures
           c.group_moves-moved.ensures refl refl;
       unplaced = λ e. clash refl e;
     }

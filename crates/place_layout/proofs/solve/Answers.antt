@@ -9,8 +9,8 @@ least-requires c =
     let s = m in
     let a = s.args in
     sheet_told a.settings.now a.held (λ s. get_or a.old.now s 0) a.g m.sets-sets.result m.needs-needs.result
-    m.caps-caps.result m.costs-costs.result a.sheet.now s.requires.0 s.requires.1.0
-    m.sets-sets.ensures m.needs-needs.ensures m.caps-caps.ensures m.costs-costs.ensures s.requires.1.1
+    m.caps-caps.result m.costs-costs.result a.sheet.now s.requires.settings s.requires.held_bound
+    m.sets-sets.ensures m.needs-needs.ensures m.caps-caps.ensures m.costs-costs.ensures s.requires.sheet_value
 
 pub returns : goal.returns
 returns c =

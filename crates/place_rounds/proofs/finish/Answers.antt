@@ -33,7 +33,7 @@ returns-then-not-end c =
           record {
             unplaced =
                 record {
-                  lowest = ends_none p.0 p.1.0 l.invariant.1 c.loop-g-test.true (r.ensures.none (c.if-not-end.true));
+                  lowest = ends_none p.settings p.held_bound l.invariant.1 c.loop-g-test.true (r.ensures.none (not-true c.reach_end-end.result.found c.if-not-end.true));
                   masks = refl;
                   total = refl;
                 };
@@ -42,10 +42,10 @@ returns-then-not-end c =
     })
 
 pub masks_with-masks-requires : goal.masks_with-masks-requires
-masks_with-masks-requires c = c.requires.0
+masks_with-masks-requires c = c.requires.settings
 
 pub group_moves-total-requires : goal.group_moves-total-requires
-group_moves-total-requires c = c.requires.0
+group_moves-total-requires c = c.requires.settings
 
 pub overflow_add-total : goal.overflow_add-total
 overflow_add-total c =
@@ -53,8 +53,8 @@ overflow_add-total c =
     let p = m.requires in
     let l = c.loop-g in
     let r = c.reach_end-end in
-    let u = r.ensures.ended (c.if-not-end.false) in
-    omega (arith, l.invariant.1.2.small, c.loop-g-test.true, ends_fits p.0 p.1.0 l.invariant.1 u c.loop-g-test.true c.masks_with-masks.ensures c.group_moves-total.ensures)
+    let u = r.ensures.ended (not-false c.reach_end-end.result.found c.if-not-end.false) in
+    omega (arith, l.invariant.1.2.small, c.loop-g-test.true, ends_fits p.settings p.held_bound l.invariant.1 u c.loop-g-test.true c.masks_with-masks.ensures c.group_moves-total.ensures)
 
 pub overflow_add-floor : goal.overflow_add-floor
 overflow_add-floor c =
@@ -62,8 +62,8 @@ overflow_add-floor c =
     let p = m.requires in
     let l = c.loop-g in
     let r = c.reach_end-end in
-    let u = r.ensures.ended (c.if-not-end.false) in
-    let k = ends_more p.0 p.1.0 l.invariant.1 u c.loop-g-test.true c.masks_with-masks.ensures c.group_moves-total.ensures in
+    let u = r.ensures.ended (not-false c.reach_end-end.result.found c.if-not-end.false) in
+    let k = ends_more p.settings p.held_bound l.invariant.1 u c.loop-g-test.true c.masks_with-masks.ensures c.group_moves-total.ensures in
     omega (arith, k.2.low, k.2.small, c.loop-g-test.true)
 
 pub loop-g-preserved : goal.loop-g-preserved
@@ -72,8 +72,8 @@ loop-g-preserved c =
     let p = m.requires in
     let l = c.loop-g in
     let r = c.reach_end-end in
-    let u = r.ensures.ended (c.if-not-end.false) in
-    (omega (arith, c.loop-g-test.true), ends_more p.0 p.1.0 l.invariant.1 u c.loop-g-test.true c.masks_with-masks.ensures c.group_moves-total.ensures)
+    let u = r.ensures.ended (not-false c.reach_end-end.result.found c.if-not-end.false) in
+    (omega (arith, c.loop-g-test.true), ends_more p.settings p.held_bound l.invariant.1 u c.loop-g-test.true c.masks_with-masks.ensures c.group_moves-total.ensures)
 
 pub overflow_cast-result : goal.overflow_cast-result
 overflow_cast-result c = let l = c.loop-g in omega (arith, l.invariant.0, l.invariant.1.2.low, l.invariant.1.2.small)
@@ -89,7 +89,7 @@ returns c =
     let four : l.g ≡ 4 = le_antisymm l.invariant.0 (omega (arith, c.loop-g-test.false)) in
     record {
       laid = λ e.
-          turns_end m.requires.0 m.requires.1.0
+          turns_end m.requires.settings m.requires.held_bound
           (subst (λ (k : ℕ). ReachedSoFar a.settings.now a.held (λ s. get_or a.old.now s 0) 128 k l.masks l.total l.floor l.invariant.1.0) four l.invariant.1.2) _ refl;
       unplaced = λ e. clash refl e;
     }

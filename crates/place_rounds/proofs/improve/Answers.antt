@@ -12,7 +12,7 @@ use Rattle.place_rounds.specs.Turns.{turns_start, turns_none, moved_fits, turns_
 use Rattle.place_rounds.proofs.improve.Goals as goal
 
 pub finish-requires : goal.finish-requires
-finish-requires c = let p = c.requires in record { settings = p.0; held_bound = p.1; sheet_value = c.sheet-sheet.ensures }
+finish-requires c = let p = c.requires in record { settings = p.settings; held_bound = p.held_bound; sheet_value = c.sheet-sheet.ensures }
 
 pub returns-then-rounds-ge128 : goal.returns-then-rounds-ge128
 returns-then-rounds-ge128 c =
@@ -30,7 +30,7 @@ loop-g-init c =
     )
 
 pub reach-one-requires : goal.reach-one-requires
-reach-one-requires c = let p = c.requires in record { settings = p.0; held_bound = p.1; sheet_value = c.sheet-sheet.ensures }
+reach-one-requires c = let p = c.requires in record { settings = p.settings; held_bound = p.held_bound; sheet_value = c.sheet-sheet.ensures }
 
 pub returns-then-not-one : goal.returns-then-not-one
 returns-then-not-one c =
@@ -46,7 +46,7 @@ returns-then-not-one c =
           record {
             unplaced =
                 record {
-                  lowest = turns_none p.0 p.1 l.invariant.1 c.loop-g-test.true (r.ensures.none (c.if-not-one.true));
+                  lowest = turns_none p.settings p.held_bound l.invariant.1 c.loop-g-test.true (r.ensures.none (not-true c.reach-one.result.found c.if-not-one.true));
                   masks = refl;
                   total = refl;
                 };
@@ -55,10 +55,10 @@ returns-then-not-one c =
     })
 
 pub masks_with-masks-requires : goal.masks_with-masks-requires
-masks_with-masks-requires c = c.requires.0
+masks_with-masks-requires c = c.requires.settings
 
 pub group_moves-total-requires : goal.group_moves-total-requires
-group_moves-total-requires c = c.requires.0
+group_moves-total-requires c = c.requires.settings
 
 pub overflow_add-total : goal.overflow_add-total
 overflow_add-total c =
@@ -67,8 +67,8 @@ overflow_add-total c =
     let p = m.requires in
     let l = c.loop-g in
     let r = c.reach-one in
-    let u = r.ensures.reached (c.if-not-one.false) in
-    omega (arith, l.invariant.1.small, c.loop-g-test.true, moved_fits p.0 p.1 l.invariant.1 u c.masks_with-masks.ensures c.group_moves-total.ensures)
+    let u = r.ensures.reached (not-false c.reach-one.result.found c.if-not-one.false) in
+    omega (arith, l.invariant.1.small, c.loop-g-test.true, moved_fits p.settings p.held_bound l.invariant.1 u c.masks_with-masks.ensures c.group_moves-total.ensures)
 
 pub overflow_add-floor : goal.overflow_add-floor
 overflow_add-floor c =
@@ -77,8 +77,8 @@ overflow_add-floor c =
     let p = m.requires in
     let l = c.loop-g in
     let r = c.reach-one in
-    let u = r.ensures.reached (c.if-not-one.false) in
-    let k = turns_more p.0 p.1 l.invariant.1 u c.loop-g-test.true c.masks_with-masks.ensures c.group_moves-total.ensures in
+    let u = r.ensures.reached (not-false c.reach-one.result.found c.if-not-one.false) in
+    let k = turns_more p.settings p.held_bound l.invariant.1 u c.loop-g-test.true c.masks_with-masks.ensures c.group_moves-total.ensures in
     omega (arith, k.low, k.small, c.loop-g-test.true)
 
 pub loop-g-preserved : goal.loop-g-preserved
@@ -88,8 +88,8 @@ loop-g-preserved c =
     let p = m.requires in
     let l = c.loop-g in
     let r = c.reach-one in
-    let u = r.ensures.reached (c.if-not-one.false) in
-    (omega (arith, c.loop-g-test.true), turns_more p.0 p.1 l.invariant.1 u c.loop-g-test.true c.masks_with-masks.ensures c.group_moves-total.ensures)
+    let u = r.ensures.reached (not-false c.reach-one.result.found c.if-not-one.false) in
+    (omega (arith, c.loop-g-test.true), turns_more p.settings p.held_bound l.invariant.1 u c.loop-g-test.true c.masks_with-masks.ensures c.group_moves-total.ensures)
 
 pub overflow_cast-result : goal.overflow_cast-result
 overflow_cast-result c = let l = c.loop-g in omega (arith, l.invariant.0, l.invariant.1.low, l.invariant.1.small)
@@ -105,7 +105,7 @@ returns c =
     let four : l.g ≡ 4 = le_antisymm l.invariant.0 (omega (arith, c.loop-g-test.false)) in
     record {
       laid = λ e.
-          turns_end m.requires.0 m.requires.1
+          turns_end m.requires.settings m.requires.held_bound
           (subst (λ (k : ℕ). ReachedSoFar a.settings.now a.held (λ s. get_or a.old.now s 0) (min a.rounds 128) k l.masks l.total l.floor l.left) four l.invariant.1) _ refl;
       unplaced = λ e. clash refl e;
     }

@@ -11,13 +11,13 @@ use Rattle.place_rounds.proofs.onward.Goals as goal
 pub returns-then-first-floor : goal.returns-then-first-floor
 returns-then-first-floor c =
     let p = c.requires in
-    record { standing = p.1; steps = start; stuck = λ e. way_low {n = 0} (way_start p.1) p.0 c.if-first-floor.true; out = λ e. absurd (true≢false e) }
+    record { standing = p.weighed; steps = start; stuck = λ e. way_low {n = 0} (way_start p.weighed) p.low c.if-first-floor.true; out = λ e. absurd (true≢false e) }
 
 pub better-requires : goal.better-requires
 better-requires c =
     let m = c in
     let a = m.args in
-    let e = c.repriced_table-counted.ensures in record { low = subst (λ (t : List ℕ). Low (case_of a.sets.now a.needs.now a.caps.now t 0) a.floor) (sym e) m.requires.0; weighed = subst (λ (t : List ℕ). Weighed (case_of a.sets.now a.needs.now a.caps.now t 0) a.first) (sym e) m.requires.1 }
+    let e = c.repriced_table-counted.ensures in record { low = subst (λ (t : List ℕ). Low (case_of a.sets.now a.needs.now a.caps.now t 0) a.floor) (sym e) m.requires.low; weighed = subst (λ (t : List ℕ). Weighed (case_of a.sets.now a.needs.now a.caps.now t 0) a.first) (sym e) m.requires.weighed }
 
 pub returns : goal.returns
 returns c =

@@ -20,7 +20,7 @@ returns-then-not-has_shards c =
     let h = c.has_shards in
     record {
       reached = λ e.
-          reached_none a.settings.now a.held (λ s. get_or a.old.now s 0) a.g m.requires.0 (sym h.ensures ∙ c.if-not-has_shards.true) a.rounds _;
+          reached_none a.settings.now a.held (λ s. get_or a.old.now s 0) a.g m.requires.settings (sym h.ensures ∙ c.if-not-has_shards.true) a.rounds _;
       none = λ e. clash refl e;
     }
 
@@ -36,7 +36,7 @@ returns-then-not-first c =
     let k = subst (λ (K : Case). WithinAnswer K 0 u.result) t u.ensures in
     record {
       reached = λ e. clash e refl;
-      none = λ e. never_placed a.settings.now a.held o a.g p.0 p.1.0 u.result k (c.if-not-first.true);
+      none = λ e. never_placed a.settings.now a.held o a.g p.settings p.held_bound u.result k (not-true c.start-first.result.exists c.if-not-first.true);
     }
 
 pub returns-then-rounds-eq0 : goal.returns-then-rounds-eq0
@@ -52,13 +52,13 @@ returns-then-rounds-eq0 c =
     let f = c.floor-floor in
     record {
       reached = λ e.
-          reached_start a.settings.now a.held o a.g p.0 p.1.0 u.result k (c.if-not-first.false) a.rounds f.result c.if-rounds-eq0.true
-          (floor_told a.settings.now a.held o a.g p.0 p.1.0 n.result a.sheet.now f.result n.ensures p.1.1 f.ensures);
+          reached_start a.settings.now a.held o a.g p.settings p.held_bound u.result k (not-false c.start-first.result.exists c.if-not-first.false) a.rounds f.result c.if-rounds-eq0.true
+          (floor_told a.settings.now a.held o a.g p.settings p.held_bound n.result a.sheet.now f.result n.ensures p.sheet_value f.ensures);
       none = λ e. clash refl e;
     }
 
 pub moves_of-weight-requires : goal.moves_of-weight-requires
-moves_of-weight-requires c = c.requires.0
+moves_of-weight-requires c = c.requires.settings
 
 pub onward-best-requires : goal.onward-best-requires
 onward-best-requires c =
@@ -73,9 +73,12 @@ onward-best-requires c =
     let k = subst (λ (K : Case). WithinAnswer K 0 u.result) t u.ensures in
     let f = c.floor-floor in
     let v = c.moves_of-weight in
-    let l = floor_told a.settings.now a.held o a.g p.0 p.1.0 n.result a.sheet.now f.result n.ensures p.1.1 f.ensures in record { low = subst (λ (K : Case). Low K f.result) (sym i)
-          (subst (Low (round_case a.settings.now a.held o a.g 1)) (sym l) (low_floor a.settings.now a.held o a.g p.0 p.1.0)); weighed = subst (λ (K : Case). Weighed K (record { exists = true; weight = v.result; owners = u.result.owners })) (sym i)
-          (start_weighed a.settings.now a.held o a.g p.0 p.1.0 u.result k (c.if-not-first.false) v.result v.ensures) }
+    let l = floor_told a.settings.now a.held o a.g p.settings p.held_bound n.result a.sheet.now f.result n.ensures p.sheet_value f.ensures in record {
+      low = subst (λ (K : Case). Low K f.result) (sym i)
+          (subst (Low (round_case a.settings.now a.held o a.g 1)) (sym l) (low_floor a.settings.now a.held o a.g p.settings p.held_bound));
+      weighed = subst (λ (K : Case). Weighed K (record { exists = true; weight = v.result; owners = u.result.owners })) (sym i)
+          (start_weighed a.settings.now a.held o a.g p.settings p.held_bound u.result k (not-false c.start-first.result.exists c.if-not-first.false) v.result v.ensures);
+    }
 
 pub returns : goal.returns
 returns c =
@@ -93,8 +96,8 @@ returns c =
     let b = c.onward-best in
     record {
       reached = λ e.
-          reached_better a.settings.now a.held o a.g p.0 p.1.0 u.result k (c.if-not-first.false) a.rounds v.result f.result b.result
+          reached_better a.settings.now a.held o a.g p.settings p.held_bound u.result k (not-false c.start-first.result.exists c.if-not-first.false) a.rounds v.result f.result b.result
           (subst (λ (K : Case). Improved K a.rounds (record { exists = true; weight = v.result; owners = u.result.owners }) b.result) i b.ensures)
-          (floor_told a.settings.now a.held o a.g p.0 p.1.0 n.result a.sheet.now f.result n.ensures p.1.1 f.ensures);
+          (floor_told a.settings.now a.held o a.g p.settings p.held_bound n.result a.sheet.now f.result n.ensures p.sheet_value f.ensures);
       none = λ e. clash refl e;
     }

@@ -22,7 +22,7 @@ returns-then-not-has_shards c =
     let a = m.args in
     let h = c.has_shards in
     record {
-      ended = λ e. ended_none a.settings.now a.held (λ s. get_or a.old.now s 0) a.g m.requires.0 (sym h.ensures ∙ c.if-not-has_shards.true) _;
+      ended = λ e. ended_none a.settings.now a.held (λ s. get_or a.old.now s 0) a.g m.requires.settings (sym h.ensures ∙ c.if-not-has_shards.true) _;
       none = λ e. clash refl e;
     }
 
@@ -37,9 +37,9 @@ least-best-requires c =
     let y = c.caps-caps in
     let t = c.repriced_table-counted in
     let i = round_tables a.settings.now a.held o a.g 1 x.ensures n.ensures y.ensures c.costs-costs.ensures in
-    subst (SheetFor (case_of x.result n.result y.result t.result 0)) (sym p.1.1)
+    subst (SheetFor (case_of x.result n.result y.result t.result 0)) (sym p.sheet_value)
     (subst (λ (q : List ℕ). SheetFor (case_of x.result n.result y.result q 0) (sheet_of a.settings.now a.held o)) (sym t.ensures)
-    (subst (λ (K : Case). SheetFor K (sheet_of a.settings.now a.held o)) (sym i) (sheet_round a.settings.now a.held o a.g p.0 p.1.0)))
+    (subst (λ (K : Case). SheetFor K (sheet_of a.settings.now a.held o)) (sym i) (sheet_round a.settings.now a.held o a.g p.settings p.held_bound)))
 
 pub returns-then-not-best : goal.returns-then-not-best
 returns-then-not-best c =
@@ -56,7 +56,7 @@ returns-then-not-best c =
     let k = subst (λ (K : Case). LeastAnswer K u.result) i (subst (λ (q : List ℕ). LeastAnswer (case_of x.result n.result y.result q 0) u.result) t.ensures u.ensures) in
     record {
       ended = λ e. clash e refl;
-      none = λ e. never_least a.settings.now a.held o a.g p.0 p.1.0 u.result k (c.if-not-best.true);
+      none = λ e. never_least a.settings.now a.held o a.g p.settings p.held_bound u.result k (not-true c.least-best.result.exists c.if-not-best.true);
     }
 
 pub returns : goal.returns
@@ -75,7 +75,7 @@ returns c =
     let f = c.floor-floor in
     record {
       ended = λ e.
-          ended_least a.settings.now a.held o a.g p.0 p.1.0 u.result k (c.if-not-best.false) f.result
-          (floor_told a.settings.now a.held o a.g p.0 p.1.0 n.result a.sheet.now f.result n.ensures p.1.1 f.ensures);
+          ended_least a.settings.now a.held o a.g p.settings p.held_bound u.result k (not-false c.least-best.result.exists c.if-not-best.false) f.result
+          (floor_told a.settings.now a.held o a.g p.settings p.held_bound n.result a.sheet.now f.result n.ensures p.sheet_value f.ensures);
       none = λ e. clash refl e;
     }

@@ -3,7 +3,7 @@ use Prim.Native.Nat.{ℕ, ◌-◌}
 use mathlib.Core.List.{List}
 use native.Mathlib.Omega.{arith}
 use lib.ListN.{get_or}
-use Rattle.base_laws.specs.Tables.{fill_start, fill_turn, fill_end}
+use Rattle.base_laws.proofs.Tables.{fill_start, fill_turn, fill_end}
 use Rattle.place_rounds.specs.Tables.{repriced, repriced_table}
 use Rattle.place_rounds.proofs.repriced_table.Goals as goal
 

@@ -12,12 +12,12 @@ loop-n-init c =
     let a = c.args in
     let p = c.requires in (
       omega arith,
-      shard_below a.settings.now a.g p.0 a.s p.1.1.1.1.0,
-      p.1.1.1.1.1 ∙ ap (costs_below a.settings.now a.held (λ i. get_or a.old.now i 0) a.g) (let e : a.s * 32 ≡ a.s * 32 + 0 = omega arith in e),
+      shard_below a.settings.now a.g p.settings a.s p.s_value,
+      p.table_value ∙ ap (costs_below a.settings.now a.held (λ i. get_or a.old.now i 0) a.g) (let e : a.s * 32 ≡ a.s * 32 + 0 = omega arith in e),
     )
 
 pub cost_at-requires : goal.cost_at-requires
-cost_at-requires c = let p = c.requires in record { settings = p.0; held_bound = p.1.0; sheet_value = p.1.1.0; w_value = p.1.1.1.0; s_value = p.1.1.1.1.0 }
+cost_at-requires c = let p = c.requires in record { settings = p.settings; held_bound = p.held_bound; sheet_value = p.sheet_value; w_value = p.w_value; s_value = p.s_value }
 
 pub loop-n-preserved : goal.loop-n-preserved
 loop-n-preserved c =

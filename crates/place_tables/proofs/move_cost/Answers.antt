@@ -5,7 +5,8 @@ use mathlib.Core.Path.{◌≡◌, ap, ◌∙◌}
 use mathlib.Core.List.{List}
 use native.Mathlib.Omega.{arith}
 use Rattle.base_sum_laws.specs.Definitions.{sum_below}
-use Rattle.base_sum_laws.specs.Sums.{sum_zero, sum_next}
+use Rattle.base_sum_laws.specs.Sums.{sum_zero}
+use Rattle.base_sum_laws.proofs.Sums.{sum_next}
 use Rattle.place_laws.specs.Cases.{need_in, cap_in, move_cost}
 use Rattle.place_tables.proofs.move_cost.Goals as goal
 
@@ -16,15 +17,15 @@ pub loop-s-init : goal.loop-s-init
 loop-s-init c = let a = c.args in (omega arith, omega (arith, sum_zero (spares a.settings.now a.g)), omega arith)
 
 pub overflow_add-cost : goal.overflow_add-cost
-overflow_add-cost c = omega (arith, c.spare_at-cost.ensures.1)
+overflow_add-cost c = omega (arith, c.spare_at-cost.ensures.upper_bound)
 
 pub loop-s-preserved : goal.loop-s-preserved
 loop-s-preserved c =
     let a = c.args in
     let l = c.loop-s in (
       omega arith,
-      omega (arith, l.invariant.1, c.spare_at-cost.ensures.0, sum_next l.s (spares a.settings.now a.g)),
-      omega (arith, c.spare_at-cost.ensures.1),
+      omega (arith, l.invariant.1, c.spare_at-cost.ensures.value, sum_next l.s (spares a.settings.now a.g)),
+      omega (arith, c.spare_at-cost.ensures.upper_bound),
     )
 
 pub returns : goal.returns

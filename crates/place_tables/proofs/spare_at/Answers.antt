@@ -2,7 +2,7 @@
 use Prim.Native.Nat.{ℕ, ◌-◌}
 use mathlib.Core.Path.{ap₂}
 use native.Mathlib.Omega.{arith}
-use Rattle.place_laws.specs.Cases.{need_cap, spare_most}
+use Rattle.place_laws.proofs.Cases.{need_cap, spare_most}
 use Rattle.place_tables.proofs.spare_at.Goals as goal
 
 pub overflow_sub-result : goal.overflow_sub-result
@@ -11,7 +11,4 @@ overflow_sub-result c =
 
 pub returns : goal.returns
 returns c =
-    let m = c in (
-      ap₂ (λ (a b : ℕ). a - b) c.cap_at.ensures c.need_at.ensures,
-      omega (arith, c.cap_at.ensures, c.need_at.ensures, spare_most m.args.settings.now m.args.g m.args.s m.requires),
-    )
+    let m = c in record { value = ap₂ (λ (a b : ℕ). a - b) c.cap_at.ensures c.need_at.ensures; upper_bound = omega (arith, c.cap_at.ensures, c.need_at.ensures, spare_most m.args.settings.now m.args.g m.args.s m.requires) }

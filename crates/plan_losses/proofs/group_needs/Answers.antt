@@ -4,7 +4,8 @@ use Prim.Native.Nat.{ℕ, ◌-◌}
 use mathlib.Core.Path.{◌≡◌, sym, ap, ◌∙◌}
 use native.Mathlib.Omega.{arith}
 use Rattle.base_sum_laws.specs.Definitions.{sum_below}
-use Rattle.base_sum_laws.specs.Sums.{sum_zero, sum_next}
+use Rattle.base_sum_laws.specs.Sums.{sum_zero}
+use Rattle.base_sum_laws.proofs.Sums.{sum_next}
 use Rattle.settings_values.specs.Definitions.{shards}
 use Rattle.plan_losses.specs.Needs.{need_of, group_needs}
 use borrow.Author.Rules.{rules}

@@ -5,7 +5,7 @@ use mathlib.Core.Logic.{⊎_elim}
 use mathlib.Core.Path.{◌≡◌, sym, ap, ◌∙◌, subst, subst⁻¹}
 use native.Mathlib.Omega.{arith}
 use Rattle.base_laws.specs.Bools.{of_not_true, of_not_false}
-use Rattle.base_laws.specs.Below.{all_fails}
+use Rattle.base_laws.proofs.Below.{all_fails}
 use Rattle.base_laws.specs.Tables.{filled}
 use Rattle.base_lent.specs.Definitions.{words_in}
 use Rattle.report_desk.specs.Bytes.{desk_length}

@@ -4,7 +4,8 @@ use mathlib.Core.List.{List}
 use mathlib.Core.Path.{◌≡◌, sym, ap, ◌∙◌, subst}
 use native.Mathlib.Omega.{arith}
 use lib.ListN.{get_or, length-set}
-use Rattle.base_laws.specs.Tables.{filled, filled_none, filled_turn, get_or_filled_rest}
+use Rattle.base_laws.specs.Tables.{filled, filled_none, get_or_filled_rest}
+use Rattle.base_laws.proofs.Tables.{filled_turn}
 use Rattle.report_views.specs.Definitions.{node_at}
 use Rattle.plan_masks.specs.Counting.{counted_with, counted_at}
 use borrow.Author.Rules.{rules}

@@ -1,7 +1,7 @@
 -- `plan_page::holders_of` meets its contract. The invariant: the holders of the shards below s are stored. Assumes nothing.
 use Prim.Native.Nat.{◌-◌}
 use native.Mathlib.Omega.{arith}
-use Rattle.base_laws.specs.Tables.{fill_start, fill_turn, fill_end}
+use Rattle.base_laws.proofs.Tables.{fill_start, fill_turn, fill_end}
 use Rattle.base_ids.specs.declared.Node.{Node}
 use Rattle.report_views.specs.Definitions.{node_at}
 use Rattle.plan_page.specs.Definitions.{shown, holder_shown}

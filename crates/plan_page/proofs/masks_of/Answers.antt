@@ -2,7 +2,7 @@
 use Prim.Native.Nat.{◌-◌}
 use native.Mathlib.Omega.{arith}
 use lib.ListN.{get_or}
-use Rattle.base_laws.specs.Tables.{fill_start, fill_turn, fill_end}
+use Rattle.base_laws.proofs.Tables.{fill_start, fill_turn, fill_end}
 use Rattle.plan_page.specs.Definitions.{mask_shown}
 use Rattle.plan_page.proofs.masks_of.Goals as goal
 

@@ -3,7 +3,7 @@ use Prim.Native.Nat.{◌-◌}
 use mathlib.Core.Path.{◌∙◌}
 use native.Mathlib.Omega.{arith}
 use lib.ListN.{get_or}
-use Rattle.base_laws.specs.Tables.{fill_start, fill_turn, fill_end}
+use Rattle.base_laws.proofs.Tables.{fill_start, fill_turn, fill_end}
 use Rattle.report_views.specs.Definitions.{start, node_at}
 use Rattle.plan_page.specs.Definitions.{shown, target_shown}
 use Rattle.plan_page.proofs.targets_of.Goals as goal

@@ -6,7 +6,8 @@ use mathlib.Core.Path.{◌≡◌, sym}
 use native.Mathlib.Omega.{arith}
 use lib.Dec.{eqb}
 use borrow.Author.Tests.{eq-eqb, ne_eqb}
-use Rattle.base_laws.specs.Below.{any_none, any_more, lowest_at, lowest_none}
+use Rattle.base_laws.specs.Below.{any_none, any_more, lowest_none}
+use Rattle.base_laws.proofs.Below.{lowest_at}
 use Rattle.base_ids.specs.declared.Node.{Node}
 use Rattle.report_views.specs.Definitions.{node_at}
 use Rattle.plan_quorum.specs.Quorum.{first_without}

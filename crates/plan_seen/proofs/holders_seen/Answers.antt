@@ -4,7 +4,8 @@ use mathlib.Core.Path.{◌≡◌, refl, ap, ◌∙◌}
 use native.Mathlib.Omega.{arith}
 use mathlib.Core.List.{List}
 use lib.ListN.{replicate, get_or}
-use Rattle.base_laws.specs.Tables.{filled, fill_start, fill_turn, filled_else}
+use Rattle.base_laws.specs.Tables.{filled}
+use Rattle.base_laws.proofs.Tables.{fill_start, fill_turn, filled_else}
 use Rattle.base_ids.specs.declared.Node.{Node}
 use Rattle.plan_seen.specs.Fold.{holders_from}
 use borrow.Author.Rules.{rules}

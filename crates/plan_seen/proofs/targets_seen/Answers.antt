@@ -4,7 +4,8 @@ use mathlib.Core.Path.{◌≡◌, ap, ◌∙◌}
 use native.Mathlib.Omega.{arith}
 use mathlib.Core.List.{List}
 use lib.ListN.{replicate, get_or}
-use Rattle.base_laws.specs.Tables.{filled, fill_start, fill_turn, filled_else}
+use Rattle.base_laws.specs.Tables.{filled}
+use Rattle.base_laws.proofs.Tables.{fill_start, fill_turn, filled_else}
 use Rattle.base_ids.specs.declared.Position.{Position}
 use Rattle.report_views.specs.Definitions.{start, position_at}
 use Rattle.report_views.specs.declared.Termination.{Termination}

@@ -5,7 +5,8 @@ use native.Mathlib.Omega.{arith}
 use Rattle.base_ids.specs.declared.View.{View}
 use lib.ListN.{replicate, length-replicate}
 use Rattle.base_lent.specs.Definitions.{words_in}
-use Rattle.base_laws.specs.Tables.{filled, filled_none, filled_turn, filled_all}
+use Rattle.base_laws.specs.Tables.{filled, filled_none, filled_all}
+use Rattle.base_laws.proofs.Tables.{filled_turn}
 use Rattle.plan_seen.specs.Sight.{view_seen, views_seen}
 use borrow.Author.Rules.{rules}
 use Rattle.plan_seen.proofs.views_seen.Goals as goal

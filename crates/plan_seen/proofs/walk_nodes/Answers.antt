@@ -5,7 +5,7 @@ use native.Mathlib.Omega.{arith}
 use mathlib.Core.Bool.{false}
 use mathlib.Core.List.{List}
 use lib.ListN.{length-replicate}
-use Rattle.base_laws.specs.Below.{all_fails}
+use Rattle.base_laws.proofs.Below.{all_fails}
 use Rattle.base_laws.specs.Bools.{clash}
 use Rattle.settings_values.specs.Definitions.{Settings, shards}
 use Rattle.report_views.specs.declared.Layout.{Layout}

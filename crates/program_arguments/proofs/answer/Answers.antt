@@ -8,16 +8,16 @@ pub returns-then-same_text : goal.returns-then-same_text
 returns-then-same_text c =
     let x = c.args in
     let a = asks_version x.word.now x.name.now x.version.now x.help.now (sym c.same_text.ensures ∙ c.if-same_text.true) in
-    (puts_as a.0 c.put_told-len.ensures, sym a.1)
+    record { puts = puts_as a.0 c.put_told-len.ensures; known_value = sym a.1 }
 
 pub returns-then-same_text-2 : goal.returns-then-same_text-2
 returns-then-same_text-2 c =
     let x = c.args in
     let a = asks_help x.word.now x.name.now x.version.now x.help.now (sym c.same_text.ensures ∙ c.if-same_text.false) (sym c.same_text-2.ensures ∙ c.if-same_text-2.true) in
-    (puts_as a.0 c.put_text-len.ensures, sym a.1)
+    record { puts = puts_as a.0 c.put_text-len.ensures; known_value = sym a.1 }
 
 pub returns : goal.returns
 returns c =
     let x = c.args in
     let a = asks_neither x.word.now x.name.now x.version.now x.help.now (sym c.same_text.ensures ∙ c.if-same_text.false) (sym c.same_text-2.ensures ∙ c.if-same_text-2.false) in
-    (puts_as a.0 c.put_told-len-2.ensures, sym a.1)
+    record { puts = puts_as a.0 c.put_told-len-2.ensures; known_value = sym a.1 }

@@ -1,9 +1,8 @@
 -- `program_arguments::same_text` meets its contract. The loop's invariant: the bytes below i are the same. Assumes nothing.
-use Prim.Native.Nat.{◌-◌}
-use mathlib.Core.Bool.{true}
 use mathlib.Core.Path.{sym}
 use borrow.Author.Tests.{eq-eqb}
-use Rattle.base_laws.specs.Below.{all_none, all_more}
+use Rattle.base_laws.specs.Below.{all_none}
+use Rattle.base_laws.proofs.Below.{all_more}
 use Rattle.program_arguments.specs.Definitions.{alike_at}
 use Rattle.program_arguments.specs.Arguments.{lengths_differ, bytes_differ, bytes_alike}
 use borrow.Author.Rules.{rules}

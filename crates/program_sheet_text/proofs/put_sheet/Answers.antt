@@ -2,7 +2,8 @@
 use Prim.Native.Nat.{zero-le}
 use mathlib.Core.Path.{sym}
 use Rattle.program_text.specs.Puts.{then-puts, puts_as}
-use Rattle.program_sheet_text.specs.Laws.{masks_few, text_lines}
+use Rattle.program_sheet_text.specs.Laws.{masks_few}
+use Rattle.program_sheet_text.proofs.Laws.{text_lines}
 use Rattle.program_sheet_text.proofs.put_sheet.Goals as goal
 
 pub put_rows-next-requires : goal.put_rows-next-requires

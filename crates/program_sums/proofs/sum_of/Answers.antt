@@ -17,14 +17,14 @@ pub sum_of_few-requires : goal.sum_of_few-requires
 sum_of_few-requires c = omega (arith, length-take (c.least-to.result - c.loop-i.i) (drop c.loop-i.i c.args.bytes.now), c.least-to.ensures)
 
 pub overflow_add-sum : goal.overflow_add-sum
-overflow_add-sum c = omega (arith, c.word-sum.ensures, c.sum_of_few.type-inv, c.loop-i.invariant.1, c.loop-i.invariant.0, c.requires)
+overflow_add-sum c = omega (arith, c.word-sum.ensures, c.sum_of_few.type_inv, c.loop-i.invariant.1, c.loop-i.invariant.0, c.requires)
 
 pub loop-i-preserved : goal.loop-i-preserved
 loop-i-preserved c =
     let s = c in
     let low : s.loop-i.i ≤ c.least-to.result = omega (arith, c.least-to.ensures, s.loop-i.invariant.0) in (
       omega (arith, c.least-to.ensures),
-      omega (arith, c.least-to.ensures, c.loop-i-test.true, c.word-sum.ensures, c.sum_of_few.type-inv, s.loop-i.invariant.1),
+      omega (arith, c.least-to.ensures, c.loop-i-test.true, c.word-sum.ensures, c.sum_of_few.type_inv, s.loop-i.invariant.1),
       sum_part c.args.bytes.now s.loop-i.i _ _ _ low s.loop-i.invariant.2 (c.word-sum.ensures ∙ c.sum_of_few.ensures),
     )
 

@@ -2,7 +2,7 @@
 use Prim.Native.Nat.{◌-◌}
 use mathlib.Core.Path.{◌∙◌}
 use native.Mathlib.Omega.{arith}
-use Rattle.base_laws.specs.Tables.{fill_start, fill_turn, fill_end}
+use Rattle.base_laws.proofs.Tables.{fill_start, fill_turn, fill_end}
 use Rattle.report_views.specs.Definitions.{start}
 use Rattle.report_kept.specs.Words.{position_in, positions_in}
 use Rattle.report_kept.proofs.positions_in.Goals as goal

@@ -7,7 +7,8 @@ use native.Mathlib.Omega.{arith}
 use lib.Dec.{eqb}
 use lib.ListN.{get_or}
 use borrow.Author.Tests.{eq-eqb, ne_eqb}
-use Rattle.base_laws.specs.Below.{all_none, all_more, all_fails}
+use Rattle.base_laws.specs.Below.{all_none}
+use Rattle.base_laws.proofs.Below.{all_more, all_fails}
 use Rattle.message_format.specs.Definitions.{members_of}
 use Rattle.report_rows.specs.Comparisons.{masks_same}
 use borrow.Author.Rules.{rules}

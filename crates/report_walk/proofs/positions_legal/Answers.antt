@@ -1,7 +1,8 @@
 -- `report_walk::positions_legal` meets its contract. The invariant: every position below s passes.
 use Rattle.std.proofs.Common.{ℕ, ◌-◌, Bool, true, List, get_or, sym, ◌∙◌, arith, rules}
 use borrow.Author.Tests.{not-true, not-false}
-use Rattle.base_laws.specs.Below.{all_none, all_more, all_fails, all_fewer}
+use Rattle.base_laws.specs.Below.{all_none}
+use Rattle.base_laws.proofs.Below.{all_more, all_fails, all_fewer}
 use Rattle.base_ids.specs.declared.Position.{Position}
 use Rattle.report_views.specs.Definitions.{start, position_sound}
 use borrow.Author.Rules.{rules}

@@ -2,7 +2,8 @@
 use Prim.Native.Nat.{◌-◌}
 use mathlib.Core.Path.{sym}
 use native.Mathlib.Omega.{arith}
-use Rattle.base_sum_laws.specs.Sums.{sum_zero, sum_turn, sum_done}
+use Rattle.base_sum_laws.specs.Sums.{sum_zero, sum_done}
+use Rattle.base_sum_laws.proofs.Sums.{sum_turn}
 use Rattle.search_bounds.proofs.all_pairs.Goals as goal
 
 pub loop-i-init : goal.loop-i-init

@@ -10,8 +10,8 @@ place : (i f : ℕ) → i < 16 → f < 16 → i * 16 + f < 256
 place i f l h = omega arith
 
 pub bounds-pairs-i : goal.bounds-pairs-i
-bounds-pairs-i c = place c.args.i c.wide-2.result c.pre.0.0
-    (omega (arith, c.wide-2.ensures.0, c.pre.1.below c.args.n c.pre.0.1))
+bounds-pairs-i c = place c.args.i c.wide-2.result c.requires.i_bound.0
+    (omega (arith, c.wide-2.ensures.0, c.requires.small.below c.args.n c.requires.i_bound.1))
 
 pub returns : goal.returns
 returns c = let s = c in (

@@ -12,18 +12,18 @@ use Rattle.search_bounds.specs.Rows.{RowsPassed, rows_none, rows_more, modest_of
 use Rattle.search_bounds.proofs.cut.Goals as goal
 
 pub all_steady-requires : goal.all_steady-requires
-all_steady-requires c = c.requires.1.0
+all_steady-requires c = c.requires.small
 
 pub returns-then-not-all_steady : goal.returns-then-not-all_steady
 returns-then-not-all_steady c = λ e. clash e c.bad.ensures
 
 pub loop-i-init : goal.loop-i-init
-loop-i-init c = let s = c in (omega arith, omega (arith, s.requires.0.0), rows_none (s.args.t / 32) refl s.requires.1.1.0)
+loop-i-init c = let s = c in (omega arith, omega (arith, s.requires.t_bound.0), rows_none (s.args.t / 32) refl s.requires.rows_len)
 
 pub cut_row-requires : goal.cut_row-requires
 cut_row-requires c = let s = c in
     let l = c.loop-i in
-    record { t_bound = (l.invariant.0, c.loop-i-test.true); low_bound = (omega (arith, c.takes.ensures.1, s.requires.0.1), omega (arith, c.grants-high.ensures.1)); small = s.requires.1.0 }
+    record { t_bound = (l.invariant.0, c.loop-i-test.true); low_bound = (omega (arith, c.takes.ensures.1, s.requires.t_bound.1), omega (arith, c.grants-high.ensures.1)); small = s.requires.small }
 
 pub returns-then-not-cut_row : goal.returns-then-not-cut_row
 returns-then-not-cut_row c = λ e. clash e c.bad-then-not-cut_row.ensures
@@ -38,7 +38,7 @@ loop-i-preserved c = let l = c.loop-i in
 
 pub must-requires : goal.must-requires
 must-requires c = let s = c in
-    (omega (arith, c.takes.ensures.1, s.requires.0.1), omega (arith, c.grants-high.ensures.1))
+    (omega (arith, c.takes.ensures.1, s.requires.t_bound.1), omega (arith, c.grants-high.ensures.1))
 
 pub returns : goal.returns
 unfolding gain toll
@@ -50,9 +50,9 @@ returns c = λ e.
     let a = c.all_steady in
     sound_by (case_of s.args.sets.now s.args.needs.now s.args.caps.now s.args.costs.now s.args.idle) (weights_of s.args.wants.now s.args.rooms.now s.args.nodes.now s.args.pairs.now)
     (owners_of s.args.owner.now) s.args.t s.args.k (s.args.k + h.result) g.result c.floor.result c.unowned-free.result c.must.result
-    s.args.rows.now l.rows s.requires.1.0.below
+    s.args.rows.now l.rows s.requires.small.below
     (modest_of s.args.wants.now s.args.rooms.now s.args.nodes.now s.args.pairs.now)
-    s.requires.1.1.1
+    s.requires.begun
     (sym a.ensures ∙ c.if-not-all_steady.false)
     (ap (λ (x : ℕ). s.args.k + x) h.ensures.0) g.ensures.0 c.floor.ensures c.unowned-free.ensures c.must.ensures
     (subst (λ (x : ℕ). RowsPassed (case_of s.args.sets.now s.args.needs.now s.args.caps.now s.args.costs.now s.args.idle) (weights_of s.args.wants.now s.args.rooms.now s.args.nodes.now s.args.pairs.now)

@@ -3,7 +3,8 @@ use Prim.Native.Nat.{◌-◌, ◌+◌, ◌*◌, min}
 use mathlib.Core.Path.{sym, ◌∙◌}
 use native.Mathlib.Omega.{arith}
 use lib.ListN.{get_or}
-use Rattle.base_sum_laws.specs.Sums.{sum_zero, sum_none, sum_turn, sum_done}
+use Rattle.base_sum_laws.specs.Sums.{sum_zero, sum_done}
+use Rattle.base_sum_laws.proofs.Sums.{sum_none, sum_turn}
 use Rattle.search_bounds.proofs.row.Goals as goal
 
 pub returns-then-want-eq0 : goal.returns-then-want-eq0

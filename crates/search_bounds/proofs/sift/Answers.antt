@@ -7,7 +7,7 @@ use native.Mathlib.Omega.{arith}
 use borrow.Author.Tests.{ltb-true}
 use lib.ListN.{get_or}
 use Rattle.base_laws.specs.Definitions.{count}
-use Rattle.base_laws.specs.Masks.{count_cleared}
+use Rattle.base_laws.proofs.Masks.{count_cleared}
 use Rattle.search_bounds.specs.Rows.{Sifting, sift_start, sift_turn, sift_end}
 use Rattle.search_bounds.proofs.sift.Goals as goal
 

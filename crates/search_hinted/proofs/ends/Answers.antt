@@ -3,7 +3,7 @@ use Prim.Native.Nat.{ℕ, ◌/◌}
 use mathlib.Core.Path.{subst}
 use native.Mathlib.Omega.{arith}
 use Rattle.search_laws.specs.Case.{spread, meets}
-use Rattle.search_laws.specs.Tests.{none_thin}
+use Rattle.search_laws.proofs.Tests.{none_thin}
 use Rattle.search_laws.specs.Tables.{case_of, owners_of}
 use Rattle.search_hinted.specs.Stage.{Exceeded, stage_close, stage_none, stage_only_here, begun_at}
 use Rattle.search_hinted.proofs.ends.Goals as goal
@@ -11,19 +11,19 @@ use Rattle.search_hinted.proofs.ends.Goals as goal
 pub returns-then-lacks : goal.returns-then-lacks
 unfolding spread meets
 returns-then-lacks c = let s = c in
-    (λ e. none_thin (s.args.t / 32) (omega (arith, s.requires.0.0)) (omega arith) (c.lacks.ensures c.if-lacks.true), omega arith)
+    record { has_none = λ e. none_thin (s.args.t / 32) (omega (arith, s.requires.t_bound.0)) (omega arith) (c.lacks.ensures c.if-lacks.true); upper_bound = omega arith }
 
 pub returns-then-stuck : goal.returns-then-stuck
-returns-then-stuck c = let s = c in (λ e. stage_only_here s.requires.1.1 s.requires.0.0 (c.stuck.ensures c.if-stuck.true), omega arith)
+returns-then-stuck c = let s = c in record { has_none = λ e. stage_only_here s.requires.narrowed s.requires.t_bound.0 (c.stuck.ensures c.if-stuck.true); upper_bound = omega arith }
 
 pub exceeds-requires : goal.exceeds-requires
 exceeds-requires c = let s = c in
-    record { t_bound = (c.next.ensures.2, s.requires.0.1); small = s.requires.1.0; rows_len = s.requires.1.1.long; begun = begun_at s.args.t s.requires.0.0 s.requires.1.1.ready.begun c.next.ensures.0 }
+    record { t_bound = (c.next.ensures.2, s.requires.t_bound.1); small = s.requires.small; rows_len = s.requires.narrowed.long; begun = begun_at s.args.t s.requires.t_bound.0 s.requires.narrowed.ready.begun c.next.ensures.0 }
 
 pub returns-then-exceeds : goal.returns-then-exceeds
-returns-then-exceeds c = let s = c in (
-  λ e.
-      stage_none (stage_close s.requires.1.1 s.requires.0.0)
-      (subst (λ (j : ℕ). Exceeded (case_of s.args.sets.now s.args.needs.now s.args.caps.now s.args.prices.now s.args.idle) s.args.k (owners_of s.args.owner.now) j s.args.rows.now) c.next.ensures.0 (c.exceeds.ensures c.if-exceeds.true)),
-  omega arith,
-)
+returns-then-exceeds c = let s = c in record {
+  has_none = λ e.
+      stage_none (stage_close s.requires.narrowed s.requires.t_bound.0)
+      (subst (λ (j : ℕ). Exceeded (case_of s.args.sets.now s.args.needs.now s.args.caps.now s.args.prices.now s.args.idle) s.args.k (owners_of s.args.owner.now) j s.args.rows.now) c.next.ensures.0 (c.exceeds.ensures c.if-exceeds.true));
+  upper_bound = omega arith;
+}

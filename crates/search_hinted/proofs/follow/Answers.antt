@@ -7,10 +7,10 @@ use Rattle.search_hinted.specs.Post.{sure_start, sure_next, found_end}
 use Rattle.search_hinted.proofs.follow.Goals as goal
 
 pub loop-p-init : goal.loop-p-init
-loop-p-init c = (omega arith, sure_start c.requires.1.1)
+loop-p-init c = (omega arith, sure_start c.requires.narrowed)
 
 pub step-r-requires : goal.step-r-requires
-step-r-requires c = record { p_bound = (c.loop-p-test.true, c.requires.0); small = c.requires.1.0; «at» = c.loop-p.invariant.1.at }
+step-r-requires c = record { p_bound = (c.loop-p-test.true, c.requires.k_bound); small = c.requires.small; «at» = c.loop-p.invariant.1.at }
 
 pub returns-then-r-gt1024 : goal.returns-then-r-gt1024
 returns-then-r-gt1024 c = λ e. clash e c.unsure.ensures

@@ -19,8 +19,8 @@ returns-then-t-need c = λ e.
       arith,
       c.if-t-need.true,
       c.wide-need.ensures.0,
-      few_nodes s.args.t s.requires.0 s.requires.1.1,
-      spread_size (case_of s.args.sets.now [] [] [] 0) s.requires.1.0.below (owners_of s.args.owner.now) (s.args.t / 32),
+      few_nodes s.args.t s.requires.t_bound s.requires.begun,
+      spread_size (case_of s.args.sets.now [] [] [] 0) s.requires.small.below (owners_of s.args.owner.now) (s.args.t / 32),
     )
 
 pub returns-then-size-need : goal.returns-then-size-need
@@ -31,7 +31,7 @@ returns-then-size-need c = λ e.
       c.if-size-need.true,
       c.size.ensures,
       c.wide-need.ensures.0,
-      spread_size (case_of s.args.sets.now [] [] [] 0) s.requires.1.0.below (owners_of s.args.owner.now) (s.args.t / 32),
+      spread_size (case_of s.args.sets.now [] [] [] 0) s.requires.small.below (owners_of s.args.owner.now) (s.args.t / 32),
     )
 
 pub returns : goal.returns

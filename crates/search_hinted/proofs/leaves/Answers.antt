@@ -8,16 +8,16 @@ use Rattle.search_hinted.specs.Stage.{stage_cut, stage_shut, advance_leave}
 use Rattle.search_hinted.proofs.leaves.Goals as goal
 
 pub returns-then-hint-eq1 : goal.returns-then-hint-eq1
-returns-then-hint-eq1 c = λ e. advance_leave c.requires.1.1 c.requires.0.0 (λ y f d. barred_never _ _ _ c.barred.ensures e c.requires.0.0 c.requires.1.1.ready.begun y f.has.valid f.agree d)
+returns-then-hint-eq1 c = λ e. advance_leave c.requires.narrowed c.requires.t_bound.0 (λ y f d. barred_never _ _ _ c.barred.ensures e c.requires.t_bound.0 c.requires.narrowed.ready.begun y f.has.valid f.agree d)
 
 pub prune-v-requires : goal.prune-v-requires
-prune-v-requires c = let s = c in record { t_bound = (omega (arith, s.requires.0.0), s.requires.0.1); small = s.requires.1.0; rows_len = s.requires.1.1.long; begun = s.requires.1.1.ready.begun }
+prune-v-requires c = let s = c in record { t_bound = (omega (arith, s.requires.t_bound.0), s.requires.t_bound.1); small = s.requires.small; rows_len = s.requires.narrowed.long; begun = s.requires.narrowed.ready.begun }
 
 pub returns-then-v : goal.returns-then-v
 returns-then-v c = λ e.
     let s = c in
-    let after = stage_cut s.requires.1.1 (c.prune-v.ensures c.if-v.true) in
-    advance_leave after s.requires.0.0 (stage_shut after s.requires.0.0 (sym c.has.ensures ∙ of_not_true c.has.result e))
+    let after = stage_cut s.requires.narrowed (c.prune-v.ensures c.if-v.true) in
+    advance_leave after s.requires.t_bound.0 (stage_shut after s.requires.t_bound.0 (sym c.has.ensures ∙ of_not_true c.has.result e))
 
 pub returns-else-v : goal.returns-else-v
 returns-else-v c = λ e. absurd (false≢true e)

@@ -2,7 +2,8 @@
 use mathlib.Core.Path.{sym, ◌∙◌}
 use borrow.Author.Tests.{not-false}
 use Rattle.base_laws.specs.Bools.{clash}
-use Rattle.search_laws.specs.Floor.{short_at, too_few, sheet_none}
+use Rattle.search_laws.specs.Floor.{short_at, too_few}
+use Rattle.search_laws.proofs.Floor.{sheet_none}
 use Rattle.search_total.specs.Answers.{least_none}
 use Rattle.search_hinted.proofs.quick_least.Goals as goal
 

@@ -23,12 +23,12 @@ returns-then-most-v c = λ e.
     within_capped (omega (arith, s.ranges.idle)) c.capped-most.ensures
     (within_none
     (none_below c.if-most-v.true
-    (at_least s.args.sets.now s.args.needs.now s.args.caps.now s.args.prices.now s.args.idle c.capped-most.result p.prune-v.result.floor c.all_allowed-rows.ensures (p.prune-v.ensures (c.if-not-v.false))))
+    (at_least s.args.sets.now s.args.needs.now s.args.caps.now s.args.prices.now s.args.idle c.capped-most.result p.prune-v.result.floor c.all_allowed-rows.ensures (p.prune-v.ensures (not-false c.prune-v.result.good c.if-not-v.false))))
     c.none.ensures.1)
 
 pub follow-requires : goal.follow-requires
 follow-requires c = let p = c in
-    let s = c in record { k_bound = omega (arith, c.capped-most.ensures); small = c.fit.ensures (c.if-not-fit.false); narrowed = stage_cut (stage_start s.args.sets.now s.args.needs.now s.args.caps.now s.args.prices.now s.args.idle c.capped-most.result c.all_allowed-rows.ensures) (p.prune-v.ensures (c.if-not-v.false)) }
+    let s = c in record { k_bound = omega (arith, c.capped-most.ensures); small = c.fit.ensures (c.if-not-fit.false); narrowed = stage_cut (stage_start s.args.sets.now s.args.needs.now s.args.caps.now s.args.prices.now s.args.idle c.capped-most.result c.all_allowed-rows.ensures) (p.prune-v.ensures (not-false c.prune-v.result.good c.if-not-v.false)) }
 
 pub returns : goal.returns
 returns c = λ e. within_capped (omega (arith, c.ranges.idle)) c.capped-most.ensures (c.follow.ensures e).within

@@ -13,7 +13,7 @@ returns-then-bare c =
     let h = c.bare.ensures c.if-bare.true in
     met_bare (get_or s.args.caps.now s.args.i 0)
     (spread (case_of s.args.sets.now s.args.needs.now s.args.caps.now [] 0) (owners_of s.args.owner.now) s.args.i)
-    (no_nodes s.requires.0 s.requires.1 h.1) h.0
+    (no_nodes s.requires.i_bound s.requires.owners_held h.1) h.0
 
 pub returns-then-size-wide : goal.returns-then-size-wide
 unfolding spread meets

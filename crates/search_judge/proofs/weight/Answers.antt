@@ -5,7 +5,8 @@ use mathlib.Core.Bool.{cond}
 use native.Mathlib.Omega.{arith}
 use lib.Dec.{ltb}
 use lib.ListN.{get_or}
-use Rattle.base_sum_laws.specs.Sums.{sum_zero, sum_turn, sum_done}
+use Rattle.base_sum_laws.specs.Sums.{sum_zero, sum_done}
+use Rattle.base_sum_laws.proofs.Sums.{sum_turn}
 use Rattle.search_laws.specs.Case.{weight}
 use Rattle.search_judge.proofs.weight.Goals as goal
 

@@ -4,7 +4,8 @@ use mathlib.Core.Bool.{true}
 use Prim.Native.Nat.{◌-◌}
 use native.Mathlib.Omega.{arith}
 use borrow.Author.Tests.{not-true, not-false}
-use Rattle.base_laws.specs.Below.{all_none, all_more, all_fails, all_fewer}
+use Rattle.base_laws.specs.Below.{all_none}
+use Rattle.base_laws.proofs.Below.{all_more, all_fails, all_fewer}
 use Rattle.settings_values.specs.Definitions.{shards, shard_ok, shards_ok}
 use borrow.Author.Rules.{rules}
 use Rattle.settings_check.proofs.shards_ok.Goals as goal

@@ -9,7 +9,7 @@ returns-then-refusal-ne0 c =
     let a = c.args in
     let r = c.call_refusal-refusal in
     let e = called_refuses a.settings.now a.x (words_in a.desk.now) a.node.0 a.buffer.now r.result r.ensures c.if-refusal-ne0.true in
-    (refused_answer _ _ _ _ _ _ e c.if-refusal-ne0.true, refused_words _ _ _ _ _ _ e c.if-refusal-ne0.true)
+    (record { answer = refused_answer _ _ _ _ _ _ e c.if-refusal-ne0.true; words = refused_words _ _ _ _ _ _ e c.if-refusal-ne0.true })
 
 pub order_under-requires : goal.order_under-requires
 order_under-requires c =

@@ -10,34 +10,34 @@ returns-then-refusal-ne0 c =
     let s = c in
     let a = s.args in
     let d = words_in a.desk.now in
-    let e = found_refusal a.settings.now a.x d a.node.0 a.buffer.now (eq-eqb _ _ s.requires.1.1) _ _ c.is_ordered-in_phase.ensures c.has-known.ensures _ c.event_refusal-refusal.ensures in
-    (refused_answer _ _ _ _ _ _ e c.if-refusal-ne0.true, refused_words _ _ _ _ _ _ e c.if-refusal-ne0.true)
+    let e = found_refusal a.settings.now a.x d a.node.0 a.buffer.now (eq-eqb _ _ s.requires.buffer_len) _ _ c.is_ordered-in_phase.ensures c.has-known.ensures _ c.event_refusal-refusal.ensures in
+    record { answer = refused_answer _ _ _ _ _ _ e c.if-refusal-ne0.true; words = refused_words _ _ _ _ _ _ e c.if-refusal-ne0.true }
 
 pub order_contents-c-requires : goal.order_contents-c-requires
 order_contents-c-requires c =
     let s = c in
     let a = s.args in
     let d = words_in a.desk.now in
-    let e = found_refusal a.settings.now a.x d a.node.0 a.buffer.now (eq-eqb _ _ s.requires.1.1) _ _ c.is_ordered-in_phase.ensures c.has-known.ensures _ c.event_refusal-refusal.ensures in
+    let e = found_refusal a.settings.now a.x d a.node.0 a.buffer.now (eq-eqb _ _ s.requires.buffer_len) _ _ c.is_ordered-in_phase.ensures c.has-known.ensures _ c.event_refusal-refusal.ensures in
     let h = not_refused _ _ _ _ _ _ e c.if-refusal-ne0.false in
-    record { sizes = s.requires.0.sizes; readable_slot = taken_node _ _ _ _ _ h; holders = taken_holders _ _ _ _ _ h }
+    record { sizes = s.requires.settings.sizes; readable_slot = taken_node _ _ _ _ _ h; holders = taken_holders _ _ _ _ _ h }
 
 pub fill-length-requires : goal.fill-length-requires
 fill-length-requires c =
     let s = c in
     let a = s.args in
     let d = words_in a.desk.now in
-    let e = found_refusal a.settings.now a.x d a.node.0 a.buffer.now (eq-eqb _ _ s.requires.1.1) _ _ c.is_ordered-in_phase.ensures c.has-known.ensures _ c.event_refusal-refusal.ensures in
-    (s.requires.1.1, made_few _ _ _ _ _ _ e c.if-refusal-ne0.false _ c.order_contents-c.ensures)
+    let e = found_refusal a.settings.now a.x d a.node.0 a.buffer.now (eq-eqb _ _ s.requires.buffer_len) _ _ c.is_ordered-in_phase.ensures c.has-known.ensures _ c.event_refusal-refusal.ensures in
+    (s.requires.buffer_len, made_few _ _ _ _ _ _ e c.if-refusal-ne0.false _ c.order_contents-c.ensures)
 
 pub returns : goal.returns
 returns c =
     let s = c in
     let a = s.args in
     let d = words_in a.desk.now in
-    let e = found_refusal a.settings.now a.x d a.node.0 a.buffer.now (eq-eqb _ _ s.requires.1.1) _ _ c.is_ordered-in_phase.ensures c.has-known.ensures _ c.event_refusal-refusal.ensures in
+    let e = found_refusal a.settings.now a.x d a.node.0 a.buffer.now (eq-eqb _ _ s.requires.buffer_len) _ _ c.is_ordered-in_phase.ensures c.has-known.ensures _ c.event_refusal-refusal.ensures in
     let made = c.order_contents-c.ensures in
-    let filled = c.fill-length.ensures in (
-      made_answer _ _ _ _ _ _ e c.if-refusal-ne0.false _ made _ filled.0,
-      made_words _ _ _ _ _ _ e c.if-refusal-ne0.false _ made _ filled.1,
-    )
+    let filled = c.fill-length.ensures in record {
+      answer = made_answer _ _ _ _ _ _ e c.if-refusal-ne0.false _ made _ filled.answer;
+      words = made_words _ _ _ _ _ _ e c.if-refusal-ne0.false _ made _ filled.words;
+    }

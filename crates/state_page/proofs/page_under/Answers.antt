@@ -14,7 +14,7 @@ returns-then-refusal-ne0 c =
     let a = s.args in
     let d = words_in a.desk.now in
     let k = c.enter-entry in
-    paged_refused a.settings.now a.x d a.g k.result.refusal (k.ensures.0 ∙ sound_entry a.settings.now a.x d (desk_length a.desk.now s.requires.1) s.requires.0)
+    paged_refused a.settings.now a.x d a.g k.result.refusal (k.ensures.refusal ∙ sound_entry a.settings.now a.x d (desk_length a.desk.now s.requires.desk_len) s.requires.settings)
     c.if-refusal-ne0.true c.refuse.ensures
 
 pub page_seen-requires : goal.page_seen-requires
@@ -23,8 +23,8 @@ page_seen-requires c =
     let a = s.args in
     let d = words_in a.desk.now in
     let k = c.enter-entry in
-    let e = k.ensures.0 ∙ sound_entry a.settings.now a.x d (desk_length a.desk.now s.requires.1) s.requires.0 in
-    record { settings = s.requires.0; held_bound = held_below a.settings.now a.x.kept a.x.termination a.x.held (sound_passed a.settings.now a.x d (sym (ap accepted e) ∙ eq-eqb _ _ c.if-refusal-ne0.false)).kept-sound }
+    let e = k.ensures.refusal ∙ sound_entry a.settings.now a.x d (desk_length a.desk.now s.requires.desk_len) s.requires.settings in
+    record { settings = s.requires.settings; held_bound = held_below a.settings.now a.x.kept a.x.termination a.x.held (sound_passed a.settings.now a.x d (sym (ap accepted e) ∙ eq-eqb _ _ c.if-refusal-ne0.false)).kept-sound }
 
 pub returns : goal.returns
 returns c =
@@ -32,5 +32,5 @@ returns c =
     let a = s.args in
     let d = words_in a.desk.now in
     let k = c.enter-entry in
-    let e = k.ensures.0 ∙ sound_entry a.settings.now a.x d (desk_length a.desk.now s.requires.1) s.requires.0 in
-    paged_shown a.settings.now a.x d a.g k.result.seen e c.if-refusal-ne0.false k.ensures.1.0 c.page_seen.ensures
+    let e = k.ensures.refusal ∙ sound_entry a.settings.now a.x d (desk_length a.desk.now s.requires.desk_len) s.requires.settings in
+    paged_shown a.settings.now a.x d a.g k.result.seen e c.if-refusal-ne0.false k.ensures.seen c.page_seen.ensures

@@ -8,4 +8,4 @@ returns-in-Met c = simp c.in-Met.is
 
 pub returns-in-Short : goal.returns-in-Short
 unfolding decision_by
-returns-in-Short c = simp c.quorum-1.given.1
+returns-in-Short c = simp c.in-Short.is

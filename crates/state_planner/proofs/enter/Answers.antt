@@ -10,7 +10,7 @@ use Rattle.state_planner.proofs.enter.Goals as goal
 
 -- the tables say whether the kept view and its termination pass their rows
 pub is_sound-requires : goal.is_sound-requires
-is_sound-requires c = record { settings = c.requires.0; ready_value = c.tables_of-tables.ensures.ready }
+is_sound-requires c = record { settings = c.requires.settings; ready_value = c.tables_of-tables.ensures.ready }
 
 pub returns-then-not-is_sound : goal.returns-then-not-is_sound
 unfolding entry_refusal
@@ -20,11 +20,12 @@ returns-then-not-is_sound c =
     let d = words_in a.desk.now in
     let k = c.is_sound in
     let e = c.see-seen.ensures in
-    let t = c.tables_of-tables.ensures in (
-      row_3 (sound a.settings.now a.x d) a.in-phase (sym (k.ensures d e) ∙ c.if-not-is_sound.true)
-          ∙ rows_passed (sound a.settings.now a.x d) a.in-phase (desk_ok d) a.settings.now (eq-eqb (length d) 16384 (desk_length a.desk.now s.requires.1)) s.requires.0,
-      (e, t),
-    )
+    let t = c.tables_of-tables.ensures in record {
+      refusal = row_3 (sound a.settings.now a.x d) a.in_phase (sym (k.ensures d e) ∙ c.if-not-is_sound.true)
+          ∙ rows_passed (sound a.settings.now a.x d) a.in_phase (desk_ok d) a.settings.now (eq-eqb (length d) 16384 (desk_length a.desk.now s.requires.desk_len)) s.requires.settings;
+      seen = e;
+      tables = t;
+    }
 
 pub returns-then-not-in_phase : goal.returns-then-not-in_phase
 unfolding entry_refusal
@@ -34,11 +35,12 @@ returns-then-not-in_phase c =
     let d = words_in a.desk.now in
     let k = c.is_sound in
     let e = c.see-seen.ensures in
-    let t = c.tables_of-tables.ensures in (
-      row_4 (sound a.settings.now a.x d) a.in-phase (sym (k.ensures d e) ∙ c.if-not-is_sound.false) (c.if-not-in_phase.true)
-          ∙ rows_passed (sound a.settings.now a.x d) a.in-phase (desk_ok d) a.settings.now (eq-eqb (length d) 16384 (desk_length a.desk.now s.requires.1)) s.requires.0,
-      (e, t),
-    )
+    let t = c.tables_of-tables.ensures in record {
+      refusal = row_4 (sound a.settings.now a.x d) a.in_phase (sym (k.ensures d e) ∙ c.if-not-is_sound.false) (c.if-not-in_phase.true)
+          ∙ rows_passed (sound a.settings.now a.x d) a.in_phase (desk_ok d) a.settings.now (eq-eqb (length d) 16384 (desk_length a.desk.now s.requires.desk_len)) s.requires.settings;
+      seen = e;
+      tables = t;
+    }
 
 pub returns : goal.returns
 unfolding entry_refusal
@@ -48,8 +50,9 @@ returns c =
     let d = words_in a.desk.now in
     let k = c.is_sound in
     let e = c.see-seen.ensures in
-    let t = c.tables_of-tables.ensures in (
-      no_row (sound a.settings.now a.x d) a.in-phase (sym (k.ensures d e) ∙ c.if-not-is_sound.false) (c.if-not-in_phase.false)
-          ∙ rows_passed (sound a.settings.now a.x d) a.in-phase (desk_ok d) a.settings.now (eq-eqb (length d) 16384 (desk_length a.desk.now s.requires.1)) s.requires.0,
-      (e, t),
-    )
+    let t = c.tables_of-tables.ensures in record {
+      refusal = no_row (sound a.settings.now a.x d) a.in_phase (sym (k.ensures d e) ∙ c.if-not-is_sound.false) (c.if-not-in_phase.false)
+          ∙ rows_passed (sound a.settings.now a.x d) a.in_phase (desk_ok d) a.settings.now (eq-eqb (length d) 16384 (desk_length a.desk.now s.requires.desk_len)) s.requires.settings;
+      seen = e;
+      tables = t;
+    }

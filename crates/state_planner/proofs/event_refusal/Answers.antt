@@ -6,9 +6,9 @@ use Rattle.state_planner.proofs.event_refusal.Goals as goal
 
 pub returns-then-refusal-ne0 : goal.returns-then-refusal-ne0
 unfolding event_refusal
-returns-then-refusal-ne0 c = rows_refused c.enter-entry.ensures.0 _ (ne_eqb _ _ c.if-refusal-ne0.true)
+returns-then-refusal-ne0 c = rows_refused c.enter-entry.ensures.refusal _ (ne_eqb _ _ c.if-refusal-ne0.true)
 
 pub returns : goal.returns
 unfolding event_refusal
 returns c =
-    rows_followed c.enter-entry.ensures.0 c.node_refusal.ensures (eq-eqb _ _ c.if-refusal-ne0.false)
+    rows_followed c.enter-entry.ensures.refusal c.node_refusal.ensures (eq-eqb _ _ c.if-refusal-ne0.false)

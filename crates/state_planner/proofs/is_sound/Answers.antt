@@ -21,7 +21,7 @@ returns-then-not-seen c =
     let a = c.args in
     let k = c.kept_sound in
     λ d e.
-    simp (sym k.ensures, c.if-not-kept_sound.false, sym (seen_ok a.settings.now a.x.kept a.x.termination a.x.held d a.seen e), c.if-not-seen.true)
+    simp (sym k.ensures, c.if-not-kept_sound.false, sym (seen_ok a.settings.now a.x.kept a.x.termination a.x.held d a.seen e), not-true _ c.if-not-seen.true)
 
 pub returns-then-not-marks_sound : goal.returns-then-not-marks_sound
 unfolding sound
@@ -30,7 +30,7 @@ returns-then-not-marks_sound c =
     let k = c.kept_sound in
     let m = c.marks_sound in
     λ d e.
-    simp (sym k.ensures, c.if-not-kept_sound.false, sym (seen_ok a.settings.now a.x.kept a.x.termination a.x.held d a.seen e), c.if-not-seen.false, sym m.ensures, c.if-not-marks_sound.true)
+    simp (sym k.ensures, c.if-not-kept_sound.false, sym (seen_ok a.settings.now a.x.kept a.x.termination a.x.held d a.seen e), not-false _ c.if-not-seen.false, sym m.ensures, c.if-not-marks_sound.true)
 
 pub returns-then-not-latest_sound : goal.returns-then-not-latest_sound
 unfolding sound
@@ -40,7 +40,7 @@ returns-then-not-latest_sound c =
     let m = c.marks_sound in
     let l = c.latest_sound in
     λ d e.
-    let ok = sym (seen_ok a.settings.now a.x.kept a.x.termination a.x.held d a.seen e) ∙ c.if-not-seen.false in
+    let ok = sym (seen_ok a.settings.now a.x.kept a.x.termination a.x.held d a.seen e) ∙ not-false _ c.if-not-seen.false in
     simp (sym k.ensures, c.if-not-kept_sound.false, ok, sym m.ensures, c.if-not-marks_sound.false, sym (l.ensures ∙ latest_told a.settings.now a.x.kept.number.0 a.x.held a.seen.views a.x.latest d (seen_view a.settings.now a.x.kept a.x.termination a.x.held d a.seen e ok)), c.if-not-latest_sound.true)
 
 pub plan_fits-requires : goal.plan_fits-requires
@@ -48,7 +48,7 @@ plan_fits-requires c =
     let s = c in
     let a = s.args in
     let k = c.kept_sound in
-    record { settings = s.requires.0; held_bound = held_below a.settings.now a.x.kept a.x.termination a.x.held (sym k.ensures ∙ c.if-not-kept_sound.false) }
+    record { settings = s.requires.settings; held_bound = held_below a.settings.now a.x.kept a.x.termination a.x.held (sym k.ensures ∙ c.if-not-kept_sound.false) }
 
 pub returns : goal.returns
 unfolding sound
@@ -59,5 +59,5 @@ returns c =
     let m = c.marks_sound in
     let l = c.latest_sound in
     λ d e.
-    let ok = sym (seen_ok a.settings.now a.x.kept a.x.termination a.x.held d a.seen e) ∙ c.if-not-seen.false in
-    simp (sym k.ensures, c.if-not-kept_sound.false, ok, sym m.ensures, c.if-not-marks_sound.false, sym (l.ensures ∙ latest_told a.settings.now a.x.kept.number.0 a.x.held a.seen.views a.x.latest d (seen_view a.settings.now a.x.kept a.x.termination a.x.held d a.seen e ok)), c.if-not-latest_sound.false, sym (c.plan_fits.ensures ∙ fits_told a.x.phase a.settings.now a.x.kept a.x.termination a.x.held d a.x.plan a.seen e s.requires.0 ok))
+    let ok = sym (seen_ok a.settings.now a.x.kept a.x.termination a.x.held d a.seen e) ∙ not-false _ c.if-not-seen.false in
+    simp (sym k.ensures, c.if-not-kept_sound.false, ok, sym m.ensures, c.if-not-marks_sound.false, sym (l.ensures ∙ latest_told a.settings.now a.x.kept.number.0 a.x.held a.seen.views a.x.latest d (seen_view a.settings.now a.x.kept a.x.termination a.x.held d a.seen e ok)), c.if-not-latest_sound.false, sym (c.plan_fits.ensures ∙ fits_told a.x.phase a.settings.now a.x.kept a.x.termination a.x.held d a.x.plan a.seen e s.requires.settings ok))

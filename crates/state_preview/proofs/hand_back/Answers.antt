@@ -20,4 +20,4 @@ pub returns-in-Refused : goal.returns-in-Refused
 unfolding handed_back
 returns-in-Refused c =
     let a = c.args in
-    c.refuse.ensures ∙ sym (ap (λ (k : Decision). handed_back k a.x a.decided) c.decision-1.given.1)
+    c.refuse.ensures ∙ sym (ap (λ (k : Decision). handed_back k a.x a.decided) c.in-Refused.is)

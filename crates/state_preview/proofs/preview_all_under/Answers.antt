@@ -17,7 +17,7 @@ returns-then-refusal-ne0 c =
     let k = c.enter-entered in
     let d = words_in a.desk.now in
     warns_refused a.settings.now a.x d k.result.refusal
-    (k.ensures.0 ∙ ap (λ (p : Bool). entry_refusal (desk_ok d) a.settings.now a.x d p) c.is_gathering-in_phase.ensures) c.if-refusal-ne0.true
+    (k.ensures.refusal ∙ ap (λ (p : Bool). entry_refusal (desk_ok d) a.settings.now a.x d p) c.is_gathering-in_phase.ensures) c.if-refusal-ne0.true
 
 pub losses-requires : goal.losses-requires
 unfolding decide_refusal
@@ -27,9 +27,9 @@ losses-requires c =
     let k = c.enter-entered in
     let d = words_in a.desk.now in
     let e : k.result.refusal ≡ decide_refusal a.settings.now a.x d =
-    k.ensures.0 ∙ ap (λ (p : Bool). entry_refusal (desk_ok d) a.settings.now a.x d p) c.is_gathering-in_phase.ensures in
+    k.ensures.refusal ∙ ap (λ (p : Bool). entry_refusal (desk_ok d) a.settings.now a.x d p) c.is_gathering-in_phase.ensures in
     let t : accepted (decide_refusal a.settings.now a.x d) ≡ true = sym (ap accepted e) ∙ eq-eqb _ _ c.if-refusal-ne0.false in
-    record { settings = s.requires.0; held_bound = held_below a.settings.now a.x.kept a.x.termination a.x.held (decide_kept a.settings.now a.x d t) }
+    record { settings = s.requires.settings; held_bound = held_below a.settings.now a.x.kept a.x.termination a.x.held (decide_kept a.settings.now a.x d t) }
 
 pub returns : goal.returns
 unfolding decide_refusal
@@ -39,5 +39,5 @@ returns c =
     let n = c.count-counted in
     let d = words_in a.desk.now in
     warns_told a.settings.now a.x d k.result.refusal
-    (k.ensures.0 ∙ ap (λ (p : Bool). entry_refusal (desk_ok d) a.settings.now a.x d p) c.is_gathering-in_phase.ensures) c.if-refusal-ne0.false n.result n.ensures
+    (k.ensures.refusal ∙ ap (λ (p : Bool). entry_refusal (desk_ok d) a.settings.now a.x d p) c.is_gathering-in_phase.ensures) c.if-refusal-ne0.false n.result n.ensures
     c.losses.result c.losses.ensures

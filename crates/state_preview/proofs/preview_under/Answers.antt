@@ -21,5 +21,5 @@ returns c =
     let f = c.without-fewer in
     let o = c.decide_under in
     let d = words_in a.desk.now in
-    previews_copy a.settings.now a.x d a.node.0 s.requires.0 (desk_length a.desk.now s.requires.1) f.result f.ensures k.result k.ensures c.if-refusal-ne0.false o.result
+    previews_copy a.settings.now a.x d a.node.0 s.requires.settings (desk_length a.desk.now s.requires.desk_len) f.result f.ensures k.result k.ensures c.if-refusal-ne0.false o.result
     (subst (λ (y : State). Decides a.settings.now y d o.result) c.holding.ensures o.ensures) c.hand_back.ensures

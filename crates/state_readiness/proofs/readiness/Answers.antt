@@ -14,7 +14,7 @@ returns-then-desk-ne65536 c =
     let a = c.args in
     let d = words_in a.desk.now in
     readies_refused a.settings.now (desk_says a.settings.now a.x d) _
-    (length_refused a.in-limits a.settings.now a.x d (sym (length-test a.desk.now 16383) ∙ ne_eqb _ _ c.if-desk-ne65536.true))
+    (length_refused a.in_limits a.settings.now a.x d (sym (length-test a.desk.now 16383) ∙ ne_eqb _ _ c.if-desk-ne65536.true))
     (λ z. omega arith) c.refuse.ensures
 
 pub returns-then-not-check : goal.returns-then-not-check
@@ -23,7 +23,7 @@ returns-then-not-check c =
     let d = words_in a.desk.now in
     let k = c.check in
     readies_refused a.settings.now (desk_says a.settings.now a.x d) _
-    (settings_refused a.in-limits a.settings.now a.x d (sym (length-test a.desk.now 16383) ∙ eq-eqb _ _ c.if-desk-ne65536.false)
+    (settings_refused a.in_limits a.settings.now a.x d (sym (length-test a.desk.now 16383) ∙ eq-eqb _ _ c.if-desk-ne65536.false)
     (sym k.ensures ∙ c.if-not-check.true))
     (λ z. omega arith) c.refuse-then-not-check.ensures
 

@@ -15,19 +15,19 @@ returns-then-refusal-ne0 c =
     let a = c.args in
     let d = words_in a.desk.now in
     let k = c.enter-entry in
-    let e = entered a.settings.now a.x d k.result.refusal c.is_gathering-in_phase.ensures k.ensures.0 in
+    let e = entered a.settings.now a.x d k.result.refusal c.is_gathering-in_phase.ensures k.ensures.refusal in
     readies_refused a.settings.now (desk_says a.settings.now a.x d) k.result.refusal
-    (entry-refused a.in-limits a.settings.now a.x d k.result.refusal e c.if-refusal-ne0.true) c.if-refusal-ne0.true c.refuse.ensures
+    (entry-refused a.in_limits a.settings.now a.x d k.result.refusal e c.if-refusal-ne0.true) c.if-refusal-ne0.true c.refuse.ensures
 
 pub returns-then-not-is_small : goal.returns-then-not-is_small
 returns-then-not-is_small c =
     let a = c.args in
     let d = words_in a.desk.now in
     let k = c.enter-entry in
-    let e = entered a.settings.now a.x d k.result.refusal c.is_gathering-in_phase.ensures k.ensures.0 in
+    let e = entered a.settings.now a.x d k.result.refusal c.is_gathering-in_phase.ensures k.ensures.refusal in
     let m = c.is_small in
     readies_refused a.settings.now (desk_says a.settings.now a.x d) _
-    (size_refused a.in-limits a.settings.now a.x d k.result.refusal e c.if-refusal-ne0.false (sym m.ensures ∙ c.if-not-is_small.true))
+    (size_refused a.in_limits a.settings.now a.x d k.result.refusal e c.if-refusal-ne0.false (sym m.ensures ∙ c.if-not-is_small.true))
     (λ z. omega arith) c.refuse-then-not-is_small.ensures
 
 pub rows_ready-requires : goal.rows_ready-requires
@@ -35,15 +35,15 @@ rows_ready-requires c =
     let s = c in
     let m = c.is_small in
     let n = nodes s.args.settings.now in
-    record { settings = (s.requires.0, leb-true n 10 (and_left (leb n 10) s.args.in-limits (sym m.ensures ∙ c.if-not-is_small.false))); desk_len = s.requires.1 }
+    record { settings = (s.requires.settings, leb-true n 10 (and_left (leb n 10) s.args.in_limits (sym m.ensures ∙ c.if-not-is_small.false))); desk_len = s.requires.desk_len }
 
 pub returns : goal.returns
 returns c =
     let a = c.args in
     let d = words_in a.desk.now in
     let k = c.enter-entry in
-    let e = entered a.settings.now a.x d k.result.refusal c.is_gathering-in_phase.ensures k.ensures.0 in
+    let e = entered a.settings.now a.x d k.result.refusal c.is_gathering-in_phase.ensures k.ensures.refusal in
     let m = c.is_small in
     readies_by a.settings.now (desk_says a.settings.now a.x d)
-    (size_passed a.in-limits a.settings.now a.x d k.result.refusal e c.if-refusal-ne0.false (sym m.ensures ∙ c.if-not-is_small.false))
+    (size_passed a.in_limits a.settings.now a.x d k.result.refusal e c.if-refusal-ne0.false (sym m.ensures ∙ c.if-not-is_small.false))
     c.rows_ready.ensures

@@ -20,7 +20,7 @@ returns-then-number-eq0 c =
     (λ z. omega arith) c.refuse.ensures
 
 pub all_nodes-all-requires : goal.all_nodes-all-requires
-all_nodes-all-requires c = omega (arith, c.nodes.ensures, c.requires.0.1)
+all_nodes-all-requires c = omega (arith, c.nodes.ensures, c.requires.settings.1)
 
 pub returns-then-not-counted : goal.returns-then-not-counted
 returns-then-not-counted c =
@@ -32,13 +32,13 @@ returns-then-not-counted c =
     c.nodes.ensures in
     readies_refused a.settings.now (desk_says a.settings.now a.x d) _
     (slot_refused a.settings.now a.x d c.if-number-eq0.false
-    (sym (counted_ok a.settings.now a.x.kept a.x.termination (2 ^ nodes a.settings.now - 1) d k.result e) ∙ c.if-not-counted.true))
+    (sym (counted_ok a.settings.now a.x.kept a.x.termination (2 ^ nodes a.settings.now - 1) d k.result e) ∙ not-true _ c.if-not-counted.true))
     (λ z. omega arith) c.refuse-then-not-counted.ensures
 
 pub rows_of-requires : goal.rows_of-requires
 rows_of-requires c =
     let p = c.requires in
-    record { settings = p.0.0; settings_bound = p.0.1 }
+    record { settings = p.settings.0; settings_bound = p.settings.1 }
 
 pub returns : goal.returns
 returns c =
@@ -48,6 +48,6 @@ returns c =
     let k = c.count-counted in
     let e = all_counted a.settings.now a.x d k.result k.ensures c.all_nodes-all.ensures
     c.nodes.ensures in
-    readies_told a.settings.now a.x d k.result c.rows_of.result s.requires.0.0 (desk_length a.desk.now s.requires.1)
-    c.if-number-eq0.false e (c.if-not-counted.false)
+    readies_told a.settings.now a.x d k.result c.rows_of.result s.requires.settings.0 (desk_length a.desk.now s.requires.desk_len)
+    c.if-number-eq0.false e (not-false _ c.if-not-counted.false)
     c.rows_of.ensures

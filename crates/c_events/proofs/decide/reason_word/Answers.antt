@@ -1,19 +1,15 @@
 -- Reason by reason.
 use lib.Dec.{lit≤}
 use Rattle.report_views.specs.Definitions.{number_of, value_of}
-use borrow.Author.Rules.{rules}
 use Rattle.c_events.proofs.decide.reason_word.Goals as goal
-
-pub enum_told-1 : goal.enum_told-1
-enum_told-1 c = search rules
 
 pub wait_word-requires-in-NoHolder : goal.wait_word-requires-in-NoHolder
 unfolding value_of
-wait_word-requires-in-NoHolder c = (lit≤ tt, rw c.reason-1.given.1 at c.requires)
+wait_word-requires-in-NoHolder c = (lit≤ tt, rw c.in-NoHolder.is at c.requires)
 
 pub wait_word-requires-in-NoPlacement : goal.wait_word-requires-in-NoPlacement
 unfolding value_of
-wait_word-requires-in-NoPlacement c = (lit≤ tt, rw c.reason-in-NoPlacement-1.given.1 at c.requires)
+wait_word-requires-in-NoPlacement c = (lit≤ tt, rw c.in-NoPlacement.is at c.requires)
 
 pub returns-in-NoView : goal.returns-in-NoView
 unfolding number_of value_of
@@ -29,8 +25,8 @@ returns-in-TooFew c = simp c.in-TooFew.is c.wait_word-in-TooFew.ensures
 
 pub returns-in-NoHolder : goal.returns-in-NoHolder
 unfolding number_of value_of
-returns-in-NoHolder c = simp c.reason-1.given.1 c.wait_word-in-NoHolder.ensures
+returns-in-NoHolder c = simp c.in-NoHolder.is c.wait_word-in-NoHolder.ensures
 
 pub returns-in-NoPlacement : goal.returns-in-NoPlacement
 unfolding number_of value_of
-returns-in-NoPlacement c = simp c.reason-in-NoPlacement-1.given.1 c.wait_word-in-NoPlacement.ensures
+returns-in-NoPlacement c = simp c.in-NoPlacement.is c.wait_word-in-NoPlacement.ensures

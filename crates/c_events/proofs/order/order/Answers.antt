@@ -16,7 +16,8 @@ use Rattle.c_events.proofs.order.order.Goals as goal
 pub returns-then-first-ne0 : goal.returns-then-first-ne0
 returns-then-first-ne0 c =
     let a = c.args in
-    order_not_entered a.role a.settings.now a.state.now a.desk.now a.node a.buffer.now _ c.lengths_ok-lengths.ensures _ c.enter_planner-entry.ensures c.if-first-ne0.true
+    let t = order_not_entered a.role a.settings.now a.state.now a.desk.now a.node a.buffer.now _ c.lengths_ok-lengths.ensures _ c.enter_planner-entry.ensures c.if-first-ne0.true in
+    record { answer = t.0; bytes = t.1 }
 
 pub slice_bounds-order_under-start : goal.slice_bounds-order_under-start
 slice_bounds-order_under-start c = omega (arith, settings_few _ _ _ _ _ c.enter_planner-entry.ensures, settings_long _ _ _ _ _ c.enter_planner-entry.ensures)
@@ -36,8 +37,9 @@ returns-then-refusal-ne0 c =
     let a = c.args in
     let p = buffer_passes (by_planner a.role) a.settings.now a.state.now a.desk.now a.buffer.now _ c.lengths_ok-lengths.ensures _ c.enter_planner-entry.ensures c.if-first-ne0.false in
     let front = settings_front _ _ _ _ _ c.enter_planner-entry.ensures p.settings-ok in
-    let answer = c.order_under-written.ensures.0 ∙ ap (λ (s : List ℕ). ordered s c.enter_planner-entry.result.state (words_in a.desk.now) a.node (replicate 512 0)) front in
-    order-refused a.role a.settings.now a.state.now a.desk.now a.node a.buffer.now _ c.lengths_ok-lengths.ensures _ c.enter_planner-entry.ensures c.if-first-ne0.false _ refl _ answer c.if-refusal-ne0.true
+    let answer = c.order_under-written.ensures.answer ∙ ap (λ (s : List ℕ). ordered s c.enter_planner-entry.result.state (words_in a.desk.now) a.node (replicate 512 0)) front in
+    let t = order-refused a.role a.settings.now a.state.now a.desk.now a.node a.buffer.now _ c.lengths_ok-lengths.ensures _ c.enter_planner-entry.ensures c.if-first-ne0.false _ refl _ answer c.if-refusal-ne0.true in
+    record { answer = t.0; bytes = t.1 }
 
 pub encode-requires : goal.encode-requires
 encode-requires c =
@@ -49,7 +51,7 @@ with_length-requires c =
     let a = c.args in
     let p = buffer_passes (by_planner a.role) a.settings.now a.state.now a.desk.now a.buffer.now _ c.lengths_ok-lengths.ensures _ c.enter_planner-entry.ensures c.if-first-ne0.false in
     let front = settings_front _ _ _ _ _ c.enter_planner-entry.ensures p.settings-ok in
-    let answer = c.order_under-written.ensures.0 ∙ ap (λ (s : List ℕ). ordered s c.enter_planner-entry.result.state (words_in a.desk.now) a.node (replicate 512 0)) front in
+    let answer = c.order_under-written.ensures.answer ∙ ap (λ (s : List ℕ). ordered s c.enter_planner-entry.result.state (words_in a.desk.now) a.node (replicate 512 0)) front in
     order_few a.role a.settings.now a.state.now a.desk.now a.node a.buffer.now _ c.lengths_ok-lengths.ensures _ c.enter_planner-entry.ensures c.if-first-ne0.false _ refl _ answer c.if-refusal-ne0.false
 
 pub returns : goal.returns
@@ -57,7 +59,7 @@ returns c =
     let a = c.args in
     let p = buffer_passes (by_planner a.role) a.settings.now a.state.now a.desk.now a.buffer.now _ c.lengths_ok-lengths.ensures _ c.enter_planner-entry.ensures c.if-first-ne0.false in
     let front = settings_front _ _ _ _ _ c.enter_planner-entry.ensures p.settings-ok in
-    let answer = c.order_under-written.ensures.0 ∙ ap (λ (s : List ℕ). ordered s c.enter_planner-entry.result.state (words_in a.desk.now) a.node (replicate 512 0)) front in
-    let words = c.order_under-written.ensures.1 ∙ ap (λ (s : List ℕ). order_buffer s c.enter_planner-entry.result.state (words_in a.desk.now) a.node (replicate 512 0)) front in
+    let answer = c.order_under-written.ensures.answer ∙ ap (λ (s : List ℕ). ordered s c.enter_planner-entry.result.state (words_in a.desk.now) a.node (replicate 512 0)) front in
+    let words = c.order_under-written.ensures.words ∙ ap (λ (s : List ℕ). order_buffer s c.enter_planner-entry.result.state (words_in a.desk.now) a.node (replicate 512 0)) front in
     let t = order_written a.role a.settings.now a.state.now a.desk.now a.node a.buffer.now _ c.lengths_ok-lengths.ensures _ c.enter_planner-entry.ensures c.if-first-ne0.false _ refl _ answer c.if-refusal-ne0.false _ words in
-    (c.with_length.ensures ∙ t.0, c.encode.ensures ∙ t.1)
+    record { answer = c.with_length.ensures ∙ t.0; bytes = c.encode.ensures ∙ t.1 }

@@ -16,7 +16,8 @@ use Rattle.c_events.proofs.report.report.Goals as goal
 pub returns-then-refusal-ne0 : goal.returns-then-refusal-ne0
 returns-then-refusal-ne0 c =
     let a = c.args in
-    report_not_entered a.role a.settings.now a.state.now a.desk.now a.message.now _ c.enter_planner-entry.ensures c.if-refusal-ne0.true
+    let t = report_not_entered a.role a.settings.now a.state.now a.desk.now a.message.now _ c.enter_planner-entry.ensures c.if-refusal-ne0.true in
+    record { answer = t.0; state = t.1.0; desk = t.1.1 }
 
 pub slice_bounds-report_under-end : goal.slice_bounds-report_under-end
 slice_bounds-report_under-end c =
@@ -50,6 +51,7 @@ returns c =
     let looked = take (w.result.len - 0) (drop 0 w.result.table) in
     let front = settings_front _ _ _ _ _ e p.settings-ok in
     let u = c.report_under-o.ensures in
-    report_done a.role a.settings.now a.state.now a.desk.now a.message.now _ e h looked w.ensures.front _
-    (u.0 ∙ ap (λ (s : List ℕ). reported s x (words_in a.desk.now) looked) front) c.keep.ensures
-    (u.1.1 ∙ ap (λ (s : List ℕ). desk_left s x a.desk.now looked) front)
+    let t = report_done a.role a.settings.now a.state.now a.desk.now a.message.now _ e h looked w.ensures.front _
+    (u.outcome ∙ ap (λ (s : List ℕ). reported s x (words_in a.desk.now) looked) front) c.keep.ensures
+    (u.bytes ∙ ap (λ (s : List ℕ). desk_left s x a.desk.now looked) front) in
+    record { answer = t.0; state = t.1.0; desk = t.1.1 }

@@ -3,10 +3,14 @@ use Rattle.c_messages.specs.Turning.{back_not_512, back_refused, back_settings, 
 use Rattle.c_messages.proofs.flat.turn_back.Goals as goal
 
 pub returns-then-words-ne512 : goal.returns-then-words-ne512
-returns-then-words-ne512 c = back_not_512 _ _ _ c.if-words-ne512.true
+returns-then-words-ne512 c =
+    let t = back_not_512 c.args.settings.now c.args.message.now c.args.words.now c.if-words-ne512.true in
+    record { answer = t.0; words = t.1 }
 
 pub returns-then-refusal-ne0 : goal.returns-then-refusal-ne0
-returns-then-refusal-ne0 c = back_refused _ _ _ c.if-words-ne512.false _ c.read-reading.ensures c.if-refusal-ne0.true
+returns-then-refusal-ne0 c =
+    let t = back_refused c.args.settings.now c.args.message.now c.args.words.now c.if-words-ne512.false _ c.read-reading.ensures c.if-refusal-ne0.true in
+    record { answer = t.0; words = t.1 }
 
 pub write-length-requires : goal.write-length-requires
 write-length-requires c =
@@ -20,4 +24,5 @@ pub returns : goal.returns
 returns c =
     let s = c in
     let given = c.write-length.ensures in
-    back_written _ _ _ s.if-words-ne512.false _ s.read-reading.ensures c.if-refusal-ne0.false _ _ given.0 given.1
+    let t = back_written s.args.settings.now s.args.message.now s.args.words.now s.if-words-ne512.false _ s.read-reading.ensures c.if-refusal-ne0.false _ _ given.answer given.words in
+    record { answer = t.0; words = t.1 }

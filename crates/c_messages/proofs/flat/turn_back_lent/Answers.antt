@@ -9,4 +9,4 @@ returns c =
     let s = c in
     let own = s.settings_of-s.ensures.front in
     let lent = s.words_of-m.ensures.front in
-    (given.0 ∙ back_seen _ _ _ _ _ own lent, given.1 ∙ back_words_seen _ _ _ _ _ own lent)
+    (record { answer = given.answer ∙ back_seen _ _ _ _ _ own lent; words = given.words ∙ back_words_seen _ _ _ _ _ own lent })

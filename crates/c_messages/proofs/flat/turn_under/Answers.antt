@@ -7,4 +7,4 @@ pub returns : goal.returns
 returns c =
     let front = c.settings_of-s.ensures.front in
     let given = c.turn.ensures in
-    (given.0 ∙ turning_within _ _ _ _ front, given.1 ∙ turned_within _ _ _ _ front)
+    (record { answer = given.answer ∙ turning_within _ _ _ _ front; words = given.words ∙ turned_within _ _ _ _ front })

@@ -6,8 +6,9 @@ use Prim.Native.Nat.{ℕ, ◌-◌}
 use native.Mathlib.Omega.{arith}
 use borrow.Author.Tests.{not-true, not-false}
 use Rattle.message_contents.specs.Gathered.{gives_shard, with_shard}
-use Rattle.base_laws.specs.Below.{all_none, all_more, all_fewer}
-use Rattle.base_laws.specs.Loops.{bad_at, bad_none}
+use Rattle.base_laws.specs.Below.{all_none}
+use Rattle.base_laws.proofs.Below.{all_more, all_fewer}
+use Rattle.base_laws.proofs.Loops.{bad_at, bad_none}
 use Rattle.message_format.specs.Definitions.{sequence_at}
 use Rattle.message_contents.specs.Laws.{where_none, where_step}
 use borrow.Author.Rules.{rules}

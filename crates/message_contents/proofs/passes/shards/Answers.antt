@@ -5,8 +5,9 @@ use mathlib.Core.List.{List}
 use Prim.Native.Nat.{ℕ, ◌<◌, ◌≤◌, ◌-◌}
 use native.Mathlib.Omega.{arith}
 use borrow.Author.Tests.{le-ltb, lt-ltb}
-use Rattle.base_laws.specs.Below.{all_none, all_more, all_fewer}
-use Rattle.base_laws.specs.Loops.{bad_at, bad_none}
+use Rattle.base_laws.specs.Below.{all_none}
+use Rattle.base_laws.proofs.Below.{all_more, all_fewer}
+use Rattle.base_laws.proofs.Loops.{bad_at, bad_none}
 use Rattle.message_format.specs.Definitions.{record_shard, shard_at}
 use Rattle.settings_values.specs.Definitions as Definitions
 use borrow.Author.Rules.{rules}

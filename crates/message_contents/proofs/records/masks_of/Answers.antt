@@ -3,7 +3,8 @@ use mathlib.Core.Path.{◌≡◌, sym, ap, ◌∙◌}
 use Prim.Native.Nat.{ℕ, ◌-◌}
 use native.Mathlib.Omega.{arith}
 use lib.ListN.{replicate}
-use Rattle.base_laws.specs.Tables.{filled, filled_none, filled_turn}
+use Rattle.base_laws.specs.Tables.{filled, filled_none}
+use Rattle.base_laws.proofs.Tables.{filled_turn}
 use Rattle.settings_values.specs.Definitions.{shards}
 use Rattle.message_format.specs.Definitions.{members_of}
 use Rattle.message_contents.specs.Laws.{masks_filled}

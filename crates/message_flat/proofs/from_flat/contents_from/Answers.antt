@@ -5,7 +5,8 @@ use mathlib.Core.Path.{refl, sym, ap, ◌∙◌}
 use lib.Dec.{lit≤}
 use lib.ListN.{replicate}
 use Rattle.base_laws.specs.Definitions.{tabulate}
-use Rattle.base_laws.specs.Tables.{filled_none, filled_turn, filled_end}
+use Rattle.base_laws.specs.Tables.{filled_none}
+use Rattle.base_laws.proofs.Tables.{filled_turn, filled_end}
 use Rattle.base_lent.specs.Definitions.{words_in}
 use Rattle.message_flat.specs.declared.from_flat.Counts.{Counts}
 use Rattle.message_flat.specs.Counted.{body_in, records_of, body_by, contents-by}

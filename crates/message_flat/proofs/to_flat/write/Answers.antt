@@ -4,7 +4,8 @@ use native.Mathlib.Omega.{arith}
 use mathlib.Core.Path.{sym, ap, ◌∙◌}
 use lib.ListN.{length}
 use Rattle.base_laws.specs.Definitions.{tabulate}
-use Rattle.base_laws.specs.Tables.{filled_none, filled_turn, filled_end, length_filled}
+use Rattle.base_laws.specs.Tables.{filled_none, length_filled}
+use Rattle.base_laws.proofs.Tables.{filled_turn, filled_end}
 use Rattle.message_flat.specs.declared.to_flat.Parts.{Parts}
 use Rattle.message_flat.specs.Parted.{length_of, word_of, few_own, length_own, words_own}
 use Rattle.message_flat.proofs.to_flat.write.Goals as goal

@@ -6,7 +6,8 @@ use Prim.Native.Nat.{ℕ, ◌-◌}
 use native.Mathlib.Omega.{arith}
 use lib.ListN.{get_or}
 use borrow.Author.Tests.{not-true, not-false}
-use Rattle.base_laws.specs.Below.{all_none, all_more, all_fails, all_fewer}
+use Rattle.base_laws.specs.Below.{all_none}
+use Rattle.base_laws.proofs.Below.{all_more, all_fails, all_fewer}
 use Rattle.settings_values.specs.Definitions.{shards}
 use Rattle.message_format.specs.Definitions.{row10_at, row10}
 use borrow.Author.Rules.{rules}

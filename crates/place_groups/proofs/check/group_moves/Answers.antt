@@ -6,7 +6,8 @@ use mathlib.Core.Path.{◌≡◌, sym, ap, ◌∙◌}
 use native.Mathlib.Omega.{arith}
 use lib.ListN.{get_or}
 use Rattle.base_sum_laws.specs.Definitions.{sum_below}
-use Rattle.base_sum_laws.specs.Sums.{sum_zero, sum_next}
+use Rattle.base_sum_laws.specs.Sums.{sum_zero}
+use Rattle.base_sum_laws.proofs.Sums.{sum_next}
 use Rattle.settings_values.specs.Definitions.{shards}
 use Rattle.place_groups.specs.Definitions.{group_moves, group_moves_at}
 use borrow.Author.Rules.{rules}
@@ -26,7 +27,7 @@ loop-s-preserved c = let a = c.args in
     let l = c.loop-s in
     let f : ℕ → ℕ = at a.settings.now a.old.now a.masks.now a.g in (
       omega (arith, c.shards-count.ensures),
-      omega (arith, l.invariant.upper_bound, c.moves_at-total.ensures.value, sum_next l.s f),
+      omega (arith, l.invariant.1, c.moves_at-total.ensures.value, sum_next l.s f),
       omega (arith, c.moves_at-total.ensures.upper_bound),
     )
 
@@ -36,4 +37,4 @@ returns c = let a = c.args in
     let l = c.loop-s in
     let f : ℕ → ℕ = at a.settings.now a.old.now a.masks.now a.g in
     let e : l.s ≡ shards a.settings.now = omega (arith, c.shards-count.ensures) in
-    l.invariant.upper_bound ∙ ap (λ (n : ℕ). sum_below n f) e
+    l.invariant.1 ∙ ap (λ (n : ℕ). sum_below n f) e

@@ -7,7 +7,4 @@ use Rattle.place_groups.proofs.check.moved.Goals as goal
 
 pub returns : goal.returns
 returns c =
-    let a = c.args in (record {
-      value = c.count.ensures ∙ ap count c.minus.ensures;
-      upper_bound = omega (arith, c.count.ensures, ap count c.minus.ensures, count-within 32 (minus a.new a.old) (minus_lt 32 a.new a.old c.fits.new.fits));
-    })
+    let a = c.args in record { value = c.count.ensures ∙ ap count c.minus.ensures; upper_bound = omega (arith, c.count.ensures, ap count c.minus.ensures, count-within 32 (minus a.new a.old) (minus_lt 32 a.new a.old c.ranges.new.fits)) }

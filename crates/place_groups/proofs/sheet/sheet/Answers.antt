@@ -6,7 +6,7 @@ use mathlib.Core.List.{List}
 use native.Mathlib.Omega.{arith}
 use lib.ListN.{get_or, replicate}
 use Rattle.base_laws.specs.Definitions.{tabulate}
-use Rattle.base_laws.specs.Tables.{fill_start, fill_turn, fill_end}
+use Rattle.base_laws.proofs.Tables.{fill_start, fill_turn, fill_end}
 use Rattle.place_groups.specs.Sheet.{sheet_at, sheet_of}
 use Rattle.place_groups.specs.Laws.{row_is}
 use Rattle.place_groups.proofs.sheet.sheet.Goals as goal

@@ -4,8 +4,8 @@ use Rattle.program_input.specs.Inputs.{reads_left}
 use Rattle.program_input.specs.Filling.{Filling}
 use Rattle.program_input.proofs.Input.fill.Given as goal
 
-abbrev pub invariant-loop-block : goal.invariant-loop-block
-invariant-loop-block l = Filling l.initial.input l.block l.input l.len × (length l.block ≡ length l.initial.block)
+abbrev pub invariant-loop-stream : goal.invariant-loop-stream
+invariant-loop-stream g l = Filling l.initial.input l.block l.input l.len × (length l.block ≡ length l.initial.block)
 
-abbrev pub decreases-loop-block : goal.decreases-loop-block
-decreases-loop-block l = reads_left l.input
+abbrev pub decreases-loop-stream : goal.decreases-loop-stream
+decreases-loop-stream g l = reads_left l.input

@@ -5,7 +5,8 @@ use mathlib.Core.Path.{sym, ◌∙◌}
 use native.Mathlib.Omega.{arith}
 use lib.Dec.{lit≤}
 use borrow.Author.Tests.{not-true, not-false}
-use Rattle.base_laws.specs.Below.{all_none, all_more, all_fails, all_fewer}
+use Rattle.base_laws.specs.Below.{all_none}
+use Rattle.base_laws.proofs.Below.{all_more, all_fails, all_fewer}
 use Rattle.report_rows.proofs.latest.latest_sound.Goals as goal
 
 pub loop-n-init : goal.loop-n-init

@@ -4,7 +4,7 @@ use mathlib.Core.List.{List}
 use mathlib.Core.Path.{ap}
 use native.Mathlib.Omega.{arith}
 use lib.Dec.{lit≤}
-use Rattle.base_laws.specs.Tables.{fill_start, fill_turn, fill_end}
+use Rattle.base_laws.proofs.Tables.{fill_start, fill_turn, fill_end}
 use Rattle.base_ids.specs.declared.View.{View}
 use Rattle.report_rows.specs.Definitions.{noted_at, noted}
 use Rattle.report_rows.proofs.latest.note.Goals as goal

@@ -2,7 +2,8 @@
 use Prim.Native.Nat.{ℕ, ◌-◌, min}
 use mathlib.Core.Path.{sym, ap₂, ◌∙◌}
 use native.Mathlib.Omega.{arith}
-use Rattle.base_sum_laws.specs.Sums.{sum_zero, sum_turn, sum_done}
+use Rattle.base_sum_laws.specs.Sums.{sum_zero, sum_done}
+use Rattle.base_sum_laws.proofs.Sums.{sum_turn}
 use Rattle.search_laws.specs.Floor.{lack_at, floor_of}
 use Rattle.search_judge.proofs.floor.floor.Goals as goal
 

@@ -4,4 +4,4 @@ use Rattle.state_planner.proofs.State.check_under.Goals as goal
 
 pub returns : goal.returns
 unfolding check_refusal
-returns c = c.enter-entry.ensures.0
+returns c = c.enter-entry.ensures.refusal

@@ -23,7 +23,7 @@ returns-then-refusal-ne0 c =
     let k = c.enter-sighted in
     let d = words_in a.desk.now in
     let f : k.result.refusal ≡ decide_refusal a.settings.now a.self d =
-    k.ensures.0 ∙ ap (λ (p : Bool). entry_refusal (desk_ok d) a.settings.now a.self d p) g.ensures in
+    k.ensures.refusal ∙ ap (λ (p : Bool). entry_refusal (desk_ok d) a.settings.now a.self d p) g.ensures in
     within_refused a.settings.now a.self d a.rounds _ (sym (ap accepted f) ∙ ne_eqb _ _ c.if-refusal-ne0.true) (ap (λ (r : Refusal). still_within a.self (Decision.Refused r)) f)
 
 pub offer-offered-requires : goal.offer-offered-requires
@@ -35,9 +35,9 @@ offer-offered-requires c =
     let k = c.enter-sighted in
     let d = words_in a.desk.now in
     let f : k.result.refusal ≡ decide_refusal a.settings.now a.self d =
-    k.ensures.0 ∙ ap (λ (p : Bool). entry_refusal (desk_ok d) a.settings.now a.self d p) g.ensures in
+    k.ensures.refusal ∙ ap (λ (p : Bool). entry_refusal (desk_ok d) a.settings.now a.self d p) g.ensures in
     let h = decide_kept a.settings.now a.self d (sym (ap accepted f) ∙ eq-eqb _ _ c.if-refusal-ne0.false) in
-    record { settings = s.requires.0; number_bound = number_to a.settings.now a.self.kept a.self.termination a.self.held h; held_bound = held_below a.settings.now a.self.kept a.self.termination a.self.held h }
+    record { settings = s.requires.settings; number_bound = number_to a.settings.now a.self.kept a.self.termination a.self.held h; held_bound = held_below a.settings.now a.self.kept a.self.termination a.self.held h }
 
 pub returns : goal.returns
 unfolding decide_refusal
@@ -48,9 +48,9 @@ returns c =
     let k = c.enter-sighted in
     let d = words_in a.desk.now in
     let f : k.result.refusal ≡ decide_refusal a.settings.now a.self d =
-    k.ensures.0 ∙ ap (λ (p : Bool). entry_refusal (desk_ok d) a.settings.now a.self d p) g.ensures in
+    k.ensures.refusal ∙ ap (λ (p : Bool). entry_refusal (desk_ok d) a.settings.now a.self d p) g.ensures in
     let t : accepted (decide_refusal a.settings.now a.self d) ≡ true = sym (ap accepted f) ∙ eq-eqb _ _ c.if-refusal-ne0.false in
     subst⁻¹ (λ (r : DecidedWithin). DecidesWithin a.settings.now a.self d a.rounds r) c.after_offer.ensures
     (within-by a.settings.now a.self d a.rounds t c.offer-offered.result
-    (offers_told a.settings.now a.self.kept a.self.termination a.self.held d k.result.seen k.ensures.1.0 s.requires.0 (decide_slots a.settings.now a.self d t) a.rounds
+    (offers_told a.settings.now a.self.kept a.self.termination a.self.held d k.result.seen k.ensures.seen s.requires.settings (decide_slots a.settings.now a.self d t) a.rounds
     (decide_kept a.settings.now a.self d t) c.offer-offered.result c.offer-offered.ensures))

@@ -12,10 +12,12 @@ returns-then-refusal-ne0 c =
     let a = c.args in
     let r = c.call_refusal-refusal in
     let p = is_gathering a.self.phase in
-    let f = call_entry a.settings.now (words_in a.desk.now) r.result r.ensures c.if-refusal-ne0.true a.self p in (
-      c.refuse.ensures ∙ entry_refuses a.settings.now a.self (words_in a.desk.now) a.message.now p refl r.result f c.if-refusal-ne0.true,
-      refusal_leaves a.settings.now a.self a.desk.now a.message.now r.result f c.if-refusal-ne0.true,
-    )
+    let f = call_entry a.settings.now (words_in a.desk.now) r.result r.ensures c.if-refusal-ne0.true a.self p in
+    let d = refusal_leaves a.settings.now a.self a.desk.now a.message.now r.result f c.if-refusal-ne0.true in record {
+      outcome = c.refuse.ensures ∙ entry_refuses a.settings.now a.self (words_in a.desk.now) a.message.now p refl r.result f c.if-refusal-ne0.true;
+      words = d.0;
+      bytes = d.1;
+    }
 
 pub report_under-requires : goal.report_under-requires
 report_under-requires c =

@@ -9,7 +9,8 @@ pub returns-then-not-is_accepted : goal.returns-then-not-is_accepted
 returns-then-not-is_accepted c =
     let s = c in
     let e = c.report_by-outcome.ensures in
-    (e, answer_leaves s.args.settings.now s.args.self s.args.desk.now s.args.message.now c.report_by-outcome.result e (sym c.is_accepted.ensures ∙ c.if-not-is_accepted.true))
+    let d = answer_leaves s.args.settings.now s.args.self s.args.desk.now s.args.message.now c.report_by-outcome.result e (sym c.is_accepted.ensures ∙ c.if-not-is_accepted.true) in
+    record { outcome = e; words = d.0; bytes = d.1 }
 
 pub bounds-message-0 : goal.bounds-message-0
 bounds-message-0 c =
@@ -21,10 +22,11 @@ pub store-requires : goal.store-requires
 store-requires c =
     let s = c in
     let e = c.report_by-outcome.ensures in
-    let yes = (sym c.is_accepted.ensures ∙ c.if-not-is_accepted.false) in record { desk_len = (s.requires.1, reporter_named s.args.settings.now s.args.self s.args.desk.now s.args.message.now c.report_by-outcome.result e yes s.requires.0); message_len_bound = report_small s.args.settings.now s.args.self s.args.desk.now s.args.message.now c.report_by-outcome.result e yes }
+    let yes = (sym c.is_accepted.ensures ∙ c.if-not-is_accepted.false) in record { desk_len = (s.requires.desk_len, reporter_named s.args.settings.now s.args.self s.args.desk.now s.args.message.now c.report_by-outcome.result e yes s.requires.settings); message_len_bound = report_small s.args.settings.now s.args.self s.args.desk.now s.args.message.now c.report_by-outcome.result e yes }
 
 pub returns : goal.returns
 returns c =
     let s = c in
     let e = c.report_by-outcome.ensures in
-    (e, stored_desk s.args.settings.now s.args.self s.args.desk.now s.args.message.now c.report_by-outcome.result e (sym c.is_accepted.ensures ∙ c.if-not-is_accepted.false) _ c.store.ensures)
+    let d = stored_desk s.args.settings.now s.args.self s.args.desk.now s.args.message.now c.report_by-outcome.result e (sym c.is_accepted.ensures ∙ c.if-not-is_accepted.false) _ (c.store.ensures.words, c.store.ensures.bytes) in
+    record { outcome = e; words = d.0; bytes = d.1 }

@@ -9,7 +9,7 @@ returns-then-not-tidy_or_none c =
     let s = c in
     let a = s.args in
     let none = c.tidy_or_none in
-    rw (kept_ready a.settings.now a.v a.t a.held s.requires.0 a.ready s.requires.1, sym none.ensures, c.if-not-tidy_or_none.true)
+    rw (kept_ready a.settings.now a.v a.t a.held s.requires.settings a.ready s.requires.ready_value, sym none.ensures, c.if-not-tidy_or_none.true)
 
 pub returns-then-not-positions_tidy : goal.returns-then-not-positions_tidy
 returns-then-not-positions_tidy c =
@@ -17,7 +17,7 @@ returns-then-not-positions_tidy c =
     let a = s.args in
     let none = c.tidy_or_none in
     let rest = c.positions_tidy in
-    rw (kept_ready a.settings.now a.v a.t a.held s.requires.0 a.ready s.requires.1, sym none.ensures, c.if-not-tidy_or_none.false, sym rest.ensures, c.if-not-positions_tidy.true)
+    rw (kept_ready a.settings.now a.v a.t a.held s.requires.settings a.ready s.requires.ready_value, sym none.ensures, c.if-not-tidy_or_none.false, sym rest.ensures, c.if-not-positions_tidy.true)
 
 pub returns : goal.returns
 returns c =
@@ -25,4 +25,4 @@ returns c =
     let a = s.args in
     let none = c.tidy_or_none in
     let rest = c.positions_tidy in
-    rw (kept_ready a.settings.now a.v a.t a.held s.requires.0 a.ready s.requires.1, sym none.ensures, c.if-not-tidy_or_none.false, sym rest.ensures, c.if-not-positions_tidy.false, sym c.nodes.ensures) c.within.ensures
+    rw (kept_ready a.settings.now a.v a.t a.held s.requires.settings a.ready s.requires.ready_value, sym none.ensures, c.if-not-tidy_or_none.false, sym rest.ensures, c.if-not-positions_tidy.false, sym c.nodes.ensures) c.within.ensures

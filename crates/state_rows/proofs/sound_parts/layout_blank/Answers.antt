@@ -1,6 +1,6 @@
 use Rattle.report_views.specs.Definitions.{layout_blank}
 use Rattle.report_views.specs.Shorthands.{all_zero}
-use mathlib.Core.Path.{ap, ◌∙◌}
+use Rattle.std.proofs.Common.{◌≡◌, length, arith, ap, ◌∙◌}
 use borrow.Author.Tests.{eq-eqb, ne_eqb}
 use Rattle.state_rows.proofs.sound_parts.layout_blank.Goals as goal
 
@@ -16,5 +16,6 @@ pub returns : goal.returns
 unfolding layout_blank
 returns c =
     let a = c.args in
+    let e : length a.v.masks ≡ 16 = omega arith in
     simp (eq-eqb _ _ c.if-number-ne0.false, eq-eqb _ _ c.if-v-ne0.false)
-    (c.zeros.ensures ∙ ap (all_zero a.v.masks) c.zeros-arg-2-1.given.0)
+    (c.zeros.ensures ∙ ap (all_zero a.v.masks) e)

@@ -1,11 +1,7 @@
 use Rattle.report_views.specs.Definitions.{marks_sound}
 use mathlib.Core.Path.{sym}
-use borrow.Author.Tests.{eq-eqb, ne_eqb, not-true, not-false}
-use borrow.Author.Rules.{rules}
+use borrow.Author.Tests.{eq-eqb, ne_eqb}
 use Rattle.state_rows.proofs.sound_parts.marks_sound.Goals as goal
-
-pub enum_told-1 : goal.enum_told-1
-enum_told-1 c = search rules
 
 pub returns-then-fetched-ne0 : goal.returns-then-fetched-ne0
 unfolding marks_sound
@@ -13,11 +9,11 @@ returns-then-fetched-ne0 c = simp (c.in-Gathering.is, ne_eqb _ _ c.if-fetched-ne
 
 pub returns-then-not-subset : goal.returns-then-not-subset
 unfolding marks_sound
-returns-then-not-subset c = simp (c.in-Ordered.is, sym c.subset.ensures, c.if-not-subset.true)
+returns-then-not-subset c = simp (c.in-Ordered.is, sym c.if-not-subset.ensures)
 
 pub returns-then-fetched-held : goal.returns-then-fetched-held
 unfolding marks_sound
-returns-then-fetched-held c = simp (c.in-Ordered.is, sym c.subset.ensures, c.if-not-subset.false, eq-eqb _ _ c.if-fetched-held.true)
+returns-then-fetched-held c = simp (c.in-Ordered.is, sym c.if-not-subset.ensures, eq-eqb _ _ c.if-fetched-held.true)
 
 pub returns-then-fetched-held-2 : goal.returns-then-fetched-held-2
 unfolding marks_sound
@@ -25,7 +21,7 @@ returns-then-fetched-held-2 c = simp (c.in-Preparing.is, ne_eqb _ _ c.if-fetched
 
 pub returns-then-not-subset-2 : goal.returns-then-not-subset-2
 unfolding marks_sound
-returns-then-not-subset-2 c = simp (c.in-Preparing.is, eq-eqb _ _ c.if-fetched-held-2.false, sym c.subset-in-Preparing.ensures, c.if-not-subset-2.true)
+returns-then-not-subset-2 c = simp (c.in-Preparing.is, eq-eqb _ _ c.if-fetched-held-2.false, sym c.if-not-subset-2.ensures)
 
 pub returns-then-fetched-held-3 : goal.returns-then-fetched-held-3
 unfolding marks_sound
@@ -37,11 +33,11 @@ returns-else-fetched-ne0 c = simp (c.in-Gathering.is, eq-eqb _ _ c.if-fetched-ne
 
 pub returns-else-fetched-held : goal.returns-else-fetched-held
 unfolding marks_sound
-returns-else-fetched-held c = simp (c.in-Ordered.is, sym c.subset.ensures, c.if-not-subset.false, ne_eqb _ _ c.if-fetched-held.false)
+returns-else-fetched-held c = simp (c.in-Ordered.is, sym c.if-not-subset.ensures, ne_eqb _ _ c.if-fetched-held.false)
 
 pub returns-else-not-subset-2 : goal.returns-else-not-subset-2
 unfolding marks_sound
-returns-else-not-subset-2 c = simp (c.in-Preparing.is, eq-eqb _ _ c.if-fetched-held-2.false, sym c.subset-in-Preparing.ensures, c.if-not-subset-2.false)
+returns-else-not-subset-2 c = simp (c.in-Preparing.is, eq-eqb _ _ c.if-fetched-held-2.false, sym c.if-not-subset-2.ensures)
 
 pub returns-else-fetched-held-3 : goal.returns-else-fetched-held-3
 unfolding marks_sound

@@ -5,7 +5,8 @@ use mathlib.Core.Path.{◌≡◌, sym, ap, ◌∙◌}
 use native.Mathlib.Omega.{arith}
 use Rattle.place_groups.specs.Definitions.{group_moves}
 use Rattle.base_sum_laws.specs.Definitions.{sum_below}
-use Rattle.base_sum_laws.specs.Sums.{sum_zero, sum_next}
+use Rattle.base_sum_laws.specs.Sums.{sum_zero}
+use Rattle.base_sum_laws.proofs.Sums.{sum_next}
 use Rattle.report_views.specs.declared.Layout.{Layout}
 use Rattle.report_views.specs.Definitions.{mask_at, all_moves}
 use borrow.Author.Rules.{rules}

@@ -5,7 +5,8 @@ use mathlib.Core.List.{List}
 use mathlib.Core.Path.{sym, ◌∙◌}
 use native.Mathlib.Omega.{arith}
 use borrow.Author.Tests.{not-true, not-false}
-use Rattle.base_laws.specs.Below.{all_none, all_more, all_fails, all_fewer}
+use Rattle.base_laws.specs.Below.{all_none}
+use Rattle.base_laws.proofs.Below.{all_more, all_fails, all_fewer}
 use Rattle.place_groups.specs.Definitions.{group_valid}
 use Rattle.report_views.specs.declared.Layout.{Layout}
 use Rattle.report_views.specs.Definitions.{mask_at}

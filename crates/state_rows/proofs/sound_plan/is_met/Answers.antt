@@ -1,10 +1,6 @@
 -- `state_rows::sound_plan::is_met` meets its contract: by the case of the quorum. Assumes nothing.
 use Rattle.report_views.specs.Definitions.{is_met}
-use borrow.Author.Rules.{rules}
 use Rattle.state_rows.proofs.sound_plan.is_met.Goals as goal
-
-pub enum_told-1 : goal.enum_told-1
-enum_told-1 c = search rules
 
 pub returns-in-Met : goal.returns-in-Met
 unfolding is_met

@@ -1,0 +1,2 @@
+-- Theorems that rest on what a wrong program may refuse.
+pub mod MajorityLaws

@@ -1,0 +1,3 @@
+-- Theorems that rest on what a wrong program may refuse.
+pub mod Ruling
+pub mod Worked
