@@ -29,7 +29,7 @@ try:
 	@mkdir -p target
 	@cd crates/restart && rt try <stdin >../../target/try.out 2>../../target/try.log || { cat ../../target/try.log; exit 1; }
 	@cat target/try.out
-	@echo "(from the source as it stands, interpreted and compiled with checks; nothing is proved by it: make case-a)"
+	@echo "(from the source as it stands, compiled with checks; nothing is proved by it: make case-a)"
 
 case-a: target/bin/restart
 	@target/bin/restart < crates/restart/stdin

@@ -1,7 +1,7 @@
 """Contracts that leave something open. A public function gives its result and leaves each of its `&mut` arguments behind; its contract
 says of each what it is, by an equation, and supposes nothing that no caller can see to (what a caller has to see to is a `requires`, which
 the checker asks of it). Checked of every public function that is no program's, one test each:
-- no `ensures` has a hypothesis that ties an argument to something that is no argument, as `(d : List ℕ) → seen ≡ seenOf d → ..` does:
+- no `ensures` has a hypothesis that ties an argument to something that is no argument, as `(d : List ℕ) → seen ≡ seen_of d → ..` does:
   whoever has an argument of another making is promised nothing;
 - an `ensures` has an equation about the result, whole or field by field, and one about each `&mut` argument as it is left. By cases, where
   the hypotheses are about arguments, there are two equations or more; one whose hypothesis is about the result itself does not count;
@@ -196,7 +196,7 @@ def split_words(tokens):
 
 
 def unfolds(tokens, ties):
-    """Whether an equation only names the parts of what arguments give, as `quorumOf .. ≡ Short reason` does: a constructor of such names."""
+    """Whether an equation only names the parts of what arguments give, as `quorum_of .. ≡ Short reason` does: a constructor of such names."""
     sides = [words_in(side) for side in split_at(tokens, "≡")]
     named = [words for words in sides if words and words[0].split(".")[-1][0].isupper() and set(words[1:]) <= ties]
     return len(sides) == 2 and len(named) == 1 and not any(set(words) & ties for words in sides if words not in named)

@@ -201,6 +201,8 @@ SAMPLE = [
     "base_masks/must-fail/code_1",
     "base_masks/must-fail/code_2",
     "base_masks/must-fail/half_is_enough",
+    "base_laws/must-fail/laws_1",
+    "settings_check/must-fail/code_1",
 ]
 
 

@@ -7,6 +7,7 @@ import tempfile
 
 import edits
 import run
+import tries
 from sources import written
 
 CRATE = {
@@ -132,6 +133,20 @@ SAID = [
 ]
 
 
+ANSWERS = "proofs/run/Answers.antt"
+# what a check says of a proof whose names no longer fit, the words that a program swaps, and the names that the proof follows
+FOLLOWED = [
+    (["./%s:1:1: error: `returns`: record `R.Lts.Else` has no field `if-k-eq4` (nearest: .if-k-eq2, .if-k-eq1)" % ANSWERS], [("4", "1")],
+     {ANSWERS: {"if-k-eq4": "if-k-eq1"}}),
+    (["./%s:1:1: error: `returns`: record `R.Lts.In` has no field `disjoint`" % ANSWERS, "the fields that can be named here are `before`, `subset`, `args`"],
+     [("disjoint", "subset")], {ANSWERS: {"disjoint": "subset"}}),
+    (["./%s:1:1: error: `then-n-lt1`: `goal.then-n-lt1`: module `M.Goals` has no `then-n-lt1` that can be named from here" % ANSWERS,
+      "help: `Goals` has no `then-n-lt1`; rattle asks for `returns`, `then-n-lt0`; a `use` line of it can name these places: `Start`"], [],
+     {ANSWERS: {"then-n-lt1": "then-n-lt0"}}),
+    (["./%s:1:1: error: `returns`: differ" % ANSWERS], [("4", "1")], {}),
+]
+
+
 def main():
     failed = 0
     with tempfile.TemporaryDirectory() as folder:
@@ -155,7 +170,11 @@ def main():
         if run.bad_edits(status, lines) != bad:
             failed += 1
             print("%s: not %d" % (lines, bad))
-    print("%d passed, %d failed" % (len(CASES) + 1 + len(SAID) - failed, failed))
+    for lines, swaps, names in FOLLOWED:
+        if tries.renamed(lines, lambda file: {"returns", "if-k-eq2"}, swaps) != names:
+            failed += 1
+            print("%s: %s is followed" % (lines, tries.renamed(lines, lambda file: {"returns", "if-k-eq2"}, swaps)))
+    print("%d passed, %d failed" % (len(CASES) + 1 + len(SAID) + len(FOLLOWED) - failed, failed))
     sys.exit(1 if failed else 0)
 
 

@@ -30,9 +30,9 @@ def main():
         if not any(path.split("/")[1] == name for path in paths):
             sys.exit("crates/%s has no folder %s" % (name, " or ".join(folders)))
     paths = [path for path in paths if not names or path.split("/")[1] in names]
-    shutil.rmtree(LOGS, ignore_errors=True)
     failed = 0
     for name in sorted({path.split("/")[1] for path in paths}):
+        shutil.rmtree(os.path.join(LOGS, name), ignore_errors=True)
         done = subprocess.run(["rt", "check"], cwd=folder_of(name), stdout=subprocess.PIPE, stderr=subprocess.STDOUT, text=True, errors="replace")
         if done.returncode:
             print(done.stdout + "%s is not proved, so its wrong programs are not tried" % name)

@@ -5,8 +5,8 @@ from .saving import fetched
 from .sentences import counted, listed, machine, machines
 
 # What a plan rests on, as docs/PROMISES.md names it, without a kept termination and with one; and the duties of docs/ASSUMPTIONS.md.
-CLAIMS = {False: ("history_laws/Definitions.Claims", "history_course_laws/Ever.logged-lasts"),
-          True: ("history_course_laws/Lasting.settled-held", "history_course_laws/Ever.logged-lasts")}
+CLAIMS = {False: ("history_laws/Definitions.Claims", "history_course_laws/Ever.logged_lasts"),
+          True: ("history_course_laws/Lasting.settled_held", "history_course_laws/Ever.logged_lasts")}
 DUTIES = (1, 2, 3, 4, 6, 7, 11, 12, 14, 15, 16, 17)
 MOST_TOLD = 4  # offers of one size that are told one by one
 

@@ -79,7 +79,7 @@ class Stored(unittest.TestCase):
     def test_every_plan_says_so_and_no_wait_does(self):
         lines = told(A).lines
         self.assertTrue(lines[1].startswith("Nothing stored is lost if you go now: "), lines[1])
-        self.assertIn("history_laws/Definitions.Claims, history_course_laws/Ever.logged-lasts) of a service that keeps duties 1-4, 6, 7, 11, 12 and 14-17",
+        self.assertIn("history_laws/Definitions.Claims, history_course_laws/Ever.logged_lasts) of a service that keeps duties 1-4, 6, 7, 11, 12 and 14-17",
                       lines[1])
         self.assertFalse(any("is lost if you go" in line for line in told(support.example("b")).lines))
 
@@ -87,7 +87,7 @@ class Stored(unittest.TestCase):
         ending = "".join("termination shard %d view %d update %d\n" % row for row in ((0, 0, 0), (1, 7, 5), (2, 0, 0)))
         found = told(A + ending)
         self.assertIn("not past its target, which the termination gives.", found.lines[1])
-        self.assertIn("history_course_laws/Lasting.settled-held", found.lines[1])
+        self.assertIn("history_course_laws/Lasting.settled_held", found.lines[1])
         value = json_of(support.given(A + ending), found)["plan"]["stored"]
         self.assertEqual(value, {"lost": False, "claims": list(CLAIMS[True]), "duties": list(DUTIES)})
 
