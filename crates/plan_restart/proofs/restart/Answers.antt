@@ -10,7 +10,7 @@ pub returns-in-Short : goal.returns-in-Short
 returns-in-Short c = let s = c in
     let q = c.quorum-quorum in
     restart_waits s.args.settings.now s.args.kept s.args.held s.args.seen q.result q.ensures _ c.waiting.result
-    c.quorum-1.given.1 c.waiting.ensures
+    c.in-Short.is c.waiting.ensures
 
 pub returns-in-Met : goal.returns-in-Met
 returns-in-Met c = let s = c in

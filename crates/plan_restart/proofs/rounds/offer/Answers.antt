@@ -14,7 +14,7 @@ returns-in-Short c =
     let s = c in
     let q = c.quorum-quorum in
     offer_waits s.args.settings.now s.args.kept s.args.held s.args.seen s.args.rounds q.result q.ensures _ _
-    c.quorum-1.given.1 (ap (λ (v : Verdict). record { verdict = v; gap = 0 }) c.waiting.ensures)
+    c.in-Short.is (ap (λ (v : Verdict). record { verdict = v; gap = 0 }) c.waiting.ensures)
 
 pub returns-in-Met : goal.returns-in-Met
 returns-in-Met c =
