@@ -26,13 +26,13 @@ four_stay = refl
 -- ---- a choice among the placements of three shards, from a test of them all
 
 -- masks x, y and z do not come after a, b and c
-pub not_after : ℕ → ℕ → ℕ → ℕ → ℕ → ℕ → Bool
+unfoldable pub not_after : ℕ → ℕ → ℕ → ℕ → ℕ → ℕ → Bool
 not_after x y z a b c =
     list_before (nodes_in x) (nodes_in a)
     || (eqb x a && (list_before (nodes_in y) (nodes_in b) || (eqb y b && (list_before (nodes_in z) (nodes_in c) || eqb z c))))
 
 -- more than these moves; or as many, and fewer than these stays; or as many, and r
-pub no_better : ℕ → ℕ → ℕ → ℕ → Bool → Bool
+unfoldable pub no_better : ℕ → ℕ → ℕ → ℕ → Bool → Bool
 no_better few many m s r = ltb few m || (eqb m few && (ltb s many || (eqb s many && r)))
 
 -- ---- four nodes of one set, all held; shards 0 and 1, which had two nodes each, may keep them, and shard 2 has none

@@ -1,6 +1,6 @@
 -- Reports that leave out what all members of a shard have in common from before the kept view, the base: holders are the same, and a target
 -- of the base's end is (0, 0).
-use Rattle.std.specs.Prelude.{ℕ, ◌<◌, Bool, cond, not, ◌||◌, List, ◌≡◌}
+use Rattle.std.specs.Prelude.{ℕ, ◌<◌, Bool, cond, not, ◌&&◌, ◌||◌, List, ◌≡◌}
 use Rattle.std.proofs.Math.Bool.{true, false}
 use Rattle.std.proofs.Common.{inl, ap₂, ◌∙◌, subst, arith}
 use Rattle.std.proofs.Math.Logic.{⊎_elim}

@@ -1,9 +1,5 @@
 -- Event by event.
-use borrow.Author.Rules.{rules}
 use Rattle.c_events.proofs.outcome.Goals as goal
-
-pub enum_told-1 : goal.enum_told-1
-enum_told-1 c = search rules
 
 pub returns-in-Drop : goal.returns-in-Drop
 returns-in-Drop c = simp c.in-Drop.is c.drop_under.ensures

@@ -52,7 +52,7 @@ loop-n-preserved c = let s = c in
     let m = c.loop-n-test.true in
     let many = c.wide-shards.ensures ∙ c.shards.ensures in
     elim c.if-has.branch [
-      then-has+else-not-seen w ↦
+      | then-has+else-not-seen w ↦
           let h = sym c.has.ensures ∙ w.if-has.true in
           let given = w.see-seen.ensures ∙ ap (λ (k : ℕ). seen_of a.settings.now a.v a.t k d) (w.with.ensures ∙ alone l.n) in
           subst⁻¹ (CountedTo a.settings.now a.v a.t a.all d (l.n + 1))

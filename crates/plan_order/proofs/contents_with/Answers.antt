@@ -23,10 +23,10 @@ returns c d e =
     let targets = c.put_targets in
     order_made _ start.args.plan d start.args.node.0 start.requires.shards_to wide.result holders.result c.put_cuts-len.result
     _
-    members.new.0
-    targets.new.0
-    holders.new.0
-    c.put_cuts-len.new.0
+    members.new.body
+    targets.new.body
+    holders.new.body
+    c.put_cuts-len.new.body
     wide.ensures
     e
     members.ensures

@@ -28,7 +28,7 @@ cut_for-t-requires c =
     let r = c.report_at-report in
     let l = c.loop-s-test.true in
     let below : i.s < shards start.args.settings.now = omega (arith, i.invariant.0) in
-    record { len_bound = read_few _ _ r.result r.ensures; readable_slot = start.requires.1.1.holder i.s below }
+    record { len_bound = read_few _ _ r.result r.ensures; readable_slot = start.requires.holders.holder i.s below }
 
 pub loop-s-preserved : goal.loop-s-preserved
 loop-s-preserved c =
@@ -51,4 +51,4 @@ returns c =
     let a = start.args in
     let i = c.loop-s in
     let e : i.s ≡ shards a.settings.now = omega (arith, i.invariant.0, i.invariant.2, c.loop-s-test.false) in
-    cuts_all a.plan (words_in a.desk.now) a.node.0 a.settings.now i.s i.cuts start.requires.0.shards_to e i.invariant.3
+    cuts_all a.plan (words_in a.desk.now) a.node.0 a.settings.now i.s i.cuts start.requires.sizes.shards_to e i.invariant.3

@@ -11,7 +11,7 @@ loop-s-init c = (c.requires, omega arith, sym (turns_none _ _))
 pub loop-s-preserved : goal.loop-s-preserved
 loop-s-preserved c =
     let i = c.loop-s in
-    (i.invariant.0, omega arith, turned i.s _ _ i.body c.put.new.0 i.invariant.2 c.put.ensures)
+    (i.invariant.0, omega arith, turned i.s _ _ i.body c.put.new.body i.invariant.2 c.put.ensures)
 
 pub returns : goal.returns
 returns c =

@@ -13,7 +13,7 @@ loop-s-preserved c =
     let i = c.loop-s in (
       i.invariant.0,
       omega arith,
-      turned i.s _ _ i.body c.put.new.0 i.invariant.2 c.put.ensures,
+      turned i.s _ _ i.body c.put.new.body i.invariant.2 c.put.ensures,
     )
 
 pub returns : goal.returns

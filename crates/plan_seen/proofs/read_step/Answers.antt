@@ -32,8 +32,12 @@ returns-then-not-report_fits c = let s = c in
     let a = s.args in
     let w = c.words_of-w in
     let r = c.read_under-r in
-    let f = c.report_fits in (record { holders_len_2 = s.requires.holders_len; value = λ e. clash e c.if-slot.false; stepped = λ e d is. stepped_unfit a.settings.now a.v a.t d a.slot.node.0 a.b.now w.result s.requires.settings is s.requires.node_bound w.ensures a.holders.now a.tops.now r.result r.ensures c.if-refusal-ne0.false
-            (sym f.ensures ∙ c.if-not-report_fits.true) })
+    let f = c.report_fits in (record {
+      holders_len_2 = s.requires.holders_len;
+      value = λ e. clash e c.if-slot.false;
+      stepped = λ e d is. stepped_unfit a.settings.now a.v a.t d a.slot.node.0 a.b.now w.result s.requires.settings is s.requires.node_bound w.ensures a.holders.now a.tops.now r.result r.ensures c.if-refusal-ne0.false
+          (sym f.ensures ∙ c.if-not-report_fits.true);
+    })
 
 pub note_report-requires : goal.note_report-requires
 note_report-requires c = let s = c in
@@ -47,11 +51,15 @@ returns c = let s = c in
     let w = c.words_of-w in
     let r = c.read_under-r in
     let f = c.report_fits in
-    let h = c.if-refusal-ne0.false in (record { holders_len_2 = c.note_report.ensures.holders_len_2; value = λ e. clash e c.if-slot.false; stepped = λ e d is.
-            let ok = fits_sound a.settings.now a.v a.t d a.slot.node.0 a.b.now w.result s.requires.settings is s.requires.node_bound w.ensures a.holders.now a.tops.now r.result r.ensures h true
-            (sym f.ensures ∙ c.if-not-report_fits.false) in
-            record {
-              sound = sym ok;
-              renewed = λ q. c.note_report.ensures.by_index d a.b.now is s.requires.node_bound ok
-                  (contents_are a.settings.now a.v a.t d a.slot.node.0 a.b.now w.result s.requires.settings is s.requires.node_bound w.ensures a.holders.now a.tops.now r.result r.ensures h);
-            } })
+    let h = c.if-refusal-ne0.false in (record {
+      holders_len_2 = c.note_report.ensures.holders_len_2;
+      value = λ e. clash e c.if-slot.false;
+      stepped = λ e d is.
+          let ok = fits_sound a.settings.now a.v a.t d a.slot.node.0 a.b.now w.result s.requires.settings is s.requires.node_bound w.ensures a.holders.now a.tops.now r.result r.ensures h true
+          (sym f.ensures ∙ c.if-not-report_fits.false) in
+          record {
+            sound = sym ok;
+            renewed = λ q. c.note_report.ensures.by_index d a.b.now is s.requires.node_bound ok
+                (contents_are a.settings.now a.v a.t d a.slot.node.0 a.b.now w.result s.requires.settings is s.requires.node_bound w.ensures a.holders.now a.tops.now r.result r.ensures h);
+          };
+    })

@@ -91,7 +91,7 @@ loop-n-preserved c = let s = c in
     let words : FitWords (words_in a.desk.now) = desk_words a.desk.now s.requires.desk_len (λ i. omega (arith, c.type_inv.desk i)) in
     let kept = kept-by a.settings.now a.v a.t a.tables s.requires.settings s.requires.tables_of in
     elim c.if-has.branch [
-      then-has+else-not-read_step w ↦
+      | then-has+else-not-read_step w ↦
           let pairs = slot_pairs a.desk.now s.requires.desk_len l.n m _ w.pairs.ensures in
           let is : SlotIs (words_in a.desk.now) l.n _ = record { whole = desk_length a.desk.now s.requires.desk_len; words = words; pairs = pairs } in
           walked_as a.settings.now a.v a.t a.held (words_in a.desk.now) (l.n + 1) w.holders-is w.tops-is w.b-is

@@ -1,0 +1,26 @@
+-- `restart::answer` meets its contract: where the input was cut nothing is printed, else the run prints. Assumes nothing.
+use Prim.Native.Nat.{ℕ, ◌≤◌}
+use mathlib.Core.List.{List}
+use mathlib.Core.Path.{◌≡◌, sym, ◌∙◌}
+use native.Mathlib.Omega.{arith}
+use lib.ListN.{length}
+use Rattle.program_run.specs.Definitions.{Printed}
+use Rattle.program_run.specs.Whole.{writes_printed}
+use Rattle.program_reading.specs.Laws.{answers_none, answers_by, empty-desk}
+use borrow.Author.Rules.{rules}
+use Rattle.restart.proofs.answer.Goals as goal
+
+enough : (l : List ℕ) → length l ≡ 8192 → 8192 ≤ length l
+enough l h = omega arith
+
+pub returns-then-is_cut : goal.returns-then-is_cut
+returns-then-is_cut g c = answers_none Printed c.read_run-intake.ensures _ (sym c.is_cut.ensures ∙ c.if-is_cut.true)
+
+pub print-len-requires : goal.print-len-requires
+print-len-requires g c = c.read_run-intake.ensures.settled
+
+pub returns : goal.returns
+returns g c =
+    answers_by Printed c.read_run-intake.ensures _ _ empty-desk
+    (sym c.is_cut.ensures ∙ c.if-is_cut.false) c.print-len.ensures.puts.within
+    (λ input e. writes_printed _ _ _ _ c.print-len.ensures (enough c.args.out.now (search rules)) input e)
