@@ -112,9 +112,15 @@ def definitions():
                     yield named.group(1), path
 
 
+# Of one name with another, and why they may be.
+ALIKE = {("not_after", "crates/history_cases/specs/Caps.antt"): "a test of three shards' nodes, for the rows there and their laws alone"}
+
+
 def homonyms(_):
     seen = {}
     for name, path in definitions():
+        if (name, path) in ALIKE:
+            continue
         if name.lower() in seen:
             yield "%s is defined in %s, and %s in %s" % (name, path, *seen[name.lower()])
         seen.setdefault(name.lower(), (name, path))

@@ -51,6 +51,7 @@ class Crate:
         self.folder = "crates/%s/" % crate
         self.lines = {}  # file -> the part that each of its lines belongs to
         self.words = {}  # part -> the words of its text, with the file in which they are to be read
+        self.called = {}  # a function's body -> the words of its text, which name functions too: of one name with a definition, often
         self.heads = {}  # part -> the parts that it is checked from whatever its words
         self.names = {}  # file -> word -> the parts that it names
         self.functions = {}  # name -> the heads of functions
@@ -95,6 +96,8 @@ class Crate:
             self.lines.setdefault(file, []).append(part)
             if owner:
                 self.words.setdefault(part, set()).update((file, word) for word in WORD.findall(line.split("//")[0]))
+                if owner[2]:
+                    self.called.setdefault(part, set()).update(WORD.findall(line.split("//")[0]))
                 head = (file, (*owner[:2], False))
                 self.heads.setdefault(part, set()).add(head)
                 self.functions.setdefault(owner[0], set()).add(head)
@@ -129,8 +132,8 @@ class Crate:
                 todo += self.heads.get(part, ())
                 for file, word in self.words.get(part, ()):
                     todo += self.names[file].get(word, ())
-                    if part[0].startswith("src/"):
-                        todo += self.functions.get(word, ())
+                for word in self.called.get(part, ()):
+                    todo += self.functions.get(word, ())
         return found
 
 

@@ -57,7 +57,9 @@ def renamed(lines, cited, swaps):
                 near += re.findall(r"`([^`]+)`", lines[at + 1])
             near = [other for other in near if other not in FIXED and other not in cited(file)]
             like = [name.replace(word, other) for word, other in swaps if name.replace(word, other) in near]
-            for other in (like or difflib.get_close_matches(name, near, 1, 0.6))[:1]:
+            # of its kind, as a test is `if-..`
+            kind = sorted({other for other in near if other.split("-")[0] == name.split("-")[0]})
+            for other in (like or (kind if len(kind) == 1 else difflib.get_close_matches(name, near, 1, 0.6)))[:1]:
                 found.setdefault(file, {})[name] = other
     return found
 
