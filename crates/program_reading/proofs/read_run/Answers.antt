@@ -8,7 +8,7 @@ pub returns-then-is_cut : goal.returns-then-is_cut
 returns-then-is_cut g c = reads_cut c.read_all-intake.ensures (sym c.is_cut.ensures ∙ c.if-is_cut.true)
 
 pub close-requires : goal.close-requires
-close-requires g c = (reads_ready c.read_all-intake.ensures, search rules)
+close-requires g c = record { ready_run = reads_ready c.read_all-intake.ensures; desk_len = search rules }
 
 pub returns : goal.returns
 returns g c =

@@ -5,8 +5,8 @@ use Rattle.program_reading.proofs.turn.Goals as goal
 
 pub fed-requires : goal.fed-requires
 fed-requires g c = record {
-    ready_run = (c.requires.ready_run, omega (arith, c.read-next.ensures.got_in_bounds, c.got-n.ensures));
-    desk_len = c.requires.desk_len;
+  ready_run = (c.requires.ready_run, omega (arith, c.read-next.ensures.got_in_bounds, c.got-n.ensures));
+  desk_len = c.requires.desk_len;
 }
 
 pub returns : goal.returns
