@@ -19,7 +19,7 @@ pub overflow_sub-i : goal.overflow_sub-i
 overflow_sub-i c = omega (arith, (gathers_on c.loop-i.run c.loop-i.bytes c.args.fed.now c.loop-i.i _ _ c.loop-i.invariant.1.0.ready c.gather-end.ensures c.loop-i-test.true).0)
 
 pub overflow_add-i : goal.overflow_add-i
-overflow_add-i c = omega (arith, (gathers_on c.loop-i.run c.loop-i.bytes c.args.fed.now c.loop-i.i _ _ c.loop-i.invariant.1.0.ready c.gather-end.ensures c.loop-i-test.true).1, c.well-formed.1.1.1)
+overflow_add-i c = omega (arith, (gathers_on c.loop-i.run c.loop-i.bytes c.args.fed.now c.loop-i.i _ _ c.loop-i.invariant.1.0.ready c.gather-end.ensures c.loop-i-test.true).1, c.well_formed.1.1.1)
 
 pub loop-i-smaller : goal.loop-i-smaller
 loop-i-smaller c =
@@ -32,7 +32,7 @@ loop-i-preserved c = (
   (
     feeds_more c.args.fed.now c.loop-i.i (c.gather-end.result - c.loop-i.run.pending) c.loop-i.invariant.1.0 (gathers_feed c.loop-i.run c.loop-i.bytes c.args.fed.now c.loop-i.i _ _ c.loop-i.invariant.1.0.ready c.gather-end.ensures _ _ _ _ c.settle-run.ensures.feeds),
     (
-      c.settle-run.auto.1.0 ∙ c.loop-i.invariant.1.1.0,
+      c.settle-run.auto.desk ∙ c.loop-i.invariant.1.1.0,
       c.loop-i.invariant.1.1.1
           ∙ gathers_laid c.loop-i.run c.loop-i.bytes c.args.fed.now c.loop-i.i _ _ c.loop-i.invariant.1.0.ready c.gather-end.ensures _ c.settle-run.ensures.pending_value,
     ),
