@@ -23,8 +23,8 @@ returns-in-TooFew c = puts_as (ap wait_line c.in-TooFew.is) c.wait_of-in-TooFew.
 
 pub returns-in-NoHolder : goal.returns-in-NoHolder
 unfolding wait_line number_of value_of
-returns-in-NoHolder c = puts_as (ap wait_line c.reason-1.given.1) c.wait_for.ensures
+returns-in-NoHolder c = puts_as (ap wait_line c.in-NoHolder.is) c.wait_for.ensures
 
 pub returns-in-NoPlacement : goal.returns-in-NoPlacement
 unfolding wait_line number_of value_of
-returns-in-NoPlacement c = puts_as (ap wait_line c.reason-in-NoPlacement-1.given.1) c.wait_for-in-NoPlacement.ensures
+returns-in-NoPlacement c = puts_as (ap wait_line c.in-NoPlacement.is) c.wait_for-in-NoPlacement.ensures

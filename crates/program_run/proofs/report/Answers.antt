@@ -16,4 +16,4 @@ pub returns-in-Accepted : goal.returns-in-Accepted
 returns-in-Accepted c = report_accepted c.args.run _ _ c.report_under-outcome.result _ c.requires.stage_value.0 c.requires.stage_value.1 c.report_under-outcome.ensures.outcome c.report_under-outcome.ensures.words c.in-Accepted.is
 
 pub returns-in-Refused : goal.returns-in-Refused
-returns-in-Refused c = report_refused c.args.run _ _ c.report_under-outcome.result _ c.requires.stage_value.0 c.requires.stage_value.1 c.report_under-outcome.ensures.outcome c.report_under-outcome.ensures.words _ _ c.answer-1.given.1 c.closed.ensures
+returns-in-Refused c = report_refused c.args.run _ _ c.report_under-outcome.result _ c.requires.stage_value.0 c.requires.stage_value.1 c.report_under-outcome.ensures.outcome c.report_under-outcome.ensures.words _ _ c.in-Refused.is c.closed.ensures

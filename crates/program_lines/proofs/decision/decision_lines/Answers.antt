@@ -17,7 +17,7 @@ pub returns-in-Planned : goal.returns-in-Planned
 returns-in-Planned c = says_plan _ c.in-Planned.is c.shards-shards.ensures (omega (arith, c.shards-shards.ensures, (c.requires c.in-Planned.is).sizes.shards_to)) c.plan_lines.ensures
 
 pub returns-in-Wait : goal.returns-in-Wait
-returns-in-Wait c = says_wait _ c.decision-1.given.1 c.wait_line.ensures
+returns-in-Wait c = says_wait _ c.in-Wait.is c.wait_line.ensures
 
 pub returns-in-Refused : goal.returns-in-Refused
-returns-in-Refused c = says_refused _ c.decision-in-Refused-1.given.1 c.number_line.ensures
+returns-in-Refused c = says_refused _ c.in-Refused.is c.number_line.ensures

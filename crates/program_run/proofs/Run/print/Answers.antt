@@ -10,4 +10,4 @@ pub returns-in-Opening : goal.returns-in-Opening
 returns-in-Opening c = writes_opening c.args.self _ _ _ _ c.in-Opening.is c.number_line.ensures
 
 pub returns-in-Closed : goal.returns-in-Closed
-returns-in-Closed c = writes_closed c.args.self _ _ _ _ _ c.stage-1.given.1 c.number_line-in-Closed.ensures
+returns-in-Closed c = writes_closed c.args.self _ _ _ _ _ c.in-Closed.is c.number_line-in-Closed.ensures
