@@ -16,6 +16,7 @@ An error that says only that a proof file no longer fits the code, or that somet
 Prints a last line `N passed, M failed`: one for each wrong program, and one for each public function."""
 import functools
 import glob
+import itertools
 import os
 import re
 import sys
@@ -42,6 +43,9 @@ WORD = re.compile(r"[^\s(){}\[\],;.:|`\"]+")
 # their bodies stand there more often.
 FEWER = {"report_rows::row12"}
 FEWER.update("state_rows::is_%s" % phase for phase in ("gathering", "ordered", "preparing", "committed"))
+# Those with none: they hand on a reader, a writer or an error of std, of which no other is at hand, or promise only that they end.
+NONE = {"program_arguments::is_given", "program_arguments::fail"}
+NONE.update("%s::%s" % it for it in itertools.product(("program_arguments", "program_input"), ("new", "error")))
 
 
 class Crate:
@@ -240,7 +244,8 @@ def lacking(wrong):
         asking = {owner[0] for owner, line in parts if not owner[2] and line.strip().startswith("requires ")}
         for name in sorted({owner[0] for owner, _ in parts}):
             count = len(wrong.get((crate, file, name), ()))
-            enough = count >= (1 if name in asking or "%s::%s" % (room_of(path), name) in FEWER else 2)
+            whole = "%s::%s" % (room_of(path), name)
+            enough = count >= (0 if whole in NONE else 1 if name in asking or whole in FEWER else 2)
             yield None if enough else "%s::%s has %d wrong programs of its own" % (room_of(path), name, count)
 
 
