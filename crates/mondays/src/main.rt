@@ -10,7 +10,7 @@ use mondays_moves::Tally;
 use program_arguments::Output;
 use program_input::{Input, Stream};
 use std::env::Env;
-use std::io::{Read, Write};
+use std::io::Write;
 
 // What came of printing a block: the tally after it, the length of its text, and whether all of it was written.
 #[derive(Clone, Copy)]
@@ -68,8 +68,8 @@ fn print_block<W: Write>(
 }
 
 // Reads one block more and prints what it adds; nothing where reading was cut.
-fn turn<R: Read, W: Write>(
-    stream: &mut Stream<R>,
+fn turn<W: Write>(
+    stream: &mut Stream,
     output: &mut Output<W>,
     tallied: Tallied,
     block: &mut [u8; 32768],
@@ -98,8 +98,8 @@ fn turn<R: Read, W: Write>(
 }
 
 // Prints block after block: to the end of the input, to a bad line, or until a read or a write fails.
-fn print_all<R: Read, W: Write>(
-    stream: &mut Stream<R>,
+fn print_all<W: Write>(
+    stream: &mut Stream,
     output: &mut Output<W>,
     block: &mut [u8; 32768],
     out: &mut [u8; 98304],

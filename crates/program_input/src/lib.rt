@@ -5,7 +5,7 @@
 ghost use Rattle.std.specs.Prelude.{◌≡◌, ◌≤◌, ◌<◌, max, length, take, None};
 ghost use Rattle.program_input.specs.Definitions.{unread, after_bytes, after_failure, may_come, is_cut, read_to, most, most_counted, ReadsOn, Fills};
 
-use std::io::{Error, ErrorKind, Read};
+use std::io::{Error, ErrorKind, Read, Stdin};
 
 // What may still come.
 #[derive(Clone, Copy)]
@@ -37,16 +37,16 @@ pub struct FilledInput {
     pub len: usize,
 }
 
-// What is read from, and why the last read of it that failed did.
+// Standard input, and why the last read of it that failed did.
 #[derive(Drop)]
-pub struct Stream<R: Read> {
-    reader: R,
+pub struct Stream {
+    reader: Stdin,
     error: Option<Error>,
 }
 
-impl<R: Read> Stream<R> {
-    // A reader of which no read has failed.
-    pub fn new(reader: R) -> Stream<R>
+impl Stream {
+    // Standard input before a read of it has failed.
+    pub fn new(reader: Stdin) -> Stream
         ensures reader { result.reader ≡ reader }
         ensures error { result.error ≡ None }
     {
@@ -162,7 +162,7 @@ impl Input {
     }
 
     // Reads once more.
-    pub fn read<R: Read>(self, stream: &mut Stream<R>, buffer: &mut [u8]) -> Input
+    pub fn read(self, stream: &mut Stream, buffer: &mut [u8]) -> Input
         requires { (0 < length buffer.old) × (length buffer.old ≤ 32768) }
         ensures got_in_bounds { result.got ≤ length buffer.new }
         ensures reads_on { ReadsOn self (take result.got buffer.new) result }
@@ -185,7 +185,7 @@ impl Input {
     }
 
     // Reads until the block is full, the input is at its end or reading was cut.
-    pub fn fill<R: Read>(self, stream: &mut Stream<R>, block: &mut [u8]) -> FilledInput
+    pub fn fill(self, stream: &mut Stream, block: &mut [u8]) -> FilledInput
         requires { (0 < length block.old) × (length block.old ≤ 32768) }
         ensures { Fills self block.new result.input result.len }
     {

@@ -9,7 +9,6 @@ ghost use Rattle.program_reading.specs.Reading.{ReadsRun};
 
 use program_input::{Input, Stream};
 use program_run::Run;
-use std::io::Read;
 
 // The run to which the input has led, and the input as far as it was read.
 #[derive(Clone, Copy)]
@@ -47,8 +46,8 @@ fn fed(run: Run, desk: &mut [u8], bytes: &mut [u8], buffer: &[u8], n: usize) -> 
 }
 
 // One read more, and what it put into the buffer is fed to the run.
-fn turn<R: Read>(
-    stream: &mut Stream<R>,
+fn turn(
+    stream: &mut Stream,
     intake: Intake,
     desk: &mut [u8],
     bytes: &mut [u8],
@@ -69,7 +68,7 @@ fn turn<R: Read>(
 }
 
 // Feeds a run with the input: to its end, to a read that fails, or until the run is closed.
-fn read_all<R: Read>(stream: &mut Stream<R>, desk: &mut [u8], bytes: &mut [u8]) -> Intake
+fn read_all(stream: &mut Stream, desk: &mut [u8], bytes: &mut [u8]) -> Intake
     requires bytes_len { length bytes.old ≡ 2056 }
     requires desk_len { length desk.old ≡ 65536 }
     ensures { ReadsAll (words_in desk.old) bytes.old result (words_in desk.new) bytes.new }
@@ -86,7 +85,7 @@ fn read_all<R: Read>(stream: &mut Stream<R>, desk: &mut [u8], bytes: &mut [u8]) 
 }
 
 // The run to which the whole input leads; where the input was cut, as far as it was read.
-pub fn read_run<R: Read>(stream: &mut Stream<R>, desk: &mut [u8]) -> Intake
+pub fn read_run(stream: &mut Stream, desk: &mut [u8]) -> Intake
     requires { length desk.old ≡ 65536 }
     ensures { ReadsRun (words_in desk.old) result (words_in desk.new) }
 {

@@ -10,10 +10,10 @@ use program_arguments::Output;
 use program_input::Stream;
 use program_reading::Reply;
 use std::env::Env;
-use std::io::{Read, Write};
+use std::io::Write;
 
 // The sheet of the input, as text in lent bytes; none if the input was cut.
-fn answer<R: Read>(stream: &mut Stream<R>, out: &mut [u8; 32768]) -> Reply
+fn answer(stream: &mut Stream, out: &mut [u8; 32768]) -> Reply
     ensures { Answers Sheeted out.new result }
 {
     let mut desk = [0u8; 65536];

@@ -7,23 +7,23 @@ use Rattle.program_reading.specs.Laws.{fed_first, fed_then, going_open}
 use Rattle.program_reading.proofs.read_all.Goals as goal
 
 pub loop-buffer-init : goal.loop-buffer-init
-loop-buffer-init g c = (fed_first c.requires.bytes_len c.start.ensures c.start-2.ensures, refl)
+loop-buffer-init c = (fed_first c.requires.bytes_len c.start.ensures c.start-2.ensures, refl)
 
 pub turn-intake-requires : goal.turn-intake-requires
-turn-intake-requires g c = record { ready_run = c.loop-buffer.invariant.0.feeds.ready; desk_len = c.loop-buffer.invariant.1 ∙ c.requires.desk_len }
+turn-intake-requires c = record { ready_run = c.loop-buffer.invariant.0.feeds.ready; desk_len = c.loop-buffer.invariant.1 ∙ c.requires.desk_len }
 
 pub loop-buffer-smaller : goal.loop-buffer-smaller
-loop-buffer-smaller g c =
+loop-buffer-smaller c =
     reads_fall _ _ _
     (going_open (closed_at c.loop-buffer.intake.run.stage) (may_come c.loop-buffer.intake.input.source)
     (sym c.is_going_on.ensures ∙ c.loop-buffer-test.true))
     c.turn-intake.ensures.reads
 
 pub loop-buffer-preserved : goal.loop-buffer-preserved
-loop-buffer-preserved g c = (
+loop-buffer-preserved c = (
   fed_then c.loop-buffer.invariant.0 c.turn-intake.ensures,
   c.turn-intake.auto.desk ∙ c.loop-buffer.invariant.1,
 )
 
 pub returns : goal.returns
-returns g c = record { fed = c.loop-buffer.invariant.0; ended = sym c.is_going_on.ensures ∙ c.loop-buffer-test.false }
+returns c = record { fed = c.loop-buffer.invariant.0; ended = sym c.is_going_on.ensures ∙ c.loop-buffer-test.false }

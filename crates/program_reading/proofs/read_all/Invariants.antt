@@ -6,7 +6,7 @@ use Rattle.program_reading.specs.Definitions.{FedSoFar}
 use Rattle.program_reading.proofs.read_all.Given as goal
 
 abbrev pub invariant-loop-buffer : goal.invariant-loop-buffer
-invariant-loop-buffer g l = FedSoFar (words_in l.initial.desk) l.initial.bytes l.intake (words_in l.desk) l.bytes × (length l.desk ≡ length l.initial.desk)
+invariant-loop-buffer l = FedSoFar (words_in l.initial.desk) l.initial.bytes l.intake (words_in l.desk) l.bytes × (length l.desk ≡ length l.initial.desk)
 
 abbrev pub decreases-loop-buffer : goal.decreases-loop-buffer
-decreases-loop-buffer g l = reads_left l.intake.input
+decreases-loop-buffer l = reads_left l.intake.input

@@ -5,12 +5,12 @@ use borrow.Author.Rules.{rules}
 use Rattle.program_reading.proofs.read_run.Goals as goal
 
 pub returns-then-is_cut : goal.returns-then-is_cut
-returns-then-is_cut g c = reads_cut c.read_all-intake.ensures (sym c.is_cut.ensures ∙ c.if-is_cut.true)
+returns-then-is_cut c = reads_cut c.read_all-intake.ensures (sym c.is_cut.ensures ∙ c.if-is_cut.true)
 
 pub close-requires : goal.close-requires
-close-requires g c = record { ready_run = reads_ready c.read_all-intake.ensures; desk_len = search rules }
+close-requires c = record { ready_run = reads_ready c.read_all-intake.ensures; desk_len = search rules }
 
 pub returns : goal.returns
-returns g c =
+returns c =
     reads_closed c.read_all-intake.ensures
     c.close.ensures

@@ -14,13 +14,13 @@ enough : (l : List ℕ) → length l ≡ 8192 → 8192 ≤ length l
 enough l h = omega arith
 
 pub returns-then-is_cut : goal.returns-then-is_cut
-returns-then-is_cut g c = answers_none Printed c.read_run-intake.ensures _ (sym c.is_cut.ensures ∙ c.if-is_cut.true)
+returns-then-is_cut c = answers_none Printed c.read_run-intake.ensures _ (sym c.is_cut.ensures ∙ c.if-is_cut.true)
 
 pub print-len-requires : goal.print-len-requires
-print-len-requires g c = c.read_run-intake.ensures.settled
+print-len-requires c = c.read_run-intake.ensures.settled
 
 pub returns : goal.returns
-returns g c =
+returns c =
     answers_by Printed c.read_run-intake.ensures _ _ empty-desk
     (sym c.is_cut.ensures ∙ c.if-is_cut.false) c.print-len.ensures.puts.within
     (λ input e. writes_printed _ _ _ _ c.print-len.ensures (enough c.args.out.now (search rules)) input e)

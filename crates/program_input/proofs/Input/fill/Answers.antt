@@ -9,29 +9,29 @@ use borrow.Author.Rules.{rules}
 use Rattle.program_input.proofs.Input.fill.Goals as goal
 
 pub loop-stream-init : goal.loop-stream-init
-loop-stream-init g c = (filling_none _ _ c.requires.0, refl)
+loop-stream-init c = (filling_none _ _ c.requires.0, refl)
 
 pub slice_bounds-read-start : goal.slice_bounds-read-start
-slice_bounds-read-start g c = search rules
+slice_bounds-read-start c = search rules
 
 pub read-input-requires : goal.read-input-requires
-read-input-requires g c =
+read-input-requires c =
     let s = c in
     let part = length_lent s.loop-stream.block s.loop-stream.len in
     (omega (arith, part, c.if-len-block.true), omega (arith, part, s.loop-stream.invariant.1, c.requires.1))
 
 pub overflow_add-len : goal.overflow_add-len
-overflow_add-len g c =
+overflow_add-len c =
     let s = c in
     omega (arith, c.got-len.ensures, c.read-input.ensures.got_in_bounds, c.read-input.auto.buffer, length_lent s.loop-stream.block s.loop-stream.len, s.loop-stream.invariant.0.within, s.loop-stream.invariant.1, c.requires.1)
 
 pub loop-stream-smaller : goal.loop-stream-smaller
-loop-stream-smaller g c =
+loop-stream-smaller c =
     reads_fall _ _ _ (sym c.is_open.ensures ∙ c.loop-stream-test.true)
     c.read-input.ensures.reads_on
 
 pub loop-stream-preserved : goal.loop-stream-preserved
-loop-stream-preserved g c =
+loop-stream-preserved c =
     let s = c in
     let d = c in (
       filling_turn s.loop-stream.block d.read-input.new.buffer s.loop-stream.len s.loop-stream.invariant.0.within d.read-input.auto.buffer _ s.loop-stream.input _ c.got-len.result s.loop-stream.invariant.0
@@ -40,13 +40,13 @@ loop-stream-preserved g c =
     )
 
 pub shape_of-block-else-len-block : goal.shape_of-block-else-len-block
-shape_of-block-else-len-block g c = c.loop-stream.invariant.1
+shape_of-block-else-len-block c = c.loop-stream.invariant.1
 
 pub returns-else-len-block : goal.returns-else-len-block
-returns-else-len-block g c = fills_full c.loop-stream.invariant.0 (sym c.is_open.ensures ∙ c.loop-stream-test.true) c.if-len-block.false
+returns-else-len-block c = fills_full c.loop-stream.invariant.0 (sym c.is_open.ensures ∙ c.loop-stream-test.true) c.if-len-block.false
 
 pub shape_of-block-after-loop-stream : goal.shape_of-block-after-loop-stream
-shape_of-block-after-loop-stream g c = c.loop-stream.invariant.1
+shape_of-block-after-loop-stream c = c.loop-stream.invariant.1
 
 pub returns-after-loop-stream : goal.returns-after-loop-stream
-returns-after-loop-stream g c = fills_short c.loop-stream.invariant.0 (sym c.is_open.ensures ∙ c.loop-stream-test.false)
+returns-after-loop-stream c = fills_short c.loop-stream.invariant.0 (sym c.is_open.ensures ∙ c.loop-stream-test.false)
