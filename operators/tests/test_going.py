@@ -71,7 +71,7 @@ class Stored(unittest.TestCase):
             duties = {int(number) for number in re.findall(r"(?m)^(\d+)\. \*\*", file.read())}
         for name in {name for names in CLAIMS.values() for name in names}:
             crate, file, claim = re.fullmatch(r"(\w+)/(\w+)\.(\S+)", name).groups()
-            self.assertRegex(promises, r"\[`%s`\]\(\.\./crates/%s/specs/%s\.antt#L" % (re.escape(claim), crate, file))
+            self.assertRegex(promises, r"\[`%s`\]\(\.\./crates/%s/(?:specs|proofs)/%s\.antt#L" % (re.escape(claim), crate, file))
         self.assertLessEqual(set(DUTIES), duties)
         with open(os.path.join(support.ROOT, "man", "restart-model.7"), encoding="utf-8") as file:
             self.assertIn(".SH SAFETY\n", file.read())
