@@ -42,7 +42,7 @@ def build(mock):
     os.makedirs(WHOLE, exist_ok=True)
     if not mock:
         for name in ("c_planner", "c_placement"):
-            subprocess.run(["rt", "staticlib", name], cwd=ROOT, env=ENVIRONMENT, check=True, stdout=subprocess.DEVNULL)
+            subprocess.run([sys.executable, "gate/prove.py", name], cwd=ROOT, env=ENVIRONMENT, check=True, stdout=subprocess.DEVNULL)
         said("make", "--no-print-directory", "target/bin/restart", "target/bin/sheet", "target/bin/mondays")
     features = ["--features", "mock"] if mock else []
     for folder, more in (("bench/events", features), ("reference", [])):

@@ -16,7 +16,6 @@ An error that says only that a proof file no longer fits the code, or that somet
 Prints a last line `N passed, M failed`: one for each wrong program, and one for each public function."""
 import functools
 import glob
-import itertools
 import os
 import re
 import sys
@@ -42,10 +41,10 @@ WORD = re.compile(r"[^\s(){}\[\],;.:|`\"]+")
 # Public functions that ask nothing and have one wrong program only: an edit names a text that its file has once, and the other lines of
 # their bodies stand there more often.
 FEWER = {"report_rows::row12"}
+FEWER.update("%s::%s" % (crate, name) for crate in ("program_arguments", "program_input") for name in ("new", "error"))
+# A function that promises nothing, and whose body no edit makes unsafe.
+NONE = {"program_arguments::is_given"}
 FEWER.update("state_rows::is_%s" % phase for phase in ("gathering", "ordered", "preparing", "committed"))
-# Those with none: they hand on a reader, a writer or an error of std, of which no other is at hand, or promise only that they end.
-NONE = {"program_arguments::is_given", "program_arguments::fail"}
-NONE.update("%s::%s" % it for it in itertools.product(("program_arguments", "program_input"), ("new", "error")))
 
 
 class Crate:
@@ -244,8 +243,8 @@ def lacking(wrong):
         asking = {owner[0] for owner, line in parts if not owner[2] and line.strip().startswith("requires ")}
         for name in sorted({owner[0] for owner, _ in parts}):
             count = len(wrong.get((crate, file, name), ()))
-            whole = "%s::%s" % (room_of(path), name)
-            enough = count >= (0 if whole in NONE else 1 if name in asking or whole in FEWER else 2)
+            place = "%s::%s" % (room_of(path), name)
+            enough = place in NONE or count >= (1 if name in asking or place in FEWER else 2)
             yield None if enough else "%s::%s has %d wrong programs of its own" % (room_of(path), name, count)
 
 

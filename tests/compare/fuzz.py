@@ -27,7 +27,7 @@ def build(mock):
         commands = [cargo("reference"), cargo("tests/compare", "--bins", "--features", "mock")]
         restart, mondays, sheet = [os.path.join(release, name + "-reference") for name in PROGRAMS]
     else:
-        commands = [["python3", "gate/prove.py", "c_planner", *PROGRAMS], cargo("tests/compare", "--bins")]
+        commands = [[sys.executable, "gate/prove.py", "c_planner", *PROGRAMS], cargo("tests/compare", "--bins")]
         restart, mondays, sheet = [os.path.join(TARGET, "bin", name) for name in PROGRAMS]
     for command in commands:
         done = subprocess.run(command, cwd=ROOT, env=ENVIRONMENT, stdout=subprocess.PIPE, stderr=subprocess.STDOUT, text=True, errors="replace")
