@@ -3,7 +3,8 @@
 
 usage: python3 tools/port_lists.py          writes them below the line `## Lists` of docs/PORT.md
 
-What is declared is read from the crates as they stand; old names are those of tools/respelled.tsv, moved ones those of tools/moved.tsv."""
+Old and new names are those of tools/renamed.tsv (crate, name at LANDED, name now: port.py's and tools/respell.py's together), moved theorems those of
+tools/moved.tsv, with their statements as they stand."""
 import collections
 import glob
 import re
@@ -46,24 +47,16 @@ def heads(lines, at):
 
 
 def main():
-    new_of = collections.defaultdict(list)
-    for old, new in rows("tools/respelled.tsv"):
-        new_of[new].append(old)
+    renamed = collections.defaultdict(dict)
+    for crate, old, new in rows("tools/renamed.tsv"):
+        renamed[crate][old] = new
     moved = collections.defaultdict(list)
     for source, name, target in rows("tools/moved.tsv"):
         moved[target.split(".")[1]].append((source, name, target))
     out = []
     for folder in sorted(glob.glob("crates/*/src")):
         crate = folder.split("/")[1]
-        names = collections.OrderedDict()
-        texts = sorted(glob.glob("crates/%s/specs/**/*.antt" % crate, recursive=True) + glob.glob("crates/%s/proofs/**/*.antt" % crate, recursive=True))
-        texts = [p for p in texts if "/out/" not in p]
-        for path in texts:
-            for line in read(path).split("\n"):
-                m = DECLARED.match(line)
-                if m and m.group(3) in new_of:
-                    for old in new_of[m.group(3)]:
-                        names[old] = m.group(3)
+        names = renamed[crate]
         out.append("### %s" % crate)
         out.append("")
         if names:
