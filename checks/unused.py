@@ -77,6 +77,10 @@ class Used:
         return self.line[: self.line.index(".{") + 2] + ", ".join(kept) + self.line[self.line.index("}") :]
 
 
+# Traits of std whose methods are called by name, with nothing that names the trait.
+METHODS = {"Read": ".read(", "Write": ".write("}
+
+
 class File:
     """A file of code, specs or proofs: its lines, its lines `use`, and the words of the rest."""
 
@@ -108,6 +112,8 @@ class File:
         """(line use, the names there that nothing uses)."""
         text = "\n".join(self.texts)
         of_code = set(re.findall(r"\w+", text + self.wrong))
+        # a trait of std serves by its method
+        of_code.update(name for name, call in METHODS.items() if call in text)
         words = words_of((self.contracts if self.kind == "src" else text) + "\n" + self.wrong)
         for use in self.uses:
             names = [use.alias] if use.alias else [name for _, name in use.names]
