@@ -3,6 +3,7 @@ import os
 import re
 
 FUNCTION = re.compile(r'^(\s*)(pub )?(?:extern "C" )?fn (\w+)')
+USE = re.compile(r"(?:pub |ghost )*use ")
 DECLARED = re.compile(r"(?:(?:pub|abbrev|unfoldable) )*(record |data |mutual\b|module\b|use |unfolding )?(\S*)")
 
 
@@ -85,7 +86,8 @@ class Program:
             for _, old, new in (pair for pair in self.pairs if pair[0] == file):
                 edited = edited.replace(old, new, 1)
             lines = zip(crate.lines[file], text.split("\n"), edited.split("\n"))
-            found.update(part for part, before, after in lines if before != after)
+            # an edit may bring a word in by a line `use`
+            found.update(part for part, before, after in lines if before != after and not USE.match(before))
         return found
 
 

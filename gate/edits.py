@@ -35,6 +35,7 @@ UNFIT = re.compile(
 IN_PROOF = re.compile(r"^(?:\S*/)?proofs/(\S+)/(?:Answers|Invariants|Proof)\.antt:\d+:\d+: error")
 UNPROVED = re.compile(r"^fn \w+::(\S+): no proof: .*`search` did not prove ")
 IN_SPECS = re.compile(r"^(?:\S*/)?((?:specs|proofs)/\S+\.antt):(\d+):\d+: error")
+CALLED = re.compile(r"\b([a-z_]\w*)\s*(?:::<[^>]*>)?\(")
 CYCLE = re.compile(r"#\[cycle\((\w+)\)\]\s*(?:#\[.*\]\s*)*(?:pub )?fn (\w+)")
 WORD = re.compile(r"[^\s(){}\[\],;.:|`\"]+")
 
@@ -54,7 +55,7 @@ class Crate:
         self.folder = "crates/%s/" % crate
         self.lines = {}  # file -> the part that each of its lines belongs to
         self.words = {}  # part -> the words of its text, with the file in which they are to be read
-        self.called = {}  # a function's body -> the words of its text, which name functions too: of one name with a definition, often
+        self.called = {}  # a function's body -> the functions that its text calls, by their names
         self.heads = {}  # part -> the parts that it is checked from whatever its words
         self.names = {}  # file -> word -> the parts that it names
         self.functions = {}  # name -> the heads of functions
@@ -100,7 +101,7 @@ class Crate:
             if owner:
                 self.words.setdefault(part, set()).update((file, word) for word in WORD.findall(line.split("//")[0]))
                 if owner[2]:
-                    self.called.setdefault(part, set()).update(WORD.findall(line.split("//")[0]))
+                    self.called.setdefault(part, set()).update(CALLED.findall(line.split("//")[0]))
                 head = (file, (*owner[:2], False))
                 self.heads.setdefault(part, set()).add(head)
                 self.functions.setdefault(owner[0], set()).add(head)
