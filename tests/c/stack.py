@@ -104,11 +104,18 @@ def depths(code):
 
 
 def untried(name, code):
-    """Every call of itself passes 0 as its last argument."""
+    """Every call of itself passes 0 as its last argument, the third of those on the stack: it is pushed before the others, or stored above them on a
+    way that nothing else leads into."""
+    landings = {item.target for item in code if item.name.startswith("j")}
     for index, item in enumerate(code):
-        pushed = [before.operands for before in code[max(0, index - 8):index] if before.name == "push"]
-        if item.callee == name and (not pushed or pushed[0] != "$0x0"):
-            sys.exit("a call of itself with a flag that is not known to be 0 in " + name)
+        if item.callee == name:
+            before = code[max(0, index - 10):index]
+            pushed = [other.operands for other in before[-8:] if other.name == "push"]
+            stored = [at for at, other in enumerate(before) if other.name.startswith("mov") and other.operands.endswith(",0x10(%rsp)")]
+            way = before[stored[-1] + 1:] + [item] if stored else []
+            straight = way and not any(other.name[0] == "j" or other.name == "call" for other in way[:-1]) and not any(other.at in landings for other in way)
+            if pushed[:1] != ["$0x0"] and not (straight and before[stored[-1]].operands == "$0x0,0x10(%rsp)"):
+                sys.exit("a call of itself with a flag that is not known to be 0 in " + name)
 
 
 def bounds(found):
