@@ -104,10 +104,15 @@ def depths(code):
 
 
 def untried(name, code):
-    """Every call of itself passes 0 as its last argument."""
+    """Every call of itself passes 0 as its last argument, the third on the stack: pushed first, or stored there after the last call or jump."""
     for index, item in enumerate(code):
-        pushed = [before.operands for before in code[max(0, index - 8):index] if before.name == "push"]
-        if item.callee == name and (not pushed or pushed[0] != "$0x0"):
+        if item.callee != name:
+            continue
+        first = max((at + 1 for at in range(index) if code[at].name == "call" or code[at].name.startswith("j")), default=0)
+        before = code[first:index]
+        pushed = [one.operands for one in before[-8:] if one.name == "push"]
+        stored = [one.operands.split(",")[0] for one in before if one.operands.endswith(",0x10(%rsp)")]
+        if (pushed[0] if pushed else stored[-1] if stored else "") != "$0x0":
             sys.exit("a call of itself with a flag that is not known to be 0 in " + name)
 
 
