@@ -104,18 +104,16 @@ def depths(code):
 
 
 def untried(name, code):
-    """Every call of itself passes 0 as its last argument, the third of those on the stack: it is pushed before the others, or stored above them on a
-    way that nothing else leads into."""
-    landings = {item.target for item in code if item.name.startswith("j")}
+    """Every call of itself passes 0 as its last argument, the third on the stack: pushed first, or stored there after the last call or jump."""
     for index, item in enumerate(code):
-        if item.callee == name:
-            before = code[max(0, index - 10):index]
-            pushed = [other.operands for other in before[-8:] if other.name == "push"]
-            stored = [at for at, other in enumerate(before) if other.name.startswith("mov") and other.operands.endswith(",0x10(%rsp)")]
-            way = before[stored[-1] + 1:] + [item] if stored else []
-            straight = way and not any(other.name[0] == "j" or other.name == "call" for other in way[:-1]) and not any(other.at in landings for other in way)
-            if pushed[:1] != ["$0x0"] and not (straight and before[stored[-1]].operands == "$0x0,0x10(%rsp)"):
-                sys.exit("a call of itself with a flag that is not known to be 0 in " + name)
+        if item.callee != name:
+            continue
+        first = max((at + 1 for at in range(index) if code[at].name == "call" or code[at].name.startswith("j")), default=0)
+        before = code[first:index]
+        pushed = [one.operands for one in before[-8:] if one.name == "push"]
+        stored = [one.operands.split(",")[0] for one in before if one.operands.endswith(",0x10(%rsp)")]
+        if (pushed[0] if pushed else stored[-1] if stored else "") != "$0x0":
+            sys.exit("a call of itself with a flag that is not known to be 0 in " + name)
 
 
 def bounds(found):
