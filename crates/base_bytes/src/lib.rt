@@ -34,10 +34,8 @@ pub fn decode(bytes: &[u8], words: &mut [u32])
     requires { 4 * length words.old ≤ length bytes.now }
     ensures { words.new ≡ words_of bytes.now (length words.old) }
 {
-    let mut i = 0;
-    while i < words.len() {
+    for i in 0..words.len() {
         words[i] = word_at(bytes, i);
-        i += 1;
     }
 }
 
@@ -57,10 +55,8 @@ pub fn encode(words: &[u32], bytes: &mut [u8])
     requires { 4 * length words.now ≡ length bytes.old }
     ensures { bytes.new ≡ bytes_of words.now }
 {
-    let mut i = 0;
-    while i < words.len() {
+    for i in 0..words.len() {
         put(bytes, 4 * i, words[i]);
-        i += 1;
     }
 }
 
@@ -108,9 +104,7 @@ pub fn pairs(bytes: &[u8], out: &mut [u64; 256])
     requires out_len { length out.old ≡ 256 }
     ensures { out.new ≡ tabulate 256 (λ i. pair_at bytes.now i) }
 {
-    let mut i: usize = 0;
-    while i < 256 {
+    for i in 0..256 {
         out[i] = pair_at(bytes, i);
-        i += 1;
     }
 }

@@ -15,10 +15,8 @@ fn padded(words: &[u32]) -> [u32; 512]
     ensures { result ≡ Definitions.padded 512 words.now }
 {
     let mut table = [0u32; 512];
-    let mut i = 0;
-    while i < words.len() {
+    for i in 0..words.len() {
         table[i] = words[i];
-        i += 1;
     }
     table
 }

@@ -48,10 +48,8 @@ fn lay_out(c: Contents) -> [u32; 512]
     words[1] = c.view.0;
     words[2] = c.members;
     let body = c.body;
-    let mut k: usize = 0;
-    while k < 381 {
+    for k in 0..381 {
         words[k + 3] = body[k];
-        k += 1;
     }
     words
 }
@@ -100,10 +98,8 @@ fn contents_in(table: &[u32; 512], n: usize) -> Contents
     ensures { result ≡ contents_in table.now n }
 {
     let mut body = [0u32; 381];
-    let mut k: usize = 0;
-    while k < 381 {
+    for k in 0..381 {
         body[k] = table[k + 3];
-        k += 1;
     }
     Contents {
         node: Node(table[0]),

@@ -45,10 +45,8 @@ fn array_16(bytes: &[u8]) -> [u8; 16]
     ensures { result ≡ bytes.now }
 {
     let mut r = [0u8; 16];
-    let mut n: usize = 0;
-    while n < 16 {
+    for n in 0..16 {
         r[n] = bytes[n];
-        n += 1;
     }
     r
 }
@@ -58,10 +56,8 @@ fn array_32(bytes: &[u8]) -> [u8; 32]
     ensures { result ≡ bytes.now }
 {
     let mut r = [0u8; 32];
-    let mut n: usize = 0;
-    while n < 32 {
+    for n in 0..32 {
         r[n] = bytes[n];
-        n += 1;
     }
     r
 }
@@ -71,10 +67,8 @@ fn array_512(bytes: &[u8]) -> [u8; 512]
     ensures { result ≡ bytes.now }
 {
     let mut r = [0u8; 512];
-    let mut n: usize = 0;
-    while n < 512 {
+    for n in 0..512 {
         r[n] = bytes[n];
-        n += 1;
     }
     r
 }
@@ -85,10 +79,8 @@ fn put(owners: &mut [u8], from: &[u8; 32])
     requires from_len { length from.now ≡ 32 }
     ensures { owners.new ≡ from.now }
 {
-    let mut n: usize = 0;
-    while n < 32 {
+    for n in 0..32 {
         owners[n] = from[n];
-        n += 1;
     }
 }
 
@@ -118,11 +110,9 @@ fn row(sets: &[u8; 32], costs: &[u8; 512], need: u8, i: usize) -> [u8; 16]
         return [0u8; 16];
     }
     let mut r = [2u8; 16];
-    let mut n: usize = 0;
-    while n < 32 {
+    for n in 0..32 {
         let f = search_judge::wide(sets[n]) % 16;
         r[f] = lesser(r[f], entry(costs[i * 32 + n]));
-        n += 1;
     }
     r
 }
@@ -138,10 +128,8 @@ fn sheet_of(
     ensures { SheetFor (case_of sets.now needs.now caps.now costs.now idle) result }
 {
     let mut rows = [[2u8; 16]; 16];
-    let mut i: usize = 0;
-    while i < 16 {
+    for i in 0..16 {
         rows[i] = row(sets, costs, needs[i], i);
-        i += 1;
     }
     rows
 }

@@ -56,10 +56,8 @@ fn put_positions(words: &mut [u32; 160], at: usize, positions: [Position; 16])
     requires { at + 32 ≤ 160 }
     ensures { words.new ≡ turns 16 (Stores.store_position (λ s. get_or positions s start) at) words.old }
 {
-    let mut s: usize = 0;
-    while s < 16 {
+    for s in 0..16 {
         put_position(words, at + 2 * s, positions[s]);
-        s += 1;
     }
 }
 
@@ -68,10 +66,8 @@ fn put_masks(words: &mut [u32; 160], at: usize, masks: &[u32; 16])
     requires { at + 16 ≤ 160 }
     ensures { words.new ≡ turns 16 (Stores.store_word (λ s. get_or masks.now s 0) at) words.old }
 {
-    let mut s: usize = 0;
-    while s < 16 {
+    for s in 0..16 {
         words[at + s] = masks[s];
-        s += 1;
     }
 }
 
@@ -79,11 +75,9 @@ fn put_masks(words: &mut [u32; 160], at: usize, masks: &[u32; 16])
 fn put_holders(words: &mut [u32; 160], holders: [Node; 16])
     ensures { words.new ≡ turns 16 (Stores.store_word (node_at holders) 74) words.old }
 {
-    let mut s: usize = 0;
-    while s < 16 {
+    for s in 0..16 {
         let holder = holders[s];
         words[74 + s] = holder.0;
-        s += 1;
     }
 }
 
@@ -91,11 +85,9 @@ fn put_holders(words: &mut [u32; 160], holders: [Node; 16])
 fn put_views(words: &mut [u32; 160], views: [View; 32])
     ensures { words.new ≡ turns 32 (Stores.store_word (Stores.view_number_at views) 122) words.old }
 {
-    let mut n: usize = 0;
-    while n < 32 {
+    for n in 0..32 {
         let view = views[n];
         words[122 + n] = view.0;
-        n += 1;
     }
 }
 
@@ -164,10 +156,8 @@ fn copy_from(words: &[u32], at: usize, out: &mut [u32])
     requires { at + length out.old ≤ length words.now }
     ensures { out.new ≡ Definitions.span words.now at (length out.old) }
 {
-    let mut k = 0;
-    while k < out.len() {
+    for k in 0..out.len() {
         out[k] = words[at + k];
-        k += 1;
     }
 }
 
@@ -187,10 +177,8 @@ fn nodes_at(words: &[u32], at: usize) -> [Node; 16]
     ensures { result ≡ Definitions.nodes_at words.now at }
 {
     let mut nodes = [Node(0); 16];
-    let mut s: usize = 0;
-    while s < 16 {
+    for s in 0..16 {
         nodes[s] = Node(words[at + s]);
-        s += 1;
     }
     nodes
 }
@@ -201,10 +189,8 @@ fn views_at(words: &[u32], at: usize) -> [View; 32]
     ensures { result ≡ Definitions.views_at words.now at }
 {
     let mut views = [View(0); 32];
-    let mut n: usize = 0;
-    while n < 32 {
+    for n in 0..32 {
         views[n] = View(words[at + n]);
-        n += 1;
     }
     views
 }
@@ -218,13 +204,11 @@ fn positions_at(words: &[u32], at: usize) -> [Position; 16]
         view: View(0),
         k: 0,
     }; 16];
-    let mut s: usize = 0;
-    while s < 16 {
+    for s in 0..16 {
         positions[s] = Position {
             view: View(words[at + 2 * s]),
             k: words[at + 2 * s + 1],
         };
-        s += 1;
     }
     positions
 }
@@ -273,12 +257,10 @@ fn rest_is_zero(words: &[u32]) -> bool
     requires { length words.now ≡ 160 }
     ensures { result ≡ Definitions.rest_zero words.now }
 {
-    let mut k: usize = 0;
-    while k < 6 {
+    for k in 0usize..6 {
         if words[154 + k] != 0 {
             return false;
         }
-        k += 1;
     }
     true
 }

@@ -74,10 +74,8 @@ pub fn encode(p: Page) -> [u32; 512]
     ensures { result ≡ page_words p }
 {
     let mut words = [0u32; 512];
-    let mut k: usize = 0;
-    while k < 72 {
+    for k in 0..72 {
         words[k] = page_word(p, k);
-        k += 1;
     }
     words
 }

@@ -31,12 +31,10 @@ fn is_absent(held: u32, taken: usize, b: usize) -> bool
 fn some_absent(nodes: usize, held: u32, taken: usize) -> bool
     ensures { result ≡ any_below nodes (Absent·test held taken) }
 {
-    let mut b: usize = 0;
-    while b < nodes {
+    for b in 0..nodes {
         if is_absent(held, taken, b) {
             return true;
         }
-        b += 1;
     }
     false
 }
@@ -53,14 +51,12 @@ fn outage(left: u32, held: u32, nodes: usize, table: &[u8; 1024]) -> bool
     if held == 0 {
         return crew(left - 1, 0, 32, nodes, table);
     }
-    let mut o: usize = 0;
-    while o < nodes {
+    for o in 0..nodes {
         if base_masks::has(held, o) {
             if !crew(left - 1, base_masks::without(held, o), o, nodes, table) {
                 return false;
             }
         }
-        o += 1;
     }
     true
 }
@@ -80,8 +76,7 @@ fn crew(left: u32, held: u32, taken: usize, nodes: usize, table: &[u8; 1024]) ->
         }
         return outage(left - 1, held, nodes, table);
     }
-    let mut b: usize = 0;
-    while b < nodes {
+    for b in 0..nodes {
         if is_absent(held, taken, b) {
             let back = base_masks::with(held, b);
             if has_plan(table, back) {
@@ -90,7 +85,6 @@ fn crew(left: u32, held: u32, taken: usize, nodes: usize, table: &[u8; 1024]) ->
                 }
             }
         }
-        b += 1;
     }
     false
 }
@@ -111,14 +105,12 @@ pub fn winner(rounds: u32, held: u32, nodes: usize, table: &[u8; 1024]) -> Winne
         }
         return Winner::Outage(Lead::Passing);
     }
-    let mut o: usize = 0;
-    while o < nodes {
+    for o in 0..nodes {
         if base_masks::has(held, o) {
             if !crew(left, base_masks::without(held, o), o, nodes, table) {
                 return Winner::Outage(Lead::Taking(Node(o as u32)));
             }
         }
-        o += 1;
     }
     Winner::Crew
 }

@@ -11,19 +11,15 @@ const GIVEN_UP: u32 = 3;
 
 // Copies the first half's lower part to the second half.
 fn save(mem: &mut [u32; 1024]) {
-    let mut i: usize = 0;
-    while i < 256 {
+    for i in 0..256 {
         mem[512 + i] = mem[i];
-        i += 1;
     }
 }
 
 // And back.
 fn take_back(mem: &mut [u32; 1024]) {
-    let mut i: usize = 0;
-    while i < 256 {
+    for i in 0..256 {
         mem[i] = mem[512 + i];
-        i += 1;
     }
 }
 

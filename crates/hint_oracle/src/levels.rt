@@ -73,10 +73,8 @@ pub(crate) fn rooms(h: &mut [u16; 16], mem: &[u32; 1024])
     ensures { length h.new ≡ length h.old }
 {
     let count = hint_memory::owners::shards(mem);
-    let mut i: u32 = 0;
-    while i < count {
+    for i in 0..count {
         h[i as usize] = short(room_weight(mem, i));
-        i += 1;
     }
 }
 
@@ -85,10 +83,8 @@ pub(crate) fn wants(u: &mut [u16; 16], mem: &[u32; 1024], rooms: &[u16; 16])
     ensures { length u.new ≡ length u.old }
 {
     let count = hint_memory::owners::shards(mem);
-    let mut i: u32 = 0;
-    while i < count {
+    for i in 0..count {
         u[i as usize] = short(need_weight(mem, i, wide(rooms[i as usize])));
-        i += 1;
     }
 }
 
@@ -97,13 +93,11 @@ fn open_nodes(v: &mut [u16; 32], mem: &[u32; 1024])
     ensures { length v.new ≡ length v.old }
 {
     let up = zero(mem);
-    let mut n: u32 = 0;
-    while n < 32 {
+    for n in 0u32..32 {
         v[n as usize] = short(hint_memory::less(
             BASE + hint_memory::number(mem, hint_memory::LEVEL, n),
             up,
         ));
-        n += 1;
     }
 }
 

@@ -56,10 +56,8 @@ pub fn weigh(
     levels::wants(wants, mem, rooms);
     levels::nodes(nodes, mem, rooms);
     let count = hint_memory::owners::shards(mem);
-    let mut i: u32 = 0;
-    while i < count {
+    for i in 0..count {
         levels::weigh_row(pairs, mem, sets, wants, rooms, i);
-        i += 1;
     }
     levels::weigh_fixed(pairs, mem, sets, wants);
 }

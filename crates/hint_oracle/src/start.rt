@@ -14,11 +14,9 @@ const NO_PLACEMENT: u32 = 65535;
 // The nodes of each failure set, by set.
 fn nodes_of_sets(sets: &[u8; 32]) -> [u32; 16] {
     let mut nodes = [0u32; 16];
-    let mut n: u32 = 0;
-    while n < 32 {
+    for n in 0u32..32 {
         let f = hint_memory::wide(sets[n as usize]) % 16;
         nodes[f as usize] = nodes[f as usize] | hint_memory::bit(n);
-        n += 1;
     }
     nodes
 }
@@ -26,13 +24,11 @@ fn nodes_of_sets(sets: &[u8; 32]) -> [u32; 16] {
 // Every node without an owner, at the first level.
 fn load_nodes(mem: &mut [u32; 1024], sets: &[u8; 32]) {
     let nodes = nodes_of_sets(sets);
-    let mut n: u32 = 0;
-    while n < 32 {
+    for n in 0u32..32 {
         let f = hint_memory::wide(sets[n as usize]) % 16;
         hint_memory::set(mem, hint_memory::PEERS, n, nodes[f as usize]);
         hint_memory::set(mem, hint_memory::OWNER, n, hint_memory::NO_OWNER);
         hint_memory::set(mem, hint_memory::LEVEL, n, FIRST_LEVEL);
-        n += 1;
     }
 }
 
@@ -46,13 +42,11 @@ fn load_row(mem: &mut [u32; 1024], costs: &[u8; 512], i: u32) {
     let mut stay: u32 = 0;
     let mut moved: u32 = 0;
     let mut top: u32 = 0;
-    let mut n: u32 = 0;
-    while n < 32 {
+    for n in 0u32..32 {
         let c = hint_memory::wide(costs[(i % 16 * 32 + n) as usize]);
         stay = stay | chosen(c == 0, n);
         moved = moved | chosen(c % 255 != 0, n);
         top = hint_memory::larger(top, c % 255);
-        n += 1;
     }
     hint_memory::set(mem, hint_memory::STAY, i, stay);
     hint_memory::set(mem, hint_memory::MOVED, i, moved);
@@ -80,8 +74,7 @@ fn load_shard(mem: &mut [u32; 1024], i: u32, need: u32, cap: u32) {
 
 // Shard i keeps nodes that stay, one of a set, for its need.
 fn keep_need(mem: &mut [u32; 1024], i: u32) {
-    let mut round: u32 = 0;
-    while round < 32 {
+    for round in 0u32..32 {
         let m = hint_memory::nodes(mem, hint_memory::STAY, i)
             & hint_memory::nodes(mem, hint_memory::LOOSE, 0)
             & !hint_memory::nodes(mem, hint_memory::USED, i);
@@ -89,21 +82,18 @@ fn keep_need(mem: &mut [u32; 1024], i: u32) {
             return;
         }
         hint_memory::owners::give(mem, hint_memory::lowest(m), i);
-        round += 1;
     }
 }
 
 // And in its room.
 fn keep_room(mem: &mut [u32; 1024], i: u32) {
-    let mut round: u32 = 0;
-    while round < 32 {
+    for round in 0u32..32 {
         let m = hint_memory::nodes(mem, hint_memory::STAY, i)
             & hint_memory::nodes(mem, hint_memory::LOOSE, 0);
         if m == 0 || hint_memory::owners::free_room(mem, i) == 0 {
             return;
         }
         hint_memory::owners::give(mem, hint_memory::lowest(m), hint_memory::owners::room_of(i));
-        round += 1;
     }
 }
 
@@ -122,8 +112,7 @@ fn enter_shard(mem: &mut [u32; 1024], costs: &[u8; 512], i: u32, need: u32, cap:
 
 // All shards.
 fn enter_shards(mem: &mut [u32; 1024], needs: &[u8; 16], caps: &[u8; 16], costs: &[u8; 512]) {
-    let mut i: u32 = 0;
-    while i < 16 {
+    for i in 0u32..16 {
         enter_shard(
             mem,
             costs,
@@ -131,7 +120,6 @@ fn enter_shards(mem: &mut [u32; 1024], needs: &[u8; 16], caps: &[u8; 16], costs:
             hint_memory::wide(needs[i as usize]),
             hint_memory::wide(caps[i as usize]),
         );
-        i += 1;
     }
 }
 
@@ -141,11 +129,9 @@ fn enter_rooms(mem: &mut [u32; 1024]) -> u32
 {
     let count = hint_memory::owners::shards(mem);
     let mut free: u32 = 0;
-    let mut i: u32 = 0;
-    while i < count {
+    for i in 0..count {
         keep_room(mem, i);
         free += hint_memory::owners::free_room(mem, i);
-        i += 1;
     }
     free
 }
@@ -188,27 +174,23 @@ fn augment(mem: &mut [u32; 1024], i: u32) -> bool {
 
 // All that shard i needs: whether it gets them.
 fn complete_shard(mem: &mut [u32; 1024], i: u32) -> bool {
-    let mut round: u32 = 0;
-    while round < 256 {
+    for round in 0u32..256 {
         if hint_memory::owners::lack(mem, i) == 0 {
             return true;
         }
         if !augment(mem, i) {
             return false;
         }
-        round += 1;
     }
     false
 }
 
 // All that the shards need: whether there is a placement.
 fn complete(mem: &mut [u32; 1024]) -> bool {
-    let mut i: u32 = 0;
-    while i < 16 {
+    for i in 0u32..16 {
         if !complete_shard(mem, i) {
             return false;
         }
-        i += 1;
     }
     true
 }

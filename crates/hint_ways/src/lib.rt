@@ -12,10 +12,8 @@ const FAR: u32 = 30000;
 
 // Clears the distances.
 fn clear(mem: &mut [u32; 1024]) {
-    let mut v: u32 = 0;
-    while v < 34 {
+    for v in 0u32..34 {
         hint_memory::set(mem, hint_memory::DISTANCE, v, 65535);
-        v += 1;
     }
 }
 
@@ -111,10 +109,8 @@ fn room_reaches(mem: &mut [u32; 1024], i: u32, level: u32) {
 // By all rooms.
 fn rooms_reach(mem: &mut [u32; 1024], level: u32) {
     let count = hint_memory::owners::shards(mem);
-    let mut i: u32 = 0;
-    while i < count {
+    for i in 0..count {
         room_reaches(mem, i, level);
-        i += 1;
     }
 }
 
@@ -312,17 +308,14 @@ fn raise(mem: &mut [u32; 1024], by: u32) {
         return;
     }
     hint_memory::set(mem, hint_memory::FLAT, 0, 0);
-    let mut v: u32 = 0;
-    while v < 33 {
+    for v in 0u32..33 {
         raise_vertex(mem, v, by);
-        v += 1;
     }
 }
 
 // Searches on: the last vertex before the end, or none. The levels are raised so that the way costs nothing, or shows to be too long.
 fn search(mem: &mut [u32; 1024]) -> u32 {
-    let mut round: u32 = 0;
-    while round < 128 {
+    for round in 0u32..128 {
         let s = step(mem);
         if s == ENDED {
             raise(mem, hint_memory::number(mem, hint_memory::NOW, 0));
@@ -332,7 +325,6 @@ fn search(mem: &mut [u32; 1024]) -> u32 {
             raise(mem, hint_memory::number(mem, hint_memory::LIMIT, 0) + 1);
             return hint_memory::NO_VERTEX;
         }
-        round += 1;
     }
     hint_memory::NO_VERTEX
 }
@@ -340,8 +332,7 @@ fn search(mem: &mut [u32; 1024]) -> u32 {
 // Takes every node of the way to v from its owner.
 fn release_way(mem: &mut [u32; 1024], v: u32) {
     let mut y = v;
-    let mut round: u32 = 0;
-    while round < 34 {
+    for round in 0u32..34 {
         if hint_memory::NOWHERE < y {
             return;
         }
@@ -349,7 +340,6 @@ fn release_way(mem: &mut [u32; 1024], v: u32) {
             hint_memory::owners::release(mem, y);
         }
         y = hint_memory::number(mem, hint_memory::FROM, y);
-        round += 1;
     }
 }
 

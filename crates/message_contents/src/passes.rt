@@ -28,12 +28,10 @@ pub fn kinds(form: Form, body: &[u32; 381], len: usize) -> usize
     requires { len ≤ 127 }
     ensures { result ≡ first_bad len (Definitions.kind_at form body.now) }
 {
-    let mut j: usize = 0;
-    while j < len {
+    for j in 0..len {
         if !kind_at(form, body, j) {
             return j;
         }
-        j += 1;
     }
     len
 }
@@ -45,13 +43,11 @@ pub fn shards(settings: &[u32], body: &[u32; 381], len: usize) -> usize
     ensures { result ≡ first_bad len (Definitions.shard_at settings.now body.now) }
 {
     let count = settings_values::shards(settings);
-    let mut j: usize = 0;
-    while j < len {
+    for j in 0..len {
         let shard = message_rows::fields::shard(body, j);
         if count <= shard.0 {
             return j;
         }
-        j += 1;
     }
     len
 }
@@ -98,13 +94,11 @@ pub fn sequence(node: Node, body: &[u32; 381], len: usize) -> usize
     ensures { result ≡ first_bad len (Definitions.sequence_at node.0 body.now) }
 {
     let mut carried: u32 = 0;
-    let mut j: usize = 0;
-    while j < len {
+    for j in 0..len {
         if !sequence_at(node, carried, body, j) {
             return j;
         }
         carried = crate::records::carried_more(carried, node, body, j);
-        j += 1;
     }
     len
 }
@@ -131,12 +125,10 @@ pub fn positions(form: Form, view: View, members: u32, body: &[u32; 381], len: u
     requires { len ≤ 127 }
     ensures { result ≡ first_bad len (Definitions.row11_at form view.0 members body.now) }
 {
-    let mut j: usize = 0;
-    while j < len {
+    for j in 0..len {
         if !position_at(form, view, members, body, j) {
             return j;
         }
-        j += 1;
     }
     len
 }

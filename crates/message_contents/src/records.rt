@@ -29,10 +29,8 @@ fn shards_of(k: u32, body: &[u32; 381], len: usize) -> u32
     ensures { result ≡ Format.shards_of k body.now len }
 {
     let mut mask: u32 = 0;
-    let mut j: usize = 0;
-    while j < len {
+    for j in 0..len {
         mask = shards_more(mask, k, body, j);
-        j += 1;
     }
     mask
 }
@@ -60,10 +58,8 @@ fn carried_by(node: Node, body: &[u32; 381], len: usize) -> u32
     ensures { result ≡ Format.carried_by node.0 body.now len }
 {
     let mut mask: u32 = 0;
-    let mut j: usize = 0;
-    while j < len {
+    for j in 0..len {
         mask = carried_more(mask, node, body, j);
-        j += 1;
     }
     mask
 }
@@ -144,10 +140,8 @@ pub fn masks_of(settings: &[u32], body: &[u32; 381]) -> [u32; 16]
 {
     let count = settings_values::shards(settings) as usize;
     let mut masks = [0u32; 16];
-    let mut s: usize = 0;
-    while s < count {
+    for s in 0..count {
         masks[s] = message_rows::fields::word1(body, s);
-        s += 1;
     }
     masks
 }

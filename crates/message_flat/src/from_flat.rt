@@ -86,12 +86,10 @@ fn zero_in(flat: &[u8], n: Counts) -> bool
 {
     let at = count_at(n.shards, n.places);
     let runs = base_ids::wide(n.runs);
-    let mut i: usize = 0;
-    while i < runs {
+    for i in 0..runs {
         if word_in(flat, at + 3 * i + 3) == 0 {
             return true;
         }
-        i += 1;
     }
     false
 }
@@ -203,10 +201,8 @@ pub fn contents_from(flat: &[u8]) -> Contents
 {
     let n = counts_of(flat);
     let mut body = [0u32; 381];
-    let mut k: usize = 0;
-    while k < 381 {
+    for k in 0..381 {
         body[k] = body_word(flat, n, k);
-        k += 1;
     }
     Contents {
         node: Node(word_in(flat, 0)),

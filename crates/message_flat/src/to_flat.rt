@@ -172,10 +172,8 @@ pub fn write(settings: &[u32], c: Contents, words: &mut [u32]) -> usize
     let parts = parts_of(settings, c.len, &c.body);
     let node = c.node;
     let view = c.view;
-    let mut k: usize = 0;
-    while k < 512 {
+    for k in 0..512 {
         words[k] = word_of(node, view, c.members, &c.body, parts, k);
-        k += 1;
     }
     length_of(parts)
 }

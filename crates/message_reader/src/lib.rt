@@ -56,11 +56,9 @@ fn place_of(words: &[u32], steps: usize) -> usize
     ensures { result ≡ place words.now steps }
 {
     let mut at: usize = 0;
-    let mut j: usize = 0;
-    while j < steps {
+    for j in 0..steps {
         let step = message_chain::step_from(words, at);
         at = step.next;
-        j += 1;
     }
     at
 }

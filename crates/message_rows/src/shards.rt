@@ -26,12 +26,10 @@ pub fn apart_below(settings: &[u32], masks: &[u32; 16], s: Shard) -> bool
     ensures { result ≡ all_below s.0 (Definitions.shard_apart settings.now (λ i. get_or masks.now i 0) s.0) }
 {
     let top = s.0;
-    let mut t: u32 = 0;
-    while t < top {
+    for t in 0..top {
         if !shard_apart(settings, masks, s, Shard(t)) {
             return false;
         }
-        t += 1;
     }
     true
 }
@@ -58,12 +56,10 @@ pub fn row10(settings: &[u32], members: u32, masks: &[u32; 16]) -> bool
     ensures { result ≡ Definitions.row10 settings.now members (λ i. get_or masks.now i 0) }
 {
     let count = settings_values::shards(settings);
-    let mut s: u32 = 0;
-    while s < count {
+    for s in 0..count {
         if !row10_at(settings, members, masks, Shard(s)) {
             return false;
         }
-        s += 1;
     }
     true
 }

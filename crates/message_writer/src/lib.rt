@@ -53,10 +53,8 @@ pub fn fill(buffer: &mut [u32], c: Contents) -> usize
 {
     let node = c.node;
     let view = c.view;
-    let mut k: usize = 0;
-    while k < 512 {
+    for k in 0..512 {
         buffer[k] = word(node, view, c.members, c.len, &c.body, k);
-        k += 1;
     }
     4 * (c.len + 1)
 }

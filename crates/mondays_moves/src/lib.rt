@@ -76,8 +76,7 @@ fn gather(bytes: &[u8], least: u64, moves: &mut [u8], at: usize) -> LinesGathere
     let count = bytes.len() / 8;
     let mut next = least;
     let mut place = at;
-    let mut i = 0;
-    while i < count {
+    for i in 0..count {
         let number = base_bytes::word_at(bytes, 2 * i);
         let many = base_bytes::word_at(bytes, 2 * i + 1);
         let refusal = line_refusal(next, number, many);
@@ -90,7 +89,6 @@ fn gather(bytes: &[u8], least: u64, moves: &mut [u8], at: usize) -> LinesGathere
         }
         place = program_text::put_byte(moves, place, narrow(many));
         next = long(number) + 1;
-        i += 1;
     }
     LinesGathered {
         place,
@@ -137,10 +135,8 @@ fn table_of(moves: &[u8]) -> [u8; 63]
     ensures { result ≡ padded 63 moves.now }
 {
     let mut table = [0u8; 63];
-    let mut i = 0;
-    while i < moves.len() {
+    for i in 0..moves.len() {
         table[i] = moves[i];
-        i += 1;
     }
     table
 }

@@ -30,10 +30,8 @@ fn greatest_of(moves: &[u8]) -> u8
     ensures { result ≡ Definitions.greatest_of moves.now }
 {
     let mut greatest = 0;
-    let mut i = 0;
-    while i < moves.len() {
+    for i in 0..moves.len() {
         greatest = larger(greatest, moves[i]);
-        i += 1;
     }
     greatest
 }

@@ -52,12 +52,10 @@ pub fn group_valid(settings: &[u32], held: u32, masks: &[u32; 16], g: u32) -> bo
     ensures { result ≡ Definitions.group_valid settings.now held (λ i. get_or masks.now i 0) g }
 {
     let count = settings_values::shards(settings);
-    let mut s: u32 = 0;
-    while s < count {
+    for s in 0..count {
         if !group_valid_at(settings, held, masks, g, Shard(s)) {
             return false;
         }
-        s += 1;
     }
     true
 }
@@ -90,10 +88,8 @@ pub fn group_moves(settings: &[u32], old: &[u32; 16], masks: &[u32; 16], g: u32)
 {
     let count = settings_values::shards(settings);
     let mut total: u32 = 0;
-    let mut s: u32 = 0;
-    while s < count {
+    for s in 0..count {
         total += moves_at(settings, old, masks, g, Shard(s));
-        s += 1;
     }
     total
 }

@@ -29,10 +29,8 @@ pub fn sets_of(settings: &[u32], mask: u32) -> u32
 {
     let count = settings_values::nodes(settings);
     let mut seen: u32 = 0;
-    let mut n: u32 = 0;
-    while n < count {
+    for n in 0..count {
         seen = seen_with(settings, mask, seen, Node(n));
-        n += 1;
     }
     seen
 }

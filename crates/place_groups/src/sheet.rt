@@ -34,10 +34,8 @@ fn row(settings: &[u32], stay: u32, any: u32, s: Shard) -> [u8; 16]
     ensures { result ≡ tabulate 16 (entry_by settings.now stay any s.0) }
 {
     let mut r = [2u8; 16];
-    let mut f: u32 = 0;
-    while f < 16 {
+    for f in 0u32..16 {
         r[f as usize] = entry(settings, stay, any, s, f);
-        f += 1;
     }
     r
 }
@@ -49,11 +47,9 @@ pub fn sheet(settings: &[u32], held: u32, old: &[u32; 16]) -> [[u8; 16]; 16]
 {
     let any = crate::sets_of(settings, held);
     let mut rows = [[2u8; 16]; 16];
-    let mut s: u32 = 0;
-    while s < 16 {
+    for s in 0u32..16 {
         let stay = crate::sets_of(settings, held & old[s as usize]);
         rows[s as usize] = row(settings, stay, any, Shard(s));
-        s += 1;
     }
     rows
 }

@@ -41,12 +41,10 @@ pub fn has_shards(settings: &[u32], g: u32) -> bool
     requires { Settings settings.now }
     ensures { result ≡ any_below 16 (of_group settings.now g) }
 {
-    let mut s: u32 = 0;
-    while s < 16 {
+    for s in 0u32..16 {
         if place_tables::in_group(settings, g, Shard(s)) {
             return true;
         }
-        s += 1;
     }
     false
 }
@@ -95,10 +93,8 @@ fn owned_by(owners: &[u8; 32], s: Shard) -> u32
     ensures { result ≡ owned_by owners.now s.0 }
 {
     let mut mask: u32 = 0;
-    let mut n: u32 = 0;
-    while n < 32 {
+    for n in 0u32..32 {
         mask = with_node(mask, owners[n as usize], s, Node(n));
-        n += 1;
     }
     mask
 }
@@ -120,10 +116,8 @@ pub fn masks_with(settings: &[u32], g: u32, owners: &[u8; 32], masks: &[u32; 16]
     ensures { result ≡ masks_with settings.now g owners.now masks.now }
 {
     let mut all = [0u32; 16];
-    let mut s: u32 = 0;
-    while s < 16 {
+    for s in 0u32..16 {
         all[s as usize] = mask_with(settings, g, owners, masks[s as usize], Shard(s));
-        s += 1;
     }
     all
 }
@@ -186,13 +180,11 @@ pub fn place(settings: &[u32], held: u32, old: &[u32; 16]) -> Placed
         masks: [0u32; 16],
         total: 0,
     };
-    let mut g: u32 = 0;
-    while g < 4 {
+    for g in 0u32..4 {
         placed = place_group(settings, held, old, &sheet, g, placed);
         if !placed.found {
             return placed;
         }
-        g += 1;
     }
     placed
 }

@@ -54,10 +54,8 @@ fn repriced_table(costs: &[u8; 512], w: u8) -> [u8; 512]
     ensures { result ≡ Tables.repriced_table w costs.now }
 {
     let mut table = [0u8; 512];
-    let mut t: usize = 0;
-    while t < 512 {
+    for t in 0..512 {
         table[t] = repriced(costs[t], w);
-        t += 1;
     }
     table
 }
@@ -237,8 +235,7 @@ fn finish(settings: &[u32], held: u32, old: &[u32; 16], sheet: &[[u8; 16]; 16]) 
     let mut masks = [0u32; 16];
     let mut total: u32 = 0;
     let mut floor: usize = 0;
-    let mut g: u32 = 0;
-    while g < 4 {
+    for g in 0u32..4 {
         let end = reach_end(settings, held, old, sheet, g);
         if !end.found {
             return nowhere(g);
@@ -247,7 +244,6 @@ fn finish(settings: &[u32], held: u32, old: &[u32; 16], sheet: &[[u8; 16]; 16]) 
         masks = place_layout::masks_with(settings, g, &owners, &masks);
         total += place_groups::check::group_moves(settings, old, &masks, g);
         floor += end.floor;
-        g += 1;
     }
     PlacedWithin {
         placed: Placed {
@@ -275,8 +271,7 @@ pub fn improve(settings: &[u32], held: u32, old: &[u32; 16], rounds: u32) -> Pla
     let mut masks = [0u32; 16];
     let mut total: u32 = 0;
     let mut floor: usize = 0;
-    let mut g: u32 = 0;
-    while g < 4 {
+    for g in 0u32..4 {
         let one = reach(settings, held, old, &sheet, g, left);
         if !one.found {
             return nowhere(g);
@@ -286,7 +281,6 @@ pub fn improve(settings: &[u32], held: u32, old: &[u32; 16], rounds: u32) -> Pla
         total += place_groups::check::group_moves(settings, old, &masks, g);
         floor += one.floor;
         left = one.left;
-        g += 1;
     }
     PlacedWithin {
         placed: Placed {

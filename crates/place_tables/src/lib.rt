@@ -38,10 +38,8 @@ pub fn sets(settings: &[u32]) -> [u8; 32]
     ensures { result ≡ sets_table settings.now }
 {
     let mut table = [0u8; 32];
-    let mut n: u32 = 0;
-    while n < 32 {
+    for n in 0u32..32 {
         table[n as usize] = set_at(settings, n);
-        n += 1;
     }
     table
 }
@@ -63,10 +61,8 @@ pub fn needs(settings: &[u32], g: u32) -> [u8; 16]
     ensures { result ≡ needs_table settings.now g }
 {
     let mut table = [0u8; 16];
-    let mut s: u32 = 0;
-    while s < 16 {
+    for s in 0u32..16 {
         table[s as usize] = need_at(settings, g, s);
-        s += 1;
     }
     table
 }
@@ -88,10 +84,8 @@ pub fn caps(settings: &[u32], g: u32) -> [u8; 16]
     ensures { result ≡ caps_table settings.now g }
 {
     let mut table = [0u8; 16];
-    let mut s: u32 = 0;
-    while s < 16 {
+    for s in 0u32..16 {
         table[s as usize] = cap_at(settings, g, s);
-        s += 1;
     }
     table
 }
@@ -111,10 +105,8 @@ fn move_cost(settings: &[u32], g: u32) -> u8
     ensures { result ≡ move_cost settings.now g }
 {
     let mut cost: u8 = 1;
-    let mut s: u32 = 0;
-    while s < 16 {
+    for s in 0u32..16 {
         cost += spare_at(settings, g, s);
-        s += 1;
     }
     cost
 }
@@ -190,10 +182,8 @@ fn cost_row(
     requires table_value { table.old ≡ costs_below settings.now held (λ i. get_or old.now i 0) g (s * 32) }
     ensures { table.new ≡ costs_below settings.now held (λ i. get_or old.now i 0) g (s * 32 + 32) }
 {
-    let mut n: u32 = 0;
-    while n < 32 {
+    for n in 0u32..32 {
         table[(s * 32 + n) as usize] = cost_at(settings, held, old, sheet, g, w, s, n);
-        n += 1;
     }
 }
 
@@ -212,12 +202,10 @@ pub fn costs(
 {
     let w = move_cost(settings, g);
     let mut table = [255u8; 512];
-    let mut s: u32 = 0;
-    while s < 16 {
+    for s in 0u32..16 {
         if in_group(settings, g, Shard(s)) {
             cost_row(settings, held, old, sheet, g, w, s, &mut table);
         }
-        s += 1;
     }
     table
 }

@@ -40,10 +40,8 @@ fn held_in(settings: &[u32], held: u32, f: u32) -> u32
 {
     let count = settings_values::nodes(settings);
     let mut total: u32 = 0;
-    let mut n: u32 = 0;
-    while n < count {
+    for n in 0..count {
         total += counted(held_of(settings, held, f, Node(n)));
-        n += 1;
     }
     total
 }
@@ -54,10 +52,8 @@ fn held_counts(settings: &[u32], held: u32) -> [u32; 16]
     ensures { result ≡ tabulate 16 (held_in settings.now held) }
 {
     let mut counts = [0u32; 16];
-    let mut f: u32 = 0;
-    while f < 16 {
+    for f in 0u32..16 {
         counts[f as usize] = held_in(settings, held, f);
-        f += 1;
     }
     counts
 }
@@ -81,10 +77,8 @@ fn needy(settings: &[u32], g: u32, k: u32) -> u32
 {
     let count = settings_values::shards(settings);
     let mut total: u32 = 0;
-    let mut s: u32 = 0;
-    while s < count {
+    for s in 0..count {
         total += counted(needs_at(settings, g, k, Shard(s)));
-        s += 1;
     }
     total
 }
@@ -109,10 +103,8 @@ fn group_needs(settings: &[u32], g: u32, k: u32) -> u32
 {
     let count = settings_values::shards(settings);
     let mut total: u32 = 0;
-    let mut s: u32 = 0;
-    while s < count {
+    for s in 0..count {
         total += need_of(settings, g, k, Shard(s));
-        s += 1;
     }
     total
 }
@@ -133,10 +125,8 @@ fn served(counts: &[u32; 16], j: u32) -> u32
     ensures { result ≡ served_by (λ f. get_or counts.now f 0) j }
 {
     let mut total: u32 = 0;
-    let mut f: usize = 0;
-    while f < 16 {
+    for f in 0..16 {
         total += lesser(counts[f], j);
-        f += 1;
     }
     total
 }
@@ -158,10 +148,8 @@ fn low_sets(counts: &[u32; 16], j: u32) -> u32
     ensures { LowBelow counts.now j 16 result }
 {
     let mut sets: u32 = 0;
-    let mut f: usize = 0;
-    while f < 16 {
+    for f in 0usize..16 {
         sets = low_with(counts, j, sets, f);
-        f += 1;
     }
     sets
 }
@@ -197,10 +185,8 @@ fn tight_sets(settings: &[u32], held: u32) -> u32
     let counts = held_counts(settings, held);
     let count = settings_values::shards(settings);
     let mut tight: u32 = 0;
-    let mut s: u32 = 0;
-    while s < count {
+    for s in 0..count {
         tight = tight_with(settings, held, &counts, tight, Shard(s));
-        s += 1;
     }
     tight
 }
@@ -211,12 +197,10 @@ fn placed_in(settings: &[u32], laid: &[u32; 16], g: u32) -> u32
 {
     let count = settings_values::shards(settings);
     let mut used: u32 = 0;
-    let mut s: u32 = 0;
-    while s < count {
+    for s in 0..count {
         if settings_values::subgroup(settings, Shard(s)) == g {
             used = used | laid[s as usize];
         }
-        s += 1;
     }
     used
 }
@@ -226,8 +210,7 @@ fn substitute(settings: &[u32], idle: u32, sets: u32) -> u32
     requires { Settings settings.now }
 {
     let count = settings_values::nodes(settings);
-    let mut n: u32 = 0;
-    while n < count {
+    for n in 0..count {
         if base_masks::has(idle, n as usize) {
             if !base_masks::has(
                 sets,
@@ -236,7 +219,6 @@ fn substitute(settings: &[u32], idle: u32, sets: u32) -> u32
                 return n;
             }
         }
-        n += 1;
     }
     32
 }
@@ -256,8 +238,7 @@ fn passed_on(
 {
     let count = settings_values::shards(settings);
     let mut masks = *laid;
-    let mut t: u32 = 0;
-    while t < count {
+    for t in 0..count {
         if settings_values::subgroup(settings, Shard(t)) == g {
             let given = substitute(settings, laid[t as usize], sets);
             if given < 32 {
@@ -270,7 +251,6 @@ fn passed_on(
                 }
             }
         }
-        t += 1;
     }
     masks
 }
@@ -305,14 +285,12 @@ fn instead(settings: &[u32], held: u32, laid: &[u32; 16], node: usize, g: u32) -
 {
     let idle = base_masks::minus(held, placed_in(settings, laid, g));
     let count = settings_values::shards(settings);
-    let mut s: u32 = 0;
-    while s < count {
+    for s in 0..count {
         if settings_values::subgroup(settings, Shard(s)) == g {
             if base_masks::has(laid[s as usize], node) {
                 return relieved(settings, laid, idle, g, s as usize, node);
             }
         }
-        s += 1;
     }
     *laid
 }
@@ -331,14 +309,12 @@ fn left_of(mask: u32, sets: u32, f: usize) -> u32
 fn fullest(left: &[u32; 16], sets: u32) -> usize {
     let mut best: usize = 16;
     let mut most: u32 = 0;
-    let mut f: usize = 0;
-    while f < 16 {
+    for f in 0..16 {
         let own = left_of(left[f], sets, f);
         if own > most {
             best = f;
             most = own;
         }
-        f += 1;
     }
     best
 }
@@ -357,12 +333,10 @@ fn nodes_in(settings: &[u32], held: u32, f: u32) -> u32
 {
     let count = settings_values::nodes(settings);
     let mut mask: u32 = 0;
-    let mut n: u32 = 0;
-    while n < count {
+    for n in 0..count {
         if held_of(settings, held, f, Node(n)) {
             mask = base_masks::with(mask, n as usize);
         }
-        n += 1;
     }
     mask
 }
@@ -372,10 +346,8 @@ fn by_set(settings: &[u32], held: u32) -> [u32; 16]
     requires { Settings settings.now }
 {
     let mut left = [0u32; 16];
-    let mut f: u32 = 0;
-    while f < 16 {
+    for f in 0u32..16 {
         left[f as usize] = nodes_in(settings, held, f);
-        f += 1;
     }
     left
 }
@@ -384,14 +356,12 @@ fn by_set(settings: &[u32], held: u32) -> [u32; 16]
 fn taken(left: &[u32; 16], need: u32) -> [u32; 16] {
     let mut rest = *left;
     let mut sets: u32 = 0;
-    let mut k: u32 = 0;
-    while k < need {
+    for k in 0..need {
         let f = fullest(&rest, sets);
         if f < 16 {
             rest[f] = without_lowest(rest[f]);
             sets = base_masks::with(sets, f);
         }
-        k += 1;
     }
     rest
 }
@@ -399,10 +369,8 @@ fn taken(left: &[u32; 16], need: u32) -> [u32; 16] {
 // The nodes that are in one list of masks and not in another.
 fn gone(left: &[u32; 16], rest: &[u32; 16]) -> u32 {
     let mut mask: u32 = 0;
-    let mut f: usize = 0;
-    while f < 16 {
+    for f in 0..16 {
         mask = mask | base_masks::minus(left[f], rest[f]);
-        f += 1;
     }
     mask
 }
@@ -414,14 +382,12 @@ fn dealt(settings: &[u32], held: u32, g: u32) -> [u32; 16]
     let count = settings_values::shards(settings);
     let mut masks = [0u32; 16];
     let mut left = by_set(settings, held);
-    let mut s: u32 = 0;
-    while s < count {
+    for s in 0..count {
         if settings_values::subgroup(settings, Shard(s)) == g {
             let rest = taken(&left, settings_values::need(settings, Shard(s)));
             masks[s as usize] = gone(&left, &rest);
             left = rest;
         }
-        s += 1;
     }
     masks
 }
@@ -452,12 +418,10 @@ fn stays_placed(settings: &[u32], held: u32, laid: &[u32; 16], node: usize) -> b
     requires { Settings settings.now }
     ensures { result ≡ true → Placeable settings.now held }
 {
-    let mut g: u32 = 0;
-    while g < 4 {
+    for g in 0u32..4 {
         if !stays_in(settings, held, laid, node, g) {
             return false;
         }
-        g += 1;
     }
     true
 }
@@ -532,10 +496,8 @@ pub fn losses(settings: &[u32], v: Layout, held: u32, masks: &[u32; 16]) -> u32
     let laid = placed.masks;
     let tight = tight_sets(settings, held);
     let mut lost: u32 = 0;
-    let mut n: usize = 0;
-    while n < 32 {
+    for n in 0usize..32 {
         lost = lost_with(settings, v, held, masks, tight, &laid, lost, n);
-        n += 1;
     }
     lost
 }

@@ -52,10 +52,8 @@ fn count_node(seen: Seen, node: Node, count: usize, masks: &mut [u32; 16])
     ensures { masks.new ≡ filled count (Counting.counted_at seen.holders node.0 masks.old) masks.old }
 {
     let holders = seen.holders;
-    let mut s: usize = 0;
-    while s < count {
+    for s in 0..count {
         masks[s] = counted_with(masks[s], holders[s], node);
-        s += 1;
     }
 }
 
@@ -68,8 +66,7 @@ pub fn count(settings: &[u32], v: Layout, t: Termination, all: u32, desk: &[u8])
     let tables = report_walk::tables_of(settings, v, t);
     let shards = base_ids::wide(settings_values::shards(settings));
     let mut masks = [0u32; 16];
-    let mut n: usize = 0;
-    while n < 32 {
+    for n in 0usize..32 {
         if base_masks::has(all, n) {
             let seen = plan_seen::see(settings, v, t, tables, base_masks::with(0, n), desk);
             if !seen.ok {
@@ -77,7 +74,6 @@ pub fn count(settings: &[u32], v: Layout, t: Termination, all: u32, desk: &[u8])
             }
             count_node(seen, Node(n as u32), shards, &mut masks);
         }
-        n += 1;
     }
     HolderMasks { ok: true, masks }
 }
@@ -98,10 +94,8 @@ fn some_holders(held: u32, masks: &[u32; 16]) -> [Node; 16]
 {
     let none = Node(0);
     let mut holders = [none; 16];
-    let mut s: usize = 0;
-    while s < 16 {
+    for s in 0..16 {
         holders[s] = some_holder(held, masks[s]);
-        s += 1;
     }
     holders
 }

@@ -32,10 +32,8 @@ fn put_members(body: &mut [u32; 381], layout: Layout, count: usize)
     requires { count ≤ 16 }
     ensures { body.new ≡ turns count (store_members layout) body.old }
 {
-    let mut s: usize = 0;
-    while s < count {
+    for s in 0..count {
         put(body, s, 256 + s as u32, layout.masks[s], 0);
-        s += 1;
     }
 }
 
@@ -44,12 +42,10 @@ fn put_targets(body: &mut [u32; 381], plan: Plan, count: usize)
     requires { count ≤ 16 }
     ensures { body.new ≡ turns count (store_target count plan) body.old }
 {
-    let mut s: usize = 0;
-    while s < count {
+    for s in 0..count {
         let t = plan.targets[s];
         let v = t.view;
         put(body, count + s, 512 + s as u32, v.0, t.k);
-        s += 1;
     }
 }
 
@@ -61,14 +57,12 @@ fn put_holders(body: &mut [u32; 381], plan: Plan, count: usize, node: Node, from
 {
     let layout = plan.layout;
     let mut j = from;
-    let mut s: usize = 0;
-    while s < count {
+    for s in 0..count {
         if base_masks::has(layout.masks[s], node.0 as usize) {
             let h = plan.holders[s];
             put(body, j, 1024 + s as u32, h.0, 0);
             j += 1;
         }
-        s += 1;
     }
     j
 }
@@ -88,13 +82,11 @@ fn put_cuts(
     ensures body_after { body.new ≡ turns count (store_tabled from (is_member layout node.0) cuts.now) body.old }
 {
     let mut j = from;
-    let mut s: usize = 0;
-    while s < count {
+    for s in 0..count {
         if base_masks::has(layout.masks[s], node.0 as usize) {
             put(body, j, 1280 + s as u32, cuts[2 * s], cuts[2 * s + 1]);
             j += 1;
         }
-        s += 1;
     }
     j
 }
@@ -159,8 +151,7 @@ fn cuts_of(settings: &[u32], plan: Plan, desk: &[u8], node: Node) -> [u32; 32]
     let report = report_desk::slots::report_at(desk, node);
     let len = report.len;
     let mut cuts = [0u32; 32];
-    let mut s: usize = 0;
-    while s < count {
+    for s in 0..count {
         let holder = plan.holders[s];
         let target = plan.targets[s];
         let t = cut_for(
@@ -176,7 +167,6 @@ fn cuts_of(settings: &[u32], plan: Plan, desk: &[u8], node: Node) -> [u32; 32]
         let v = t.view;
         cuts[2 * s] = v.0;
         cuts[2 * s + 1] = t.k;
-        s += 1;
     }
     cuts
 }

@@ -13,13 +13,11 @@ fn first_without(holders: [Node; 16], count: usize) -> usize
     requires { count ≤ 16 }
     ensures { result ≡ first_without holders count }
 {
-    let mut s: usize = 0;
-    while s < count {
+    for s in 0..count {
         let holder = holders[s];
         if holder.0 == 32 {
             return s;
         }
-        s += 1;
     }
     count
 }

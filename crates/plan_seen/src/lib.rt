@@ -110,10 +110,8 @@ fn words_of(b: &[u64; 256]) -> [u32; 512]
     ensures { result ≡ words_of_pairs b.now }
 {
     let mut words = [0u32; 512];
-    let mut k: usize = 0;
-    while k < 512 {
+    for k in 0..512 {
         words[k] = word_at(b, k);
-        k += 1;
     }
     words
 }
@@ -134,11 +132,9 @@ fn record_pairs(body: &[u32; 381], len: usize) -> [u64; 256]
     ensures { RecordsAre result body.now len }
 {
     let mut list = [0u64; 256];
-    let mut j: usize = 0;
-    while j < len {
+    for j in 0..len {
         list[2 * j + 2] = joined(body[3 * j], body[3 * j + 1]);
         list[2 * j + 3] = joined(body[3 * j + 2], 0);
-        j += 1;
     }
     list
 }
@@ -240,10 +236,8 @@ fn note(
         → masks.now ≡ v.masks → turn.made ≡ t.made → PositionRecords t.positions (shards σ) positions.now → count ≡ shards σ
         → RenewedBelow v t d turn.node.0 (shards σ) holders.old tops.old holders.new tops.new }
 {
-    let mut s: usize = 0;
-    while s < count {
+    for s in 0..count {
         note_shard(masks, positions, b, turn, ends, s, holders, tops);
-        s += 1;
     }
 }
 
@@ -330,10 +324,8 @@ fn holders_seen(list: &[u32; 16], count: usize) -> [Node; 16]
 {
     let none = Node(0);
     let mut holders = [none; 16];
-    let mut s: usize = 0;
-    while s < count {
+    for s in 0..count {
         holders[s] = Node(list[s]);
-        s += 1;
     }
     holders
 }
@@ -355,10 +347,8 @@ fn targets_seen(t: Termination, tops: &[u64; 16], count: usize) -> [Position; 16
 {
     let kept = t.positions;
     let mut targets = report_views::no_positions();
-    let mut s: usize = 0;
-    while s < count {
+    for s in 0..count {
         targets[s] = target_of(t.made, kept[s], tops[s]);
-        s += 1;
     }
     targets
 }
@@ -389,10 +379,8 @@ fn member_ends(
     ensures { (s : ℕ) → s < count → EndIs masks.now b.now last.now node.0 s (get_or result s 0) }
 {
     let mut ends = [0u64; 16];
-    let mut s: usize = 0;
-    while s < count {
+    for s in 0..count {
         ends[s] = member_end(masks, b, node, last, s);
-        s += 1;
     }
     ends
 }
@@ -451,8 +439,7 @@ fn walk_nodes(
     let records = tables.masks;
     let positions = tables.positions;
     let mut b = [0u64; 256];
-    let mut n: usize = 0;
-    while n < 32 {
+    for n in 0usize..32 {
         if base_masks::has(held, n) {
             let at = 2048 * n;
             base_bytes::pairs(&desk[at..at + 2048], &mut b);
@@ -463,7 +450,6 @@ fn walk_nodes(
                 return false;
             }
         }
-        n += 1;
     }
     true
 }
@@ -474,10 +460,8 @@ fn views_seen(held: u32, desk: &[u8]) -> [View; 32]
     ensures { result ≡ views_seen held (words_in desk.now) }
 {
     let mut views = [View(0); 32];
-    let mut n: usize = 0;
-    while n < 32 {
+    for n in 0..32 {
         views[n] = view_seen(held, desk, Node(n as u32));
-        n += 1;
     }
     views
 }

@@ -12,10 +12,8 @@ pub fn padded(words: &[u32]) -> [u32; 52]
     ensures { result ≡ Definitions.padded 52 words.now }
 {
     let mut table = [0u32; 52];
-    let mut i = 0;
-    while i < words.len() {
+    for i in 0..words.len() {
         table[i] = words[i];
-        i += 1;
     }
     table
 }

@@ -40,10 +40,8 @@ fn put_members(out: &mut [u8], at: usize, mask: u32) -> usize
     ensures { Puts out.old at (members_below 32 mask) out.new result }
 {
     let mut next = at;
-    let mut n = 0;
-    while n < 32 {
+    for n in 0..32 {
         next = put_member(out, next, mask, n);
-        n += 1;
     }
     next
 }
@@ -100,10 +98,8 @@ fn put_shards(out: &mut [u8], at: usize, plan: Plan, n: usize) -> usize
     ensures { Puts out.old at (Definitions.shard_lines plan n) out.new result }
 {
     let mut next = at;
-    let mut s = 0;
-    while s < n {
+    for s in 0..n {
         next = put_shard(out, next, plan, s);
-        s += 1;
     }
     next
 }

@@ -22,10 +22,8 @@ fn put_rows(out: &mut [u8], rows: &[u8; 1024], count: u32) -> usize
     ensures { Puts out.old 0 (Sheets.lines_below rows.now count) out.new result }
 {
     let mut next = 0;
-    let mut mask: u32 = 0;
-    while mask < count {
+    for mask in 0..count {
         next = put_row(out, next, mask, rows[base_ids::wide(mask)]);
-        mask += 1;
     }
     next
 }
@@ -47,10 +45,8 @@ fn rows_with(rows: &[u8; 1024], count: u32, number: u8) -> u32
     ensures { result ≡ Definitions.rows_with rows.now count number }
 {
     let mut found: u32 = 0;
-    let mut mask: u32 = 0;
-    while mask < count {
+    for mask in 0..count {
         found = counted(found, rows[base_ids::wide(mask)], number);
-        mask += 1;
     }
     found
 }

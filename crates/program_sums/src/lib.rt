@@ -28,10 +28,8 @@ fn sum_of_few(bytes: &[u8]) -> u16
     ensures { result ≡ sum_of bytes.now }
 {
     let mut sum = 0;
-    let mut i = 0;
-    while i < bytes.len() {
+    for i in 0..bytes.len() {
         sum += half(bytes[i]);
-        i += 1;
     }
     sum
 }

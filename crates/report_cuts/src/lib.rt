@@ -40,12 +40,10 @@ fn next_run(body: &[u32; 381], len: usize, s: Shard, i: usize) -> usize
     requires { (i ≤ len) × (len ≤ 127) }
     ensures { NextRun body.now len s.0 i result }
 {
-    let mut j = i;
-    while j < len {
+    for j in i..len {
         if is_run(body, s, j) {
             return j;
         }
-        j += 1;
     }
     len
 }

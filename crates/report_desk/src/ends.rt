@@ -30,10 +30,8 @@ pub fn ends_of(body: &[u32; 381], len: usize) -> [u64; 16]
     ensures { result ≡ ends_of body.now len }
 {
     let mut ends = [0u64; 16];
-    let mut j: usize = 0;
-    while j < len {
+    for j in 0..len {
         note_end(&mut ends, body, j);
-        j += 1;
     }
     ends
 }

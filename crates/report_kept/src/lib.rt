@@ -87,10 +87,8 @@ fn masks_in(body: &[u32; 381], count: usize) -> [u32; 16]
     ensures { result ≡ masks_in body.now count }
 {
     let mut masks = [0u32; 16];
-    let mut s: usize = 0;
-    while s < 16 {
+    for s in 0..16 {
         masks[s] = mask_in(body, count, s);
-        s += 1;
     }
     masks
 }
@@ -131,10 +129,8 @@ fn positions_in(body: &[u32; 381], count: usize) -> [Position; 16]
     ensures { result ≡ positions_in body.now count }
 {
     let mut positions = report_views::no_positions();
-    let mut s: usize = 0;
-    while s < 16 {
+    for s in 0..16 {
         positions[s] = position_in(body, count, s);
-        s += 1;
     }
     positions
 }

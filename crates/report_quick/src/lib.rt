@@ -30,12 +30,10 @@ fn members_told(w: &[u32], count: usize) -> bool
     requires { (length w.now ≡ 512) × (count ≤ 16) }
     ensures { result ≡ true → (s : ℕ) → s < count → MemberTold w.now s }
 {
-    let mut s: usize = 0;
-    while s < count {
+    for s in 0..count {
         if !member_told(w, s) {
             return false;
         }
-        s += 1;
     }
     true
 }
@@ -66,12 +64,10 @@ fn positions_told(w: &[u32], count: usize, view: u32) -> bool
     requires { (length w.now ≡ 512) × (count ≤ 16) }
     ensures { result ≡ true → (s : ℕ) → s < count → PositionTold w.now view (count + s) s }
 {
-    let mut s: usize = 0;
-    while s < count {
+    for s in 0..count {
         if !position_told(w, view, count + s, s) {
             return false;
         }
-        s += 1;
     }
     true
 }
@@ -119,8 +115,7 @@ fn runs_told(w: &[u32], at: usize, count: u32, view: u32) -> usize
 {
     let mut tag = w[4 * at];
     let mut word = w[4 * at + 1];
-    let mut i = at;
-    while i < 127 {
+    for i in at..127 {
         if w[4 * i + 3] == 0 {
             return i;
         }
@@ -140,7 +135,6 @@ fn runs_told(w: &[u32], at: usize, count: u32, view: u32) -> usize
         }
         tag = w[4 * i + 4];
         word = w[4 * i + 5];
-        i += 1;
     }
     if w[511] == 0 { 127 } else { 128 }
 }
@@ -169,10 +163,8 @@ fn masks_told(w: &[u32], count: usize) -> [u32; 16]
     ensures { (s : ℕ) → s < count → mask_told w.now s ≡ get_or result s 0 }
 {
     let mut masks = [0u32; 16];
-    let mut s: usize = 0;
-    while s < count {
+    for s in 0..count {
         masks[s] = w[4 * s + 5];
-        s += 1;
     }
     masks
 }

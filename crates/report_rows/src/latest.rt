@@ -63,10 +63,8 @@ pub fn note(latest: Latest, node: Node, view: View) -> Latest
     ensures { result ≡ Definitions.noted latest node.0 view.0 }
 {
     let mut views = [View(0); 32];
-    let mut n: usize = 0;
-    while n < 32 {
+    for n in 0..32 {
         views[n] = noted_at(latest, node, view, Node(n as u32));
-        n += 1;
     }
     Latest { views }
 }
@@ -117,8 +115,7 @@ pub fn latest_sound(
     ensures { result ≡ latest_by settings.now number.0 held views latest }
 {
     let remembered = latest.views;
-    let mut n: usize = 0;
-    while n < 32 {
+    for n in 0..32 {
         if !recalled(
             settings,
             number,
@@ -129,7 +126,6 @@ pub fn latest_sound(
         ) {
             return false;
         }
-        n += 1;
     }
     true
 }

@@ -17,12 +17,10 @@ fn same_masks(masks: &[u32; 16], body: &[u32; 381], count: usize) -> bool
     requires { count ≤ 16 }
     ensures { result ≡ masks_same masks.now body.now count }
 {
-    let mut s: usize = 0;
-    while s < count {
+    for s in 0..count {
         if message_rows::fields::word1(body, s) != masks[s] {
             return false;
         }
-        s += 1;
     }
     true
 }
@@ -89,12 +87,10 @@ fn same_positions(positions: [Position; 16], body: &[u32; 381], count: usize) ->
     requires { count ≤ 16 }
     ensures { result ≡ positions_same positions body.now count count }
 {
-    let mut s: usize = 0;
-    while s < count {
+    for s in 0..count {
         if !same_position(positions[s], body, count + s) {
             return false;
         }
-        s += 1;
     }
     true
 }

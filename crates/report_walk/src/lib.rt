@@ -57,10 +57,8 @@ pub fn pairs(words: &[u32]) -> [u64; 256]
 {
     let count = words.len() / 2;
     let mut list = [0u64; 256];
-    let mut i: usize = 0;
-    while i < count {
+    for i in 0..count {
         list[i] = pair(words, i);
-        i += 1;
     }
     list
 }
@@ -181,12 +179,10 @@ fn same_records(b: &[u64; 256], from: usize, given: &[u64; 32], n: usize) -> boo
     requires { (from ≤ 32) × (n ≤ 32) }
     ensures { result ≡ true → (k : ℕ) → k < n → slice_index b.now (2 * from + k) ≡ slice_index given.now k }
 {
-    let mut k: usize = 0;
-    while k < n {
+    for k in 0..n {
         if b[2 * from + k] != given[k] {
             return false;
         }
-        k += 1;
     }
     true
 }
@@ -342,12 +338,10 @@ pub fn has_update(b: &[u64; 256], n: usize, s: usize, goal: u64) -> bool
         return false;
     }
     let front = joined(768 + s as u32, high(goal));
-    let mut j: usize = 0;
-    while j < n {
+    for j in 0..n {
         if run_has(b, front, k, j) {
             return true;
         }
-        j += 1;
     }
     false
 }
@@ -357,11 +351,9 @@ fn mask_records(masks: &[u32; 16]) -> [u64; 32]
     ensures { MaskRecords masks.now result }
 {
     let mut list = [0u64; 32];
-    let mut s: usize = 0;
-    while s < 16 {
+    for s in 0..16 {
         list[2 * s] = joined(256 + s as u32, masks[s]);
         list[2 * s + 1] = joined(0, s as u32 + 2);
-        s += 1;
     }
     list
 }
@@ -372,13 +364,11 @@ fn position_records(positions: [Position; 16], count: usize) -> [u64; 32]
     ensures { PositionRecords positions count result }
 {
     let mut list = [0u64; 32];
-    let mut s: usize = 0;
-    while s < 16 {
+    for s in 0..16 {
         let p = positions[s];
         let view = p.view;
         list[2 * s] = joined(512 + s as u32, view.0);
         list[2 * s + 1] = joined(p.k, count as u32 + s as u32 + 2);
-        s += 1;
     }
     list
 }
@@ -400,12 +390,10 @@ fn positions_legal(number: View, t: Termination, count: usize) -> bool
     ensures { result ≡ all_below count (λ s. position_sound number.0 (position_at t s)) }
 {
     let positions = t.positions;
-    let mut s: usize = 0;
-    while s < count {
+    for s in 0..count {
         if !position_legal(number, positions[s]) {
             return false;
         }
-        s += 1;
     }
     true
 }

@@ -33,10 +33,8 @@ fn weighted(counts: &[u8; 16], weights: &[u16; 16]) -> usize
     ensures { (result ≡ sum_below 16 (λ i. get_or counts.now i 0 * get_or weights.now i 0)) × (result ≤ 268435456) }
 {
     let mut sum: usize = 0;
-    let mut i: usize = 0;
-    while i < 16 {
+    for i in 0..16 {
         sum += times(counts[i], weights[i]);
-        i += 1;
     }
     sum
 }
@@ -46,10 +44,8 @@ fn all_nodes(nodes: &[u16; 32]) -> usize
     ensures { (result ≡ sum_below 32 (λ n. get_or nodes.now n 0)) × (result ≤ 2097152) }
 {
     let mut sum: usize = 0;
-    let mut n: usize = 0;
-    while n < 32 {
+    for n in 0..32 {
         sum += large(nodes[n]);
-        n += 1;
     }
     sum
 }
@@ -77,10 +73,8 @@ fn row(want: u16, pairs: &[u16; 256], i: usize) -> u32
         return 0;
     }
     let mut sum: u32 = 0;
-    let mut f: usize = 0;
-    while f < 16 {
+    for f in 0usize..16 {
         sum += word(smaller(want, pairs[i * 16 + f]));
-        f += 1;
     }
     sum
 }
@@ -90,10 +84,8 @@ fn all_pairs(wants: &[u16; 16], pairs: &[u16; 256]) -> u32
     ensures { (result ≡ sum_below 16 (λ i. sum_below 16 (λ f. min (get_or wants.now i 0) (get_or pairs.now (i * 16 + f) 0)))) × (result ≤ 16777216) }
 {
     let mut sum: u32 = 0;
-    let mut i: usize = 0;
-    while i < 16 {
+    for i in 0..16 {
         sum += row(wants[i], pairs, i);
-        i += 1;
     }
     sum
 }
@@ -195,12 +187,10 @@ fn all_steady(
     requires { Small sets.now }
     ensures { result ≡ all_below 32 (steady (case_of sets.now [] [] costs.now idle) (weights_of wants.now rooms.now nodes.now pairs.now) (owners_of owner.now)) }
 {
-    let mut n: usize = 0;
-    while n < 32 {
+    for n in 0usize..32 {
         if !steady(sets, costs, owner, wants, rooms, nodes, pairs, idle, n) {
             return false;
         }
-        n += 1;
     }
     true
 }
@@ -225,10 +215,8 @@ fn unowned(owner: &[u8; 32]) -> u32
     ensures { result ≡ mask_below 32 (λ n. leb 16 (get_or owner.now n 0)) }
 {
     let mut m: u32 = 0;
-    let mut n: usize = 0;
-    while n < 32 {
+    for n in 0..32 {
         m = added(m, n, owner[n] >= 16);
-        n += 1;
     }
     m
 }
@@ -239,10 +227,8 @@ fn must(nodes: &[u16; 32], idle: u8, low: usize, high: usize) -> u32
     ensures { result ≡ mask_below 32 (λ n. ltb (low + 16384) (high + (idle + get_or nodes.now n 0))) }
 {
     let mut m: u32 = 0;
-    let mut n: usize = 0;
-    while n < 32 {
+    for n in 0..32 {
         m = added(m, n, low + 16384 < high + rests(idle, nodes[n]));
-        n += 1;
     }
     m
 }
@@ -410,14 +396,12 @@ pub fn cut(
     let low = k + takes(caps, wants, rooms, nodes, pairs);
     let high = grants(needs, wants);
     let free = unowned(owner);
-    let mut i = t / 32;
-    while i < 16 {
+    for i in t / 32..16 {
         if !cut_row(
             sets, costs, rows, wants, rooms, nodes, pairs, free, t, i, low, high,
         ) {
             return bad();
         }
-        i += 1;
     }
     rows[16] = rows[16] | (must(nodes, idle, low, high) & free);
     Bound {

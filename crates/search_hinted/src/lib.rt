@@ -25,10 +25,8 @@ fn allowed(prices: &[u8; 512], i: usize) -> u32
     ensures { result ≡ mask_below 32 (λ n. ltb (get_or prices.now (i * 32 + n) 0) 255) }
 {
     let mut m: u32 = 0;
-    let mut n: usize = 0;
-    while n < 32 {
+    for n in 0usize..32 {
         m = search_bounds::added(m, n, prices[i * 32 + n] < 255);
-        n += 1;
     }
     m
 }
@@ -49,10 +47,8 @@ fn all_allowed(caps: &[u8; 16], prices: &[u8; 512]) -> [u32; 17]
     ensures { OpenBelow caps.now prices.now 16 result }
 {
     let mut rows = [0u32; 17];
-    let mut i: usize = 0;
-    while i < 16 {
+    for i in 0..16 {
         rows[i] = allowed_row(caps, prices, i);
-        i += 1;
     }
     rows
 }
@@ -130,10 +126,8 @@ fn later(rows: &[u32; 17], i: usize) -> u32
     ensures { Later rows.now i 16 result }
 {
     let mut m: u32 = 0;
-    let mut j = i + 1;
-    while j < 16 {
+    for j in i + 1..16 {
         m = m | rows[j];
-        j += 1;
     }
     m
 }
@@ -441,12 +435,10 @@ fn follow(
 fn fit(sets: &[u8; 32]) -> bool
     ensures { result ≡ true → Small sets.now }
 {
-    let mut n: usize = 0;
-    while n < 32 {
+    for n in 0..32 {
         if sets[n] >= 16 {
             return false;
         }
-        n += 1;
     }
     true
 }

@@ -17,10 +17,8 @@ fn entries(sheet: &[[u8; 16]; 16], i: usize, e: u8) -> usize
     ensures { result ≡ entries_below sheet.now i e }
 {
     let mut count: usize = 0;
-    let mut f: usize = 0;
-    while f < 16 {
+    for f in 0..16 {
         count += below(sheet[i][f], e);
-        f += 1;
     }
     count
 }
@@ -37,10 +35,8 @@ pub fn floor(needs: &[u8; 16], sheet: &[[u8; 16]; 16]) -> usize
     ensures { result ≡ floor_of (case_of [] needs.now [] [] 0) sheet.now }
 {
     let mut sum: usize = 0;
-    let mut i: usize = 0;
-    while i < 16 {
+    for i in 0..16 {
         sum += beyond(crate::wide(needs[i]), entries(sheet, i, 1));
-        i += 1;
     }
     sum
 }
@@ -60,12 +56,10 @@ fn short_at(needs: &[u8; 16], sheet: &[[u8; 16]; 16], i: usize) -> bool
 pub fn short(needs: &[u8; 16], sheet: &[[u8; 16]; 16]) -> bool
     ensures { result ≡ too_few (case_of [] needs.now [] [] 0) sheet.now }
 {
-    let mut i: usize = 0;
-    while i < 16 {
+    for i in 0usize..16 {
         if short_at(needs, sheet, i) {
             return true;
         }
-        i += 1;
     }
     false
 }

@@ -32,10 +32,8 @@ fn owned(owner: &[u8; 32], i: u8) -> u8
     ensures { result ≡ size (owners_of owner.now) i }
 {
     let mut count: u8 = 0;
-    let mut n: usize = 0;
-    while n < 32 {
+    for n in 0..32 {
         count += equal(owner[n], i);
-        n += 1;
     }
     count
 }
@@ -83,10 +81,8 @@ fn met(sets: &[u8; 32], owner: &[u8; 32], i: usize) -> u32
     ensures { Met owner.now sets.now i 32 result }
 {
     let mut m: u32 = 0;
-    let mut n: usize = 0;
-    while n < 32 {
+    for n in 0..32 {
         m = joined(m, wide(owner[n]), i, wide(sets[n]));
-        n += 1;
     }
     m
 }
@@ -103,10 +99,8 @@ fn owners(owner: &[u8; 32]) -> u32
     ensures { OwnersHeld owner.now 32 result }
 {
     let mut m: u32 = 0;
-    let mut n: usize = 0;
-    while n < 32 {
+    for n in 0..32 {
         m = base_masks::with(m, wide(owner[n]) % 32);
-        n += 1;
     }
     m
 }
@@ -150,12 +144,10 @@ fn filled(sets: &[u8; 32], needs: &[u8; 16], caps: &[u8; 16], owner: &[u8; 32]) 
     ensures { result ≡ all_below 16 (needs_met (case_of sets.now needs.now caps.now [] 0) (owners_of owner.now)) }
 {
     let used = owners(owner);
-    let mut i: usize = 0;
-    while i < 16 {
+    for i in 0usize..16 {
         if !filled_at(sets, needs, caps, owner, used, i) {
             return false;
         }
-        i += 1;
     }
     true
 }
@@ -176,12 +168,10 @@ fn stands_at(costs: &[u8; 512], o: usize, n: usize) -> bool
 fn stands(costs: &[u8; 512], owner: &[u8; 32]) -> bool
     ensures { result ≡ all_below 32 (stands (case_of [] [] [] costs.now 0) (owners_of owner.now)) }
 {
-    let mut n: usize = 0;
-    while n < 32 {
+    for n in 0..32 {
         if !stands_at(costs, wide(owner[n]), n) {
             return false;
         }
-        n += 1;
     }
     true
 }
@@ -203,10 +193,8 @@ pub fn weight(costs: &[u8; 512], owner: &[u8; 32], idle: u8) -> usize
     ensures { (result ≡ weight (case_of [] [] [] costs.now idle) (owners_of owner.now)) × (result ≤ 8192) }
 {
     let mut sum: usize = 0;
-    let mut n: usize = 0;
-    while n < 32 {
+    for n in 0..32 {
         sum += charge(costs, wide(owner[n]), n, idle);
-        n += 1;
     }
     sum
 }
@@ -267,12 +255,10 @@ fn thin(sets: &[u8; 32], needs: &[u8; 16], owner: &[u8; 32], t: usize) -> bool
     ensures { result ≡ any_below (t / 32) (λ i. ltb (spread (case_of sets.now [] [] [] 0) (owners_of owner.now) i) (get_or needs.now i 0)) }
 {
     let e = t / 32;
-    let mut i: usize = 0;
-    while i < e {
+    for i in 0..e {
         if spread(sets, owner, i) < wide(needs[i]) {
             return true;
         }
-        i += 1;
     }
     false
 }

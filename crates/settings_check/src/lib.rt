@@ -43,12 +43,10 @@ fn nodes_ok(settings: &[u32]) -> bool
 {
     let n = base_ids::wide(settings[0]);
     let f = settings[1];
-    let mut i: usize = 0;
-    while i < n {
+    for i in 0..n {
         if f <= settings[4 + i] {
             return false;
         }
-        i += 1;
     }
     true
 }
@@ -74,12 +72,10 @@ fn shards_ok(settings: &[u32]) -> bool
     ensures { result ≡ shards_ok settings.now }
 {
     let count = settings[3];
-    let mut s: u32 = 0;
-    while s < count {
+    for s in 0..count {
         if !shard_ok(settings, Shard(s)) {
             return false;
         }
-        s += 1;
     }
     true
 }

@@ -14,12 +14,10 @@ use report_views::{Layout, Phase, Plan, Termination};
 fn zeros(l: &[u32]) -> bool
     ensures { result ≡ all_zero l.now (length l.now) }
 {
-    let mut i: usize = 0;
-    while i < l.len() {
+    for i in 0..l.len() {
         if l[i] != 0 {
             return false;
         }
-        i += 1;
     }
     true
 }
@@ -54,12 +52,10 @@ pub fn layout_tidy(settings: &[u32], v: Layout) -> bool
     requires { Settings settings.now }
     ensures { result ≡ Definitions.layout_tidy settings.now v }
 {
-    let mut s: usize = 0;
-    while s < 16 {
+    for s in 0..16 {
         if !tidy_at(settings, v.masks[s], s) {
             return false;
         }
-        s += 1;
     }
     true
 }
@@ -95,12 +91,10 @@ fn positions_tidy(settings: &[u32], t: Termination) -> bool
     ensures { result ≡ all_below 16 (Ready.position_tidy settings.now t) }
 {
     let positions = t.positions;
-    let mut s: usize = 0;
-    while s < 16 {
+    for s in 0..16 {
         if !position_tidy(settings, t.made, positions[s], s) {
             return false;
         }
-        s += 1;
     }
     true
 }
@@ -199,12 +193,10 @@ fn shards_blank(p: Plan) -> bool
 {
     let holders = p.holders;
     let targets = p.targets;
-    let mut s: usize = 0;
-    while s < 16 {
+    for s in 0..16 {
         if !nothing_planned(holders[s], targets[s]) {
             return false;
         }
-        s += 1;
     }
     true
 }

@@ -42,12 +42,10 @@ fn same_shards(p: Plan, seen: Seen) -> bool
     let targets = p.targets;
     let others = seen.holders;
     let goals = seen.targets;
-    let mut s: usize = 0;
-    while s < 16 {
+    for s in 0..16 {
         if !same_shard(holders[s], targets[s], others[s], goals[s]) {
             return false;
         }
-        s += 1;
     }
     true
 }
@@ -70,12 +68,10 @@ fn groups_valid(settings: &[u32], held: u32, w: Layout) -> bool
     requires held_bound { held < 2 ^ nodes settings.now }
     ensures { result ≡ Matches.groups_valid settings.now held w }
 {
-    let mut g: u32 = 0;
-    while g < 4 {
+    for g in 0u32..4 {
         if !place_groups::check::group_valid(settings, held, &w.masks, g) {
             return false;
         }
-        g += 1;
     }
     true
 }
@@ -86,10 +82,8 @@ fn all_moves(settings: &[u32], old: Layout, new: Layout) -> usize
     ensures { result ≡ Definitions.all_moves settings.now old new }
 {
     let mut total: usize = 0;
-    let mut g: u32 = 0;
-    while g < 4 {
+    for g in 0u32..4 {
         total += place_groups::check::group_moves(settings, &old.masks, &new.masks, g) as usize;
-        g += 1;
     }
     total
 }

@@ -12,30 +12,23 @@ use borrow.Author.Rules.{rules}
 use Rattle.base_bytes.proofs.decode.Goals as goal
 
 pub loop-i-init : goal.loop-i-init
-loop-i-init c = (search rules, refl, sym (filled_none (word_at c.args.bytes.now) c.args.words.now))
+loop-i-init c = sym (filled_none (word_at c.args.bytes.now) c.args.words.now)
 
 pub word_at-requires : goal.word_at-requires
 word_at-requires c = omega arith
-
-pub loop-i-smaller : goal.loop-i-smaller
-loop-i-smaller c = omega arith
 
 pub loop-i-preserved : goal.loop-i-preserved
 loop-i-preserved c =
     let i = c.loop-i.i in
     let bytes = c.args.bytes.now in
     let words₀ = c.args.words.now in
-    let words = c.loop-i.words in (
-      omega arith,
-      length-set words i c.word_at.result ∙ c.loop-i.invariant.1,
-      filled_turn i (word_at bytes) words₀ words c.word_at.result (omega arith) c.loop-i.invariant.2 c.word_at.ensures,
-    )
+    let words = c.loop-i.words in filled_turn i (word_at bytes) words₀ words c.word_at.result (omega arith) c.loop-i.invariant c.word_at.ensures
 
 pub shape_of-words : goal.shape_of-words
-shape_of-words c = c.loop-i.invariant.1
+shape_of-words c = c.loop-i.auto.words
 
 pub returns : goal.returns
 returns c =
     let bytes = c.args.bytes.now in
     let words₀ = c.args.words.now in
-    c.loop-i.invariant.2 ∙ words_filled bytes words₀ c.loop-i.i (omega arith)
+    c.loop-i.invariant ∙ words_filled bytes words₀ c.loop-i.i (omega arith)

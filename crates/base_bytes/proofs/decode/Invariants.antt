@@ -6,7 +6,4 @@ use Rattle.base_bytes.specs.Definitions.{word_at}
 use Rattle.base_bytes.proofs.decode.Given as goal
 
 abbrev pub invariant-loop-i : goal.invariant-loop-i
-invariant-loop-i l = (l.i ≤ length l.initial.words) × (length l.words ≡ length l.initial.words) × (l.words ≡ filled l.i (word_at l.bytes) l.initial.words)
-
-abbrev pub decreases-loop-i : goal.decreases-loop-i
-decreases-loop-i l = length l.initial.words - l.i
+invariant-loop-i l = l.words ≡ filled l.i (word_at l.bytes) l.initial.words

@@ -11,7 +11,7 @@ use borrow.Author.Rules.{rules}
 use Rattle.base_bytes.proofs.encode.Goals as goal
 
 pub loop-i-init : goal.loop-i-init
-loop-i-init c = (search rules, refl, sym (filled_none (byte_at c.args.words.now) c.args.bytes.now))
+loop-i-init c = sym (filled_none (byte_at c.args.words.now) c.args.bytes.now)
 
 pub put-requires : goal.put-requires
 put-requires c = omega arith
@@ -22,17 +22,13 @@ loop-i-preserved c =
     let i = s.loop-i.i in
     let words = s.args.words.now in
     let bytes₀ = s.args.bytes.now in
-    let bytes = s.loop-i.bytes in (
-      omega arith,
-      ap length c.put.ensures ∙ length_stored bytes (4 * i) (get_or words i 0) ∙ s.loop-i.invariant.1,
-      c.put.ensures ∙ stored_turn words bytes₀ bytes i (omega arith) s.loop-i.invariant.2,
-    )
+    let bytes = s.loop-i.bytes in c.put.ensures ∙ stored_turn words bytes₀ bytes i (omega arith) s.loop-i.invariant
 
 pub shape_of-bytes : goal.shape_of-bytes
-shape_of-bytes c = c.loop-i.invariant.1
+shape_of-bytes c = c.loop-i.auto.bytes
 
 pub returns : goal.returns
 returns c =
     let words = c.args.words.now in
     let bytes₀ = c.args.bytes.now in
-    c.loop-i.invariant.2 ∙ bytes_filled words bytes₀ c.loop-i.i (omega arith) (omega arith)
+    c.loop-i.invariant ∙ bytes_filled words bytes₀ c.loop-i.i (omega arith) (omega arith)

@@ -6,7 +6,4 @@ use Rattle.base_bytes.specs.Definitions.{byte_at}
 use Rattle.base_bytes.proofs.encode.Given as goal
 
 abbrev pub invariant-loop-i : goal.invariant-loop-i
-invariant-loop-i l = (l.i ≤ length l.words) × (length l.bytes ≡ length l.initial.bytes) × (l.bytes ≡ filled (4 * l.i) (byte_at l.words) l.initial.bytes)
-
-abbrev pub decreases-loop-i : goal.decreases-loop-i
-decreases-loop-i l = length l.words - l.i
+invariant-loop-i l = l.bytes ≡ filled (4 * l.i) (byte_at l.words) l.initial.bytes

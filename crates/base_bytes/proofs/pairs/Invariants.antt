@@ -5,7 +5,4 @@ use Rattle.base_bytes.specs.Words.{pair_at}
 use Rattle.base_bytes.proofs.pairs.Given as goal
 
 abbrev pub invariant-loop-i : goal.invariant-loop-i
-invariant-loop-i l = (l.i ≤ 256) × (l.out ≡ filled l.i (pair_at l.bytes) l.initial.out)
-
-abbrev pub decreases-loop-i : goal.decreases-loop-i
-decreases-loop-i l = 256 - l.i
+invariant-loop-i l = l.out ≡ filled l.i (pair_at l.bytes) l.initial.out

@@ -10,16 +10,13 @@ use Rattle.c_messages.specs.WriteCalls.{contents_from}
 use Rattle.c_messages.proofs.contents_in.Goals as goal
 
 pub loop-k-init : goal.loop-k-init
-loop-k-init c = (lit≤ tt, sym (filled_none _ _))
+loop-k-init c = sym (filled_none _ _)
 
 pub loop-k-preserved : goal.loop-k-preserved
 loop-k-preserved c =
     let w = c.args.table.now in
-    let l = c.loop-k in (
-      omega arith,
-      ap (λ (b : List ℕ). set b l.k (get_or w (l.k + 3) 0)) l.invariant.1
-          ∙ filled_more l.k (λ i. get_or w (i + 3) 0) (replicate 381 0) (omega arith),
-    )
+    let l = c.loop-k in ap (λ (b : List ℕ). set b l.k (get_or w (l.k + 3) 0)) l.invariant
+    ∙ filled_more l.k (λ i. get_or w (i + 3) 0) (replicate 381 0) (omega arith)
 
 pub returns : goal.returns
 returns c =
@@ -27,4 +24,4 @@ returns c =
     let l = c.loop-k in
     let all : l.k ≡ 381 = omega arith in
     contents_from w _ _ _ c.record_count.ensures
-    (l.invariant.1 ∙ ap (λ (k : ℕ). filled k (λ i. get_or w (i + 3) 0) (replicate 381 0)) all ∙ filled_all 381 (λ i. get_or w (i + 3) 0) (replicate 381 0) refl)
+    (l.invariant ∙ ap (λ (k : ℕ). filled k (λ i. get_or w (i + 3) 0) (replicate 381 0)) all ∙ filled_all 381 (λ i. get_or w (i + 3) 0) (replicate 381 0) refl)

@@ -5,7 +5,4 @@ use Rattle.base_laws.specs.Tables.{filled}
 use Rattle.c_messages.proofs.contents_in.Given as goal
 
 abbrev pub invariant-loop-k : goal.invariant-loop-k
-invariant-loop-k l = (l.k ≤ 381) × (l.body ≡ filled l.k (λ i. get_or l.table (i + 3) 0) (replicate 381 0))
-
-abbrev pub decreases-loop-k : goal.decreases-loop-k
-decreases-loop-k l = 381 - l.k
+invariant-loop-k l = l.body ≡ filled l.k (λ i. get_or l.table (i + 3) 0) (replicate 381 0)

@@ -4,7 +4,4 @@ use Rattle.c_messages.specs.Layout.{laid_out}
 use Rattle.c_messages.proofs.lay_out.Given as goal
 
 abbrev pub invariant-loop-k : goal.invariant-loop-k
-invariant-loop-k l = (l.k ≤ 381) × (l.words ≡ laid_out l.initial.words l.body l.k)
-
-abbrev pub decreases-loop-k : goal.decreases-loop-k
-decreases-loop-k l = 381 - l.k
+invariant-loop-k l = l.words ≡ laid_out l.initial.words l.body l.k

@@ -6,14 +6,13 @@ use Rattle.c_placement.specs.Copies.{copy_start, copy_turn, copy_end}
 use Rattle.c_placement.proofs.array_16.Goals as goal
 
 pub loop-n-init : goal.loop-n-init
-loop-n-init c = (omega arith, copy_start c.args.bytes.now (replicate 16 0))
+loop-n-init c = copy_start c.args.bytes.now (replicate 16 0)
 
 pub loop-n-preserved : goal.loop-n-preserved
 loop-n-preserved c =
-    let l = c.loop-n in
-    (omega arith, copy_turn c.args.bytes.now (replicate 16 0) l.n l.r (omega (arith, length-replicate {A = ℕ} 16 0)) l.invariant.1)
+    let l = c.loop-n in copy_turn c.args.bytes.now (replicate 16 0) l.n l.r (omega (arith, length-replicate {A = ℕ} 16 0)) l.invariant
 
 pub returns : goal.returns
 returns c =
     let l = c.loop-n in
-    copy_end c.args.bytes.now (replicate 16 0) 16 l.n l.r c.requires (length-replicate {A = ℕ} 16 0) l.invariant.0 c.loop-n-test.false l.invariant.1
+    copy_end c.args.bytes.now (replicate 16 0) 16 l.n l.r c.requires (length-replicate {A = ℕ} 16 0) l.auto.n-end c.loop-n-test.false l.invariant

@@ -5,7 +5,4 @@ use Rattle.c_placement.specs.Copies.{copied}
 use Rattle.c_placement.proofs.array_32.Given as goal
 
 abbrev pub invariant-loop-n : goal.invariant-loop-n
-invariant-loop-n l = (l.n ≤ 32) × (l.r ≡ copied l.n l.bytes (replicate 32 0))
-
-abbrev pub decreases-loop-n : goal.decreases-loop-n
-decreases-loop-n l = 32 - l.n
+invariant-loop-n l = l.r ≡ copied l.n l.bytes (replicate 32 0)

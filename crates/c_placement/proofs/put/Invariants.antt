@@ -5,7 +5,4 @@ use Rattle.c_placement.specs.Copies.{copied}
 use Rattle.c_placement.proofs.put.Given as goal
 
 abbrev pub invariant-loop-n : goal.invariant-loop-n
-invariant-loop-n l = (l.n ≤ 32) × (length l.initial.owners ≡ 32) × (l.owners ≡ copied l.n l.from l.initial.owners)
-
-abbrev pub decreases-loop-n : goal.decreases-loop-n
-decreases-loop-n l = 32 - l.n
+invariant-loop-n l = (length l.initial.owners ≡ 32) × (l.owners ≡ copied l.n l.from l.initial.owners)

@@ -10,18 +10,14 @@ use borrow.Author.Rules.{rules}
 use Rattle.c_state_words.proofs.copy_from.Goals as goal
 
 pub loop-k-init : goal.loop-k-init
-loop-k-init c = (search rules, refl, sym (filled_none _ _))
+loop-k-init c = sym (filled_none _ _)
 
 pub loop-k-preserved : goal.loop-k-preserved
 loop-k-preserved c =
-    let l = c.loop-k in (
-      omega arith,
-      length-set l.out l.k _ ∙ l.invariant.1,
-      filled_turn l.k _ _ l.out _ (omega arith) l.invariant.2 refl,
-    )
+    let l = c.loop-k in filled_turn l.k _ _ l.out _ (omega arith) l.invariant refl
 
 pub shape_of-out : goal.shape_of-out
-shape_of-out c = c.loop-k.invariant.1
+shape_of-out c = c.loop-k.auto.out
 
 pub returns : goal.returns
-returns c = c.loop-k.invariant.2 ∙ span_filled _ _ _ c.loop-k.k (omega arith)
+returns c = c.loop-k.invariant ∙ span_filled _ _ _ c.loop-k.k (omega arith)

@@ -5,7 +5,4 @@ use Rattle.base_laws.specs.Tables.{filled}
 use Rattle.c_state_words.proofs.copy_from.Given as goal
 
 abbrev pub invariant-loop-k : goal.invariant-loop-k
-invariant-loop-k l = (l.k ≤ length l.initial.out) × (length l.out ≡ length l.initial.out) × (l.out ≡ filled l.k (λ i. get_or l.words (l.at + i) 0) l.initial.out)
-
-abbrev pub decreases-loop-k : goal.decreases-loop-k
-decreases-loop-k l = length l.initial.out - l.k
+invariant-loop-k l = l.out ≡ filled l.k (λ i. get_or l.words (l.at + i) 0) l.initial.out

@@ -14,17 +14,16 @@ abbrev node : List ℕ → ℕ → ℕ → Node
 node w at s = record { 0 = get_or w (at + s) 0 }
 
 pub loop-s-init : goal.loop-s-init
-loop-s-init c = (lit≤ tt, fill_start 16 (record { 0 = 0 }) (node c.args.words.now c.args.at))
+loop-s-init c = fill_start 16 (record { 0 = 0 }) (node c.args.words.now c.args.at)
 
 pub loop-s-preserved : goal.loop-s-preserved
 loop-s-preserved c =
     let a = c.args in
-    let l = c.loop-s in
-    (omega arith, fill_turn 16 (record { 0 = 0 }) (node a.words.now a.at) l.s l.nodes (node a.words.now a.at l.s) (omega arith) l.invariant.1 refl)
+    let l = c.loop-s in fill_turn 16 (record { 0 = 0 }) (node a.words.now a.at) l.s l.nodes (node a.words.now a.at l.s) (omega arith) l.invariant refl
 
 pub returns : goal.returns
 unfolding nodes_at
 returns c =
     let a = c.args in
     let l = c.loop-s in
-    fill_end 16 (record { 0 = 0 }) (node a.words.now a.at) l.s l.nodes l.invariant.0 (omega arith) l.invariant.1
+    fill_end 16 (record { 0 = 0 }) (node a.words.now a.at) l.s l.nodes l.auto.s-end (omega arith) l.invariant

@@ -10,7 +10,4 @@ abbrev node : List ℕ → ℕ → ℕ → Node
 node w at s = record { 0 = get_or w (at + s) 0 }
 
 abbrev pub invariant-loop-s : goal.invariant-loop-s
-invariant-loop-s l = (l.s ≤ 16) × (l.nodes ≡ filled l.s (node l.words l.at) (replicate 16 (record { 0 = 0 })))
-
-abbrev pub decreases-loop-s : goal.decreases-loop-s
-decreases-loop-s l = 16 - l.s
+invariant-loop-s l = l.nodes ≡ filled l.s (node l.words l.at) (replicate 16 (record { 0 = 0 }))

@@ -15,17 +15,16 @@ abbrev place : List ℕ → ℕ → ℕ → Position
 place w at s = pos (get_or w (at + 2 * s) 0) (get_or w (at + 2 * s + 1) 0)
 
 pub loop-s-init : goal.loop-s-init
-loop-s-init c = (lit≤ tt, fill_start 16 start (place c.args.words.now c.args.at))
+loop-s-init c = fill_start 16 start (place c.args.words.now c.args.at)
 
 pub loop-s-preserved : goal.loop-s-preserved
 loop-s-preserved c =
     let a = c.args in
-    let l = c.loop-s in
-    (omega arith, fill_turn 16 start (place a.words.now a.at) l.s l.positions (place a.words.now a.at l.s) (omega arith) l.invariant.1 refl)
+    let l = c.loop-s in fill_turn 16 start (place a.words.now a.at) l.s l.positions (place a.words.now a.at l.s) (omega arith) l.invariant refl
 
 pub returns : goal.returns
 unfolding positions_at
 returns c =
     let a = c.args in
     let l = c.loop-s in
-    fill_end 16 start (place a.words.now a.at) l.s l.positions l.invariant.0 (omega arith) l.invariant.1
+    fill_end 16 start (place a.words.now a.at) l.s l.positions l.auto.s-end (omega arith) l.invariant

@@ -11,7 +11,4 @@ abbrev place : List ℕ → ℕ → ℕ → Position
 place w at s = pos (get_or w (at + 2 * s) 0) (get_or w (at + 2 * s + 1) 0)
 
 abbrev pub invariant-loop-s : goal.invariant-loop-s
-invariant-loop-s l = (l.s ≤ 16) × (l.positions ≡ filled l.s (place l.words l.at) (replicate 16 start))
-
-abbrev pub decreases-loop-s : goal.decreases-loop-s
-decreases-loop-s l = 16 - l.s
+invariant-loop-s l = l.positions ≡ filled l.s (place l.words l.at) (replicate 16 start)

@@ -6,7 +6,4 @@ use Rattle.c_state_words.specs.Stores.{store_word}
 use Rattle.c_state_words.proofs.put_holders.Given as goal
 
 abbrev pub invariant-loop-s : goal.invariant-loop-s
-invariant-loop-s l = (l.s ≤ 16) × (l.words ≡ turns l.s (store_word (node_at l.holders) 74) l.initial.words)
-
-abbrev pub decreases-loop-s : goal.decreases-loop-s
-decreases-loop-s l = 16 - l.s
+invariant-loop-s l = l.words ≡ turns l.s (store_word (node_at l.holders) 74) l.initial.words

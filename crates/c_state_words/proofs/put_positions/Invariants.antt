@@ -7,7 +7,4 @@ use Rattle.c_state_words.specs.Stores.{store_position}
 use Rattle.c_state_words.proofs.put_positions.Given as goal
 
 abbrev pub invariant-loop-s : goal.invariant-loop-s
-invariant-loop-s l = (l.s ≤ 16) × (l.words ≡ turns l.s (store_position (λ i. get_or l.positions i start) l.at) l.initial.words)
-
-abbrev pub decreases-loop-s : goal.decreases-loop-s
-decreases-loop-s l = 16 - l.s
+invariant-loop-s l = l.words ≡ turns l.s (store_position (λ i. get_or l.positions i start) l.at) l.initial.words

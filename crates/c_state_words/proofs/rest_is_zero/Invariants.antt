@@ -7,7 +7,4 @@ use Rattle.base_laws.specs.Definitions.{all_below}
 use Rattle.c_state_words.proofs.rest_is_zero.Given as goal
 
 abbrev pub invariant-loop-k : goal.invariant-loop-k
-invariant-loop-k l = (l.k ≤ 6) × (all_below l.k (λ i. eqb (get_or l.words (154 + i) 0) 0) ≡ true)
-
-abbrev pub decreases-loop-k : goal.decreases-loop-k
-decreases-loop-k l = 6 - l.k
+invariant-loop-k l = all_below l.k (λ i. eqb (get_or l.words (154 + i) 0) 0) ≡ true

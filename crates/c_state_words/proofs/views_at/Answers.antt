@@ -14,17 +14,16 @@ abbrev entry : List ℕ → ℕ → ℕ → View
 entry w at n = record { 0 = get_or w (at + n) 0 }
 
 pub loop-n-init : goal.loop-n-init
-loop-n-init c = (lit≤ tt, fill_start 32 (record { 0 = 0 }) (entry c.args.words.now c.args.at))
+loop-n-init c = fill_start 32 (record { 0 = 0 }) (entry c.args.words.now c.args.at)
 
 pub loop-n-preserved : goal.loop-n-preserved
 loop-n-preserved c =
     let a = c.args in
-    let l = c.loop-n in
-    (omega arith, fill_turn 32 (record { 0 = 0 }) (entry a.words.now a.at) l.n l.views (entry a.words.now a.at l.n) (omega arith) l.invariant.1 refl)
+    let l = c.loop-n in fill_turn 32 (record { 0 = 0 }) (entry a.words.now a.at) l.n l.views (entry a.words.now a.at l.n) (omega arith) l.invariant refl
 
 pub returns : goal.returns
 unfolding views_at
 returns c =
     let a = c.args in
     let l = c.loop-n in
-    fill_end 32 (record { 0 = 0 }) (entry a.words.now a.at) l.n l.views l.invariant.0 (omega arith) l.invariant.1
+    fill_end 32 (record { 0 = 0 }) (entry a.words.now a.at) l.n l.views l.auto.n-end (omega arith) l.invariant

@@ -10,7 +10,4 @@ abbrev entry : List ℕ → ℕ → ℕ → View
 entry w at n = record { 0 = get_or w (at + n) 0 }
 
 abbrev pub invariant-loop-n : goal.invariant-loop-n
-invariant-loop-n l = (l.n ≤ 32) × (l.views ≡ filled l.n (entry l.words l.at) (replicate 32 (record { 0 = 0 })))
-
-abbrev pub decreases-loop-n : goal.decreases-loop-n
-decreases-loop-n l = 32 - l.n
+invariant-loop-n l = l.views ≡ filled l.n (entry l.words l.at) (replicate 32 (record { 0 = 0 }))

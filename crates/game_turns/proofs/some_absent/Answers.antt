@@ -7,7 +7,7 @@ use borrow.Author.Rules.{rules}
 use Rattle.game_turns.proofs.some_absent.Goals as goal
 
 pub loop-b-init : goal.loop-b-init
-loop-b-init c = (search rules, any_none (absent c.args.held c.args.taken))
+loop-b-init c = any_none (absent c.args.held c.args.taken)
 
 pub returns-then-is_absent : goal.returns-then-is_absent
 returns-then-is_absent c =
@@ -18,12 +18,11 @@ returns-then-is_absent c =
 pub loop-b-preserved : goal.loop-b-preserved
 loop-b-preserved c =
     let a = c.args in
-    let l = c.loop-b in
-    (omega arith, any_more l.b (absent a.held a.taken) l.invariant.1 (sym c.is_absent.ensures ∙ c.if-is_absent.false))
+    let l = c.loop-b in any_more l.b (absent a.held a.taken) l.invariant (sym c.is_absent.ensures ∙ c.if-is_absent.false)
 
 pub returns : goal.returns
 returns c =
     let a = c.args in
     let l = c.loop-b in
     let z : l.b ≡ a.nodes = omega arith in
-    sym (rw z at l.invariant.1)
+    sym (rw z at l.invariant)

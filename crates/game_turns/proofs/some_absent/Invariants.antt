@@ -6,7 +6,4 @@ use Rattle.game_rules.specs.Turns.{absent}
 use Rattle.game_turns.proofs.some_absent.Given as goal
 
 abbrev pub invariant-loop-b : goal.invariant-loop-b
-invariant-loop-b l = (l.b ≤ l.nodes) × (any_below l.b (absent l.held l.taken) ≡ false)
-
-abbrev pub decreases-loop-b : goal.decreases-loop-b
-decreases-loop-b l = l.nodes - l.b
+invariant-loop-b l = any_below l.b (absent l.held l.taken) ≡ false

@@ -45,8 +45,7 @@ returns-then-held-eq0 c =
 
 pub loop-o-init : goal.loop-o-init
 loop-o-init c =
-    let a = c.args in
-    (omega arith, all_none (survives a.nodes (plan_at a.table.now) (2 * a.rounds - 1) a.held))
+    let a = c.args in all_none (survives a.nodes (plan_at a.table.now) (2 * a.rounds - 1) a.held)
 
 pub crew-requires-then-has : goal.crew-requires-then-has
 crew-requires-then-has c =
@@ -70,22 +69,19 @@ returns-then-not-crew c =
     let q =
     ap (λ (x : ℕ). crew_turn a.nodes (plan_at a.table.now) (2 * a.rounds - 1) x l.o) (sym c.without.ensures)
     ∙ sym k.ensures ∙ c.if-not-crew.true in
-    won_taking a.nodes a.table.now a.rounds a.held l.o s.requires.nodes_bound.0 z below l.invariant.1 p q
+    won_taking a.nodes a.table.now a.rounds a.held l.o s.requires.nodes_bound.0 z below l.invariant p q
     (outage_lost a.nodes a.table.now (2 * a.rounds) a.held l.o (λ e. some (omega (arith, e))) z below p q)
 
 pub loop-o-preserved : goal.loop-o-preserved
 loop-o-preserved c =
     let a = c.args in
     let l = c.loop-o in
-    let h = c.has in (
-      omega (arith, c.loop-o-test.true),
-      all_more l.o (survives a.nodes (plan_at a.table.now) (2 * a.rounds - 1) a.held) l.invariant.1
-          (elim c.if-has.branch [
-            | then-has+else-not-crew w ↦ or_right (not (has a.held l.o))
-                (ap (λ (x : ℕ). crew_turn a.nodes (plan_at a.table.now) (2 * a.rounds - 1) x l.o) (sym w.without.ensures) ∙ sym w.if-not-crew.ensures)
-            | else-has w ↦ or_left (crew_turn a.nodes (plan_at a.table.now) (2 * a.rounds - 1) (without a.held l.o) l.o) (not_of_false (sym w.if-has.ensures))
-          ]),
-    )
+    let h = c.has in all_more l.o (survives a.nodes (plan_at a.table.now) (2 * a.rounds - 1) a.held) l.invariant
+    (elim c.if-has.branch [
+      | then-has+else-not-crew w ↦ or_right (not (has a.held l.o))
+          (ap (λ (x : ℕ). crew_turn a.nodes (plan_at a.table.now) (2 * a.rounds - 1) x l.o) (sym w.without.ensures) ∙ sym w.if-not-crew.ensures)
+      | else-has w ↦ or_left (crew_turn a.nodes (plan_at a.table.now) (2 * a.rounds - 1) (without a.held l.o) l.o) (not_of_false (sym w.if-has.ensures))
+    ])
 
 pub returns : goal.returns
 returns c =
@@ -94,4 +90,4 @@ returns c =
     let e : l.o ≡ a.nodes = omega arith in
     let some = c.if-rounds-eq0.false in
     won_crew a.nodes a.table.now a.rounds a.held
-    (outage_kept a.nodes a.table.now (2 * a.rounds) a.held (λ z. some (omega (arith, z))) c.if-held-eq0.false (rw e at l.invariant.1))
+    (outage_kept a.nodes a.table.now (2 * a.rounds) a.held (λ z. some (omega (arith, z))) c.if-held-eq0.false (rw e at l.invariant))

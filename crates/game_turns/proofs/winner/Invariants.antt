@@ -7,7 +7,4 @@ use Rattle.game_turns.specs.Table.{plan_at}
 use Rattle.game_turns.proofs.winner.Given as goal
 
 abbrev pub invariant-loop-o : goal.invariant-loop-o
-invariant-loop-o l = (l.o ≤ l.nodes) × (all_below l.o (survives l.nodes (plan_at l.table) (2 * l.rounds - 1) l.held) ≡ true)
-
-abbrev pub decreases-loop-o : goal.decreases-loop-o
-decreases-loop-o l = l.nodes - l.o
+invariant-loop-o l = all_below l.o (survives l.nodes (plan_at l.table) (2 * l.rounds - 1) l.held) ≡ true

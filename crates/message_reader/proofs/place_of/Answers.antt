@@ -9,26 +9,17 @@ use Rattle.message_reader.specs.Walks.{place_none, place_next}
 use Rattle.message_reader.proofs.place_of.Goals as goal
 
 pub loop-j-init : goal.loop-j-init
-loop-j-init c = (sym (place_none _), omega arith)
+loop-j-init c = sym (place_none _)
 
 pub step_from-step-requires : goal.step_from-step-requires
 step_from-step-requires c = tt
 
-pub overflow_add-j : goal.overflow_add-j
-overflow_add-j c = omega (arith, c.ranges)
-
-pub loop-j-smaller : goal.loop-j-smaller
-loop-j-smaller c = omega arith
-
 pub loop-j-preserved : goal.loop-j-preserved
 loop-j-preserved c =
     let w = c.args.words.now in
-    let l = c.loop-j in (
-      ap (λ (s : Step). s.next) c.step_from-step.ensures ∙ ap (next w) l.invariant.0 ∙ sym (place_next w l.j),
-      omega arith,
-    )
+    let l = c.loop-j in ap (λ (s : Step). s.next) c.step_from-step.ensures ∙ ap (next w) l.invariant ∙ sym (place_next w l.j)
 
 pub returns : goal.returns
 returns c =
     let l = c.loop-j in
-    l.invariant.0 ∙ ap (place _) (le_antisymm l.invariant.1 c.loop-j-test.false)
+    l.invariant ∙ ap (place _) (le_antisymm l.auto.j-end c.loop-j-test.false)

@@ -4,7 +4,4 @@ use Rattle.message_format.specs.Definitions.{place}
 use Rattle.message_reader.proofs.place_of.Given as goal
 
 abbrev pub invariant-loop-j : goal.invariant-loop-j
-invariant-loop-j l = (l.at ≡ place l.words l.j) × (l.j ≤ l.steps)
-
-abbrev pub decreases-loop-j : goal.decreases-loop-j
-decreases-loop-j l = l.steps - l.j
+invariant-loop-j l = l.at ≡ place l.words l.j

@@ -22,14 +22,13 @@ done : (k : ℕ) (f : ℕ → ℕ) (l b : List ℕ) → k ≡ 512 → length l �
 done k f l b h e i = i ∙ rw h (filled_all 512 f l e)
 
 pub loop-k-init : goal.loop-k-init
-loop-k-init c = (omega arith, sym (filled_none _ _))
+loop-k-init c = sym (filled_none _ _)
 
 pub bounds-buffer-k : goal.bounds-buffer-k
-bounds-buffer-k c = omega (arith, kept_length _ _ _ _ (omega arith) c.loop-k.invariant.1)
+bounds-buffer-k c = omega (arith, kept_length _ _ _ _ (omega arith) c.loop-k.invariant)
 
 pub loop-k-preserved : goal.loop-k-preserved
-loop-k-preserved c =
-    (search rules, turn _ _ _ _ _ (omega arith) c.loop-k.invariant.1 c.word.ensures)
+loop-k-preserved c = turn _ _ _ _ _ (omega arith) c.loop-k.invariant c.word.ensures
 
 pub overflow_add-result : goal.overflow_add-result
 overflow_add-result c = let few = c.requires.1 in omega arith
@@ -38,8 +37,8 @@ pub overflow_mul-result : goal.overflow_mul-result
 overflow_mul-result c = let few = c.requires.1 in omega arith
 
 pub shape_of-buffer : goal.shape_of-buffer
-shape_of-buffer c = kept_length _ _ _ _ (omega arith) c.loop-k.invariant.1
+shape_of-buffer c = kept_length _ _ _ _ (omega arith) c.loop-k.invariant
 
 pub returns : goal.returns
 unfolding message_of
-returns c = record { answer = refl; words = done _ _ _ _ (omega arith) c.requires.0 c.loop-k.invariant.1 }
+returns c = record { answer = refl; words = done _ _ _ _ (omega arith) c.requires.0 c.loop-k.invariant }

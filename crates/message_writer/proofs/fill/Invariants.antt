@@ -5,7 +5,4 @@ use Rattle.message_format.specs.Definitions.{message_word}
 use Rattle.message_writer.proofs.fill.Given as goal
 
 abbrev pub invariant-loop-k : goal.invariant-loop-k
-invariant-loop-k l = (l.k ≤ 512) × (l.buffer ≡ filled l.k (message_word l.c) l.initial.buffer)
-
-abbrev pub decreases-loop-k : goal.decreases-loop-k
-decreases-loop-k l = 512 - l.k
+invariant-loop-k l = l.buffer ≡ filled l.k (message_word l.c) l.initial.buffer

@@ -6,6 +6,3 @@ use Rattle.mondays_moves.proofs.gather.Given as goal
 
 abbrev pub invariant-loop-i : goal.invariant-loop-i
 invariant-loop-i l = Walks l.bytes l.least l.i l.next × Puts l.initial.moves l.at (moves_below l.bytes l.i) l.moves l.place
-
-abbrev pub decreases-loop-i : goal.decreases-loop-i
-decreases-loop-i l = length l.bytes / 8 - l.i

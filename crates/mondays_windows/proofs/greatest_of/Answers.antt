@@ -15,8 +15,7 @@ loop-i-init c = search rules
 pub loop-i-preserved : goal.loop-i-preserved
 loop-i-preserved c =
     let l = c.args.moves.now in
-    let i = c.loop-i.i in
-    (omega arith, greatest_turn l i c.loop-i.greatest c.larger-greatest.result (omega arith) c.loop-i.invariant.1 c.larger-greatest.ensures)
+    let i = c.loop-i.i in greatest_turn l i c.loop-i.greatest c.larger-greatest.result (omega arith) c.loop-i.invariant c.larger-greatest.ensures
 
 pub returns : goal.returns
-returns c = c.loop-i.invariant.1 ∙ ap greatest_of (take_all c.loop-i.i c.args.moves.now c.loop-i-test.false)
+returns c = c.loop-i.invariant ∙ ap greatest_of (take_all c.loop-i.i c.args.moves.now c.loop-i-test.false)

@@ -5,7 +5,4 @@ use Rattle.mondays_windows.specs.Definitions.{greatest_of}
 use Rattle.mondays_windows.proofs.greatest_of.Given as goal
 
 abbrev pub invariant-loop-i : goal.invariant-loop-i
-invariant-loop-i l = (l.i ≤ length l.moves) × (l.greatest ≡ greatest_of (take l.i l.moves))
-
-abbrev pub decreases-loop-i : goal.decreases-loop-i
-decreases-loop-i l = length l.moves - l.i
+invariant-loop-i l = l.greatest ≡ greatest_of (take l.i l.moves)

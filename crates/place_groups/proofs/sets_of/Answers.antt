@@ -6,18 +6,15 @@ use Rattle.place_groups.specs.Sets.{seen_with, sets_none, sets_more, sets_all}
 use Rattle.place_groups.proofs.sets_of.Goals as goal
 
 pub loop-n-init : goal.loop-n-init
-loop-n-init c = let a = c.args in (omega arith, sets_none a.settings.now a.mask)
+loop-n-init c = let a = c.args in sets_none a.settings.now a.mask
 
 pub loop-n-preserved : goal.loop-n-preserved
 loop-n-preserved c =
     let a = c.args in
-    let l = c.loop-n in (
-      omega (arith, c.nodes-count.ensures),
-      c.seen_with-seen.ensures ∙ (ap (λ (m : ℕ). seen_with a.settings.now a.mask m l.n) l.invariant.1 ∙ sets_more a.settings.now a.mask l.n),
-    )
+    let l = c.loop-n in c.seen_with-seen.ensures ∙ (ap (λ (m : ℕ). seen_with a.settings.now a.mask m l.n) l.invariant ∙ sets_more a.settings.now a.mask l.n)
 
 pub returns : goal.returns
 returns c =
     let a = c.args in
     let l = c.loop-n in
-    l.invariant.1 ∙ sets_all a.settings.now a.mask l.n (omega (arith, c.nodes-count.ensures))
+    l.invariant ∙ sets_all a.settings.now a.mask l.n (omega (arith, c.nodes-count.ensures))

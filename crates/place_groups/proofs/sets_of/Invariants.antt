@@ -5,7 +5,4 @@ use Rattle.place_groups.specs.Sets.{sets_below}
 use Rattle.place_groups.proofs.sets_of.Given as goal
 
 abbrev pub invariant-loop-n : goal.invariant-loop-n
-invariant-loop-n l = (l.n ≤ nodes l.settings) × (l.seen ≡ sets_below l.settings l.mask l.n)
-
-abbrev pub decreases-loop-n : goal.decreases-loop-n
-decreases-loop-n l = nodes l.settings - l.n
+invariant-loop-n l = l.seen ≡ sets_below l.settings l.mask l.n

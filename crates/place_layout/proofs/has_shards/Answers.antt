@@ -9,7 +9,7 @@ use Rattle.place_groups.specs.Definitions.{of_group}
 use Rattle.place_layout.proofs.has_shards.Goals as goal
 
 pub loop-s-init : goal.loop-s-init
-loop-s-init c = let a = c.args in (omega arith, any_none (of_group a.settings.now a.g))
+loop-s-init c = let a = c.args in any_none (of_group a.settings.now a.g)
 
 pub returns-then-in_group : goal.returns-then-in_group
 returns-then-in_group c =
@@ -20,11 +20,10 @@ returns-then-in_group c =
 pub loop-s-preserved : goal.loop-s-preserved
 loop-s-preserved c =
     let a = c.args in
-    let l = c.loop-s in
-    (omega arith, any_more l.s (of_group a.settings.now a.g) l.invariant.1 (sym c.in_group.ensures ∙ c.if-in_group.false))
+    let l = c.loop-s in any_more l.s (of_group a.settings.now a.g) l.invariant (sym c.in_group.ensures ∙ c.if-in_group.false)
 
 pub returns : goal.returns
 returns c =
     let a = c.args in
     let l = c.loop-s in
-    let e : l.s ≡ 16 = omega arith in sym l.invariant.1 ∙ ap (λ (n : ℕ). any_below n (of_group a.settings.now a.g)) e
+    let e : l.s ≡ 16 = omega arith in sym l.invariant ∙ ap (λ (n : ℕ). any_below n (of_group a.settings.now a.g)) e

@@ -12,20 +12,17 @@ abbrev at : List ℕ → ℕ → List ℕ → List ℕ → ℕ → ℕ
 at σ g o masks s = mask_with σ g o (get_or masks s 0) s
 
 pub loop-s-init : goal.loop-s-init
-loop-s-init c = let a = c.args in (omega arith, fill_start 16 0 (at a.settings.now a.g a.owners.now a.masks.now))
+loop-s-init c = let a = c.args in fill_start 16 0 (at a.settings.now a.g a.owners.now a.masks.now)
 
 pub loop-s-preserved : goal.loop-s-preserved
 loop-s-preserved c =
     let a = c.args in
-    let l = c.loop-s in (
-      omega arith,
-      fill_turn 16 0 (at a.settings.now a.g a.owners.now a.masks.now) l.s l.all c.mask_with.result (omega arith) l.invariant.1
-          c.mask_with.ensures,
-    )
+    let l = c.loop-s in fill_turn 16 0 (at a.settings.now a.g a.owners.now a.masks.now) l.s l.all c.mask_with.result (omega arith) l.invariant
+    c.mask_with.ensures
 
 pub returns : goal.returns
 unfolding masks_with
 returns c =
     let a = c.args in
     let l = c.loop-s in
-    fill_end 16 0 (at a.settings.now a.g a.owners.now a.masks.now) l.s l.all (omega arith) (omega arith) l.invariant.1
+    fill_end 16 0 (at a.settings.now a.g a.owners.now a.masks.now) l.s l.all (omega arith) (omega arith) l.invariant

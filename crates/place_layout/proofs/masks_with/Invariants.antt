@@ -11,7 +11,4 @@ abbrev at : List ℕ → ℕ → List ℕ → List ℕ → ℕ → ℕ
 at σ g o masks s = mask_with σ g o (get_or masks s 0) s
 
 abbrev pub invariant-loop-s : goal.invariant-loop-s
-invariant-loop-s l = (l.s ≤ 16) × (l.all ≡ filled l.s (at l.settings l.g l.owners l.masks) (replicate 16 0))
-
-abbrev pub decreases-loop-s : goal.decreases-loop-s
-decreases-loop-s l = 16 - l.s
+invariant-loop-s l = l.all ≡ filled l.s (at l.settings l.g l.owners l.masks) (replicate 16 0)

@@ -17,15 +17,15 @@ abbrev owns : List ℕ → ℕ → ℕ → Bool
 owns o s n = eqb (owners_of o n) s
 
 pub loop-n-init : goal.loop-n-init
-loop-n-init c = let a = c.args in (omega arith, sym (mask_none (owns a.owners.now a.s.0)))
+loop-n-init c = let a = c.args in sym (mask_none (owns a.owners.now a.s.0))
 
 pub loop-n-preserved : goal.loop-n-preserved
 loop-n-preserved c =
     let a = c.args in
-    let l = c.loop-n in (omega arith, mask_turn l.n l.mask c.with_node-mask.result (owns a.owners.now a.s.0) l.invariant.1 c.with_node-mask.ensures)
+    let l = c.loop-n in mask_turn l.n l.mask c.with_node-mask.result (owns a.owners.now a.s.0) l.invariant c.with_node-mask.ensures
 
 pub returns : goal.returns
 unfolding owned_by
 returns c =
     let a = c.args in
-    let l = c.loop-n in l.invariant.1 ∙ ap (λ (k : ℕ). mask_below k (owns a.owners.now a.s.0)) (le_antisymm (omega arith) (omega arith))
+    let l = c.loop-n in l.invariant ∙ ap (λ (k : ℕ). mask_below k (owns a.owners.now a.s.0)) (le_antisymm (omega arith) (omega arith))

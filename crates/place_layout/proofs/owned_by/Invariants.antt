@@ -12,7 +12,4 @@ abbrev owns : List ℕ → ℕ → ℕ → Bool
 owns o s n = eqb (owners_of o n) s
 
 abbrev pub invariant-loop-n : goal.invariant-loop-n
-invariant-loop-n l = (l.n ≤ 32) × (l.mask ≡ mask_below l.n (owns l.owners l.s.0))
-
-abbrev pub decreases-loop-n : goal.decreases-loop-n
-decreases-loop-n l = 32 - l.n
+invariant-loop-n l = l.mask ≡ mask_below l.n (owns l.owners l.s.0)

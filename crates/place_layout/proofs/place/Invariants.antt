@@ -6,8 +6,4 @@ use Rattle.place_layout.specs.Post.{LaidSoFar}
 use Rattle.place_layout.proofs.place.Given as goal
 
 abbrev pub invariant-loop-g : goal.invariant-loop-g
-invariant-loop-g l =
-    (l.g ≤ 4) × (l.placed.found ≡ true) × LaidSoFar l.settings l.held (λ s. get_or l.old s 0) l.g l.placed
-
-abbrev pub decreases-loop-g : goal.decreases-loop-g
-decreases-loop-g l = 4 - l.g
+invariant-loop-g l = (l.placed.found ≡ true) × LaidSoFar l.settings l.held (λ s. get_or l.old s 0) l.g l.placed

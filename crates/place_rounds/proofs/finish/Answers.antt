@@ -14,7 +14,7 @@ use Rattle.place_rounds.proofs.finish.Goals as goal
 
 pub loop-g-init : goal.loop-g-init
 loop-g-init c =
-    let a = c.args in (omega arith, (128, omega arith, turns_start a.settings.now a.held (λ s. get_or a.old.now s 0) 128))
+    let a = c.args in (128, omega arith, turns_start a.settings.now a.held (λ s. get_or a.old.now s 0) 128)
 
 pub reach_end-end-requires : goal.reach_end-end-requires
 reach_end-end-requires c = c.requires
@@ -33,7 +33,7 @@ returns-then-not-end c =
           record {
             unplaced =
                 record {
-                  lowest = ends_none p.settings p.held_bound l.invariant.1 c.loop-g-test.true (r.ensures.none (not-true c.reach_end-end.result.found c.if-not-end.true));
+                  lowest = ends_none p.settings p.held_bound l.invariant c.loop-g-test.true (r.ensures.none (not-true c.reach_end-end.result.found c.if-not-end.true));
                   masks = refl;
                   total = refl;
                 };
@@ -54,7 +54,7 @@ overflow_add-total c =
     let l = c.loop-g in
     let r = c.reach_end-end in
     let u = r.ensures.ended (not-false c.reach_end-end.result.found c.if-not-end.false) in
-    omega (arith, l.invariant.1.2.small, c.loop-g-test.true, ends_fits p.settings p.held_bound l.invariant.1 u c.loop-g-test.true c.masks_with-masks.ensures c.group_moves-total.ensures)
+    omega (arith, l.invariant.2.small, c.loop-g-test.true, ends_fits p.settings p.held_bound l.invariant u c.loop-g-test.true c.masks_with-masks.ensures c.group_moves-total.ensures)
 
 pub overflow_add-floor : goal.overflow_add-floor
 overflow_add-floor c =
@@ -63,7 +63,7 @@ overflow_add-floor c =
     let l = c.loop-g in
     let r = c.reach_end-end in
     let u = r.ensures.ended (not-false c.reach_end-end.result.found c.if-not-end.false) in
-    let k = ends_more p.settings p.held_bound l.invariant.1 u c.loop-g-test.true c.masks_with-masks.ensures c.group_moves-total.ensures in
+    let k = ends_more p.settings p.held_bound l.invariant u c.loop-g-test.true c.masks_with-masks.ensures c.group_moves-total.ensures in
     omega (arith, k.2.low, k.2.small, c.loop-g-test.true)
 
 pub loop-g-preserved : goal.loop-g-preserved
@@ -72,24 +72,23 @@ loop-g-preserved c =
     let p = m.requires in
     let l = c.loop-g in
     let r = c.reach_end-end in
-    let u = r.ensures.ended (not-false c.reach_end-end.result.found c.if-not-end.false) in
-    (omega (arith, c.loop-g-test.true), ends_more p.settings p.held_bound l.invariant.1 u c.loop-g-test.true c.masks_with-masks.ensures c.group_moves-total.ensures)
+    let u = r.ensures.ended (not-false c.reach_end-end.result.found c.if-not-end.false) in ends_more p.settings p.held_bound l.invariant u c.loop-g-test.true c.masks_with-masks.ensures c.group_moves-total.ensures
 
 pub overflow_cast-result : goal.overflow_cast-result
-overflow_cast-result c = let l = c.loop-g in omega (arith, l.invariant.0, l.invariant.1.2.low, l.invariant.1.2.small)
+overflow_cast-result c = let l = c.loop-g in omega (arith, l.auto.g-end, l.invariant.2.low, l.invariant.2.small)
 
 pub overflow_sub-result : goal.overflow_sub-result
-overflow_sub-result c = let l = c.loop-g in omega (arith, l.invariant.1.2.low)
+overflow_sub-result c = let l = c.loop-g in omega (arith, l.invariant.2.low)
 
 pub returns : goal.returns
 returns c =
     let m = c in
     let a = m.args in
     let l = c.loop-g in
-    let four : l.g ≡ 4 = le_antisymm l.invariant.0 (omega (arith, c.loop-g-test.false)) in
+    let four : l.g ≡ 4 = le_antisymm l.auto.g-end (omega (arith, c.loop-g-test.false)) in
     record {
       laid = λ e.
           turns_end m.requires.settings m.requires.held_bound
-          (subst (λ (k : ℕ). ReachedSoFar a.settings.now a.held (λ s. get_or a.old.now s 0) 128 k l.masks l.total l.floor l.invariant.1.0) four l.invariant.1.2) _ refl;
+          (subst (λ (k : ℕ). ReachedSoFar a.settings.now a.held (λ s. get_or a.old.now s 0) 128 k l.masks l.total l.floor l.invariant.0) four l.invariant.2) _ refl;
       unplaced = λ e. clash refl e;
     }

@@ -4,7 +4,4 @@ use Rattle.place_rounds.specs.Post.{EndedSoFar}
 use Rattle.place_rounds.proofs.finish.Given as goal
 
 abbrev pub invariant-loop-g : goal.invariant-loop-g
-invariant-loop-g l = (l.g ≤ 4) × (EndedSoFar l.settings l.held (λ s. get_or l.old s 0) l.g l.masks l.total l.floor)
-
-abbrev pub decreases-loop-g : goal.decreases-loop-g
-decreases-loop-g l = 4 - l.g
+invariant-loop-g l = EndedSoFar l.settings l.held (λ s. get_or l.old s 0) l.g l.masks l.total l.floor

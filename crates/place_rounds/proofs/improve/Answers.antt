@@ -23,11 +23,8 @@ returns-then-rounds-ge128 c =
 pub loop-g-init : goal.loop-g-init
 loop-g-init c =
     let a = c.args in
-    let e : a.rounds ≡ min a.rounds 128 = omega (arith, c.if-rounds-ge128.false) in (
-      omega arith,
-      subst (λ (k : ℕ). ReachedSoFar a.settings.now a.held (λ s. get_or a.old.now s 0) k 0 (replicate 16 0) 0 0 a.rounds) e
-          (turns_start a.settings.now a.held (λ s. get_or a.old.now s 0) a.rounds),
-    )
+    let e : a.rounds ≡ min a.rounds 128 = omega (arith, c.if-rounds-ge128.false) in subst (λ (k : ℕ). ReachedSoFar a.settings.now a.held (λ s. get_or a.old.now s 0) k 0 (replicate 16 0) 0 0 a.rounds) e
+    (turns_start a.settings.now a.held (λ s. get_or a.old.now s 0) a.rounds)
 
 pub reach-one-requires : goal.reach-one-requires
 reach-one-requires c = let p = c.requires in record { settings = p.settings; held_bound = p.held_bound; sheet_value = c.sheet-sheet.ensures }
@@ -46,7 +43,7 @@ returns-then-not-one c =
           record {
             unplaced =
                 record {
-                  lowest = turns_none p.settings p.held_bound l.invariant.1 c.loop-g-test.true (r.ensures.none (not-true c.reach-one.result.found c.if-not-one.true));
+                  lowest = turns_none p.settings p.held_bound l.invariant c.loop-g-test.true (r.ensures.none (not-true c.reach-one.result.found c.if-not-one.true));
                   masks = refl;
                   total = refl;
                 };
@@ -68,7 +65,7 @@ overflow_add-total c =
     let l = c.loop-g in
     let r = c.reach-one in
     let u = r.ensures.reached (not-false c.reach-one.result.found c.if-not-one.false) in
-    omega (arith, l.invariant.1.small, c.loop-g-test.true, moved_fits p.settings p.held_bound l.invariant.1 u c.masks_with-masks.ensures c.group_moves-total.ensures)
+    omega (arith, l.invariant.small, c.loop-g-test.true, moved_fits p.settings p.held_bound l.invariant u c.masks_with-masks.ensures c.group_moves-total.ensures)
 
 pub overflow_add-floor : goal.overflow_add-floor
 overflow_add-floor c =
@@ -78,7 +75,7 @@ overflow_add-floor c =
     let l = c.loop-g in
     let r = c.reach-one in
     let u = r.ensures.reached (not-false c.reach-one.result.found c.if-not-one.false) in
-    let k = turns_more p.settings p.held_bound l.invariant.1 u c.loop-g-test.true c.masks_with-masks.ensures c.group_moves-total.ensures in
+    let k = turns_more p.settings p.held_bound l.invariant u c.loop-g-test.true c.masks_with-masks.ensures c.group_moves-total.ensures in
     omega (arith, k.low, k.small, c.loop-g-test.true)
 
 pub loop-g-preserved : goal.loop-g-preserved
@@ -88,24 +85,23 @@ loop-g-preserved c =
     let p = m.requires in
     let l = c.loop-g in
     let r = c.reach-one in
-    let u = r.ensures.reached (not-false c.reach-one.result.found c.if-not-one.false) in
-    (omega (arith, c.loop-g-test.true), turns_more p.settings p.held_bound l.invariant.1 u c.loop-g-test.true c.masks_with-masks.ensures c.group_moves-total.ensures)
+    let u = r.ensures.reached (not-false c.reach-one.result.found c.if-not-one.false) in turns_more p.settings p.held_bound l.invariant u c.loop-g-test.true c.masks_with-masks.ensures c.group_moves-total.ensures
 
 pub overflow_cast-result : goal.overflow_cast-result
-overflow_cast-result c = let l = c.loop-g in omega (arith, l.invariant.0, l.invariant.1.low, l.invariant.1.small)
+overflow_cast-result c = let l = c.loop-g in omega (arith, l.auto.g-end, l.invariant.low, l.invariant.small)
 
 pub overflow_sub-result : goal.overflow_sub-result
-overflow_sub-result c = let l = c.loop-g in omega (arith, l.invariant.1.low)
+overflow_sub-result c = let l = c.loop-g in omega (arith, l.invariant.low)
 
 pub returns : goal.returns
 returns c =
     let m = c in
     let a = m.args in
     let l = c.loop-g in
-    let four : l.g ≡ 4 = le_antisymm l.invariant.0 (omega (arith, c.loop-g-test.false)) in
+    let four : l.g ≡ 4 = le_antisymm l.auto.g-end (omega (arith, c.loop-g-test.false)) in
     record {
       laid = λ e.
           turns_end m.requires.settings m.requires.held_bound
-          (subst (λ (k : ℕ). ReachedSoFar a.settings.now a.held (λ s. get_or a.old.now s 0) (min a.rounds 128) k l.masks l.total l.floor l.left) four l.invariant.1) _ refl;
+          (subst (λ (k : ℕ). ReachedSoFar a.settings.now a.held (λ s. get_or a.old.now s 0) (min a.rounds 128) k l.masks l.total l.floor l.left) four l.invariant) _ refl;
       unplaced = λ e. clash refl e;
     }

@@ -12,19 +12,16 @@ abbrev at : ℕ → List ℕ → ℕ → ℕ
 at w costs t = repriced w (get_or costs t 0)
 
 pub loop-t-init : goal.loop-t-init
-loop-t-init c = let a = c.args in (omega arith, fill_start 512 0 (at a.w a.costs.now))
+loop-t-init c = let a = c.args in fill_start 512 0 (at a.w a.costs.now)
 
 pub loop-t-preserved : goal.loop-t-preserved
 loop-t-preserved c =
     let a = c.args in
-    let l = c.loop-t in (
-      omega arith,
-      fill_turn 512 0 (at a.w a.costs.now) l.t l.table c.repriced.result (omega arith) l.invariant.1 c.repriced.ensures,
-    )
+    let l = c.loop-t in fill_turn 512 0 (at a.w a.costs.now) l.t l.table c.repriced.result (omega arith) l.invariant c.repriced.ensures
 
 pub returns : goal.returns
 unfolding repriced_table
 returns c =
     let a = c.args in
     let l = c.loop-t in
-    fill_end 512 0 (at a.w a.costs.now) l.t l.table (omega arith) (omega arith) l.invariant.1
+    fill_end 512 0 (at a.w a.costs.now) l.t l.table (omega arith) (omega arith) l.invariant

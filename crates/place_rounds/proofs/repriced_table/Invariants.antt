@@ -11,7 +11,4 @@ abbrev at : ℕ → List ℕ → ℕ → ℕ
 at w costs t = repriced w (get_or costs t 0)
 
 abbrev pub invariant-loop-t : goal.invariant-loop-t
-invariant-loop-t l = (l.t ≤ 512) × (l.table ≡ filled l.t (at l.w l.costs) (replicate 512 0))
-
-abbrev pub decreases-loop-t : goal.decreases-loop-t
-decreases-loop-t l = 512 - l.t
+invariant-loop-t l = l.table ≡ filled l.t (at l.w l.costs) (replicate 512 0)

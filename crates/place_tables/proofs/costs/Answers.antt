@@ -12,28 +12,25 @@ use Rattle.place_tables.proofs.costs.Goals as goal
 use Rattle.place_tables.proofs.costs.Goals.{then-in_group, else-in_group}
 
 pub loop-s-init : goal.loop-s-init
-loop-s-init c = let a = c.args in (omega arith, fill_start 512 255 (λ k. cost_in a.settings.now a.held (λ i. get_or a.old.now i 0) a.g (k / 32) (k % 32)))
+loop-s-init c = let a = c.args in fill_start 512 255 (λ k. cost_in a.settings.now a.held (λ i. get_or a.old.now i 0) a.g (k / 32) (k % 32))
 
 pub cost_row-requires : goal.cost_row-requires
 cost_row-requires c =
     let p = c.requires in
-    record { settings = p.settings; held_bound = p.held_bound; sheet_value = p.sheet_value; w_value = c.move_cost-w.ensures; s_value = sym c.in_group.ensures ∙ c.if-in_group.true; table_value = c.loop-s.invariant.1 }
+    record { settings = p.settings; held_bound = p.held_bound; sheet_value = p.sheet_value; w_value = c.move_cost-w.ensures; s_value = sym c.in_group.ensures ∙ c.if-in_group.true; table_value = c.loop-s.invariant }
 
 pub loop-s-preserved : goal.loop-s-preserved
 loop-s-preserved c =
     let a = c.args in
     let l = c.loop-s in
-    let i : l.s * 32 + 32 ≡ (l.s + 1) * 32 = omega arith in (
-      omega arith,
-      (elim c.if-in_group.branch [
-        | then-in_group w ↦ w.table-is ∙ w.cost_row.ensures
-        | else-in_group w ↦ w.table-is ∙ (l.invariant.1 ∙ costs_skip a.settings.now a.held (λ i. get_or a.old.now i 0) a.g l.s c.loop-s-test.true (sym c.in_group.ensures ∙ w.if-in_group.false))
-      ])
-          ∙ ap (costs_below a.settings.now a.held (λ i. get_or a.old.now i 0) a.g) i,
-    )
+    let i : l.s * 32 + 32 ≡ (l.s + 1) * 32 = omega arith in (elim c.if-in_group.branch [
+      | then-in_group w ↦ w.table-is ∙ w.cost_row.ensures
+      | else-in_group w ↦ w.table-is ∙ (l.invariant ∙ costs_skip a.settings.now a.held (λ i. get_or a.old.now i 0) a.g l.s c.loop-s-test.true (sym c.in_group.ensures ∙ w.if-in_group.false))
+    ])
+    ∙ ap (costs_below a.settings.now a.held (λ i. get_or a.old.now i 0) a.g) i
 
 pub returns : goal.returns
 returns c =
     let a = c.args in
     let l = c.loop-s in
-    fill_end 512 255 (λ k. cost_in a.settings.now a.held (λ i. get_or a.old.now i 0) a.g (k / 32) (k % 32)) (l.s * 32) l.table (omega arith) (omega arith) l.invariant.1
+    fill_end 512 255 (λ k. cost_in a.settings.now a.held (λ i. get_or a.old.now i 0) a.g (k / 32) (k % 32)) (l.s * 32) l.table (omega arith) (omega arith) l.invariant

@@ -14,7 +14,7 @@ abbrev spares : List ℕ → ℕ → ℕ → ℕ
 spares σ g s = cap_in σ g s - need_in σ g s
 
 pub loop-s-init : goal.loop-s-init
-loop-s-init c = let a = c.args in (omega arith, omega (arith, sum_zero (spares a.settings.now a.g)), omega arith)
+loop-s-init c = let a = c.args in (omega (arith, sum_zero (spares a.settings.now a.g)), omega arith)
 
 pub overflow_add-cost : goal.overflow_add-cost
 overflow_add-cost c = omega (arith, c.spare_at-cost.ensures.upper_bound)
@@ -22,15 +22,11 @@ overflow_add-cost c = omega (arith, c.spare_at-cost.ensures.upper_bound)
 pub loop-s-preserved : goal.loop-s-preserved
 loop-s-preserved c =
     let a = c.args in
-    let l = c.loop-s in (
-      omega arith,
-      omega (arith, l.invariant.1, c.spare_at-cost.ensures.value, sum_next l.s (spares a.settings.now a.g)),
-      omega (arith, c.spare_at-cost.ensures.upper_bound),
-    )
+    let l = c.loop-s in (omega (arith, l.invariant.0, c.spare_at-cost.ensures.value, sum_next l.s (spares a.settings.now a.g)), omega (arith, c.spare_at-cost.ensures.upper_bound))
 
 pub returns : goal.returns
 unfolding move_cost
 returns c =
     let a = c.args in
     let l = c.loop-s in
-    let e : l.s ≡ 16 = omega arith in l.invariant.1 ∙ ap (λ (n : ℕ). 1 + sum_below n (spares a.settings.now a.g)) e
+    let e : l.s ≡ 16 = omega arith in l.invariant.0 ∙ ap (λ (n : ℕ). 1 + sum_below n (spares a.settings.now a.g)) e

@@ -9,7 +9,4 @@ abbrev spares : List ℕ → ℕ → ℕ → ℕ
 spares σ g s = cap_in σ g s - need_in σ g s
 
 abbrev pub invariant-loop-s : goal.invariant-loop-s
-invariant-loop-s l = (l.s ≤ 16) × (l.cost ≡ 1 + sum_below l.s (spares l.settings l.g)) × (l.cost ≤ 1 + 15 * l.s)
-
-abbrev pub decreases-loop-s : goal.decreases-loop-s
-decreases-loop-s l = 16 - l.s
+invariant-loop-s l = (l.cost ≡ 1 + sum_below l.s (spares l.settings l.g)) × (l.cost ≤ 1 + 15 * l.s)

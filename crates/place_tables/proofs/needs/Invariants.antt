@@ -6,7 +6,4 @@ use Rattle.place_laws.specs.Cases.{need_in}
 use Rattle.place_tables.proofs.needs.Given as goal
 
 abbrev pub invariant-loop-s : goal.invariant-loop-s
-invariant-loop-s l = (l.s ≤ 16) × (l.table ≡ filled l.s (need_in l.settings l.g) (replicate 16 0))
-
-abbrev pub decreases-loop-s : goal.decreases-loop-s
-decreases-loop-s l = 16 - l.s
+invariant-loop-s l = l.table ≡ filled l.s (need_in l.settings l.g) (replicate 16 0)

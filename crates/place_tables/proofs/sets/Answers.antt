@@ -6,15 +6,14 @@ use Rattle.place_laws.specs.Cases.{set_in}
 use Rattle.place_tables.proofs.sets.Goals as goal
 
 pub loop-n-init : goal.loop-n-init
-loop-n-init c = let a = c.args in (omega arith, fill_start 32 0 (set_in a.settings.now))
+loop-n-init c = let a = c.args in fill_start 32 0 (set_in a.settings.now)
 
 pub loop-n-preserved : goal.loop-n-preserved
 loop-n-preserved c =
     let a = c.args in
-    let l = c.loop-n in
-    (omega arith, fill_turn 32 0 (set_in a.settings.now) l.n l.table c.set_at.result (omega arith) l.invariant.1 c.set_at.ensures)
+    let l = c.loop-n in fill_turn 32 0 (set_in a.settings.now) l.n l.table c.set_at.result (omega arith) l.invariant c.set_at.ensures
 
 pub returns : goal.returns
 returns c =
     let a = c.args in
-    let l = c.loop-n in fill_end 32 0 (set_in a.settings.now) l.n l.table (omega arith) (omega arith) l.invariant.1
+    let l = c.loop-n in fill_end 32 0 (set_in a.settings.now) l.n l.table (omega arith) (omega arith) l.invariant

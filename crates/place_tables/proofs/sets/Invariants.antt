@@ -6,7 +6,4 @@ use Rattle.place_laws.specs.Cases.{set_in}
 use Rattle.place_tables.proofs.sets.Given as goal
 
 abbrev pub invariant-loop-n : goal.invariant-loop-n
-invariant-loop-n l = (l.n ≤ 32) × (l.table ≡ filled l.n (set_in l.settings) (replicate 32 0))
-
-abbrev pub decreases-loop-n : goal.decreases-loop-n
-decreases-loop-n l = 32 - l.n
+invariant-loop-n l = l.table ≡ filled l.n (set_in l.settings) (replicate 32 0)

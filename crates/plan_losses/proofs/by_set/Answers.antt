@@ -3,9 +3,6 @@ use Prim.Native.Nat.{◌-◌}
 use borrow.Author.Rules.{rules}
 use Rattle.plan_losses.proofs.by_set.Goals as goal
 
-pub loop-f-init : goal.loop-f-init
-loop-f-init c = search rules
-
 pub nodes_in-requires : goal.nodes_in-requires
 nodes_in-requires c = search rules
 
@@ -17,15 +14,6 @@ offset_bounds-left-f c = search rules
 
 pub bounds-left-f : goal.bounds-left-f
 bounds-left-f c = search rules
-
-pub overflow_add-f : goal.overflow_add-f
-overflow_add-f c = search rules
-
-pub loop-f-smaller : goal.loop-f-smaller
-loop-f-smaller c = search rules
-
-pub loop-f-preserved : goal.loop-f-preserved
-loop-f-preserved c = search rules
 
 pub returns : goal.returns
 returns c = search rules

@@ -9,9 +9,6 @@ shards-count-requires c = search rules
 pub by_set-left-requires : goal.by_set-left-requires
 by_set-left-requires c = search rules
 
-pub loop-s-init : goal.loop-s-init
-loop-s-init c = search rules
-
 pub subgroup-requires : goal.subgroup-requires
 subgroup-requires c = search rules
 
@@ -32,15 +29,6 @@ offset_bounds-masks-s c = search rules
 
 pub bounds-masks-s : goal.bounds-masks-s
 bounds-masks-s c = search rules
-
-pub overflow_add-s : goal.overflow_add-s
-overflow_add-s c = search rules
-
-pub loop-s-smaller : goal.loop-s-smaller
-loop-s-smaller c = search rules
-
-pub loop-s-preserved : goal.loop-s-preserved
-loop-s-preserved c = search rules
 
 pub returns : goal.returns
 returns c = search rules

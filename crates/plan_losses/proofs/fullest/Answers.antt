@@ -3,9 +3,6 @@ use Prim.Native.Nat.{◌-◌}
 use borrow.Author.Rules.{rules}
 use Rattle.plan_losses.proofs.fullest.Goals as goal
 
-pub loop-f-init : goal.loop-f-init
-loop-f-init c = search rules
-
 pub offset_bounds-left-f : goal.offset_bounds-left-f
 offset_bounds-left-f c = search rules
 
@@ -14,15 +11,6 @@ bounds-left-f c = search rules
 
 pub left_of-own-requires : goal.left_of-own-requires
 left_of-own-requires c = search rules
-
-pub overflow_add-f : goal.overflow_add-f
-overflow_add-f c = search rules
-
-pub loop-f-smaller : goal.loop-f-smaller
-loop-f-smaller c = search rules
-
-pub loop-f-preserved : goal.loop-f-preserved
-loop-f-preserved c = search rules
 
 pub returns : goal.returns
 returns c = search rules

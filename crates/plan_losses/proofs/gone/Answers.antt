@@ -3,9 +3,6 @@ use Prim.Native.Nat.{◌-◌}
 use borrow.Author.Rules.{rules}
 use Rattle.plan_losses.proofs.gone.Goals as goal
 
-pub loop-f-init : goal.loop-f-init
-loop-f-init c = search rules
-
 pub offset_bounds-left-f : goal.offset_bounds-left-f
 offset_bounds-left-f c = search rules
 
@@ -20,15 +17,6 @@ bounds-rest-f c = search rules
 
 pub minus-mask-requires : goal.minus-mask-requires
 minus-mask-requires c = search rules
-
-pub overflow_add-f : goal.overflow_add-f
-overflow_add-f c = search rules
-
-pub loop-f-smaller : goal.loop-f-smaller
-loop-f-smaller c = search rules
-
-pub loop-f-preserved : goal.loop-f-preserved
-loop-f-preserved c = search rules
 
 pub returns : goal.returns
 returns c = search rules

@@ -12,22 +12,18 @@ use borrow.Author.Rules.{rules}
 use Rattle.plan_losses.proofs.group_needs.Goals as goal
 
 pub loop-s-init : goal.loop-s-init
-loop-s-init c = let a = c.args in (search rules, sym (sum_zero (need_of a.settings.now a.g a.k)), search rules)
+loop-s-init c = let a = c.args in (sym (sum_zero (need_of a.settings.now a.g a.k)), search rules)
 
 pub overflow_add-total : goal.overflow_add-total
 overflow_add-total c = omega (arith, c.shards-count.ensures, c.requires.sizes.shards_to, c.need_of-total.ensures.upper_bound)
 
 pub loop-s-preserved : goal.loop-s-preserved
 loop-s-preserved c = let a = c.args in
-    let l = c.loop-s in (
-      omega (arith, c.shards-count.ensures),
-      omega (arith, l.invariant.1, c.need_of-total.ensures.value, sum_next l.s (need_of a.settings.now a.g a.k)),
-      omega (arith, c.need_of-total.ensures.upper_bound),
-    )
+    let l = c.loop-s in (omega (arith, l.invariant.0, c.need_of-total.ensures.value, sum_next l.s (need_of a.settings.now a.g a.k)), omega (arith, c.need_of-total.ensures.upper_bound))
 
 pub returns : goal.returns
 unfolding group_needs
 returns c = let a = c.args in
     let l = c.loop-s in
     let e : l.s ≡ shards a.settings.now = omega (arith, c.shards-count.ensures) in
-    l.invariant.1 ∙ ap (λ (n : ℕ). sum_below n (need_of a.settings.now a.g a.k)) e
+    l.invariant.0 ∙ ap (λ (n : ℕ). sum_below n (need_of a.settings.now a.g a.k)) e

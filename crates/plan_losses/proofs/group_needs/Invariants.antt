@@ -6,7 +6,4 @@ use Rattle.plan_losses.specs.Needs.{need_of}
 use Rattle.plan_losses.proofs.group_needs.Given as goal
 
 abbrev pub invariant-loop-s : goal.invariant-loop-s
-invariant-loop-s l = (l.s ≤ shards l.settings) × (l.total ≡ sum_below l.s (need_of l.settings l.g l.k)) × (l.total ≤ 16 * l.s)
-
-abbrev pub decreases-loop-s : goal.decreases-loop-s
-decreases-loop-s l = shards l.settings - l.s
+invariant-loop-s l = (l.total ≡ sum_below l.s (need_of l.settings l.g l.k)) × (l.total ≤ 16 * l.s)

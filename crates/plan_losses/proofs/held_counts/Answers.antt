@@ -6,13 +6,12 @@ use Rattle.plan_losses.specs.Needs.{held_in}
 use Rattle.plan_losses.proofs.held_counts.Goals as goal
 
 pub loop-f-init : goal.loop-f-init
-loop-f-init c = let a = c.args in (omega arith, fill_start 16 0 (held_in a.settings.now a.held))
+loop-f-init c = let a = c.args in fill_start 16 0 (held_in a.settings.now a.held)
 
 pub loop-f-preserved : goal.loop-f-preserved
 loop-f-preserved c = let a = c.args in
-    let l = c.loop-f in
-    (omega arith, fill_turn 16 0 (held_in a.settings.now a.held) l.f l.counts c.held_in.result (omega arith) l.invariant.1 c.held_in.ensures)
+    let l = c.loop-f in fill_turn 16 0 (held_in a.settings.now a.held) l.f l.counts c.held_in.result (omega arith) l.invariant c.held_in.ensures
 
 pub returns : goal.returns
 returns c = let a = c.args in
-    let l = c.loop-f in fill_end 16 0 (held_in a.settings.now a.held) l.f l.counts (omega arith) (omega arith) l.invariant.1
+    let l = c.loop-f in fill_end 16 0 (held_in a.settings.now a.held) l.f l.counts (omega arith) (omega arith) l.invariant

@@ -6,7 +6,4 @@ use Rattle.plan_losses.specs.Needs.{held_in}
 use Rattle.plan_losses.proofs.held_counts.Given as goal
 
 abbrev pub invariant-loop-f : goal.invariant-loop-f
-invariant-loop-f l = (l.f ≤ 16) × (l.counts ≡ filled l.f (held_in l.settings l.held) (replicate 16 0))
-
-abbrev pub decreases-loop-f : goal.decreases-loop-f
-decreases-loop-f l = 16 - l.f
+invariant-loop-f l = l.counts ≡ filled l.f (held_in l.settings l.held) (replicate 16 0)

@@ -9,20 +9,16 @@ use Rattle.plan_losses.specs.Needs.{held_of, held_in}
 use Rattle.plan_losses.proofs.held_in.Goals as goal
 
 pub loop-n-init : goal.loop-n-init
-loop-n-init c = (omega arith, omega arith, sym (count_zero _))
+loop-n-init c = (omega arith, sym (count_zero _))
 
 pub overflow_add-total : goal.overflow_add-total
 overflow_add-total c = let s = c in
-    let l = c.loop-n in omega (arith, c.counted-total.ensures.1, l.invariant.0, l.invariant.1, s.requires.sizes.nodes_to)
+    let l = c.loop-n in omega (arith, c.counted-total.ensures.1, l.auto.n-end, l.invariant.0, s.requires.sizes.nodes_to)
 
 pub loop-n-preserved : goal.loop-n-preserved
-loop-n-preserved c = let l = c.loop-n in (
-  omega (arith, c.nodes-count.ensures, c.loop-n-test.true),
-  omega (arith, c.counted-total.ensures.1, l.invariant.1),
-  count_turn _ _ _ _ l.invariant.2 (c.counted-total.ensures.0 ∙ ap (λ (b : Bool). cond b 1 0) c.held_of.ensures),
-)
+loop-n-preserved c = let l = c.loop-n in (omega (arith, c.counted-total.ensures.1, l.invariant.0), count_turn _ _ _ _ l.invariant.1 (c.counted-total.ensures.0 ∙ ap (λ (b : Bool). cond b 1 0) c.held_of.ensures))
 
 pub returns : goal.returns
 unfolding held_in
 returns c = let l = c.loop-n in
-    count_done l.invariant.0 (omega (arith, c.nodes-count.ensures, c.loop-n-test.false)) _ _ l.invariant.2
+    count_done l.auto.n-end (omega (arith, c.nodes-count.ensures, c.loop-n-test.false)) _ _ l.invariant.1

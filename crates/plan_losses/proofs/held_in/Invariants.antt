@@ -6,7 +6,4 @@ use Rattle.plan_losses.specs.Needs.{held_of}
 use Rattle.plan_losses.proofs.held_in.Given as goal
 
 abbrev pub invariant-loop-n : goal.invariant-loop-n
-invariant-loop-n l = (l.n ≤ nodes l.settings) × (l.total ≤ l.n) × (l.total ≡ count_below l.n (held_of l.settings l.held l.f))
-
-abbrev pub decreases-loop-n : goal.decreases-loop-n
-decreases-loop-n l = nodes l.settings - l.n
+invariant-loop-n l = (l.total ≤ l.n) × (l.total ≡ count_below l.n (held_of l.settings l.held l.f))

@@ -12,9 +12,6 @@ minus-idle-requires c = search rules
 pub shards-count-requires : goal.shards-count-requires
 shards-count-requires c = search rules
 
-pub loop-s-init : goal.loop-s-init
-loop-s-init c = search rules
-
 pub subgroup-requires : goal.subgroup-requires
 subgroup-requires c = search rules
 
@@ -38,15 +35,6 @@ relieved-requires c = search rules
 
 pub returns-then-has : goal.returns-then-has
 returns-then-has c = search rules
-
-pub overflow_add-s : goal.overflow_add-s
-overflow_add-s c = search rules
-
-pub loop-s-smaller : goal.loop-s-smaller
-loop-s-smaller c = search rules
-
-pub loop-s-preserved : goal.loop-s-preserved
-loop-s-preserved c = search rules
 
 pub returns : goal.returns
 returns c = search rules

@@ -3,7 +3,4 @@ use Rattle.plan_losses.specs.Needs.{LowBelow}
 use Rattle.plan_losses.proofs.low_sets.Given as goal
 
 abbrev pub invariant-loop-f : goal.invariant-loop-f
-invariant-loop-f l = (l.f ≤ 16) × LowBelow l.counts l.j l.f l.sets
-
-abbrev pub decreases-loop-f : goal.decreases-loop-f
-decreases-loop-f l = 16 - l.f
+invariant-loop-f l = LowBelow l.counts l.j l.f l.sets

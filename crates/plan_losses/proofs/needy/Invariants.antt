@@ -6,7 +6,4 @@ use Rattle.plan_losses.specs.Needs.{needs_at}
 use Rattle.plan_losses.proofs.needy.Given as goal
 
 abbrev pub invariant-loop-s : goal.invariant-loop-s
-invariant-loop-s l = (l.s ≤ shards l.settings) × (l.total ≤ l.s) × (l.total ≡ count_below l.s (needs_at l.settings l.g l.k))
-
-abbrev pub decreases-loop-s : goal.decreases-loop-s
-decreases-loop-s l = shards l.settings - l.s
+invariant-loop-s l = (l.total ≤ l.s) × (l.total ≡ count_below l.s (needs_at l.settings l.g l.k))

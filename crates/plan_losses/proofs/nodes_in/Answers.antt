@@ -6,9 +6,6 @@ use Rattle.plan_losses.proofs.nodes_in.Goals as goal
 pub nodes-count-requires : goal.nodes-count-requires
 nodes-count-requires c = search rules
 
-pub loop-n-init : goal.loop-n-init
-loop-n-init c = search rules
-
 pub held_of-requires : goal.held_of-requires
 held_of-requires c = search rules
 
@@ -17,15 +14,6 @@ overflow_cast-n c = search rules
 
 pub with-mask-requires : goal.with-mask-requires
 with-mask-requires c = search rules
-
-pub overflow_add-n : goal.overflow_add-n
-overflow_add-n c = search rules
-
-pub loop-n-smaller : goal.loop-n-smaller
-loop-n-smaller c = search rules
-
-pub loop-n-preserved : goal.loop-n-preserved
-loop-n-preserved c = search rules
 
 pub returns : goal.returns
 returns c = search rules

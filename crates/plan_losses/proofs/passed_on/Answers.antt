@@ -6,9 +6,6 @@ use Rattle.plan_losses.proofs.passed_on.Goals as goal
 pub shards-count-requires : goal.shards-count-requires
 shards-count-requires c = search rules
 
-pub loop-t-init : goal.loop-t-init
-loop-t-init c = search rules
-
 pub subgroup-requires : goal.subgroup-requires
 subgroup-requires c = search rules
 
@@ -80,15 +77,6 @@ bounds-masks-s c = search rules
 
 pub returns-then-n-lt32 : goal.returns-then-n-lt32
 returns-then-n-lt32 c = search rules
-
-pub overflow_add-t : goal.overflow_add-t
-overflow_add-t c = search rules
-
-pub loop-t-smaller : goal.loop-t-smaller
-loop-t-smaller c = search rules
-
-pub loop-t-preserved : goal.loop-t-preserved
-loop-t-preserved c = search rules
 
 pub returns : goal.returns
 returns c = search rules

@@ -6,9 +6,6 @@ use Rattle.plan_losses.proofs.placed_in.Goals as goal
 pub shards-count-requires : goal.shards-count-requires
 shards-count-requires c = search rules
 
-pub loop-s-init : goal.loop-s-init
-loop-s-init c = search rules
-
 pub subgroup-requires : goal.subgroup-requires
 subgroup-requires c = search rules
 
@@ -20,15 +17,6 @@ offset_bounds-laid-s c = search rules
 
 pub bounds-laid-s : goal.bounds-laid-s
 bounds-laid-s c = search rules
-
-pub overflow_add-s : goal.overflow_add-s
-overflow_add-s c = search rules
-
-pub loop-s-smaller : goal.loop-s-smaller
-loop-s-smaller c = search rules
-
-pub loop-s-preserved : goal.loop-s-preserved
-loop-s-preserved c = search rules
 
 pub returns : goal.returns
 returns c = search rules

@@ -8,19 +8,15 @@ use Rattle.plan_losses.specs.Needs.{served_by}
 use Rattle.plan_losses.proofs.served.Goals as goal
 
 pub loop-f-init : goal.loop-f-init
-loop-f-init c = (omega arith, omega arith, sym (sum_zero _))
+loop-f-init c = (omega arith, sym (sum_zero _))
 
 pub overflow_add-total : goal.overflow_add-total
 overflow_add-total c = let l = c.loop-f in
-    omega (arith, c.lesser-total.ensures, c.requires, l.invariant.0, l.invariant.1)
+    omega (arith, c.lesser-total.ensures, c.requires, l.auto.f-end, l.invariant.0)
 
 pub loop-f-preserved : goal.loop-f-preserved
-loop-f-preserved c = let l = c.loop-f in (
-  omega (arith, c.loop-f-test.true),
-  omega (arith, c.lesser-total.ensures, c.requires, l.invariant.1),
-  sum_turn _ _ _ _ l.invariant.2 c.lesser-total.ensures,
-)
+loop-f-preserved c = let l = c.loop-f in (omega (arith, c.lesser-total.ensures, c.requires, l.invariant.0), sum_turn _ _ _ _ l.invariant.1 c.lesser-total.ensures)
 
 pub returns : goal.returns
 unfolding served_by
-returns c = sum_done c.loop-f.invariant.0 c.loop-f-test.false _ _ c.loop-f.invariant.2
+returns c = sum_done c.loop-f.auto.f-end c.loop-f-test.false _ _ c.loop-f.invariant.1

@@ -5,7 +5,4 @@ use Rattle.base_sum_laws.specs.Definitions.{sum_below}
 use Rattle.plan_losses.proofs.served.Given as goal
 
 abbrev pub invariant-loop-f : goal.invariant-loop-f
-invariant-loop-f l = (l.f ≤ 16) × (l.total ≤ 16 * l.f) × (l.total ≡ sum_below l.f (λ i. min (get_or l.counts i 0) l.j))
-
-abbrev pub decreases-loop-f : goal.decreases-loop-f
-decreases-loop-f l = 16 - l.f
+invariant-loop-f l = (l.total ≤ 16 * l.f) × (l.total ≡ sum_below l.f (λ i. min (get_or l.counts i 0) l.j))

@@ -9,7 +9,7 @@ use borrow.Author.Rules.{rules}
 use Rattle.plan_losses.proofs.stays_placed.Goals as goal
 
 pub loop-g-init : goal.loop-g-init
-loop-g-init c = (search rules, λ g l. absurd (omega arith))
+loop-g-init c = λ g l. absurd (omega arith)
 
 pub returns-then-not-stays_in : goal.returns-then-not-stays_in
 returns-then-not-stays_in c = λ e. clash e refl
@@ -18,11 +18,10 @@ pub loop-g-preserved : goal.loop-g-preserved
 loop-g-preserved c = let a = c.args in
     let l = c.loop-g in
     let v = c.stays_in in
-    let w = v.ensures (c.if-not-stays_in.false) in
-    (omega (arith, c.loop-g-test.true), placed_more a.settings.now a.held l.g w.0 w.1 l.invariant.1)
+    let w = v.ensures (c.if-not-stays_in.false) in placed_more a.settings.now a.held l.g w.0 w.1 l.invariant
 
 pub returns : goal.returns
 returns c = let a = c.args in
     let l = c.loop-g in
-    let z : l.g ≡ 4 = omega (arith, l.invariant.0, c.loop-g-test.false) in
-    λ e. subst (PlacedBelow a.settings.now a.held) z l.invariant.1
+    let z : l.g ≡ 4 = omega (arith, l.auto.g-end, c.loop-g-test.false) in
+    λ e. subst (PlacedBelow a.settings.now a.held) z l.invariant

@@ -6,9 +6,6 @@ use Rattle.plan_losses.proofs.substitute.Goals as goal
 pub nodes-count-requires : goal.nodes-count-requires
 nodes-count-requires c = search rules
 
-pub loop-n-init : goal.loop-n-init
-loop-n-init c = search rules
-
 pub overflow_cast-n : goal.overflow_cast-n
 overflow_cast-n c = search rules
 
@@ -26,15 +23,6 @@ has-requires-then-has c = search rules
 
 pub returns-then-not-has : goal.returns-then-not-has
 returns-then-not-has c = search rules
-
-pub overflow_add-n : goal.overflow_add-n
-overflow_add-n c = search rules
-
-pub loop-n-smaller : goal.loop-n-smaller
-loop-n-smaller c = search rules
-
-pub loop-n-preserved : goal.loop-n-preserved
-loop-n-preserved c = search rules
 
 pub returns : goal.returns
 returns c = search rules

@@ -3,9 +3,6 @@ use Prim.Native.Nat.{◌-◌}
 use borrow.Author.Rules.{rules}
 use Rattle.plan_losses.proofs.taken.Goals as goal
 
-pub loop-k-init : goal.loop-k-init
-loop-k-init c = search rules
-
 pub fullest-f-requires : goal.fullest-f-requires
 fullest-f-requires c = search rules
 
@@ -26,15 +23,6 @@ bounds-rest-f-then-f-lt16 c = search rules
 
 pub with-sets-requires : goal.with-sets-requires
 with-sets-requires c = search rules
-
-pub overflow_add-k : goal.overflow_add-k
-overflow_add-k c = search rules
-
-pub loop-k-smaller : goal.loop-k-smaller
-loop-k-smaller c = search rules
-
-pub loop-k-preserved : goal.loop-k-preserved
-loop-k-preserved c = search rules
 
 pub returns : goal.returns
 returns c = search rules

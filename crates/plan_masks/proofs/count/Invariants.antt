@@ -5,6 +5,3 @@ use Rattle.plan_masks.proofs.count.Given as goal
 
 abbrev pub invariant-loop-n : goal.invariant-loop-n
 invariant-loop-n l = CountedTo l.settings l.v l.t l.all (words_in l.desk) l.n l.masks
-
-abbrev pub decreases-loop-n : goal.decreases-loop-n
-decreases-loop-n l = 32 - l.n

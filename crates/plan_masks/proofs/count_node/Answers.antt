@@ -13,8 +13,7 @@ use Rattle.plan_masks.proofs.count_node.Goals as goal
 
 pub loop-s-init : goal.loop-s-init
 loop-s-init c = let s = c in
-    let m = s.args.masks.now in
-    (search rules, s.requires.masks_len.0, sym (filled_none (counted_at s.args.seen.holders s.args.node.0 m) m))
+    let m = s.args.masks.now in (s.requires.masks_len.0, sym (filled_none (counted_at s.args.seen.holders s.args.node.0 m) m))
 
 pub loop-s-preserved : goal.loop-s-preserved
 loop-s-preserved c = let s = c in
@@ -22,10 +21,9 @@ loop-s-preserved c = let s = c in
     let m = s.args.masks.now in
     let f = counted_at s.args.seen.holders s.args.node.0 m in
     let few : l.s < s.args.count = c.loop-s-test.true in
-    let old : get_or l.masks l.s 0 ≡ get_or m l.s 0 = ap (λ (x : List ℕ). get_or x l.s 0) l.invariant.2 ∙ get_or_filled_rest l.s f m l.s 0 (omega arith) in (
-      omega (arith, few),
-      length-set l.masks l.s c.counted_with.result ∙ l.invariant.1,
-      filled_turn l.s f m l.masks c.counted_with.result (omega (arith, few, s.requires.masks_len.0, s.requires.count_bound)) l.invariant.2
+    let old : get_or l.masks l.s 0 ≡ get_or m l.s 0 = ap (λ (x : List ℕ). get_or x l.s 0) l.invariant.1 ∙ get_or_filled_rest l.s f m l.s 0 (omega arith) in (
+      length-set l.masks l.s c.counted_with.result ∙ l.invariant.0,
+      filled_turn l.s f m l.masks c.counted_with.result (omega (arith, few, s.requires.masks_len.0, s.requires.count_bound)) l.invariant.1
           (c.counted_with.ensures ∙ ap (λ (x : ℕ). counted_with x (node_at s.args.seen.holders l.s) s.args.node.0) old),
     )
 
@@ -33,5 +31,5 @@ pub returns : goal.returns
 returns c = let s = c in
     let l = c.loop-s in
     let m = s.args.masks.now in
-    let e : l.s ≡ s.args.count = omega (arith, l.invariant.0, c.loop-s-test.false) in
-    subst (λ (k : ℕ). l.masks ≡ filled k (counted_at s.args.seen.holders s.args.node.0 m) m) e l.invariant.2
+    let e : l.s ≡ s.args.count = omega (arith, l.auto.s-end, c.loop-s-test.false) in
+    subst (λ (k : ℕ). l.masks ≡ filled k (counted_at s.args.seen.holders s.args.node.0 m) m) e l.invariant.1

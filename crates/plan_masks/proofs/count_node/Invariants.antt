@@ -6,7 +6,4 @@ use Rattle.plan_masks.specs.Counting.{counted_at}
 use Rattle.plan_masks.proofs.count_node.Given as goal
 
 abbrev pub invariant-loop-s : goal.invariant-loop-s
-invariant-loop-s l = (l.s ≤ l.count) × (length l.masks ≡ 16) × (l.masks ≡ filled l.s (counted_at l.holders l.node.0 l.initial.masks) l.initial.masks)
-
-abbrev pub decreases-loop-s : goal.decreases-loop-s
-decreases-loop-s l = l.count - l.s
+invariant-loop-s l = (length l.masks ≡ 16) × (l.masks ≡ filled l.s (counted_at l.holders l.node.0 l.initial.masks) l.initial.masks)

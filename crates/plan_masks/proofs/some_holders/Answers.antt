@@ -17,18 +17,15 @@ abbrev node_in : ℕ → List ℕ → ℕ → Node
 node_in held masks s = record { 0 = some_holder held (get_or masks s 0) }
 
 pub loop-s-init : goal.loop-s-init
-loop-s-init c = (search rules, fill_start 16 none (node_in c.args.held c.args.masks.now))
+loop-s-init c = fill_start 16 none (node_in c.args.held c.args.masks.now)
 
 pub loop-s-preserved : goal.loop-s-preserved
 loop-s-preserved c = let a = c.args in
-    let l = c.loop-s in (
-      omega arith,
-      fill_turn 16 none (node_in a.held a.masks.now) l.s l.holders c.some_holder.result (omega arith) l.invariant.1
-          (ap (λ (x : ℕ). record { 0 = x }) c.some_holder.ensures),
-    )
+    let l = c.loop-s in fill_turn 16 none (node_in a.held a.masks.now) l.s l.holders c.some_holder.result (omega arith) l.invariant
+    (ap (λ (x : ℕ). record { 0 = x }) c.some_holder.ensures)
 
 pub returns : goal.returns
 unfolding some_holders
 returns c = let a = c.args in
     let l = c.loop-s in
-    fill_end 16 none (node_in a.held a.masks.now) l.s l.holders l.invariant.0 (omega arith) l.invariant.1
+    fill_end 16 none (node_in a.held a.masks.now) l.s l.holders l.auto.s-end (omega arith) l.invariant

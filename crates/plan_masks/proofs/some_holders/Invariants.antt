@@ -14,7 +14,4 @@ abbrev none : Node
 none = record { 0 = 0 }
 
 abbrev pub invariant-loop-s : goal.invariant-loop-s
-invariant-loop-s l = (l.s ≤ 16) × (l.holders ≡ filled l.s (node_in l.held l.masks) (replicate 16 none))
-
-abbrev pub decreases-loop-s : goal.decreases-loop-s
-decreases-loop-s l = 16 - l.s
+invariant-loop-s l = l.holders ≡ filled l.s (node_in l.held l.masks) (replicate 16 none)

@@ -18,8 +18,7 @@ report_at-report-requires c =
 pub loop-s-init : goal.loop-s-init
 loop-s-init c =
     let a = c.args in
-    let e = c.wide-count.ensures in
-    (e, omega (arith, e, c.requires.sizes.shards_to), omega arith, cuts_none a.plan (words_in a.desk.now) a.node.0)
+    let e = c.wide-count.ensures in (e, omega (arith, e, c.requires.sizes.shards_to), cuts_none a.plan (words_in a.desk.now) a.node.0)
 
 pub cut_for-t-requires : goal.cut_for-t-requires
 cut_for-t-requires c =
@@ -40,8 +39,7 @@ loop-s-preserved c =
     let t = c.cut_for-t in (
       i.invariant.0,
       i.invariant.1,
-      omega arith,
-      cuts_turn a.plan (words_in a.desk.now) a.node.0 i.s i.cuts t.result (omega (arith, i.invariant.1)) i.invariant.3
+      cuts_turn a.plan (words_in a.desk.now) a.node.0 i.s i.cuts t.result (omega (arith, i.invariant.1)) i.invariant.2
           (cut-carried a.plan (words_in a.desk.now) a.node.0 i.s r.result t.result r.ensures t.ensures),
     )
 
@@ -50,5 +48,5 @@ returns c =
     let start = c in
     let a = start.args in
     let i = c.loop-s in
-    let e : i.s ≡ shards a.settings.now = omega (arith, i.invariant.0, i.invariant.2, c.loop-s-test.false) in
-    cuts_all a.plan (words_in a.desk.now) a.node.0 a.settings.now i.s i.cuts start.requires.sizes.shards_to e i.invariant.3
+    let e : i.s ≡ shards a.settings.now = omega (arith, i.invariant.0, i.auto.s-end, c.loop-s-test.false) in
+    cuts_all a.plan (words_in a.desk.now) a.node.0 a.settings.now i.s i.cuts start.requires.sizes.shards_to e i.invariant.2

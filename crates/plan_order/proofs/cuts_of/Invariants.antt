@@ -6,8 +6,4 @@ use Rattle.plan_order.specs.CutTables.{cuts_below}
 use Rattle.plan_order.proofs.cuts_of.Given as goal
 
 abbrev pub invariant-loop-s : goal.invariant-loop-s
-invariant-loop-s l =
-    (l.count ≡ shards l.settings) × (l.count ≤ 16) × (l.s ≤ l.count) × (l.cuts ≡ cuts_below l.plan (words_in l.desk) l.node.0 l.s)
-
-abbrev pub decreases-loop-s : goal.decreases-loop-s
-decreases-loop-s l = l.count - l.s
+invariant-loop-s l = (l.count ≡ shards l.settings) × (l.count ≤ 16) × (l.cuts ≡ cuts_below l.plan (words_in l.desk) l.node.0 l.s)

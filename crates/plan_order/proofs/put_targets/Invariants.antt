@@ -5,7 +5,4 @@ use Rattle.base_laws.specs.Loops.{turns}
 use Rattle.plan_order.proofs.put_targets.Given as goal
 
 abbrev pub invariant-loop-s : goal.invariant-loop-s
-invariant-loop-s l = (l.count ≤ 16) × (l.s ≤ l.count) × (l.body ≡ turns l.s (store_target l.count l.plan) l.initial.body)
-
-abbrev pub decreases-loop-s : goal.decreases-loop-s
-decreases-loop-s l = l.count - l.s
+invariant-loop-s l = (l.count ≤ 16) × (l.body ≡ turns l.s (store_target l.count l.plan) l.initial.body)

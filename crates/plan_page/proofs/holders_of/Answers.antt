@@ -12,16 +12,15 @@ nobody = record { 0 = 0 }
 
 pub loop-s-init : goal.loop-s-init
 loop-s-init c =
-    let a = c.args in (omega arith, fill_start 16 nobody (holder_shown a.settings.now a.g (node_at a.holders)))
+    let a = c.args in fill_start 16 nobody (holder_shown a.settings.now a.g (node_at a.holders))
 
 pub loop-s-preserved : goal.loop-s-preserved
 unfolding holder_shown shown
 loop-s-preserved c =
     let a = c.args in
-    let l = c.loop-s in
-    (omega arith, fill_turn 16 nobody (holder_shown a.settings.now a.g (node_at a.holders)) l.s l.list c.holder_shown.result (omega arith) l.invariant.1 c.holder_shown.ensures)
+    let l = c.loop-s in fill_turn 16 nobody (holder_shown a.settings.now a.g (node_at a.holders)) l.s l.list c.holder_shown.result (omega arith) l.invariant c.holder_shown.ensures
 
 pub returns : goal.returns
 returns c =
     let a = c.args in
-    let l = c.loop-s in fill_end 16 nobody (holder_shown a.settings.now a.g (node_at a.holders)) l.s l.list (omega arith) (omega arith) l.invariant.1
+    let l = c.loop-s in fill_end 16 nobody (holder_shown a.settings.now a.g (node_at a.holders)) l.s l.list (omega arith) (omega arith) l.invariant

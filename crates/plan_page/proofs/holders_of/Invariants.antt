@@ -11,7 +11,4 @@ abbrev nobody : Node
 nobody = record { 0 = 0 }
 
 abbrev pub invariant-loop-s : goal.invariant-loop-s
-invariant-loop-s l = (l.s ≤ 16) × (l.list ≡ filled l.s (holder_shown l.settings l.g (node_at l.holders)) (replicate 16 nobody))
-
-abbrev pub decreases-loop-s : goal.decreases-loop-s
-decreases-loop-s l = 16 - l.s
+invariant-loop-s l = l.list ≡ filled l.s (holder_shown l.settings l.g (node_at l.holders)) (replicate 16 nobody)

@@ -12,17 +12,16 @@ use Rattle.plan_page.proofs.known_of.Goals as goal
 
 pub loop-s-init : goal.loop-s-init
 loop-s-init c =
-    let a = c.args in (omega arith, sym (mask_none (shown a.settings.now a.g (node_at a.holders))))
+    let a = c.args in sym (mask_none (shown a.settings.now a.g (node_at a.holders)))
 
 pub loop-s-preserved : goal.loop-s-preserved
 unfolding shown
 loop-s-preserved c =
     let a = c.args in
-    let l = c.loop-s in
-    (omega arith, mask_grown l.s l.mask c.added-mask.result (shown a.settings.now a.g (node_at a.holders)) c.is_shown.result l.invariant.1 c.added-mask.ensures c.is_shown.ensures)
+    let l = c.loop-s in mask_grown l.s l.mask c.added-mask.result (shown a.settings.now a.g (node_at a.holders)) c.is_shown.result l.invariant c.added-mask.ensures c.is_shown.ensures
 
 pub returns : goal.returns
 returns c =
     let a = c.args in
     let l = c.loop-s in
-    l.invariant.1 ∙ ap (λ (k : ℕ). mask_below k (shown a.settings.now a.g (node_at a.holders))) (le_antisymm l.invariant.0 c.loop-s-test.false)
+    l.invariant ∙ ap (λ (k : ℕ). mask_below k (shown a.settings.now a.g (node_at a.holders))) (le_antisymm l.auto.s-end c.loop-s-test.false)

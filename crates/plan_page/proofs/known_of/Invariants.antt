@@ -6,7 +6,4 @@ use Rattle.plan_page.specs.Definitions.{shown}
 use Rattle.plan_page.proofs.known_of.Given as goal
 
 abbrev pub invariant-loop-s : goal.invariant-loop-s
-invariant-loop-s l = (l.s ≤ 16) × (l.mask ≡ mask_below l.s (shown l.settings l.g (node_at l.holders)))
-
-abbrev pub decreases-loop-s : goal.decreases-loop-s
-decreases-loop-s l = 16 - l.s
+invariant-loop-s l = l.mask ≡ mask_below l.s (shown l.settings l.g (node_at l.holders))

@@ -6,7 +6,4 @@ use Rattle.plan_page.specs.Definitions.{mask_shown}
 use Rattle.plan_page.proofs.masks_of.Given as goal
 
 abbrev pub invariant-loop-s : goal.invariant-loop-s
-invariant-loop-s l = (l.s ≤ 16) × (l.list ≡ filled l.s (mask_shown l.settings l.g (λ k. get_or l.masks k 0)) (replicate 16 0))
-
-abbrev pub decreases-loop-s : goal.decreases-loop-s
-decreases-loop-s l = 16 - l.s
+invariant-loop-s l = l.list ≡ filled l.s (mask_shown l.settings l.g (λ k. get_or l.masks k 0)) (replicate 16 0)

@@ -11,16 +11,15 @@ use Rattle.plan_page.proofs.shards_of.Goals as goal
 
 pub loop-s-init : goal.loop-s-init
 loop-s-init c =
-    let a = c.args in (omega arith, sym (mask_none (of_group a.settings.now a.g)))
+    let a = c.args in sym (mask_none (of_group a.settings.now a.g))
 
 pub loop-s-preserved : goal.loop-s-preserved
 loop-s-preserved c =
     let a = c.args in
-    let l = c.loop-s in
-    (omega arith, mask_grown l.s l.mask c.added-mask.result (of_group a.settings.now a.g) c.in_group.result l.invariant.1 c.added-mask.ensures c.in_group.ensures)
+    let l = c.loop-s in mask_grown l.s l.mask c.added-mask.result (of_group a.settings.now a.g) c.in_group.result l.invariant c.added-mask.ensures c.in_group.ensures
 
 pub returns : goal.returns
 returns c =
     let a = c.args in
     let l = c.loop-s in
-    l.invariant.1 ∙ ap (λ (k : ℕ). mask_below k (of_group a.settings.now a.g)) (le_antisymm l.invariant.0 c.loop-s-test.false)
+    l.invariant ∙ ap (λ (k : ℕ). mask_below k (of_group a.settings.now a.g)) (le_antisymm l.auto.s-end c.loop-s-test.false)

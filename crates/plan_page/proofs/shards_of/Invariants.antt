@@ -5,7 +5,4 @@ use Rattle.place_groups.specs.Definitions.{of_group}
 use Rattle.plan_page.proofs.shards_of.Given as goal
 
 abbrev pub invariant-loop-s : goal.invariant-loop-s
-invariant-loop-s l = (l.s ≤ 16) × (l.mask ≡ mask_below l.s (of_group l.settings l.g))
-
-abbrev pub decreases-loop-s : goal.decreases-loop-s
-decreases-loop-s l = 16 - l.s
+invariant-loop-s l = l.mask ≡ mask_below l.s (of_group l.settings l.g)

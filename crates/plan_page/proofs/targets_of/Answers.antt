@@ -10,16 +10,15 @@ use Rattle.plan_page.proofs.targets_of.Goals as goal
 
 pub loop-s-init : goal.loop-s-init
 loop-s-init c =
-    let a = c.args in (omega arith, c.no_positions-list.ensures ∙ fill_start 16 start (target_shown a.settings.now a.g (node_at a.holders) (λ k. get_or a.targets k start)))
+    let a = c.args in c.no_positions-list.ensures ∙ fill_start 16 start (target_shown a.settings.now a.g (node_at a.holders) (λ k. get_or a.targets k start))
 
 pub loop-s-preserved : goal.loop-s-preserved
 unfolding target_shown shown
 loop-s-preserved c =
     let a = c.args in
-    let l = c.loop-s in
-    (omega arith, fill_turn 16 start (target_shown a.settings.now a.g (node_at a.holders) (λ k. get_or a.targets k start)) l.s l.list c.target_shown.result (omega arith) l.invariant.1 c.target_shown.ensures)
+    let l = c.loop-s in fill_turn 16 start (target_shown a.settings.now a.g (node_at a.holders) (λ k. get_or a.targets k start)) l.s l.list c.target_shown.result (omega arith) l.invariant c.target_shown.ensures
 
 pub returns : goal.returns
 returns c =
     let a = c.args in
-    let l = c.loop-s in fill_end 16 start (target_shown a.settings.now a.g (node_at a.holders) (λ k. get_or a.targets k start)) l.s l.list (omega arith) (omega arith) l.invariant.1
+    let l = c.loop-s in fill_end 16 start (target_shown a.settings.now a.g (node_at a.holders) (λ k. get_or a.targets k start)) l.s l.list (omega arith) (omega arith) l.invariant

@@ -7,7 +7,4 @@ use Rattle.plan_page.specs.Definitions.{target_shown}
 use Rattle.plan_page.proofs.targets_of.Given as goal
 
 abbrev pub invariant-loop-s : goal.invariant-loop-s
-invariant-loop-s l = (l.s ≤ 16) × (l.list ≡ filled l.s (target_shown l.settings l.g (node_at l.holders) (λ k. get_or l.targets k start)) (replicate 16 start))
-
-abbrev pub decreases-loop-s : goal.decreases-loop-s
-decreases-loop-s l = 16 - l.s
+invariant-loop-s l = l.list ≡ filled l.s (target_shown l.settings l.g (node_at l.holders) (λ k. get_or l.targets k start)) (replicate 16 start)

@@ -18,22 +18,21 @@ abbrev without : List Node → ℕ → Bool
 without holders s = eqb (node_at holders s) 32
 
 pub loop-s-init : goal.loop-s-init
-loop-s-init c = (search rules, any_none (without c.args.holders))
+loop-s-init c = any_none (without c.args.holders)
 
 pub returns-then-holder-eq32 : goal.returns-then-holder-eq32
 unfolding first_without
 returns-then-holder-eq32 c = let a = c.args in
     let l = c.loop-s in
-    sym (lowest_at a.count (without a.holders) l.s c.loop-s-test.true l.invariant.1 (eq-eqb _ _ c.if-holder-eq32.true))
+    sym (lowest_at a.count (without a.holders) l.s c.loop-s-test.true l.invariant (eq-eqb _ _ c.if-holder-eq32.true))
 
 pub loop-s-preserved : goal.loop-s-preserved
 loop-s-preserved c = let a = c.args in
-    let l = c.loop-s in
-    (omega arith, any_more l.s (without a.holders) l.invariant.1 (ne_eqb _ _ c.if-holder-eq32.false))
+    let l = c.loop-s in any_more l.s (without a.holders) l.invariant (ne_eqb _ _ c.if-holder-eq32.false)
 
 pub returns : goal.returns
 unfolding first_without
 returns c = let a = c.args in
     let l = c.loop-s in
     let z : l.s ≡ a.count = omega arith in
-    sym (lowest_none a.count (without a.holders) (rw z at l.invariant.1))
+    sym (lowest_none a.count (without a.holders) (rw z at l.invariant))

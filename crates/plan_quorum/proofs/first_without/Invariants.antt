@@ -12,7 +12,4 @@ abbrev without : List Node → ℕ → Bool
 without holders s = eqb (node_at holders s) 32
 
 abbrev pub invariant-loop-s : goal.invariant-loop-s
-invariant-loop-s l = (l.s ≤ l.count) × (any_below l.s (without l.holders) ≡ false)
-
-abbrev pub decreases-loop-s : goal.decreases-loop-s
-decreases-loop-s l = l.count - l.s
+invariant-loop-s l = any_below l.s (without l.holders) ≡ false

@@ -18,12 +18,11 @@ abbrev node_in : List ℕ → ℕ → Node
 node_in list s = record { 0 = get_or list s 0 }
 
 pub loop-s-init : goal.loop-s-init
-loop-s-init c = (search rules, fill_start 16 none (node_in c.args.list.now))
+loop-s-init c = fill_start 16 none (node_in c.args.list.now)
 
 pub loop-s-preserved : goal.loop-s-preserved
 loop-s-preserved c = let s = c in
-    let l = c.loop-s in
-    (omega arith, fill_turn 16 none (node_in s.args.list.now) l.s l.holders _ (omega (arith, s.requires, c.loop-s-test.true)) l.invariant.1 refl)
+    let l = c.loop-s in fill_turn 16 none (node_in s.args.list.now) l.s l.holders _ (omega (arith, s.requires, c.loop-s-test.true)) l.invariant refl
 
 pub returns : goal.returns
 unfolding holders_from
@@ -31,4 +30,4 @@ returns c = let s = c in
     let l = c.loop-s in
     let f = node_in s.args.list.now in
     let z : l.s ≡ s.args.count = omega arith in
-    l.invariant.1 ∙ ap (λ (k : ℕ). filled k f (replicate 16 none)) z ∙ filled_else none 16 s.args.count f s.requires
+    l.invariant ∙ ap (λ (k : ℕ). filled k f (replicate 16 none)) z ∙ filled_else none 16 s.args.count f s.requires

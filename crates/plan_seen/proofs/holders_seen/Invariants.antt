@@ -13,7 +13,4 @@ abbrev none : Node
 none = record { 0 = 0 }
 
 abbrev pub invariant-loop-s : goal.invariant-loop-s
-invariant-loop-s l = (l.s ≤ l.count) × (l.holders ≡ filled l.s (node_in l.list) (replicate 16 none))
-
-abbrev pub decreases-loop-s : goal.decreases-loop-s
-decreases-loop-s l = l.count - l.s
+invariant-loop-s l = l.holders ≡ filled l.s (node_in l.list) (replicate 16 none)

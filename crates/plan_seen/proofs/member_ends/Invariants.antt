@@ -5,7 +5,4 @@ use Rattle.plan_seen.specs.Quick.{EndIs}
 use Rattle.plan_seen.proofs.member_ends.Given as goal
 
 abbrev pub invariant-loop-s : goal.invariant-loop-s
-invariant-loop-s l = (l.s ≤ l.count) × (length l.ends ≡ 16) × ((j : ℕ) → j < l.s → EndIs l.masks l.b l.last l.node.0 j (get_or l.ends j 0))
-
-abbrev pub decreases-loop-s : goal.decreases-loop-s
-decreases-loop-s l = l.count - l.s
+invariant-loop-s l = (length l.ends ≡ 16) × ((j : ℕ) → j < l.s → EndIs l.masks l.b l.last l.node.0 j (get_or l.ends j 0))

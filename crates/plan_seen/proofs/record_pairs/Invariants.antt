@@ -5,7 +5,4 @@ use Rattle.report_walk.specs.Updates.{RecordsAre}
 use Rattle.plan_seen.proofs.record_pairs.Given as goal
 
 abbrev pub invariant-loop-j : goal.invariant-loop-j
-invariant-loop-j l = (l.j ≤ l.len) × (length l.list ≡ 256) × RecordsAre l.list l.body l.j
-
-abbrev pub decreases-loop-j : goal.decreases-loop-j
-decreases-loop-j l = l.len - l.j
+invariant-loop-j l = (length l.list ≡ 256) × RecordsAre l.list l.body l.j

@@ -17,13 +17,11 @@ abbrev target_in : Termination → List ℕ → ℕ → Position
 target_in t tops s = target_from t.made (position_at t s) (get_or tops s 0)
 
 pub loop-s-init : goal.loop-s-init
-loop-s-init c = let a = c.args in
-    (search rules, c.no_positions-targets.ensures ∙ fill_start 16 start (target_in a.t a.tops.now))
+loop-s-init c = let a = c.args in c.no_positions-targets.ensures ∙ fill_start 16 start (target_in a.t a.tops.now)
 
 pub loop-s-preserved : goal.loop-s-preserved
 loop-s-preserved c = let s = c in
-    let l = c.loop-s in
-    (omega arith, fill_turn 16 start (target_in s.args.t s.args.tops.now) l.s l.targets c.target_of.result (omega (arith, s.requires, c.loop-s-test.true)) l.invariant.1 c.target_of.ensures)
+    let l = c.loop-s in fill_turn 16 start (target_in s.args.t s.args.tops.now) l.s l.targets c.target_of.result (omega (arith, s.requires, c.loop-s-test.true)) l.invariant c.target_of.ensures
 
 pub returns : goal.returns
 unfolding targets_from
@@ -31,4 +29,4 @@ returns c = let s = c in
     let l = c.loop-s in
     let f = target_in s.args.t s.args.tops.now in
     let z : l.s ≡ s.args.count = omega arith in
-    l.invariant.1 ∙ ap (λ (k : ℕ). filled k f (replicate 16 start)) z ∙ filled_else start 16 s.args.count f s.requires
+    l.invariant ∙ ap (λ (k : ℕ). filled k f (replicate 16 start)) z ∙ filled_else start 16 s.args.count f s.requires

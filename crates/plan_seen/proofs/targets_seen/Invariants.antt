@@ -13,7 +13,4 @@ abbrev target_in : Termination → List ℕ → ℕ → Position
 target_in t tops s = target_from t.made (position_at t s) (get_or tops s 0)
 
 abbrev pub invariant-loop-s : goal.invariant-loop-s
-invariant-loop-s l = (l.s ≤ l.count) × (l.targets ≡ filled l.s (target_in l.t l.tops) (replicate 16 start))
-
-abbrev pub decreases-loop-s : goal.decreases-loop-s
-decreases-loop-s l = l.count - l.s
+invariant-loop-s l = l.targets ≡ filled l.s (target_in l.t l.tops) (replicate 16 start)

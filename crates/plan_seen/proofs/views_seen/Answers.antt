@@ -15,14 +15,12 @@ abbrev none : View
 none = record { 0 = 0 }
 
 pub loop-n-init : goal.loop-n-init
-loop-n-init c = let a = c.args in
-    (search rules, sym (filled_none (view_seen a.held (words_in a.desk.now)) (replicate 32 none)))
+loop-n-init c = let a = c.args in sym (filled_none (view_seen a.held (words_in a.desk.now)) (replicate 32 none))
 
 pub loop-n-preserved : goal.loop-n-preserved
 loop-n-preserved c = let a = c.args in
     let l = c.loop-n in
-    let few = length-replicate {A = View} 32 none in
-    (omega arith, filled_turn l.n (view_seen a.held (words_in a.desk.now)) (replicate 32 none) l.views c.view_seen.result (omega (arith, few)) l.invariant.1 c.view_seen.ensures)
+    let few = length-replicate {A = View} 32 none in filled_turn l.n (view_seen a.held (words_in a.desk.now)) (replicate 32 none) l.views c.view_seen.result (omega (arith, few)) l.invariant c.view_seen.ensures
 
 pub returns : goal.returns
 unfolding views_seen
@@ -30,4 +28,4 @@ returns c = let a = c.args in
     let l = c.loop-n in
     let f = view_seen a.held (words_in a.desk.now) in
     let z : l.n ≡ 32 = omega arith in
-    l.invariant.1 ∙ ap (λ (k : ℕ). filled k f (replicate 32 none)) z ∙ filled_all 32 f (replicate 32 none) (length-replicate {A = View} 32 none)
+    l.invariant ∙ ap (λ (k : ℕ). filled k f (replicate 32 none)) z ∙ filled_all 32 f (replicate 32 none) (length-replicate {A = View} 32 none)

@@ -11,7 +11,4 @@ abbrev none : View
 none = record { 0 = 0 }
 
 abbrev pub invariant-loop-n : goal.invariant-loop-n
-invariant-loop-n l = (l.n ≤ 32) × (l.views ≡ filled l.n (view_seen l.held (words_in l.desk)) (replicate 32 none))
-
-abbrev pub decreases-loop-n : goal.decreases-loop-n
-decreases-loop-n l = 32 - l.n
+invariant-loop-n l = l.views ≡ filled l.n (view_seen l.held (words_in l.desk)) (replicate 32 none)

@@ -76,12 +76,6 @@ returns-then-not-read_step c = let s = c in
       so_far = λ e. clash e refl;
     })
 
-pub overflow_add-n : goal.overflow_add-n
-overflow_add-n c = omega (arith, c.loop-n-test.true)
-
-pub loop-n-smaller : goal.loop-n-smaller
-loop-n-smaller c = omega (arith, c.loop-n-test.true)
-
 pub loop-n-preserved : goal.loop-n-preserved
 loop-n-preserved c = let s = c in
     let a = s.args in

@@ -5,6 +5,3 @@ use Rattle.plan_seen.proofs.walk_nodes.Given as goal
 
 abbrev pub invariant-loop-n : goal.invariant-loop-n
 invariant-loop-n l = WalkedTo l.settings l.v l.t l.held (words_in l.desk) l.n l.b l.holders l.tops
-
-abbrev pub decreases-loop-n : goal.decreases-loop-n
-decreases-loop-n l = 32 - l.n

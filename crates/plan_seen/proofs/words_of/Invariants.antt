@@ -6,7 +6,4 @@ use Rattle.plan_seen.specs.Nodes.{word_of_pairs}
 use Rattle.plan_seen.proofs.words_of.Given as goal
 
 abbrev pub invariant-loop-k : goal.invariant-loop-k
-invariant-loop-k l = (l.k ≤ 512) × (l.words ≡ filled l.k (word_of_pairs l.b) (replicate 512 0))
-
-abbrev pub decreases-loop-k : goal.decreases-loop-k
-decreases-loop-k l = 512 - l.k
+invariant-loop-k l = l.words ≡ filled l.k (word_of_pairs l.b) (replicate 512 0)

@@ -12,13 +12,13 @@ pub returns-then-a-b : goal.returns-then-a-b
 returns-then-a-b c = sym (lengths_differ _ _ c.if-a-b.true)
 
 pub loop-i-init : goal.loop-i-init
-loop-i-init c = (search rules, all_none (alike_at c.args.a.now c.args.b.now))
+loop-i-init c = all_none (alike_at c.args.a.now c.args.b.now)
 
 pub returns-then-a-i : goal.returns-then-a-i
 returns-then-a-i c = sym (bytes_differ _ _ _ c.if-a-b.false c.loop-i-test.true c.if-a-i.true)
 
 pub loop-i-preserved : goal.loop-i-preserved
-loop-i-preserved c = (search rules, all_more _ _ c.loop-i.invariant.1 (eq-eqb _ _ c.if-a-i.false))
+loop-i-preserved c = all_more _ _ c.loop-i.invariant (eq-eqb _ _ c.if-a-i.false)
 
 pub returns : goal.returns
-returns c = sym (bytes_alike _ _ _ c.if-a-b.false c.loop-i-test.false c.loop-i.invariant.1)
+returns c = sym (bytes_alike _ _ _ c.if-a-b.false c.loop-i-test.false c.loop-i.invariant)

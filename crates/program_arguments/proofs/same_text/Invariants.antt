@@ -7,7 +7,4 @@ use Rattle.program_arguments.specs.Definitions.{alike_at}
 use Rattle.program_arguments.proofs.same_text.Given as goal
 
 abbrev pub invariant-loop-i : goal.invariant-loop-i
-invariant-loop-i l = (l.i ≤ length l.a) × (all_below l.i (alike_at l.a l.b) ≡ true)
-
-abbrev pub decreases-loop-i : goal.decreases-loop-i
-decreases-loop-i l = length l.a - l.i
+invariant-loop-i l = all_below l.i (alike_at l.a l.b) ≡ true

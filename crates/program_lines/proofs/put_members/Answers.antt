@@ -10,10 +10,10 @@ use Rattle.program_lines.proofs.put_members.Goals as goal
 
 pub loop-n-init : goal.loop-n-init
 unfolding members_below
-loop-n-init c = (search rules, puts_none _ _ c.requires)
+loop-n-init c = puts_none _ _ c.requires
 
 pub loop-n-preserved : goal.loop-n-preserved
-loop-n-preserved c = (search rules, puts_as (members_step _ _) (then-puts c.requires c.loop-n.invariant.1 c.put_member-next.ensures))
+loop-n-preserved c = puts_as (members_step _ _) (then-puts c.requires c.loop-n.invariant c.put_member-next.ensures)
 
 pub returns : goal.returns
-returns c = puts_as (ap (λ (k : ℕ). members_below k c.args.mask) (omega arith)) c.loop-n.invariant.1
+returns c = puts_as (ap (λ (k : ℕ). members_below k c.args.mask) (omega arith)) c.loop-n.invariant

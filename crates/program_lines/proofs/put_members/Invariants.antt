@@ -4,7 +4,4 @@ use Rattle.program_lines.specs.Definitions.{members_below}
 use Rattle.program_lines.proofs.put_members.Given as goal
 
 abbrev pub invariant-loop-n : goal.invariant-loop-n
-invariant-loop-n l = (l.n ≤ 32) × Puts l.initial.out l.at (members_below l.n l.mask) l.out l.next
-
-abbrev pub decreases-loop-n : goal.decreases-loop-n
-decreases-loop-n l = 32 - l.n
+invariant-loop-n l = Puts l.initial.out l.at (members_below l.n l.mask) l.out l.next

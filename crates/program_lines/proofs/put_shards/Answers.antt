@@ -10,10 +10,10 @@ use Rattle.program_lines.proofs.put_shards.Goals as goal
 
 pub loop-s-init : goal.loop-s-init
 unfolding shard_lines
-loop-s-init c = (search rules, puts_none _ _ c.requires.at_in_bounds)
+loop-s-init c = puts_none _ _ c.requires.at_in_bounds
 
 pub loop-s-preserved : goal.loop-s-preserved
-loop-s-preserved c = (search rules, puts_as (shards_step _ _) (then-puts c.requires.at_in_bounds c.loop-s.invariant.1 c.put_shard-next.ensures))
+loop-s-preserved c = puts_as (shards_step _ _) (then-puts c.requires.at_in_bounds c.loop-s.invariant c.put_shard-next.ensures)
 
 pub returns : goal.returns
-returns c = puts_as (ap (shard_lines c.args.plan) (omega arith)) c.loop-s.invariant.1
+returns c = puts_as (ap (shard_lines c.args.plan) (omega arith)) c.loop-s.invariant

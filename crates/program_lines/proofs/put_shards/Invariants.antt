@@ -4,7 +4,4 @@ use Rattle.program_lines.specs.Definitions.{shard_lines}
 use Rattle.program_lines.proofs.put_shards.Given as goal
 
 abbrev pub invariant-loop-s : goal.invariant-loop-s
-invariant-loop-s l = (l.s ≤ l.n) × Puts l.initial.out l.at (shard_lines l.plan l.s) l.out l.next
-
-abbrev pub decreases-loop-s : goal.decreases-loop-s
-decreases-loop-s l = l.n - l.s
+invariant-loop-s l = Puts l.initial.out l.at (shard_lines l.plan l.s) l.out l.next

@@ -11,24 +11,18 @@ use Rattle.program_sheet_text.proofs.put_rows.Goals as goal
 
 pub loop-mask-init : goal.loop-mask-init
 unfolding lines_below
-loop-mask-init c = (omega arith, puts_none _ _ zero-le)
+loop-mask-init c = puts_none _ _ zero-le
 
 pub bounds-rows-wide : goal.bounds-rows-wide
 bounds-rows-wide c =
     omega (arith, c.wide.ensures, c.loop-mask-test.true, c.requires)
 
-pub overflow_add-mask : goal.overflow_add-mask
-overflow_add-mask c = omega (arith, c.loop-mask-test.true, c.requires)
-
 pub loop-mask-preserved : goal.loop-mask-preserved
 loop-mask-preserved c =
     let rows = c.args.rows.now in
-    let l = c.loop-mask in (
-      omega (arith, c.loop-mask-test.true),
-      puts_as (lines_step rows l.mask)
-          (then-puts zero-le l.invariant.1
-          (puts_as (ap (λ (k : ℕ). mask_line l.mask (get_or rows k 0)) (sym c.wide.ensures)) c.put_row-next.ensures)),
-    )
+    let l = c.loop-mask in puts_as (lines_step rows l.mask)
+    (then-puts zero-le l.invariant
+    (puts_as (ap (λ (k : ℕ). mask_line l.mask (get_or rows k 0)) (sym c.wide.ensures)) c.put_row-next.ensures))
 
 pub returns : goal.returns
-returns c = puts_as (ap (lines_below c.args.rows.now) (omega arith)) c.loop-mask.invariant.1
+returns c = puts_as (ap (lines_below c.args.rows.now) (omega arith)) c.loop-mask.invariant

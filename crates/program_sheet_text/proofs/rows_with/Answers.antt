@@ -7,7 +7,7 @@ use Rattle.program_sheet_text.specs.Laws.{rows_turn, rows_none, rows_le}
 use Rattle.program_sheet_text.proofs.rows_with.Goals as goal
 
 pub loop-mask-init : goal.loop-mask-init
-loop-mask-init c = (omega arith, rows_none c.args.rows.now c.args.number)
+loop-mask-init c = rows_none c.args.rows.now c.args.number
 
 pub bounds-rows-wide : goal.bounds-rows-wide
 bounds-rows-wide c = omega (arith, c.wide.ensures, c.loop-mask-test.true, c.requires)
@@ -16,17 +16,14 @@ pub counted-found-requires : goal.counted-found-requires
 counted-found-requires c =
     let a = c.args in
     let l = c.loop-mask in
-    omega (arith, l.invariant.1, rows_le a.rows.now l.mask a.number, c.loop-mask-test.true, c.requires)
+    omega (arith, l.invariant, rows_le a.rows.now l.mask a.number, c.loop-mask-test.true, c.requires)
 
 pub loop-mask-preserved : goal.loop-mask-preserved
 loop-mask-preserved c =
     let a = c.args in
-    let l = c.loop-mask in (
-      omega (arith, c.loop-mask-test.true),
-      rows_turn a.rows.now l.mask a.number c.wide.result l.found l.invariant.1 c.wide.ensures c.counted-found.ensures,
-    )
+    let l = c.loop-mask in rows_turn a.rows.now l.mask a.number c.wide.result l.found l.invariant c.wide.ensures c.counted-found.ensures
 
 pub returns : goal.returns
 returns c =
     let a = c.args in
-    c.loop-mask.invariant.1 ∙ ap (λ (k : ℕ). rows_with a.rows.now k a.number) (omega (arith, c.loop-mask.invariant.0, c.loop-mask-test.false))
+    c.loop-mask.invariant ∙ ap (λ (k : ℕ). rows_with a.rows.now k a.number) (omega (arith, c.loop-mask.auto.mask-end, c.loop-mask-test.false))

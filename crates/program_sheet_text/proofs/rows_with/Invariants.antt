@@ -4,7 +4,4 @@ use Rattle.program_sheet_text.specs.Definitions.{rows_with}
 use Rattle.program_sheet_text.proofs.rows_with.Given as goal
 
 abbrev pub invariant-loop-mask : goal.invariant-loop-mask
-invariant-loop-mask l = (l.mask ≤ l.count) × (l.found ≡ rows_with l.rows l.mask l.number)
-
-abbrev pub decreases-loop-mask : goal.decreases-loop-mask
-decreases-loop-mask l = l.count - l.mask
+invariant-loop-mask l = l.found ≡ rows_with l.rows l.mask l.number

@@ -18,11 +18,7 @@ overflow_add-sum c = omega (arith, c.type_inv.bytes c.loop-i.i)
 pub loop-i-preserved : goal.loop-i-preserved
 loop-i-preserved c =
     let l = c.args.bytes.now in
-    let i = c.loop-i.i in (
-      omega arith,
-      omega (arith, c.type_inv.bytes i),
-      sum_turn l i c.loop-i.sum c.half-sum.result (omega arith) c.loop-i.invariant.2 c.half-sum.ensures,
-    )
+    let i = c.loop-i.i in (omega (arith, c.type_inv.bytes i), sum_turn l i c.loop-i.sum c.half-sum.result (omega arith) c.loop-i.invariant.1 c.half-sum.ensures)
 
 pub returns : goal.returns
-returns c = c.loop-i.invariant.2 ∙ ap sum_of (take_all c.loop-i.i c.args.bytes.now c.loop-i-test.false)
+returns c = c.loop-i.invariant.1 ∙ ap sum_of (take_all c.loop-i.i c.args.bytes.now c.loop-i-test.false)

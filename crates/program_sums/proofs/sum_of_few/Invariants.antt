@@ -5,7 +5,4 @@ use Rattle.program_sums.specs.Definitions.{sum_of}
 use Rattle.program_sums.proofs.sum_of_few.Given as goal
 
 abbrev pub invariant-loop-i : goal.invariant-loop-i
-invariant-loop-i l = (l.i ≤ length l.bytes) × (l.sum ≤ 255 * l.i) × (l.sum ≡ sum_of (take l.i l.bytes))
-
-abbrev pub decreases-loop-i : goal.decreases-loop-i
-decreases-loop-i l = length l.bytes - l.i
+invariant-loop-i l = (l.sum ≤ 255 * l.i) × (l.sum ≡ sum_of (take l.i l.bytes))

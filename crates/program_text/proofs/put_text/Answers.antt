@@ -5,10 +5,10 @@ use borrow.Author.Rules.{rules}
 use Rattle.program_text.proofs.put_text.Goals as goal
 
 pub loop-i-init : goal.loop-i-init
-loop-i-init c = (search rules, puts_none c.args.out.now c.args.at c.requires)
+loop-i-init c = puts_none c.args.out.now c.args.at c.requires
 
 pub loop-i-preserved : goal.loop-i-preserved
-loop-i-preserved c = (search rules, puts_more _ _ c.requires c.loop-i-test.true c.loop-i.invariant.1 c.put_byte-next.ensures)
+loop-i-preserved c = puts_more _ _ c.requires c.loop-i-test.true c.loop-i.invariant c.put_byte-next.ensures
 
 pub returns : goal.returns
-returns c = puts_all _ _ c.loop-i-test.false c.loop-i.invariant.1
+returns c = puts_all _ _ c.loop-i-test.false c.loop-i.invariant

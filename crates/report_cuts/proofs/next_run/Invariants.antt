@@ -4,7 +4,4 @@ use Rattle.report_views.specs.Definitions.{runs_from}
 use Rattle.report_cuts.proofs.next_run.Given as goal
 
 abbrev pub invariant-loop-j : goal.invariant-loop-j
-invariant-loop-j l = (l.i ≤ l.j) × (l.j ≤ l.len) × (runs_from l.body l.s.0 l.i (l.len - l.i) ≡ runs_from l.body l.s.0 l.j (l.len - l.j))
-
-abbrev pub decreases-loop-j : goal.decreases-loop-j
-decreases-loop-j l = l.len - l.j
+invariant-loop-j l = (l.i ≤ l.j) × (runs_from l.body l.s.0 l.i (l.len - l.i) ≡ runs_from l.body l.s.0 l.j (l.len - l.j))

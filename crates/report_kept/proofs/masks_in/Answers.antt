@@ -6,13 +6,12 @@ use Rattle.report_kept.specs.Words.{mask_in, masks_in}
 use Rattle.report_kept.proofs.masks_in.Goals as goal
 
 pub loop-s-init : goal.loop-s-init
-loop-s-init c = (omega arith, fill_start 16 0 _)
+loop-s-init c = fill_start 16 0 _
 
 pub loop-s-preserved : goal.loop-s-preserved
 loop-s-preserved c =
-    let l = c.loop-s in
-    (omega arith, fill_turn 16 0 _ l.s l.masks c.mask_in.result (omega arith) l.invariant.1 c.mask_in.ensures)
+    let l = c.loop-s in fill_turn 16 0 _ l.s l.masks c.mask_in.result (omega arith) l.invariant c.mask_in.ensures
 
 pub returns : goal.returns
 unfolding masks_in
-returns c = let l = c.loop-s in fill_end 16 0 _ l.s l.masks (omega arith) (omega arith) l.invariant.1
+returns c = let l = c.loop-s in fill_end 16 0 _ l.s l.masks (omega arith) (omega arith) l.invariant

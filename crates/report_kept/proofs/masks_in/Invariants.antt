@@ -6,7 +6,4 @@ use Rattle.report_kept.specs.Words.{mask_in}
 use Rattle.report_kept.proofs.masks_in.Given as goal
 
 abbrev pub invariant-loop-s : goal.invariant-loop-s
-invariant-loop-s l = (l.s ≤ 16) × (l.masks ≡ filled l.s (mask_in l.body l.count) (replicate 16 0))
-
-abbrev pub decreases-loop-s : goal.decreases-loop-s
-decreases-loop-s l = 16 - l.s
+invariant-loop-s l = l.masks ≡ filled l.s (mask_in l.body l.count) (replicate 16 0)

@@ -8,13 +8,12 @@ use Rattle.report_kept.specs.Words.{position_in, positions_in}
 use Rattle.report_kept.proofs.positions_in.Goals as goal
 
 pub loop-s-init : goal.loop-s-init
-loop-s-init c = (omega arith, c.no_positions-positions.ensures ∙ fill_start 16 start _)
+loop-s-init c = c.no_positions-positions.ensures ∙ fill_start 16 start _
 
 pub loop-s-preserved : goal.loop-s-preserved
 loop-s-preserved c =
-    let l = c.loop-s in
-    (omega arith, fill_turn 16 start _ l.s l.positions c.position_in.result (omega arith) l.invariant.1 c.position_in.ensures)
+    let l = c.loop-s in fill_turn 16 start _ l.s l.positions c.position_in.result (omega arith) l.invariant c.position_in.ensures
 
 pub returns : goal.returns
 unfolding positions_in
-returns c = let l = c.loop-s in fill_end 16 start _ l.s l.positions (omega arith) (omega arith) l.invariant.1
+returns c = let l = c.loop-s in fill_end 16 start _ l.s l.positions (omega arith) (omega arith) l.invariant

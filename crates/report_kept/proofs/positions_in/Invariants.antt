@@ -7,7 +7,4 @@ use Rattle.report_kept.specs.Words.{position_in}
 use Rattle.report_kept.proofs.positions_in.Given as goal
 
 abbrev pub invariant-loop-s : goal.invariant-loop-s
-invariant-loop-s l = (l.s ≤ 16) × (l.positions ≡ filled l.s (position_in l.body l.count) (replicate 16 start))
-
-abbrev pub decreases-loop-s : goal.decreases-loop-s
-decreases-loop-s l = 16 - l.s
+invariant-loop-s l = l.positions ≡ filled l.s (position_in l.body l.count) (replicate 16 start)

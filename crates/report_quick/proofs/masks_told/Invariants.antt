@@ -5,7 +5,4 @@ use Rattle.report_quick.specs.Told.{mask_told}
 use Rattle.report_quick.proofs.masks_told.Given as goal
 
 abbrev pub invariant-loop-s : goal.invariant-loop-s
-invariant-loop-s l = (l.s ≤ l.count) × (length l.masks ≡ 16) × ((j : ℕ) → j < l.s → mask_told l.w j ≡ get_or l.masks j 0)
-
-abbrev pub decreases-loop-s : goal.decreases-loop-s
-decreases-loop-s l = l.count - l.s
+invariant-loop-s l = (length l.masks ≡ 16) × ((j : ℕ) → j < l.s → mask_told l.w j ≡ get_or l.masks j 0)

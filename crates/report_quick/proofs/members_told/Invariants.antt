@@ -3,7 +3,4 @@ use Rattle.report_quick.specs.Told.{MemberTold}
 use Rattle.report_quick.proofs.members_told.Given as goal
 
 abbrev pub invariant-loop-s : goal.invariant-loop-s
-invariant-loop-s l = (l.s ≤ l.count) × ((j : ℕ) → j < l.s → MemberTold l.w j)
-
-abbrev pub decreases-loop-s : goal.decreases-loop-s
-decreases-loop-s l = l.count - l.s
+invariant-loop-s l = (j : ℕ) → j < l.s → MemberTold l.w j

@@ -10,17 +10,15 @@ use borrow.Author.Rules.{rules}
 use Rattle.report_quick.proofs.positions_told.Goals as goal
 
 pub loop-s-init : goal.loop-s-init
-loop-s-init c =
-    (search rules, λ j l. absurd (omega arith))
+loop-s-init c = λ j l. absurd (omega arith)
 
 pub returns-then-not-position_told : goal.returns-then-not-position_told
 returns-then-not-position_told c =
     λ e. absurd (false≢true e)
 
 pub loop-s-preserved : goal.loop-s-preserved
-loop-s-preserved c =
-    (omega arith, λ j l. ⊎_elim (λ e. subst (λ (i : ℕ). PositionTold c.args.w.now c.args.view (c.args.count + i) i) (sym e) (c.position_told.ensures c.if-not-position_told.false)) (λ e. c.loop-s.invariant.1 j (omega arith)) (eq_or_ne j c.loop-s.s))
+loop-s-preserved c = λ j l. ⊎_elim (λ e. subst (λ (i : ℕ). PositionTold c.args.w.now c.args.view (c.args.count + i) i) (sym e) (c.position_told.ensures c.if-not-position_told.false)) (λ e. c.loop-s.invariant j (omega arith)) (eq_or_ne j c.loop-s.s)
 
 pub returns : goal.returns
 returns c =
-    λ e j l. c.loop-s.invariant.1 j (omega arith)
+    λ e j l. c.loop-s.invariant j (omega arith)

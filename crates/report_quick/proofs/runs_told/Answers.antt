@@ -10,12 +10,11 @@ use borrow.Author.Rules.{rules}
 use Rattle.report_quick.proofs.runs_told.Goals as goal
 
 pub loop-i-init : goal.loop-i-init
-loop-i-init c =
-    (search rules, search rules, search rules, search rules, λ j k l. absurd (omega arith))
+loop-i-init c = (search rules, search rules, search rules, λ j k l. absurd (omega arith))
 
 pub returns-then-w-i-eq0 : goal.returns-then-w-i-eq0
 returns-then-w-i-eq0 c =
-    λ h. record { from = c.loop-i.invariant.0; few = c.loop-i.invariant.1; each = c.loop-i.invariant.4; end = c.if-w-i-eq0.true }
+    λ h. record { from = c.loop-i.invariant.0; few = c.loop-i.auto.i-end; each = c.loop-i.invariant.3; end = c.if-w-i-eq0.true }
 
 pub returns-then-w-i : goal.returns-then-w-i
 returns-then-w-i c =
@@ -28,22 +27,21 @@ returns-then-not-run_fits c =
 pub loop-i-preserved : goal.loop-i-preserved
 loop-i-preserved c = (
   omega arith,
-  omega arith,
   ap (λ (k : ℕ). get_or c.args.w.now k 0) (omega arith),
   ap (λ (k : ℕ). get_or c.args.w.now k 0) (omega arith),
   λ j k l. ⊎_elim
       (λ e. subst (RunTold c.args.w.now c.args.count c.args.view) (sym e) (record {
         linked = c.if-w-i.false;
-        fits = subst (λ (x : ℕ). RunFits x (get_or c.args.w.now (4 * c.loop-i.i + 1) 0) (get_or c.args.w.now (4 * c.loop-i.i + 4) 0) (get_or c.args.w.now (4 * c.loop-i.i + 5) 0) (get_or c.args.w.now (4 * c.loop-i.i + 6) 0) c.args.count c.args.view) c.loop-i.invariant.2
-            (subst (λ (x : ℕ). RunFits c.loop-i.tag x (get_or c.args.w.now (4 * c.loop-i.i + 4) 0) (get_or c.args.w.now (4 * c.loop-i.i + 5) 0) (get_or c.args.w.now (4 * c.loop-i.i + 6) 0) c.args.count c.args.view) c.loop-i.invariant.3
+        fits = subst (λ (x : ℕ). RunFits x (get_or c.args.w.now (4 * c.loop-i.i + 1) 0) (get_or c.args.w.now (4 * c.loop-i.i + 4) 0) (get_or c.args.w.now (4 * c.loop-i.i + 5) 0) (get_or c.args.w.now (4 * c.loop-i.i + 6) 0) c.args.count c.args.view) c.loop-i.invariant.1
+            (subst (λ (x : ℕ). RunFits c.loop-i.tag x (get_or c.args.w.now (4 * c.loop-i.i + 4) 0) (get_or c.args.w.now (4 * c.loop-i.i + 5) 0) (get_or c.args.w.now (4 * c.loop-i.i + 6) 0) c.args.count c.args.view) c.loop-i.invariant.2
             (c.run_fits.ensures c.if-not-run_fits.false));
       }))
-      (λ e. c.loop-i.invariant.4 j k (omega arith)) (eq_or_ne j c.loop-i.i),
+      (λ e. c.loop-i.invariant.3 j k (omega arith)) (eq_or_ne j c.loop-i.i),
 )
 
 pub returns-then-w-eq0 : goal.returns-then-w-eq0
 returns-then-w-eq0 c =
-    λ h. record { from = omega (arith, c.loop-i.invariant.0, c.loop-i.invariant.1); few = search rules; each = λ j k l. c.loop-i.invariant.4 j k (omega (arith, c.loop-i.invariant.1)); end = c.if-w-eq0.true }
+    λ h. record { from = omega (arith, c.loop-i.invariant.0, c.loop-i.auto.i-end); few = search rules; each = λ j k l. c.loop-i.invariant.3 j k (omega (arith, c.loop-i.auto.i-end)); end = c.if-w-eq0.true }
 
 pub returns-else-w-eq0 : goal.returns-else-w-eq0
 returns-else-w-eq0 c =

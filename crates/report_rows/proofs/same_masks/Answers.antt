@@ -18,8 +18,7 @@ abbrev same : List ℕ → List ℕ → ℕ → Bool
 same masks b s = eqb (members_of b s) (get_or masks s 0)
 
 pub loop-s-init : goal.loop-s-init
-loop-s-init c = let a = c.args in
-    (search rules, all_none (same a.masks.now a.body.now))
+loop-s-init c = let a = c.args in all_none (same a.masks.now a.body.now)
 
 pub returns-then-word1-masks : goal.returns-then-word1-masks
 unfolding masks_same
@@ -31,12 +30,11 @@ returns-then-word1-masks c = let a = c.args in
 pub loop-s-preserved : goal.loop-s-preserved
 loop-s-preserved c = let a = c.args in
     let w = c.word1 in
-    let l = c.loop-s in
-    (omega arith, all_more l.s (same a.masks.now a.body.now) l.invariant.1 (eq-eqb _ _ (sym w.ensures ∙ c.if-word1-masks.false)))
+    let l = c.loop-s in all_more l.s (same a.masks.now a.body.now) l.invariant (eq-eqb _ _ (sym w.ensures ∙ c.if-word1-masks.false))
 
 pub returns : goal.returns
 unfolding masks_same
 returns c = let a = c.args in
     let l = c.loop-s in
     let e : l.s ≡ a.count = omega arith in
-    sym (rw e at l.invariant.1)
+    sym (rw e at l.invariant)

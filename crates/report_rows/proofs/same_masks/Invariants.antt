@@ -12,7 +12,4 @@ abbrev same : List ℕ → List ℕ → ℕ → Bool
 same masks b s = eqb (members_of b s) (get_or masks s 0)
 
 abbrev pub invariant-loop-s : goal.invariant-loop-s
-invariant-loop-s l = (l.s ≤ l.count) × (all_below l.s (same l.masks l.body) ≡ true)
-
-abbrev pub decreases-loop-s : goal.decreases-loop-s
-decreases-loop-s l = l.count - l.s
+invariant-loop-s l = all_below l.s (same l.masks l.body) ≡ true

@@ -18,8 +18,7 @@ abbrev same : List Position → List ℕ → ℕ → ℕ → Bool
 same positions b count s = record_same (get_or positions s start) b (count + s)
 
 pub loop-s-init : goal.loop-s-init
-loop-s-init c = let a = c.args in
-    (search rules, all_none (same a.positions a.body.now a.count))
+loop-s-init c = let a = c.args in all_none (same a.positions a.body.now a.count)
 
 pub returns-then-not-same_position : goal.returns-then-not-same_position
 unfolding positions_same
@@ -31,12 +30,11 @@ returns-then-not-same_position c = let a = c.args in
 pub loop-s-preserved : goal.loop-s-preserved
 loop-s-preserved c = let a = c.args in
     let p = c.same_position in
-    let l = c.loop-s in
-    (omega arith, all_more l.s (same a.positions a.body.now a.count) l.invariant.1 (sym p.ensures ∙ c.if-not-same_position.false))
+    let l = c.loop-s in all_more l.s (same a.positions a.body.now a.count) l.invariant (sym p.ensures ∙ c.if-not-same_position.false)
 
 pub returns : goal.returns
 unfolding positions_same
 returns c = let a = c.args in
     let l = c.loop-s in
     let e : l.s ≡ a.count = omega arith in
-    sym (rw e at l.invariant.1)
+    sym (rw e at l.invariant)

@@ -13,7 +13,4 @@ abbrev same : List Position → List ℕ → ℕ → ℕ → Bool
 same positions b count s = record_same (get_or positions s start) b (count + s)
 
 abbrev pub invariant-loop-s : goal.invariant-loop-s
-invariant-loop-s l = (l.s ≤ l.count) × (all_below l.s (same l.positions l.body l.count) ≡ true)
-
-abbrev pub decreases-loop-s : goal.decreases-loop-s
-decreases-loop-s l = l.count - l.s
+invariant-loop-s l = all_below l.s (same l.positions l.body l.count) ≡ true

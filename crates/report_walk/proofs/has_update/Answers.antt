@@ -15,8 +15,7 @@ returns-then-k-lt1 c = let a = c.args in
     update_no_place a.b.now a.n a.s a.goal c.if-goal-eq0.false c.if-k-lt1.true
 
 pub loop-j-init : goal.loop-j-init
-loop-j-init c = let a = c.args in
-    (search rules, any_none (run_has a.b.now c.joined-front.result (a.goal % 4294967296)))
+loop-j-init c = let a = c.args in any_none (run_has a.b.now c.joined-front.result (a.goal % 4294967296))
 
 pub returns-then-run_has : goal.returns-then-run_has
 returns-then-run_has c = let a = c.args in
@@ -29,14 +28,13 @@ returns-then-run_has c = let a = c.args in
 pub loop-j-preserved : goal.loop-j-preserved
 loop-j-preserved c = let a = c.args in
     let l = c.loop-j in
-    let f = c.joined-front in
-    (omega arith, any_more l.j (run_has a.b.now f.result (a.goal % 4294967296)) l.invariant.1 (sym c.run_has.ensures ∙ c.if-run_has.false))
+    let f = c.joined-front in any_more l.j (run_has a.b.now f.result (a.goal % 4294967296)) l.invariant (sym c.run_has.ensures ∙ c.if-run_has.false)
 
 pub returns : goal.returns
 returns c = let a = c.args in
     let l = c.loop-j in
     let f = c.joined-front in
-    let e : l.j ≡ a.n = omega (arith, l.invariant.0, c.loop-j-test.false) in
+    let e : l.j ≡ a.n = omega (arith, l.auto.j-end, c.loop-j-test.false) in
     update_found a.b.now a.n a.s a.goal c.if-goal-eq0.false c.if-k-lt1.false f.result
     (f.ensures.value ∙ ap (λ (x : ℕ). 768 + a.s + 4294967296 * x) c.high.ensures) false
-    (ap (λ (x : ℕ). any_below x (run_has a.b.now f.result (a.goal % 4294967296))) (sym e) ∙ l.invariant.1)
+    (ap (λ (x : ℕ). any_below x (run_has a.b.now f.result (a.goal % 4294967296))) (sym e) ∙ l.invariant)

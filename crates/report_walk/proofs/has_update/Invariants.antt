@@ -4,7 +4,4 @@ use Rattle.report_walk.specs.Updates.{run_has}
 use Rattle.report_walk.proofs.has_update.Given as goal
 
 abbrev pub invariant-loop-j : goal.invariant-loop-j
-invariant-loop-j l = (l.j ≤ l.n) × (any_below l.j (run_has l.b l.front l.k) ≡ false)
-
-abbrev pub decreases-loop-j : goal.decreases-loop-j
-decreases-loop-j l = l.n - l.j
+invariant-loop-j l = any_below l.j (run_has l.b l.front l.k) ≡ false

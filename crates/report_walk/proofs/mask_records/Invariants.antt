@@ -2,8 +2,4 @@ use Rattle.std.proofs.Common.{◌≡◌, ℕ, ◌+◌, ◌-◌, ◌*◌, ◌<◌
 use Rattle.report_walk.proofs.mask_records.Given as goal
 
 abbrev pub invariant-loop-s : goal.invariant-loop-s
-invariant-loop-s l =
-    (l.s ≤ 16) × (length l.list ≡ 32) × ((j : ℕ) → j < l.s → (get_or l.list (2 * j) 0 ≡ 256 + j + 4294967296 * get_or l.masks j 0) × (get_or l.list (2 * j + 1) 0 ≡ 4294967296 * (j + 2)))
-
-abbrev pub decreases-loop-s : goal.decreases-loop-s
-decreases-loop-s l = 16 - l.s
+invariant-loop-s l = (length l.list ≡ 32) × ((j : ℕ) → j < l.s → (get_or l.list (2 * j) 0 ≡ 256 + j + 4294967296 * get_or l.masks j 0) × (get_or l.list (2 * j + 1) 0 ≡ 4294967296 * (j + 2)))

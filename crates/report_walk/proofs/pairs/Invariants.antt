@@ -4,7 +4,4 @@ use Rattle.report_walk.specs.Pairs.{pair_of}
 use Rattle.report_walk.proofs.pairs.Given as goal
 
 abbrev pub invariant-loop-i : goal.invariant-loop-i
-invariant-loop-i l = (l.i ≤ l.count) × (l.list ≡ filled l.i (pair_of l.words) (replicate 256 0))
-
-abbrev pub decreases-loop-i : goal.decreases-loop-i
-decreases-loop-i l = l.count - l.i
+invariant-loop-i l = l.list ≡ filled l.i (pair_of l.words) (replicate 256 0)

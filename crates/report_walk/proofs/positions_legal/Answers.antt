@@ -12,7 +12,7 @@ abbrev ok : ℕ → List Position → ℕ → Bool
 ok number positions s = position_sound number (get_or positions s start)
 
 pub loop-s-init : goal.loop-s-init
-loop-s-init c = (search rules, all_none (ok c.args.number.0 c.args.t.positions))
+loop-s-init c = all_none (ok c.args.number.0 c.args.t.positions)
 
 pub returns-then-not-position_legal : goal.returns-then-not-position_legal
 returns-then-not-position_legal c = let a = c.args in
@@ -23,10 +23,9 @@ returns-then-not-position_legal c = let a = c.args in
 pub loop-s-preserved : goal.loop-s-preserved
 loop-s-preserved c = let a = c.args in
     let k = c.position_legal in
-    let l = c.loop-s in
-    (omega arith, all_more l.s (ok a.number.0 a.t.positions) l.invariant.1 (sym k.ensures ∙ c.if-not-position_legal.false))
+    let l = c.loop-s in all_more l.s (ok a.number.0 a.t.positions) l.invariant (sym k.ensures ∙ c.if-not-position_legal.false)
 
 pub returns : goal.returns
 returns c = let a = c.args in
     let l = c.loop-s in
-    sym (all_fewer a.count l.s (ok a.number.0 a.t.positions) (omega arith) l.invariant.1)
+    sym (all_fewer a.count l.s (ok a.number.0 a.t.positions) (omega arith) l.invariant)

@@ -8,7 +8,4 @@ abbrev ok : ℕ → List Position → ℕ → Bool
 ok number positions s = position_sound number (get_or positions s start)
 
 abbrev pub invariant-loop-s : goal.invariant-loop-s
-invariant-loop-s l = (l.s ≤ l.count) × (all_below l.s (ok l.number.0 l.positions) ≡ true)
-
-abbrev pub decreases-loop-s : goal.decreases-loop-s
-decreases-loop-s l = l.count - l.s
+invariant-loop-s l = all_below l.s (ok l.number.0 l.positions) ≡ true

@@ -6,14 +6,13 @@ use borrow.Author.Rules.{rules}
 use Rattle.report_walk.proofs.same_records.Goals as goal
 
 pub loop-k-init : goal.loop-k-init
-loop-k-init c = (search rules, λ j l. absurd (omega arith))
+loop-k-init c = λ j l. absurd (omega arith)
 
 pub returns-then-b-from : goal.returns-then-b-from
 returns-then-b-from c = λ e. absurd (false≢true e)
 
 pub loop-k-preserved : goal.loop-k-preserved
-loop-k-preserved c = let a = c.args in
-    (omega arith, λ j l. ⊎_elim (λ e. subst (λ (i : ℕ). get_or a.b.now (2 * a.from + i) 0 ≡ get_or a.given.now i 0) (sym e) c.if-b-from.false) (λ e. c.loop-k.invariant.1 j (omega arith)) (eq_or_ne j c.loop-k.k))
+loop-k-preserved c = let a = c.args in λ j l. ⊎_elim (λ e. subst (λ (i : ℕ). get_or a.b.now (2 * a.from + i) 0 ≡ get_or a.given.now i 0) (sym e) c.if-b-from.false) (λ e. c.loop-k.invariant j (omega arith)) (eq_or_ne j c.loop-k.k)
 
 pub returns : goal.returns
-returns c = λ e j l. c.loop-k.invariant.1 j (omega arith)
+returns c = λ e j l. c.loop-k.invariant j (omega arith)

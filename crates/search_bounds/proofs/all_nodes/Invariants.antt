@@ -5,7 +5,4 @@ use Rattle.base_sum_laws.specs.Definitions.{sum_below}
 use Rattle.search_bounds.proofs.all_nodes.Given as goal
 
 abbrev pub invariant-loop-n : goal.invariant-loop-n
-invariant-loop-n l = (l.n ≤ 32) × (l.sum ≤ 65536 * l.n) × (l.sum ≡ sum_below l.n (λ j. get_or l.nodes j 0))
-
-abbrev pub decreases-loop-n : goal.decreases-loop-n
-decreases-loop-n l = 32 - l.n
+invariant-loop-n l = (l.sum ≤ 65536 * l.n) × (l.sum ≡ sum_below l.n (λ j. get_or l.nodes j 0))

@@ -11,7 +11,7 @@ use Rattle.search_bounds.specs.Post.{steady}
 use Rattle.search_bounds.proofs.all_steady.Goals as goal
 
 pub loop-n-init : goal.loop-n-init
-loop-n-init c = (omega arith, all_none _)
+loop-n-init c = all_none _
 
 pub returns-then-not-steady : goal.returns-then-not-steady
 returns-then-not-steady c =
@@ -20,11 +20,8 @@ returns-then-not-steady c =
     (sym c.steady.ensures ∙ c.if-not-steady.true))
 
 pub loop-n-preserved : goal.loop-n-preserved
-loop-n-preserved c = (
-  omega arith,
-  all_more _ _ c.loop-n.invariant.1
-      (sym c.steady.ensures ∙ c.if-not-steady.false),
-)
+loop-n-preserved c = all_more _ _ c.loop-n.invariant
+    (sym c.steady.ensures ∙ c.if-not-steady.false)
 
 pub returns : goal.returns
-returns c = sym (all_done c.loop-n.invariant.0 c.loop-n-test.false true _ c.loop-n.invariant.1)
+returns c = sym (all_done c.loop-n.auto.n-end c.loop-n-test.false true _ c.loop-n.invariant)

@@ -8,8 +8,4 @@ use Rattle.search_bounds.specs.Post.{steady, weights_of}
 use Rattle.search_bounds.proofs.all_steady.Given as goal
 
 abbrev pub invariant-loop-n : goal.invariant-loop-n
-invariant-loop-n l =
-    (l.n ≤ 32) × (all_below l.n (steady (case_of l.sets [] [] l.costs l.idle) (weights_of l.wants l.rooms l.nodes l.pairs) (owners_of l.owner)) ≡ true)
-
-abbrev pub decreases-loop-n : goal.decreases-loop-n
-decreases-loop-n l = 32 - l.n
+invariant-loop-n l = all_below l.n (steady (case_of l.sets [] [] l.costs l.idle) (weights_of l.wants l.rooms l.nodes l.pairs) (owners_of l.owner)) ≡ true

@@ -18,7 +18,7 @@ pub returns-then-not-all_steady : goal.returns-then-not-all_steady
 returns-then-not-all_steady c = λ e. clash e c.bad.ensures
 
 pub loop-i-init : goal.loop-i-init
-loop-i-init c = let s = c in (omega arith, omega (arith, s.requires.t_bound.0), rows_none (s.args.t / 32) refl s.requires.rows_len)
+loop-i-init c = let s = c in (omega arith, rows_none (s.args.t / 32) refl s.requires.rows_len)
 
 pub cut_row-requires : goal.cut_row-requires
 cut_row-requires c = let s = c in
@@ -30,11 +30,7 @@ returns-then-not-cut_row c = λ e. clash e c.bad-then-not-cut_row.ensures
 
 pub loop-i-preserved : goal.loop-i-preserved
 loop-i-preserved c = let l = c.loop-i in
-    let v = c.cut_row.ensures (c.if-not-cut_row.false) in (
-      omega (arith, l.invariant.0),
-      omega (arith, c.loop-i-test.true),
-      rows_more c.loop-i-test.true l.invariant.2 (record { kept = v.kept; stored = v.stored; keeps = v.keeps; marks = v.marks }),
-    )
+    let v = c.cut_row.ensures (c.if-not-cut_row.false) in (omega (arith, l.invariant.0), rows_more c.loop-i-test.true l.invariant.1 (record { kept = v.kept; stored = v.stored; keeps = v.keeps; marks = v.marks }))
 
 pub must-requires : goal.must-requires
 must-requires c = let s = c in
@@ -56,4 +52,4 @@ returns c = λ e.
     (sym a.ensures ∙ c.if-not-all_steady.false)
     (ap (λ (x : ℕ). s.args.k + x) h.ensures.0) g.ensures.0 c.floor.ensures c.unowned-free.ensures c.must.ensures
     (subst (λ (x : ℕ). RowsPassed (case_of s.args.sets.now s.args.needs.now s.args.caps.now s.args.costs.now s.args.idle) (weights_of s.args.wants.now s.args.rooms.now s.args.nodes.now s.args.pairs.now)
-    c.unowned-free.result s.args.t (s.args.k + h.result) g.result x s.args.rows.now l.rows) (le_antisymm l.invariant.1 c.loop-i-test.false) l.invariant.2)
+    c.unowned-free.result s.args.t (s.args.k + h.result) g.result x s.args.rows.now l.rows) (le_antisymm l.auto.i-end c.loop-i-test.false) l.invariant.1)

@@ -5,7 +5,4 @@ use Rattle.search_bounds.specs.Rows.{RowsPassed}
 use Rattle.search_bounds.proofs.cut.Given as goal
 
 abbrev pub invariant-loop-i : goal.invariant-loop-i
-invariant-loop-i l = (l.t / 32 ≤ l.i) × (l.i ≤ 16) × RowsPassed (case_of l.sets l.needs l.caps l.costs l.idle) (weights_of l.wants l.rooms l.nodes l.pairs) l.free l.t l.low l.high l.i l.initial.rows l.rows
-
-abbrev pub decreases-loop-i : goal.decreases-loop-i
-decreases-loop-i l = 16 - l.i
+invariant-loop-i l = (l.t / 32 ≤ l.i) × RowsPassed (case_of l.sets l.needs l.caps l.costs l.idle) (weights_of l.wants l.rooms l.nodes l.pairs) l.free l.t l.low l.high l.i l.initial.rows l.rows

@@ -17,16 +17,13 @@ abbrev above : List ℕ → ℕ → ℕ → ℕ → ℕ → Bool
 above nodes idle low high n = ltb (low + 16384) (high + (idle + get_or nodes n 0))
 
 pub loop-n-init : goal.loop-n-init
-loop-n-init c = let a = c.args in (omega arith, sym (mask_none (above a.nodes.now a.idle a.low a.high)))
+loop-n-init c = let a = c.args in sym (mask_none (above a.nodes.now a.idle a.low a.high))
 
 pub loop-n-preserved : goal.loop-n-preserved
 loop-n-preserved c = let l = c.loop-n in
-    let a = c.args in (
-      omega arith,
-      mask_turn l.n l.m c.added-m.result (above a.nodes.now a.idle a.low a.high) l.invariant.1
-          (c.added-m.ensures ∙ ap (λ (x : ℕ). cond (ltb (a.low + 16384) (a.high + x)) (with l.m l.n) l.m) c.rests.ensures.0),
-    )
+    let a = c.args in mask_turn l.n l.m c.added-m.result (above a.nodes.now a.idle a.low a.high) l.invariant
+    (c.added-m.ensures ∙ ap (λ (x : ℕ). cond (ltb (a.low + 16384) (a.high + x)) (with l.m l.n) l.m) c.rests.ensures.0)
 
 pub returns : goal.returns
 returns c = let l = c.loop-n in
-    let a = c.args in l.invariant.1 ∙ ap (λ (k : ℕ). mask_below k (above a.nodes.now a.idle a.low a.high)) (le_antisymm l.invariant.0 c.loop-n-test.false)
+    let a = c.args in l.invariant ∙ ap (λ (k : ℕ). mask_below k (above a.nodes.now a.idle a.low a.high)) (le_antisymm l.auto.n-end c.loop-n-test.false)

@@ -12,7 +12,4 @@ abbrev above : List ℕ → ℕ → ℕ → ℕ → ℕ → Bool
 above nodes idle low high n = ltb (low + 16384) (high + (idle + get_or nodes n 0))
 
 abbrev pub invariant-loop-n : goal.invariant-loop-n
-invariant-loop-n l = (l.n ≤ 32) × (l.m ≡ mask_below l.n (above l.nodes l.idle l.low l.high))
-
-abbrev pub decreases-loop-n : goal.decreases-loop-n
-decreases-loop-n l = 32 - l.n
+invariant-loop-n l = l.m ≡ mask_below l.n (above l.nodes l.idle l.low l.high)

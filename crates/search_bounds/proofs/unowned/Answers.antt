@@ -16,10 +16,10 @@ abbrev bare : List ℕ → ℕ → Bool
 bare o n = leb 16 (get_or o n 0)
 
 pub loop-n-init : goal.loop-n-init
-loop-n-init c = (omega arith, sym (mask_none (bare c.args.owner.now)))
+loop-n-init c = sym (mask_none (bare c.args.owner.now))
 
 pub loop-n-preserved : goal.loop-n-preserved
-loop-n-preserved c = let l = c.loop-n in (omega arith, mask_turn l.n l.m c.added-m.result (bare c.args.owner.now) l.invariant.1 c.added-m.ensures)
+loop-n-preserved c = let l = c.loop-n in mask_turn l.n l.m c.added-m.result (bare c.args.owner.now) l.invariant c.added-m.ensures
 
 pub returns : goal.returns
-returns c = let l = c.loop-n in l.invariant.1 ∙ ap (λ (k : ℕ). mask_below k (bare c.args.owner.now)) (le_antisymm l.invariant.0 c.loop-n-test.false)
+returns c = let l = c.loop-n in l.invariant ∙ ap (λ (k : ℕ). mask_below k (bare c.args.owner.now)) (le_antisymm l.auto.n-end c.loop-n-test.false)

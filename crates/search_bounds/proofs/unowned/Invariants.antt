@@ -12,7 +12,4 @@ abbrev bare : List ℕ → ℕ → Bool
 bare o n = leb 16 (get_or o n 0)
 
 abbrev pub invariant-loop-n : goal.invariant-loop-n
-invariant-loop-n l = (l.n ≤ 32) × (l.m ≡ mask_below l.n (bare l.owner))
-
-abbrev pub decreases-loop-n : goal.decreases-loop-n
-decreases-loop-n l = 32 - l.n
+invariant-loop-n l = l.m ≡ mask_below l.n (bare l.owner)

@@ -7,10 +7,10 @@ use Rattle.base_sum_laws.proofs.Sums.{sum_turn}
 use Rattle.search_bounds.proofs.weighted.Goals as goal
 
 pub loop-i-init : goal.loop-i-init
-loop-i-init c = (omega arith, omega arith, sym (sum_zero _))
+loop-i-init c = (omega arith, sym (sum_zero _))
 
 pub loop-i-preserved : goal.loop-i-preserved
-loop-i-preserved c = (omega arith, omega arith, sum_turn _ _ _ _ c.loop-i.invariant.2 c.times-sum.ensures.0)
+loop-i-preserved c = (omega arith, sum_turn _ _ _ _ c.loop-i.invariant.1 c.times-sum.ensures.0)
 
 pub returns : goal.returns
-returns c = (sum_done c.loop-i.invariant.0 c.loop-i-test.false _ _ c.loop-i.invariant.2, omega arith)
+returns c = (sum_done c.loop-i.auto.i-end c.loop-i-test.false _ _ c.loop-i.invariant.1, omega arith)

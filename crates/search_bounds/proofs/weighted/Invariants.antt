@@ -5,7 +5,4 @@ use Rattle.base_sum_laws.specs.Definitions.{sum_below}
 use Rattle.search_bounds.proofs.weighted.Given as goal
 
 abbrev pub invariant-loop-i : goal.invariant-loop-i
-invariant-loop-i l = (l.i ≤ 16) × (l.sum ≤ 16777216 * l.i) × (l.sum ≡ sum_below l.i (λ j. get_or l.counts j 0 * get_or l.weights j 0))
-
-abbrev pub decreases-loop-i : goal.decreases-loop-i
-decreases-loop-i l = 16 - l.i
+invariant-loop-i l = (l.sum ≤ 16777216 * l.i) × (l.sum ≡ sum_below l.i (λ j. get_or l.counts j 0 * get_or l.weights j 0))

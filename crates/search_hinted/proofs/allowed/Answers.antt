@@ -16,11 +16,11 @@ abbrev fine : List ℕ → ℕ → ℕ → Bool
 fine prices i n = ltb (get_or prices (i * 32 + n) 0) 255
 
 pub loop-n-init : goal.loop-n-init
-loop-n-init c = (omega arith, sym (mask_none (fine c.args.prices.now c.args.i)))
+loop-n-init c = sym (mask_none (fine c.args.prices.now c.args.i))
 
 pub loop-n-preserved : goal.loop-n-preserved
 loop-n-preserved c = let l = c.loop-n in
-    let a = c.args in (omega arith, mask_turn l.n l.m c.added-m.result (fine a.prices.now a.i) l.invariant.1 c.added-m.ensures)
+    let a = c.args in mask_turn l.n l.m c.added-m.result (fine a.prices.now a.i) l.invariant c.added-m.ensures
 
 pub returns : goal.returns
-returns c = let l = c.loop-n in l.invariant.1 ∙ ap (λ (k : ℕ). mask_below k (fine c.args.prices.now c.args.i)) (le_antisymm l.invariant.0 c.loop-n-test.false)
+returns c = let l = c.loop-n in l.invariant ∙ ap (λ (k : ℕ). mask_below k (fine c.args.prices.now c.args.i)) (le_antisymm l.auto.n-end c.loop-n-test.false)

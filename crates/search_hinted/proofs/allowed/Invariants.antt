@@ -12,7 +12,4 @@ abbrev fine : List ℕ → ℕ → ℕ → Bool
 fine prices i n = ltb (get_or prices (i * 32 + n) 0) 255
 
 abbrev pub invariant-loop-n : goal.invariant-loop-n
-invariant-loop-n l = (l.n ≤ 32) × (l.m ≡ mask_below l.n (fine l.prices l.i))
-
-abbrev pub decreases-loop-n : goal.decreases-loop-n
-decreases-loop-n l = 32 - l.n
+invariant-loop-n l = l.m ≡ mask_below l.n (fine l.prices l.i)

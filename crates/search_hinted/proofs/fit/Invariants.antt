@@ -3,7 +3,4 @@ use lib.ListN.{get_or}
 use Rattle.search_hinted.proofs.fit.Given as goal
 
 abbrev pub invariant-loop-n : goal.invariant-loop-n
-invariant-loop-n l = (l.n ≤ 32) × ((k : ℕ) → k < l.n → get_or l.sets k 0 < 16)
-
-abbrev pub decreases-loop-n : goal.decreases-loop-n
-decreases-loop-n l = 32 - l.n
+invariant-loop-n l = (k : ℕ) → k < l.n → get_or l.sets k 0 < 16

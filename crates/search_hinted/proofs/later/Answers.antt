@@ -7,12 +7,12 @@ use Rattle.search_hinted.specs.Stage.{Later, later_none, later_more}
 use Rattle.search_hinted.proofs.later.Goals as goal
 
 pub loop-j-init : goal.loop-j-init
-loop-j-init c = (omega (arith, c.requires), later_none _ _)
+loop-j-init c = later_none _ _
 
 pub loop-j-preserved : goal.loop-j-preserved
-loop-j-preserved c = (omega arith, later_more c.loop-j.invariant.1)
+loop-j-preserved c = later_more c.loop-j.invariant
 
 pub returns : goal.returns
 returns c = let l = c.loop-j in
     let a = c.args in
-    subst (λ (j : ℕ). Later a.rows.now a.i j l.m) (le_antisymm l.invariant.0 c.loop-j-test.false) l.invariant.1
+    subst (λ (j : ℕ). Later a.rows.now a.i j l.m) (le_antisymm l.auto.j-end c.loop-j-test.false) l.invariant

@@ -9,7 +9,4 @@ use Rattle.search_judge.specs.Owners.{OwnersHeld}
 use Rattle.search_judge.proofs.filled.Given as goal
 
 abbrev pub invariant-loop-i : goal.invariant-loop-i
-invariant-loop-i l = (l.i ≤ 16) × OwnersHeld l.owner 32 l.used × (all_below l.i (needs_met (case_of l.sets l.needs l.caps [] 0) (owners_of l.owner)) ≡ true)
-
-abbrev pub decreases-loop-i : goal.decreases-loop-i
-decreases-loop-i l = 16 - l.i
+invariant-loop-i l = OwnersHeld l.owner 32 l.used × (all_below l.i (needs_met (case_of l.sets l.needs l.caps [] 0) (owners_of l.owner)) ≡ true)

@@ -7,15 +7,14 @@ use Rattle.base_laws.specs.Loops.{count_turn, count_done}
 use Rattle.search_judge.proofs.owned.Goals as goal
 
 pub loop-n-init : goal.loop-n-init
-loop-n-init c = (omega arith, omega arith, sym (count_zero _))
+loop-n-init c = (omega arith, sym (count_zero _))
 
 pub loop-n-preserved : goal.loop-n-preserved
 loop-n-preserved c = (
   omega arith,
-  omega arith,
-  count_turn _ _ _ _ c.loop-n.invariant.2
+  count_turn _ _ _ _ c.loop-n.invariant.1
       c.equal-count.ensures.0,
 )
 
 pub returns : goal.returns
-returns c = count_done c.loop-n.invariant.0 c.loop-n-test.false _ _ c.loop-n.invariant.2
+returns c = count_done c.loop-n.auto.n-end c.loop-n-test.false _ _ c.loop-n.invariant.1

@@ -6,7 +6,4 @@ use Rattle.search_laws.specs.Tables.{owners_of}
 use Rattle.search_judge.proofs.owned.Given as goal
 
 abbrev pub invariant-loop-n : goal.invariant-loop-n
-invariant-loop-n l = (l.n ≤ 32) × (l.count ≤ l.n) × (l.count ≡ count_below l.n (λ m. eqb (owners_of l.owner m) l.i))
-
-abbrev pub decreases-loop-n : goal.decreases-loop-n
-decreases-loop-n l = 32 - l.n
+invariant-loop-n l = (l.count ≤ l.n) × (l.count ≡ count_below l.n (λ m. eqb (owners_of l.owner m) l.i))

@@ -23,7 +23,7 @@ test costs owner n o r h e =
     h ∙ ap (λ (o : ℕ). cond (ltb o 16) (ltb (get_or costs (o * 32 + n) 0) 255) true) e
 
 pub loop-n-init : goal.loop-n-init
-loop-n-init c = (omega arith, all_none _)
+loop-n-init c = all_none _
 
 pub returns-then-not-stands_at : goal.returns-then-not-stands_at
 returns-then-not-stands_at c =
@@ -32,11 +32,8 @@ returns-then-not-stands_at c =
     (sym (test _ _ _ _ _ c.stands_at.ensures c.wide.ensures.0) ∙ c.if-not-stands_at.true))
 
 pub loop-n-preserved : goal.loop-n-preserved
-loop-n-preserved c = (
-  omega arith,
-  all_more _ _ c.loop-n.invariant.1
-      (sym (test _ _ _ _ _ c.stands_at.ensures c.wide.ensures.0) ∙ c.if-not-stands_at.false),
-)
+loop-n-preserved c = all_more _ _ c.loop-n.invariant
+    (sym (test _ _ _ _ _ c.stands_at.ensures c.wide.ensures.0) ∙ c.if-not-stands_at.false)
 
 pub returns : goal.returns
-returns c = sym (all_done c.loop-n.invariant.0 c.loop-n-test.false true _ c.loop-n.invariant.1)
+returns c = sym (all_done c.loop-n.auto.n-end c.loop-n-test.false true _ c.loop-n.invariant)

@@ -8,7 +8,4 @@ use Rattle.search_laws.specs.Tests.{stands}
 use Rattle.search_judge.proofs.stands.Given as goal
 
 abbrev pub invariant-loop-n : goal.invariant-loop-n
-invariant-loop-n l = (l.n ≤ 32) × (all_below l.n (stands (case_of [] [] [] l.costs 0) (owners_of l.owner)) ≡ true)
-
-abbrev pub decreases-loop-n : goal.decreases-loop-n
-decreases-loop-n l = 32 - l.n
+invariant-loop-n l = all_below l.n (stands (case_of [] [] [] l.costs 0) (owners_of l.owner)) ≡ true

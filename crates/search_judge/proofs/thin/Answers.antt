@@ -11,7 +11,7 @@ use Rattle.search_laws.specs.Case.{spread}
 use Rattle.search_judge.proofs.thin.Goals as goal
 
 pub loop-i-init : goal.loop-i-init
-loop-i-init c = (omega arith, omega arith, any_none _)
+loop-i-init c = (omega arith, any_none _)
 
 pub returns-then-spread-wide : goal.returns-then-spread-wide
 returns-then-spread-wide c =
@@ -23,8 +23,7 @@ returns-then-spread-wide c =
 pub loop-i-preserved : goal.loop-i-preserved
 loop-i-preserved c = (
   c.loop-i.invariant.0,
-  omega arith,
-  any_more _ _ c.loop-i.invariant.2
+  any_more _ _ c.loop-i.invariant.1
       (ap₂ (λ (a b : ℕ). ltb a b) (sym c.spread.ensures) (sym c.wide.ensures.0) ∙ le-ltb _ _ c.if-spread-wide.false),
 )
 

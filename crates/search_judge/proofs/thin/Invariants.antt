@@ -10,8 +10,4 @@ use Rattle.search_laws.specs.Case.{spread}
 use Rattle.search_judge.proofs.thin.Given as goal
 
 abbrev pub invariant-loop-i : goal.invariant-loop-i
-invariant-loop-i l =
-    (l.e ≡ l.t / 32) × (l.i ≤ l.e) × (any_below l.i (λ j. ltb (spread (case_of l.sets [] [] [] 0) (owners_of l.owner) j) (get_or l.needs j 0)) ≡ false)
-
-abbrev pub decreases-loop-i : goal.decreases-loop-i
-decreases-loop-i l = l.e - l.i
+invariant-loop-i l = (l.e ≡ l.t / 32) × (any_below l.i (λ j. ltb (spread (case_of l.sets [] [] [] 0) (owners_of l.owner) j) (get_or l.needs j 0)) ≡ false)

@@ -11,18 +11,17 @@ use Rattle.search_laws.specs.Case.{weight}
 use Rattle.search_judge.proofs.weight.Goals as goal
 
 pub loop-n-init : goal.loop-n-init
-loop-n-init c = (omega arith, omega arith, sym (sum_zero _))
+loop-n-init c = (omega arith, sym (sum_zero _))
 
 pub loop-n-preserved : goal.loop-n-preserved
 loop-n-preserved c =
     let at = c in (
       omega arith,
-      omega arith,
-      sum_turn _ _ _ _ at.loop-n.invariant.2
+      sum_turn _ _ _ _ at.loop-n.invariant.1
           (c.charge-sum.ensures.0
           ∙ ap (λ (x : ℕ). cond (ltb x 16) (get_or at.args.costs.now (x * 32 + at.loop-n.n) 0) at.args.idle) c.wide.ensures.0),
     )
 
 pub returns : goal.returns
 unfolding weight
-returns c = (sum_done c.loop-n.invariant.0 c.loop-n-test.false _ _ c.loop-n.invariant.2, omega arith)
+returns c = (sum_done c.loop-n.auto.n-end c.loop-n-test.false _ _ c.loop-n.invariant.1, omega arith)

@@ -8,8 +8,4 @@ use Rattle.search_laws.specs.Tables.{owners_of}
 use Rattle.search_judge.proofs.weight.Given as goal
 
 abbrev pub invariant-loop-n : goal.invariant-loop-n
-invariant-loop-n l =
-    (l.n ≤ 32) × (l.sum ≤ 256 * l.n) × (l.sum ≡ sum_below l.n (λ m. cond (ltb (owners_of l.owner m) 16) (get_or l.costs (owners_of l.owner m * 32 + m) 0) l.idle))
-
-abbrev pub decreases-loop-n : goal.decreases-loop-n
-decreases-loop-n l = 32 - l.n
+invariant-loop-n l = (l.sum ≤ 256 * l.n) × (l.sum ≡ sum_below l.n (λ m. cond (ltb (owners_of l.owner m) 16) (get_or l.costs (owners_of l.owner m * 32 + m) 0) l.idle))

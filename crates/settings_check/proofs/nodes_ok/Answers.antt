@@ -16,7 +16,7 @@ abbrev ok : List ℕ → ℕ → Bool
 ok σ n = ltb (set_of σ n) (sets σ)
 
 pub loop-i-init : goal.loop-i-init
-loop-i-init c = (search rules, all_none (ok c.args.settings.now))
+loop-i-init c = all_none (ok c.args.settings.now)
 
 pub returns-then-f-settings : goal.returns-then-f-settings
 unfolding nodes_ok
@@ -26,11 +26,10 @@ returns-then-f-settings c = let σ = c.args.settings.now in
 
 pub loop-i-preserved : goal.loop-i-preserved
 loop-i-preserved c = let σ = c.args.settings.now in
-    let i = c.loop-i.i in
-    (omega arith, all_more i (ok σ) c.loop-i.invariant.1 (lt-ltb (set_of σ i) (sets σ) c.if-f-settings.false))
+    let i = c.loop-i.i in all_more i (ok σ) c.loop-i.invariant (lt-ltb (set_of σ i) (sets σ) c.if-f-settings.false)
 
 pub returns : goal.returns
 unfolding nodes_ok
 returns c = let σ = c.args.settings.now in
     let i = c.loop-i.i in
-    sym (all_fewer (nodes σ) i (ok σ) (omega arith) c.loop-i.invariant.1)
+    sym (all_fewer (nodes σ) i (ok σ) (omega arith) c.loop-i.invariant)

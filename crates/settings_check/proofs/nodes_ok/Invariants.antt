@@ -11,7 +11,4 @@ abbrev ok : List ℕ → ℕ → Bool
 ok σ n = ltb (set_of σ n) (sets σ)
 
 abbrev pub invariant-loop-i : goal.invariant-loop-i
-invariant-loop-i l = (l.i ≤ nodes l.settings) × (all_below l.i (ok l.settings) ≡ true)
-
-abbrev pub decreases-loop-i : goal.decreases-loop-i
-decreases-loop-i l = l.n - l.i
+invariant-loop-i l = all_below l.i (ok l.settings) ≡ true

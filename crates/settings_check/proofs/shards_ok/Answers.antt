@@ -11,7 +11,7 @@ use borrow.Author.Rules.{rules}
 use Rattle.settings_check.proofs.shards_ok.Goals as goal
 
 pub loop-s-init : goal.loop-s-init
-loop-s-init c = (search rules, all_none (shard_ok c.args.settings.now))
+loop-s-init c = all_none (shard_ok c.args.settings.now)
 
 pub returns-then-not-shard_ok : goal.returns-then-not-shard_ok
 unfolding shards_ok
@@ -23,10 +23,9 @@ returns-then-not-shard_ok c = let σ = c.args.settings.now in
 pub loop-s-preserved : goal.loop-s-preserved
 loop-s-preserved c = let σ = c.args.settings.now in
     let s = c.loop-s.s in
-    let k = c.shard_ok in
-    (omega arith, all_more s (shard_ok σ) c.loop-s.invariant.1 (sym k.ensures ∙ c.if-not-shard_ok.false))
+    let k = c.shard_ok in all_more s (shard_ok σ) c.loop-s.invariant (sym k.ensures ∙ c.if-not-shard_ok.false)
 
 pub returns : goal.returns
 unfolding shards_ok
 returns c = let σ = c.args.settings.now in
-    sym (all_fewer (shards σ) c.loop-s.s (shard_ok σ) (omega arith) c.loop-s.invariant.1)
+    sym (all_fewer (shards σ) c.loop-s.s (shard_ok σ) (omega arith) c.loop-s.invariant)

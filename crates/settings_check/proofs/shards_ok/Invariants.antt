@@ -6,7 +6,4 @@ use Rattle.settings_values.specs.Definitions.{shards, shard_ok}
 use Rattle.settings_check.proofs.shards_ok.Given as goal
 
 abbrev pub invariant-loop-s : goal.invariant-loop-s
-invariant-loop-s l = (l.s ≤ shards l.settings) × (all_below l.s (shard_ok l.settings) ≡ true)
-
-abbrev pub decreases-loop-s : goal.decreases-loop-s
-decreases-loop-s l = l.count - l.s
+invariant-loop-s l = all_below l.s (shard_ok l.settings) ≡ true

@@ -10,23 +10,19 @@ use Rattle.c_state_words.specs.PageStored.{words-stored}
 use Rattle.c_state_words.proofs.page.encode.Goals as goal
 
 pub loop-k-init : goal.loop-k-init
-loop-k-init c = (omega arith, sym (filled_none _ _))
+loop-k-init c = sym (filled_none _ _)
 
 pub bounds-words-k : goal.bounds-words-k
 bounds-words-k c =
     let l = c.loop-k in
-    let long = ap length l.invariant.1 ∙ length_filled l.k _ (replicate 512 0) (omega arith) in
+    let long = ap length l.invariant ∙ length_filled l.k _ (replicate 512 0) (omega arith) in
     omega (arith, long)
-
-pub loop-k-smaller : goal.loop-k-smaller
-loop-k-smaller c = omega arith
 
 pub loop-k-preserved : goal.loop-k-preserved
 loop-k-preserved c =
-    let l = c.loop-k in
-    (omega arith, filled_turn l.k _ _ l.words _ (omega arith) l.invariant.1 c.page_word.ensures)
+    let l = c.loop-k in filled_turn l.k _ _ l.words _ (omega arith) l.invariant c.page_word.ensures
 
 pub returns : goal.returns
 returns c =
     let l = c.loop-k in
-    words-stored _ l.words l.k l.invariant.0 (omega arith) l.invariant.1
+    words-stored _ l.words l.k l.auto.k-end (omega arith) l.invariant

@@ -6,7 +6,4 @@ use Rattle.c_state_words.specs.Definitions.{page_word}
 use Rattle.c_state_words.proofs.page.encode.Given as goal
 
 abbrev pub invariant-loop-k : goal.invariant-loop-k
-invariant-loop-k l = (l.k ≤ 72) × (l.words ≡ filled l.k (page_word l.p) (replicate 512 0))
-
-abbrev pub decreases-loop-k : goal.decreases-loop-k
-decreases-loop-k l = 72 - l.k
+invariant-loop-k l = l.words ≡ filled l.k (page_word l.p) (replicate 512 0)

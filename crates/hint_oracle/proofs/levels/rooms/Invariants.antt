@@ -4,7 +4,4 @@ use lib.ListN.{length}
 use Rattle.hint_oracle.proofs.levels.rooms.Given as goal
 
 abbrev pub invariant-loop-i : goal.invariant-loop-i
-invariant-loop-i l = (l.i ≤ l.count) × (l.count ≤ 16) × (length l.h ≡ length l.initial.h)
-
-abbrev pub decreases-loop-i : goal.decreases-loop-i
-decreases-loop-i l = l.count - l.i
+invariant-loop-i l = (l.count ≤ 16) × (length l.h ≡ length l.initial.h)

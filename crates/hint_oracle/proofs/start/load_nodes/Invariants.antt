@@ -4,7 +4,4 @@ use lib.ListN.{length}
 use Rattle.hint_oracle.proofs.start.load_nodes.Given as goal
 
 abbrev pub invariant-loop-n : goal.invariant-loop-n
-invariant-loop-n l = (l.n ≤ 32) × (length l.nodes ≡ 16)
-
-abbrev pub decreases-loop-n : goal.decreases-loop-n
-decreases-loop-n l = 32 - l.n
+invariant-loop-n l = length l.nodes ≡ 16

@@ -12,21 +12,20 @@ use borrow.Author.Rules.{rules}
 use Rattle.message_contents.proofs.passes.kinds.Goals as goal
 
 pub loop-j-init : goal.loop-j-init
-loop-j-init c = (search rules, all_none (kind_at c.args.form c.args.body.now))
+loop-j-init c = all_none (kind_at c.args.form c.args.body.now)
 
 pub returns-then-not-kind_at : goal.returns-then-not-kind_at
 returns-then-not-kind_at c = let a = c.args in
     let k = c.kind_at in
     let l = c.loop-j in
-    sym (bad_at a.len (kind_at a.form a.body.now) l.j (omega arith) l.invariant.1 (sym k.ensures ∙ c.if-not-kind_at.true))
+    sym (bad_at a.len (kind_at a.form a.body.now) l.j (omega arith) l.invariant (sym k.ensures ∙ c.if-not-kind_at.true))
 
 pub loop-j-preserved : goal.loop-j-preserved
 loop-j-preserved c = let a = c.args in
     let k = c.kind_at in
-    let l = c.loop-j in
-    (omega arith, all_more l.j (kind_at a.form a.body.now) l.invariant.1 (sym k.ensures ∙ c.if-not-kind_at.false))
+    let l = c.loop-j in all_more l.j (kind_at a.form a.body.now) l.invariant (sym k.ensures ∙ c.if-not-kind_at.false)
 
 pub returns : goal.returns
 returns c = let a = c.args in
     let ok = kind_at a.form a.body.now in
-    sym (bad_none a.len ok (all_fewer a.len c.loop-j.j ok (omega arith) c.loop-j.invariant.1))
+    sym (bad_none a.len ok (all_fewer a.len c.loop-j.j ok (omega arith) c.loop-j.invariant))

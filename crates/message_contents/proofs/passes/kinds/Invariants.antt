@@ -6,7 +6,4 @@ use Rattle.message_format.specs.Definitions.{kind_at}
 use Rattle.message_contents.proofs.passes.kinds.Given as goal
 
 abbrev pub invariant-loop-j : goal.invariant-loop-j
-invariant-loop-j l = (l.j ≤ l.len) × (all_below l.j (kind_at l.form l.body) ≡ true)
-
-abbrev pub decreases-loop-j : goal.decreases-loop-j
-decreases-loop-j l = l.len - l.j
+invariant-loop-j l = all_below l.j (kind_at l.form l.body) ≡ true

@@ -12,22 +12,20 @@ use borrow.Author.Rules.{rules}
 use Rattle.message_contents.proofs.passes.positions.Goals as goal
 
 pub loop-j-init : goal.loop-j-init
-loop-j-init c = let a = c.args in
-    (search rules, all_none (row11_at a.form a.view.0 a.members a.body.now))
+loop-j-init c = let a = c.args in all_none (row11_at a.form a.view.0 a.members a.body.now)
 
 pub returns-then-not-position_at : goal.returns-then-not-position_at
 returns-then-not-position_at c = let a = c.args in
     let k = c.position_at in
     let l = c.loop-j in
-    sym (bad_at a.len (row11_at a.form a.view.0 a.members a.body.now) l.j (omega arith) l.invariant.1 (sym k.ensures ∙ c.if-not-position_at.true))
+    sym (bad_at a.len (row11_at a.form a.view.0 a.members a.body.now) l.j (omega arith) l.invariant (sym k.ensures ∙ c.if-not-position_at.true))
 
 pub loop-j-preserved : goal.loop-j-preserved
 loop-j-preserved c = let a = c.args in
     let k = c.position_at in
-    let l = c.loop-j in
-    (omega arith, all_more l.j (row11_at a.form a.view.0 a.members a.body.now) l.invariant.1 (sym k.ensures ∙ c.if-not-position_at.false))
+    let l = c.loop-j in all_more l.j (row11_at a.form a.view.0 a.members a.body.now) l.invariant (sym k.ensures ∙ c.if-not-position_at.false)
 
 pub returns : goal.returns
 returns c = let a = c.args in
     let ok = row11_at a.form a.view.0 a.members a.body.now in
-    sym (bad_none a.len ok (all_fewer a.len c.loop-j.j ok (omega arith) c.loop-j.invariant.1))
+    sym (bad_none a.len ok (all_fewer a.len c.loop-j.j ok (omega arith) c.loop-j.invariant))

@@ -6,7 +6,4 @@ use Rattle.message_format.specs.Definitions.{row11_at}
 use Rattle.message_contents.proofs.passes.positions.Given as goal
 
 abbrev pub invariant-loop-j : goal.invariant-loop-j
-invariant-loop-j l = (l.j ≤ l.len) × (all_below l.j (row11_at l.form l.view.0 l.members l.body) ≡ true)
-
-abbrev pub decreases-loop-j : goal.decreases-loop-j
-decreases-loop-j l = l.len - l.j
+invariant-loop-j l = all_below l.j (row11_at l.form l.view.0 l.members l.body) ≡ true

@@ -16,14 +16,13 @@ use Rattle.message_contents.proofs.passes.sequence.Goals as goal
 
 pub loop-j-init : goal.loop-j-init
 loop-j-init c = let n = c.args.node.0 in
-    let b = c.args.body.now in
-    (search rules, sym (where_none (gives_shard n b) b), all_none (sequence_at n b))
+    let b = c.args.body.now in (sym (where_none (gives_shard n b) b), all_none (sequence_at n b))
 
 pub returns-then-not-sequence_at : goal.returns-then-not-sequence_at
 returns-then-not-sequence_at c = let a = c.args in
     let k = c.sequence_at in
     let l = c.loop-j in
-    sym (bad_at a.len (sequence_at a.node.0 a.body.now) l.j (omega arith) l.invariant.2 (sym k.ensures ∙ c.if-not-sequence_at.true))
+    sym (bad_at a.len (sequence_at a.node.0 a.body.now) l.j (omega arith) l.invariant.1 (sym k.ensures ∙ c.if-not-sequence_at.true))
 
 pub carried_more-carried-requires : goal.carried_more-carried-requires
 carried_more-carried-requires c = (record { j_bound = omega arith; j_bound_2 = c.requires.small_shards c.loop-j.j (omega arith) })
@@ -34,14 +33,13 @@ loop-j-preserved c = let a = c.args in
     let b = a.body.now in
     let k = c.sequence_at in
     let l = c.loop-j in (
-      omega arith,
       c.carried_more-carried.ensures
-          ∙ ap (λ (m : ℕ). with_shard (gives_shard n b l.j) m b l.j) l.invariant.1
+          ∙ ap (λ (m : ℕ). with_shard (gives_shard n b l.j) m b l.j) l.invariant.0
           ∙ sym (where_step (gives_shard n b) b l.j),
-      all_more l.j (sequence_at n b) l.invariant.2 (sym k.ensures ∙ c.if-not-sequence_at.false),
+      all_more l.j (sequence_at n b) l.invariant.1 (sym k.ensures ∙ c.if-not-sequence_at.false),
     )
 
 pub returns : goal.returns
 returns c = let a = c.args in
     let ok = sequence_at a.node.0 a.body.now in
-    sym (bad_none a.len ok (all_fewer a.len c.loop-j.j ok (omega arith) c.loop-j.invariant.2))
+    sym (bad_none a.len ok (all_fewer a.len c.loop-j.j ok (omega arith) c.loop-j.invariant.1))

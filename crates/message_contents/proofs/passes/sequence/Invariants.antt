@@ -6,7 +6,4 @@ use Rattle.message_format.specs.Definitions.{carried_by, sequence_at}
 use Rattle.message_contents.proofs.passes.sequence.Given as goal
 
 abbrev pub invariant-loop-j : goal.invariant-loop-j
-invariant-loop-j l = (l.j ≤ l.len) × (l.carried ≡ carried_by l.node.0 l.body l.j) × (all_below l.j (sequence_at l.node.0 l.body) ≡ true)
-
-abbrev pub decreases-loop-j : goal.decreases-loop-j
-decreases-loop-j l = l.len - l.j
+invariant-loop-j l = (l.carried ≡ carried_by l.node.0 l.body l.j) × (all_below l.j (sequence_at l.node.0 l.body) ≡ true)

@@ -23,24 +23,20 @@ module _ (σ b : List ℕ) (j count s : ℕ) (e : count ≡ Definitions.shards �
   fails l = le-ltb (record_shard b j) (Definitions.shards σ) (omega arith)
 
 pub loop-j-init : goal.loop-j-init
-loop-j-init c = let a = c.args in
-    (search rules, all_none (shard_at a.settings.now a.body.now))
+loop-j-init c = let a = c.args in all_none (shard_at a.settings.now a.body.now)
 
 pub returns-then-count-shard : goal.returns-then-count-shard
 returns-then-count-shard c = let a = c.args in
     let l = c.loop-j in
-    sym (bad_at a.len (shard_at a.settings.now a.body.now) l.j (omega arith) l.invariant.1
+    sym (bad_at a.len (shard_at a.settings.now a.body.now) l.j (omega arith) l.invariant
     (fails a.settings.now a.body.now l.j _ _ c.shards-count.ensures c.shard-shard.ensures c.if-count-shard.true))
 
 pub loop-j-preserved : goal.loop-j-preserved
 loop-j-preserved c = let a = c.args in
-    let l = c.loop-j in (
-      omega arith,
-      all_more l.j (shard_at a.settings.now a.body.now) l.invariant.1
-          (passes a.settings.now a.body.now l.j _ _ c.shards-count.ensures c.shard-shard.ensures c.if-count-shard.false),
-    )
+    let l = c.loop-j in all_more l.j (shard_at a.settings.now a.body.now) l.invariant
+    (passes a.settings.now a.body.now l.j _ _ c.shards-count.ensures c.shard-shard.ensures c.if-count-shard.false)
 
 pub returns : goal.returns
 returns c = let a = c.args in
     let ok = shard_at a.settings.now a.body.now in
-    sym (bad_none a.len ok (all_fewer a.len c.loop-j.j ok (omega arith) c.loop-j.invariant.1))
+    sym (bad_none a.len ok (all_fewer a.len c.loop-j.j ok (omega arith) c.loop-j.invariant))

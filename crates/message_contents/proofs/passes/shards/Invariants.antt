@@ -7,7 +7,4 @@ use Rattle.settings_values.specs.Definitions as Definitions
 use Rattle.message_contents.proofs.passes.shards.Given as goal
 
 abbrev pub invariant-loop-j : goal.invariant-loop-j
-invariant-loop-j l = (l.j ≤ l.len) × (all_below l.j (shard_at l.settings l.body) ≡ true)
-
-abbrev pub decreases-loop-j : goal.decreases-loop-j
-decreases-loop-j l = l.len - l.j
+invariant-loop-j l = all_below l.j (shard_at l.settings l.body) ≡ true

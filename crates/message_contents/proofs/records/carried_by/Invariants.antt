@@ -4,7 +4,4 @@ use Rattle.message_format.specs.Definitions.{carried_by}
 use Rattle.message_contents.proofs.records.carried_by.Given as goal
 
 abbrev pub invariant-loop-j : goal.invariant-loop-j
-invariant-loop-j l = (l.j ≤ l.len) × (l.mask ≡ carried_by l.node.0 l.body l.j)
-
-abbrev pub decreases-loop-j : goal.decreases-loop-j
-decreases-loop-j l = l.len - l.j
+invariant-loop-j l = l.mask ≡ carried_by l.node.0 l.body l.j

@@ -12,19 +12,16 @@ use borrow.Author.Rules.{rules}
 use Rattle.message_contents.proofs.records.masks_of.Goals as goal
 
 pub loop-s-init : goal.loop-s-init
-loop-s-init c = (search rules, sym (filled_none (members_of c.args.body.now) (replicate 16 0)))
+loop-s-init c = sym (filled_none (members_of c.args.body.now) (replicate 16 0))
 
 pub loop-s-preserved : goal.loop-s-preserved
-loop-s-preserved c = let l = c.loop-s in (
-  omega arith,
-  filled_turn l.s (members_of c.args.body.now) (replicate 16 0) l.masks c.word1.result
-      (omega arith) l.invariant.1 c.word1.ensures,
-)
+loop-s-preserved c = let l = c.loop-s in filled_turn l.s (members_of c.args.body.now) (replicate 16 0) l.masks c.word1.result
+    (omega arith) l.invariant c.word1.ensures
 
 pub returns : goal.returns
 returns c = let a = c.args in
     let l = c.loop-s in
     let e : l.s ≡ shards a.settings.now = omega arith in
-    l.invariant.1
+    l.invariant
     ∙ ap (λ (n : ℕ). filled n (members_of a.body.now) (replicate 16 0)) e
     ∙ masks_filled (shards a.settings.now) a.body.now (omega arith)

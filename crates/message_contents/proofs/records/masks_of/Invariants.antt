@@ -7,7 +7,4 @@ use Rattle.message_format.specs.Definitions.{members_of}
 use Rattle.message_contents.proofs.records.masks_of.Given as goal
 
 abbrev pub invariant-loop-s : goal.invariant-loop-s
-invariant-loop-s l = (l.s ≤ shards l.settings) × (l.masks ≡ filled l.s (members_of l.body) (replicate 16 0))
-
-abbrev pub decreases-loop-s : goal.decreases-loop-s
-decreases-loop-s l = l.count - l.s
+invariant-loop-s l = l.masks ≡ filled l.s (members_of l.body) (replicate 16 0)

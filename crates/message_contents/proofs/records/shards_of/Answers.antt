@@ -9,7 +9,7 @@ use borrow.Author.Rules.{rules}
 use Rattle.message_contents.proofs.records.shards_of.Goals as goal
 
 pub loop-j-init : goal.loop-j-init
-loop-j-init c = (search rules, sym (where_none (of_kind c.args.k c.args.body.now) c.args.body.now))
+loop-j-init c = sym (where_none (of_kind c.args.k c.args.body.now) c.args.body.now)
 
 pub shards_more-mask-requires : goal.shards_more-mask-requires
 shards_more-mask-requires c = (record { j_bound = omega arith; j_bound_2 = c.requires.small_shards c.loop-j.j (omega arith) })
@@ -17,15 +17,12 @@ shards_more-mask-requires c = (record { j_bound = omega arith; j_bound_2 = c.req
 pub loop-j-preserved : goal.loop-j-preserved
 loop-j-preserved c = let a = c.args in
     let b = a.body.now in
-    let l = c.loop-j in (
-      omega arith,
-      c.shards_more-mask.ensures
-          ∙ ap (λ (m : ℕ). with_shard (of_kind a.k b l.j) m b l.j) l.invariant.1
-          ∙ sym (where_step (of_kind a.k b) b l.j),
-    )
+    let l = c.loop-j in c.shards_more-mask.ensures
+    ∙ ap (λ (m : ℕ). with_shard (of_kind a.k b l.j) m b l.j) l.invariant
+    ∙ sym (where_step (of_kind a.k b) b l.j)
 
 pub returns : goal.returns
 returns c = let a = c.args in
     let l = c.loop-j in
     let e : l.j ≡ a.len = omega arith in
-    l.invariant.1 ∙ ap (λ (n : ℕ). shards_of a.k a.body.now n) e
+    l.invariant ∙ ap (λ (n : ℕ). shards_of a.k a.body.now n) e

@@ -4,7 +4,4 @@ use Rattle.message_format.specs.Definitions.{shards_of}
 use Rattle.message_contents.proofs.records.shards_of.Given as goal
 
 abbrev pub invariant-loop-j : goal.invariant-loop-j
-invariant-loop-j l = (l.j ≤ l.len) × (l.mask ≡ shards_of l.k l.body l.j)
-
-abbrev pub decreases-loop-j : goal.decreases-loop-j
-decreases-loop-j l = l.len - l.j
+invariant-loop-j l = l.mask ≡ shards_of l.k l.body l.j

@@ -7,7 +7,4 @@ use Rattle.message_flat.specs.Counted.{body_in}
 use Rattle.message_flat.proofs.from_flat.contents_from.Given as goal
 
 abbrev pub invariant-loop-k : goal.invariant-loop-k
-invariant-loop-k l = (l.k ≤ 381) × (l.body ≡ filled l.k (body_in (words_in l.flat) l.n) (replicate 381 0))
-
-abbrev pub decreases-loop-k : goal.decreases-loop-k
-decreases-loop-k l = 381 - l.k
+invariant-loop-k l = l.body ≡ filled l.k (body_in (words_in l.flat) l.n) (replicate 381 0)

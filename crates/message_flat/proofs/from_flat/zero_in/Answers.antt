@@ -10,7 +10,7 @@ use borrow.Author.Rules.{rules}
 use Rattle.message_flat.proofs.from_flat.zero_in.Goals as goal
 
 pub loop-i-init : goal.loop-i-init
-loop-i-init c = (search rules, any_none _)
+loop-i-init c = any_none _
 
 pub returns-then-word_in-eq0 : goal.returns-then-word_in-eq0
 returns-then-word_in-eq0 c = zero_found _ _ _ _ c.count_at-at.ensures c.wide-runs.ensures
@@ -18,9 +18,8 @@ returns-then-word_in-eq0 c = zero_found _ _ _ _ c.count_at-at.ensures c.wide-run
 
 pub loop-i-preserved : goal.loop-i-preserved
 loop-i-preserved c =
-    let l = c.loop-i in
-    (omega arith, any_more l.i _ l.invariant.1 (ne_eqb _ _ (λ z. c.if-word_in-eq0.false (c.word_in.ensures ∙ z))))
+    let l = c.loop-i in any_more l.i _ l.invariant (ne_eqb _ _ (λ z. c.if-word_in-eq0.false (c.word_in.ensures ∙ z)))
 
 pub returns : goal.returns
 returns c = zero_none _ _ _ _ c.count_at-at.ensures c.wide-runs.ensures c.loop-i.i c.loop-i-test.false
-    c.loop-i.invariant.1
+    c.loop-i.invariant

@@ -7,7 +7,4 @@ use Rattle.message_flat.specs.Counted.{zero_at}
 use Rattle.message_flat.proofs.from_flat.zero_in.Given as goal
 
 abbrev pub invariant-loop-i : goal.invariant-loop-i
-invariant-loop-i l = (l.i ≤ l.runs) × (any_below l.i (zero_at (words_in l.flat) l.at) ≡ false)
-
-abbrev pub decreases-loop-i : goal.decreases-loop-i
-decreases-loop-i l = l.runs - l.i
+invariant-loop-i l = any_below l.i (zero_at (words_in l.flat) l.at) ≡ false

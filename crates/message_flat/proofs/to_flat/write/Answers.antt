@@ -11,7 +11,7 @@ use Rattle.message_flat.specs.Parted.{length_of, word_of, few_own, length_own, w
 use Rattle.message_flat.proofs.to_flat.write.Goals as goal
 
 pub loop-k-init : goal.loop-k-init
-loop-k-init c = (omega arith, sym (filled_none _ _))
+loop-k-init c = sym (filled_none _ _)
 
 pub word_of-requires : goal.word_of-requires
 word_of-requires c =
@@ -22,16 +22,12 @@ word_of-requires c =
 pub bounds-words-k : goal.bounds-words-k
 bounds-words-k c =
     let l = c.loop-k in
-    let long = ap length l.invariant.1 ∙ length_filled l.k _ _ (omega arith) in
+    let long = ap length l.invariant ∙ length_filled l.k _ _ (omega arith) in
     omega (arith, long)
-
-pub loop-k-smaller : goal.loop-k-smaller
-loop-k-smaller c = omega arith
 
 pub loop-k-preserved : goal.loop-k-preserved
 loop-k-preserved c =
-    let l = c.loop-k in
-    (omega arith, filled_turn l.k _ _ l.words _ (omega arith) l.invariant.1 c.word_of.ensures)
+    let l = c.loop-k in filled_turn l.k _ _ l.words _ (omega arith) l.invariant c.word_of.ensures
 
 pub length_of-requires : goal.length_of-requires
 length_of-requires c =
@@ -42,7 +38,7 @@ length_of-requires c =
 pub shape_of-words : goal.shape_of-words
 shape_of-words c =
     let l = c.loop-k in
-    ap length l.invariant.1 ∙ length_filled l.k _ _ (omega arith)
+    ap length l.invariant ∙ length_filled l.k _ _ (omega arith)
 
 pub returns : goal.returns
 returns c =
@@ -50,4 +46,4 @@ returns c =
     let s = c in
     let σ = s.args.settings.now in
     let x = s.args.c in
-    let all = filled_end 512 _ _ l.words l.k (omega arith) l.invariant.0 (omega arith) l.invariant.1 in record { answer = c.length_of.ensures ∙ ap length_of s.parts_of-parts.ensures ∙ length_own σ x; words = all ∙ ap (λ (p : Parts). tabulate 512 (word_of x.node x.view x.members x.body p)) s.parts_of-parts.ensures ∙ words_own σ x }
+    let all = filled_end 512 _ _ l.words l.k (omega arith) l.auto.k-end (omega arith) l.invariant in record { answer = c.length_of.ensures ∙ ap length_of s.parts_of-parts.ensures ∙ length_own σ x; words = all ∙ ap (λ (p : Parts). tabulate 512 (word_of x.node x.view x.members x.body p)) s.parts_of-parts.ensures ∙ words_own σ x }

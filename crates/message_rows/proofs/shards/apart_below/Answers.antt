@@ -16,8 +16,7 @@ abbrev ok : List ℕ → List ℕ → ℕ → ℕ → Bool
 ok σ m s = shard_apart σ (λ i. get_or m i 0) s
 
 pub loop-t-init : goal.loop-t-init
-loop-t-init c = let a = c.args in
-    (search rules, all_none (ok a.settings.now a.masks.now a.s.0))
+loop-t-init c = let a = c.args in all_none (ok a.settings.now a.masks.now a.s.0)
 
 pub returns-then-not-shard_apart : goal.returns-then-not-shard_apart
 returns-then-not-shard_apart c = let a = c.args in
@@ -28,10 +27,9 @@ returns-then-not-shard_apart c = let a = c.args in
 pub loop-t-preserved : goal.loop-t-preserved
 loop-t-preserved c = let a = c.args in
     let k = c.shard_apart in
-    let l = c.loop-t in
-    (omega arith, all_more l.t (ok a.settings.now a.masks.now a.s.0) l.invariant.1 (sym k.ensures ∙ c.if-not-shard_apart.false))
+    let l = c.loop-t in all_more l.t (ok a.settings.now a.masks.now a.s.0) l.invariant (sym k.ensures ∙ c.if-not-shard_apart.false)
 
 pub returns : goal.returns
 returns c = let a = c.args in
     let l = c.loop-t in
-    sym (all_fewer a.s.0 l.t (ok a.settings.now a.masks.now a.s.0) (omega arith) l.invariant.1)
+    sym (all_fewer a.s.0 l.t (ok a.settings.now a.masks.now a.s.0) (omega arith) l.invariant)

@@ -11,7 +11,4 @@ abbrev ok : List ℕ → List ℕ → ℕ → ℕ → Bool
 ok σ m s = shard_apart σ (λ i. get_or m i 0) s
 
 abbrev pub invariant-loop-t : goal.invariant-loop-t
-invariant-loop-t l = (l.t ≤ l.s.0) × (all_below l.t (ok l.settings l.masks l.s.0) ≡ true)
-
-abbrev pub decreases-loop-t : goal.decreases-loop-t
-decreases-loop-t l = l.s.0 - l.t
+invariant-loop-t l = all_below l.t (ok l.settings l.masks l.s.0) ≡ true

@@ -17,8 +17,7 @@ abbrev ok : List ℕ → ℕ → List ℕ → ℕ → Bool
 ok σ members m = row10_at σ members (λ i. get_or m i 0)
 
 pub loop-s-init : goal.loop-s-init
-loop-s-init c = let a = c.args in
-    (search rules, all_none (ok a.settings.now a.members a.masks.now))
+loop-s-init c = let a = c.args in all_none (ok a.settings.now a.members a.masks.now)
 
 pub returns-then-not-row10_at : goal.returns-then-not-row10_at
 unfolding row10
@@ -30,11 +29,10 @@ returns-then-not-row10_at c = let a = c.args in
 pub loop-s-preserved : goal.loop-s-preserved
 loop-s-preserved c = let a = c.args in
     let k = c.row10_at in
-    let l = c.loop-s in
-    (omega arith, all_more l.s (ok a.settings.now a.members a.masks.now) l.invariant.1 (sym k.ensures ∙ c.if-not-row10_at.false))
+    let l = c.loop-s in all_more l.s (ok a.settings.now a.members a.masks.now) l.invariant (sym k.ensures ∙ c.if-not-row10_at.false)
 
 pub returns : goal.returns
 unfolding row10
 returns c = let a = c.args in
     let l = c.loop-s in
-    sym (all_fewer (shards a.settings.now) l.s (ok a.settings.now a.members a.masks.now) (omega arith) l.invariant.1)
+    sym (all_fewer (shards a.settings.now) l.s (ok a.settings.now a.members a.masks.now) (omega arith) l.invariant)

@@ -12,7 +12,4 @@ abbrev ok : List ℕ → ℕ → List ℕ → ℕ → Bool
 ok σ members m = row10_at σ members (λ i. get_or m i 0)
 
 abbrev pub invariant-loop-s : goal.invariant-loop-s
-invariant-loop-s l = (l.s ≤ shards l.settings) × (all_below l.s (ok l.settings l.members l.masks) ≡ true)
-
-abbrev pub decreases-loop-s : goal.decreases-loop-s
-decreases-loop-s l = l.count - l.s
+invariant-loop-s l = all_below l.s (ok l.settings l.members l.masks) ≡ true

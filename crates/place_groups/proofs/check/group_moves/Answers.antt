@@ -17,7 +17,7 @@ abbrev at : List ℕ → List ℕ → List ℕ → ℕ → ℕ → ℕ
 at σ old masks g = group_moves_at σ (λ i. get_or old i 0) (λ i. get_or masks i 0) g
 
 pub loop-s-init : goal.loop-s-init
-loop-s-init c = let a = c.args in (search rules, sym (sum_zero (at a.settings.now a.old.now a.masks.now a.g)), search rules)
+loop-s-init c = let a = c.args in (sym (sum_zero (at a.settings.now a.old.now a.masks.now a.g)), search rules)
 
 pub overflow_add-total : goal.overflow_add-total
 overflow_add-total c = omega (arith, c.shards-count.ensures, c.requires.sizes.shards_to, c.moves_at-total.ensures.upper_bound)
@@ -25,11 +25,7 @@ overflow_add-total c = omega (arith, c.shards-count.ensures, c.requires.sizes.sh
 pub loop-s-preserved : goal.loop-s-preserved
 loop-s-preserved c = let a = c.args in
     let l = c.loop-s in
-    let f : ℕ → ℕ = at a.settings.now a.old.now a.masks.now a.g in (
-      omega (arith, c.shards-count.ensures),
-      omega (arith, l.invariant.1, c.moves_at-total.ensures.value, sum_next l.s f),
-      omega (arith, c.moves_at-total.ensures.upper_bound),
-    )
+    let f : ℕ → ℕ = at a.settings.now a.old.now a.masks.now a.g in (omega (arith, l.invariant.0, c.moves_at-total.ensures.value, sum_next l.s f), omega (arith, c.moves_at-total.ensures.upper_bound))
 
 pub returns : goal.returns
 unfolding group_moves
@@ -37,4 +33,4 @@ returns c = let a = c.args in
     let l = c.loop-s in
     let f : ℕ → ℕ = at a.settings.now a.old.now a.masks.now a.g in
     let e : l.s ≡ shards a.settings.now = omega (arith, c.shards-count.ensures) in
-    l.invariant.1 ∙ ap (λ (n : ℕ). sum_below n f) e
+    l.invariant.0 ∙ ap (λ (n : ℕ). sum_below n f) e

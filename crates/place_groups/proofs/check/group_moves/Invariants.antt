@@ -11,7 +11,4 @@ abbrev at : List ℕ → List ℕ → List ℕ → ℕ → ℕ → ℕ
 at σ old masks g = group_moves_at σ (λ i. get_or old i 0) (λ i. get_or masks i 0) g
 
 abbrev pub invariant-loop-s : goal.invariant-loop-s
-invariant-loop-s l = (l.s ≤ shards l.settings) × (l.total ≡ sum_below l.s (at l.settings l.old l.masks l.g)) × (l.total ≤ 32 * l.s)
-
-abbrev pub decreases-loop-s : goal.decreases-loop-s
-decreases-loop-s l = shards l.settings - l.s
+invariant-loop-s l = (l.total ≡ sum_below l.s (at l.settings l.old l.masks l.g)) × (l.total ≤ 32 * l.s)

@@ -17,7 +17,7 @@ abbrev ok : List ℕ → ℕ → List ℕ → ℕ → ℕ → Bool
 ok σ held masks g = group_valid_at σ held (λ i. get_or masks i 0) g
 
 pub loop-s-init : goal.loop-s-init
-loop-s-init c = let a = c.args in (search rules, all_none (ok a.settings.now a.held a.masks.now a.g))
+loop-s-init c = let a = c.args in all_none (ok a.settings.now a.held a.masks.now a.g)
 
 pub returns-then-not-group_valid_at : goal.returns-then-not-group_valid_at
 unfolding group_valid
@@ -30,13 +30,10 @@ returns-then-not-group_valid_at c = let a = c.args in
 pub loop-s-preserved : goal.loop-s-preserved
 loop-s-preserved c = let a = c.args in
     let k = c.group_valid_at in
-    let l = c.loop-s in (
-      omega (arith, c.shards-count.ensures),
-      all_more l.s (ok a.settings.now a.held a.masks.now a.g) l.invariant.1 (sym k.ensures ∙ c.if-not-group_valid_at.false),
-    )
+    let l = c.loop-s in all_more l.s (ok a.settings.now a.held a.masks.now a.g) l.invariant (sym k.ensures ∙ c.if-not-group_valid_at.false)
 
 pub returns : goal.returns
 unfolding group_valid
 returns c = let a = c.args in
     let l = c.loop-s in
-    sym (all_fewer (shards a.settings.now) l.s (ok a.settings.now a.held a.masks.now a.g) (omega (arith, c.shards-count.ensures)) l.invariant.1)
+    sym (all_fewer (shards a.settings.now) l.s (ok a.settings.now a.held a.masks.now a.g) (omega (arith, c.shards-count.ensures)) l.invariant)

@@ -12,7 +12,4 @@ abbrev ok : List ℕ → ℕ → List ℕ → ℕ → ℕ → Bool
 ok σ held masks g = group_valid_at σ held (λ i. get_or masks i 0) g
 
 abbrev pub invariant-loop-s : goal.invariant-loop-s
-invariant-loop-s l = (l.s ≤ shards l.settings) × (all_below l.s (ok l.settings l.held l.masks l.g) ≡ true)
-
-abbrev pub decreases-loop-s : goal.decreases-loop-s
-decreases-loop-s l = shards l.settings - l.s
+invariant-loop-s l = all_below l.s (ok l.settings l.held l.masks l.g) ≡ true

@@ -6,19 +6,18 @@ use Rattle.place_groups.specs.Laws.{entry_by}
 use Rattle.place_groups.proofs.sheet.row.Goals as goal
 
 pub loop-f-init : goal.loop-f-init
-loop-f-init c = let a = c.args in (omega arith, fill_start 16 2 (entry_by a.settings.now a.stay a.any a.s.0))
+loop-f-init c = let a = c.args in fill_start 16 2 (entry_by a.settings.now a.stay a.any a.s.0)
 
 pub loop-f-preserved : goal.loop-f-preserved
 loop-f-preserved c =
     let a = c.args in
-    let l = c.loop-f in
-    (omega arith, fill_turn 16 2 (entry_by a.settings.now a.stay a.any a.s.0) l.f l.r c.entry.result (omega arith) l.invariant.1 c.entry.ensures)
+    let l = c.loop-f in fill_turn 16 2 (entry_by a.settings.now a.stay a.any a.s.0) l.f l.r c.entry.result (omega arith) l.invariant c.entry.ensures
 
 pub returns : goal.returns
 returns c =
     let a = c.args in
     let l = c.loop-f in
-    fill_end 16 2 (entry_by a.settings.now a.stay a.any a.s.0) l.f l.r (omega arith) (omega arith) l.invariant.1
+    fill_end 16 2 (entry_by a.settings.now a.stay a.any a.s.0) l.f l.r (omega arith) (omega arith) l.invariant
 
 pub bounds-r-f : goal.bounds-r-f
 bounds-r-f c = omega arith

@@ -6,7 +6,4 @@ use Rattle.place_groups.specs.Laws.{entry_by}
 use Rattle.place_groups.proofs.sheet.row.Given as goal
 
 abbrev pub invariant-loop-f : goal.invariant-loop-f
-invariant-loop-f l = (l.f ≤ 16) × (l.r ≡ filled l.f (entry_by l.settings l.stay l.any l.s.0) (replicate 16 2))
-
-abbrev pub decreases-loop-f : goal.decreases-loop-f
-decreases-loop-f l = 16 - l.f
+invariant-loop-f l = l.r ≡ filled l.f (entry_by l.settings l.stay l.any l.s.0) (replicate 16 2)

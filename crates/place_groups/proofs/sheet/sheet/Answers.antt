@@ -20,22 +20,19 @@ abbrev blank : List ℕ
 blank = replicate 16 2
 
 pub loop-s-init : goal.loop-s-init
-loop-s-init c = let a = c.args in (omega arith, fill_start 16 blank (row_of a.settings.now a.held a.old.now))
+loop-s-init c = let a = c.args in fill_start 16 blank (row_of a.settings.now a.held a.old.now)
 
 pub loop-s-preserved : goal.loop-s-preserved
 loop-s-preserved c =
     let a = c.args in
-    let l = c.loop-s in (
-      omega arith,
-      fill_turn 16 blank (row_of a.settings.now a.held a.old.now) l.s l.rows c.row.result (omega arith) l.invariant.1
-          (c.row.ensures
-          ∙ row_is a.settings.now a.held (λ i. get_or a.old.now i 0) c.sets_of-stay.result c.sets_of-any.result l.s
-          c.sets_of-stay.ensures c.sets_of-any.ensures),
-    )
+    let l = c.loop-s in fill_turn 16 blank (row_of a.settings.now a.held a.old.now) l.s l.rows c.row.result (omega arith) l.invariant
+    (c.row.ensures
+    ∙ row_is a.settings.now a.held (λ i. get_or a.old.now i 0) c.sets_of-stay.result c.sets_of-any.result l.s
+    c.sets_of-stay.ensures c.sets_of-any.ensures)
 
 pub returns : goal.returns
 unfolding sheet_of
 returns c =
     let a = c.args in
     let l = c.loop-s in
-    fill_end 16 blank (row_of a.settings.now a.held a.old.now) l.s l.rows (omega arith) (omega arith) l.invariant.1
+    fill_end 16 blank (row_of a.settings.now a.held a.old.now) l.s l.rows (omega arith) (omega arith) l.invariant

@@ -16,7 +16,4 @@ abbrev row_of : List ℕ → ℕ → List ℕ → ℕ → List ℕ
 row_of σ held old s = tabulate 16 (sheet_at σ held (λ i. get_or old i 0) s)
 
 abbrev pub invariant-loop-s : goal.invariant-loop-s
-invariant-loop-s l = (l.s ≤ 16) × (l.rows ≡ filled l.s (row_of l.settings l.held l.old) (replicate 16 blank))
-
-abbrev pub decreases-loop-s : goal.decreases-loop-s
-decreases-loop-s l = 16 - l.s
+invariant-loop-s l = l.rows ≡ filled l.s (row_of l.settings l.held l.old) (replicate 16 blank)

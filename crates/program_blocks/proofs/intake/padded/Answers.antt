@@ -9,10 +9,10 @@ use borrow.Author.Rules.{rules}
 use Rattle.program_blocks.proofs.intake.padded.Goals as goal
 
 pub loop-i-init : goal.loop-i-init
-loop-i-init c = (search rules, sym (filled_none (λ k. get_or c.args.words.now k 0) (replicate 52 0)))
+loop-i-init c = sym (filled_none (λ k. get_or c.args.words.now k 0) (replicate 52 0))
 
 pub loop-i-preserved : goal.loop-i-preserved
-loop-i-preserved c = (search rules, filled_turn _ (λ k. get_or c.args.words.now k 0) (replicate 52 0) _ _ (omega (arith, length-replicate {A = ℕ} 52 0)) c.loop-i.invariant.1 refl)
+loop-i-preserved c = filled_turn _ (λ k. get_or c.args.words.now k 0) (replicate 52 0) _ _ (omega (arith, length-replicate {A = ℕ} 52 0)) c.loop-i.invariant refl
 
 pub returns : goal.returns
-returns c = padded_stored 52 c.args.words.now c.loop-i.i c.loop-i.table c.requires c.loop-i.invariant.0 c.loop-i-test.false c.loop-i.invariant.1
+returns c = padded_stored 52 c.args.words.now c.loop-i.i c.loop-i.table c.requires c.loop-i.auto.i-end c.loop-i-test.false c.loop-i.invariant

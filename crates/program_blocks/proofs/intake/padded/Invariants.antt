@@ -5,7 +5,4 @@ use Rattle.base_laws.specs.Tables.{filled}
 use Rattle.program_blocks.proofs.intake.padded.Given as goal
 
 abbrev pub invariant-loop-i : goal.invariant-loop-i
-invariant-loop-i l = (l.i ≤ length l.words) × (l.table ≡ filled l.i (λ k. get_or l.words k 0) (replicate 52 0))
-
-abbrev pub decreases-loop-i : goal.decreases-loop-i
-decreases-loop-i l = length l.words - l.i
+invariant-loop-i l = l.table ≡ filled l.i (λ k. get_or l.words k 0) (replicate 52 0)

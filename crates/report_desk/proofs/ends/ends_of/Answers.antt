@@ -7,15 +7,14 @@ use borrow.Author.Rules.{rules}
 use Rattle.report_desk.proofs.ends.ends_of.Goals as goal
 
 pub loop-j-init : goal.loop-j-init
-loop-j-init c = (search rules, ends_none c.args.body.now)
+loop-j-init c = ends_none c.args.body.now
 
 pub loop-j-preserved : goal.loop-j-preserved
 loop-j-preserved c = let a = c.args in
-    let l = c.loop-j in
-    (omega arith, c.note_end.ensures ∙ ends_noted a.body.now l.j l.ends l.invariant.1)
+    let l = c.loop-j in c.note_end.ensures ∙ ends_noted a.body.now l.j l.ends l.invariant
 
 pub returns : goal.returns
 returns c = let a = c.args in
     let l = c.loop-j in
     let z : l.j ≡ a.len = omega arith in
-    l.invariant.1 ∙ ap (ends_of a.body.now) z
+    l.invariant ∙ ap (ends_of a.body.now) z

@@ -10,7 +10,7 @@ use Rattle.base_laws.proofs.Below.{all_more, all_fails, all_fewer}
 use Rattle.report_rows.proofs.latest.latest_sound.Goals as goal
 
 pub loop-n-init : goal.loop-n-init
-loop-n-init c = (lit≤ tt, all_none _)
+loop-n-init c = all_none _
 
 pub returns-then-not-recalled : goal.returns-then-not-recalled
 returns-then-not-recalled c =
@@ -19,9 +19,8 @@ returns-then-not-recalled c =
 
 pub loop-n-preserved : goal.loop-n-preserved
 loop-n-preserved c =
-    let k = c.recalled in
-    (omega arith, all_more _ _ c.loop-n.invariant.1 (sym k.ensures ∙ c.if-not-recalled.false))
+    let k = c.recalled in all_more _ _ c.loop-n.invariant (sym k.ensures ∙ c.if-not-recalled.false)
 
 pub returns : goal.returns
 returns c =
-    sym (all_fewer 32 c.loop-n.n _ (omega arith) c.loop-n.invariant.1)
+    sym (all_fewer 32 c.loop-n.n _ (omega arith) c.loop-n.invariant)

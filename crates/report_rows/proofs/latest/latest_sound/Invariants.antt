@@ -6,7 +6,4 @@ use Rattle.report_rows.specs.Laws.{recalled_at}
 use Rattle.report_rows.proofs.latest.latest_sound.Given as goal
 
 abbrev pub invariant-loop-n : goal.invariant-loop-n
-invariant-loop-n l = (l.n ≤ 32) × (all_below l.n (recalled_at l.settings l.number.0 l.held l.views l.remembered) ≡ true)
-
-abbrev pub decreases-loop-n : goal.decreases-loop-n
-decreases-loop-n l = 32 - l.n
+invariant-loop-n l = all_below l.n (recalled_at l.settings l.number.0 l.held l.views l.remembered) ≡ true

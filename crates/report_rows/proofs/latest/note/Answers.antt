@@ -10,13 +10,12 @@ use Rattle.report_rows.specs.Definitions.{noted_at, noted}
 use Rattle.report_rows.proofs.latest.note.Goals as goal
 
 pub loop-n-init : goal.loop-n-init
-loop-n-init c = let a = c.args in (lit≤ tt, fill_start 32 (record { 0 = 0 }) (noted_at a.latest a.node.0 a.view.0))
+loop-n-init c = let a = c.args in fill_start 32 (record { 0 = 0 }) (noted_at a.latest a.node.0 a.view.0)
 
 pub loop-n-preserved : goal.loop-n-preserved
 loop-n-preserved c =
     let a = c.args in
-    let l = c.loop-n in
-    (omega arith, fill_turn 32 (record { 0 = 0 }) (noted_at a.latest a.node.0 a.view.0) l.n l.views c.noted_at.result (omega arith) l.invariant.1 c.noted_at.ensures)
+    let l = c.loop-n in fill_turn 32 (record { 0 = 0 }) (noted_at a.latest a.node.0 a.view.0) l.n l.views c.noted_at.result (omega arith) l.invariant c.noted_at.ensures
 
 pub returns : goal.returns
 unfolding noted
@@ -24,4 +23,4 @@ returns c =
     let a = c.args in
     let l = c.loop-n in
     ap (λ (v : List View). record { views = v })
-    (fill_end 32 (record { 0 = 0 }) (noted_at a.latest a.node.0 a.view.0) l.n l.views l.invariant.0 (omega arith) l.invariant.1)
+    (fill_end 32 (record { 0 = 0 }) (noted_at a.latest a.node.0 a.view.0) l.n l.views l.auto.n-end (omega arith) l.invariant)

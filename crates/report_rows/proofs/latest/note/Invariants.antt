@@ -6,7 +6,4 @@ use Rattle.report_rows.specs.Definitions.{noted_at}
 use Rattle.report_rows.proofs.latest.note.Given as goal
 
 abbrev pub invariant-loop-n : goal.invariant-loop-n
-invariant-loop-n l = (l.n ≤ 32) × (l.views ≡ filled l.n (noted_at l.latest l.node.0 l.view.0) (replicate 32 (record { 0 = 0 })))
-
-abbrev pub decreases-loop-n : goal.decreases-loop-n
-decreases-loop-n l = 32 - l.n
+invariant-loop-n l = l.views ≡ filled l.n (noted_at l.latest l.node.0 l.view.0) (replicate 32 (record { 0 = 0 }))

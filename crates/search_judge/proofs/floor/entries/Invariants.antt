@@ -6,7 +6,4 @@ use Rattle.search_laws.specs.Floor.{entry_of}
 use Rattle.search_judge.proofs.floor.entries.Given as goal
 
 abbrev pub invariant-loop-f : goal.invariant-loop-f
-invariant-loop-f l = (l.f ≤ 16) × (l.count ≤ l.f) × (l.count ≡ count_below l.f (λ k. ltb (entry_of l.sheet l.i k) l.e))
-
-abbrev pub decreases-loop-f : goal.decreases-loop-f
-decreases-loop-f l = 16 - l.f
+invariant-loop-f l = (l.count ≤ l.f) × (l.count ≡ count_below l.f (λ k. ltb (entry_of l.sheet l.i k) l.e))

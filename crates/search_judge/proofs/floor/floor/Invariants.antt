@@ -7,7 +7,4 @@ use Rattle.search_laws.specs.Floor.{lack_at}
 use Rattle.search_judge.proofs.floor.floor.Given as goal
 
 abbrev pub invariant-loop-i : goal.invariant-loop-i
-invariant-loop-i l = (l.i ≤ 16) × (l.sum ≤ l.i * 256) × (l.sum ≡ sum_below l.i (lack_at (case_of [] l.needs [] [] 0) l.sheet))
-
-abbrev pub decreases-loop-i : goal.decreases-loop-i
-decreases-loop-i l = 16 - l.i
+invariant-loop-i l = (l.sum ≤ l.i * 256) × (l.sum ≡ sum_below l.i (lack_at (case_of [] l.needs [] [] 0) l.sheet))

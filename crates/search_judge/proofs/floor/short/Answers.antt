@@ -9,18 +9,15 @@ use Rattle.search_laws.specs.Floor.{short_at, too_few}
 use Rattle.search_judge.proofs.floor.short.Goals as goal
 
 pub loop-i-init : goal.loop-i-init
-loop-i-init c = (omega arith, any_none _)
+loop-i-init c = any_none _
 
 pub returns-then-short_at : goal.returns-then-short_at
 unfolding too_few
 returns-then-short_at c = sym (any_at 16 _ c.loop-i.i (omega arith) (sym c.short_at.ensures ∙ c.if-short_at.true))
 
 pub loop-i-preserved : goal.loop-i-preserved
-loop-i-preserved c = (
-  omega arith,
-  any_more _ _ c.loop-i.invariant.1 (sym c.short_at.ensures ∙ c.if-short_at.false),
-)
+loop-i-preserved c = any_more _ _ c.loop-i.invariant (sym c.short_at.ensures ∙ c.if-short_at.false)
 
 pub returns : goal.returns
 unfolding too_few
-returns c = sym (any_done c.loop-i.invariant.0 c.loop-i-test.false false _ c.loop-i.invariant.1)
+returns c = sym (any_done c.loop-i.auto.i-end c.loop-i-test.false false _ c.loop-i.invariant)

@@ -8,7 +8,4 @@ use Rattle.search_laws.specs.Floor.{short_at}
 use Rattle.search_judge.proofs.floor.short.Given as goal
 
 abbrev pub invariant-loop-i : goal.invariant-loop-i
-invariant-loop-i l = (l.i ≤ 16) × (any_below l.i (short_at (case_of [] l.needs [] [] 0) l.sheet) ≡ false)
-
-abbrev pub decreases-loop-i : goal.decreases-loop-i
-decreases-loop-i l = 16 - l.i
+invariant-loop-i l = any_below l.i (short_at (case_of [] l.needs [] [] 0) l.sheet) ≡ false

@@ -19,7 +19,7 @@ abbrev ok : List ℕ → Layout → ℕ → Bool
 ok σ v s = ltb s (shards σ) || eqb (get_or v.masks s 0) 0
 
 pub loop-s-init : goal.loop-s-init
-loop-s-init c = let a = c.args in (search rules, all_none (ok a.settings.now a.v))
+loop-s-init c = let a = c.args in all_none (ok a.settings.now a.v)
 
 pub returns-then-not-tidy_at : goal.returns-then-not-tidy_at
 unfolding layout_tidy
@@ -30,11 +30,10 @@ returns-then-not-tidy_at c = let a = c.args in
 pub loop-s-preserved : goal.loop-s-preserved
 loop-s-preserved c = let a = c.args in
     let k = c.tidy_at in
-    let l = c.loop-s in
-    (omega (arith), all_more l.s (ok a.settings.now a.v) l.invariant.1 (sym k.ensures ∙ c.if-not-tidy_at.false))
+    let l = c.loop-s in all_more l.s (ok a.settings.now a.v) l.invariant (sym k.ensures ∙ c.if-not-tidy_at.false)
 
 pub returns : goal.returns
 unfolding layout_tidy
 returns c = let a = c.args in
     let l = c.loop-s in
-    sym (all_fewer 16 l.s (ok a.settings.now a.v) (omega (arith)) l.invariant.1)
+    sym (all_fewer 16 l.s (ok a.settings.now a.v) (omega (arith)) l.invariant)

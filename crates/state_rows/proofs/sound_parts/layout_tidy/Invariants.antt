@@ -13,7 +13,4 @@ abbrev ok : List ℕ → Layout → ℕ → Bool
 ok σ v s = ltb s (shards σ) || eqb (get_or v.masks s 0) 0
 
 abbrev pub invariant-loop-s : goal.invariant-loop-s
-invariant-loop-s l = (l.s ≤ 16) × (all_below l.s (ok l.settings l.v) ≡ true)
-
-abbrev pub decreases-loop-s : goal.decreases-loop-s
-decreases-loop-s l = 16 - l.s
+invariant-loop-s l = all_below l.s (ok l.settings l.v) ≡ true

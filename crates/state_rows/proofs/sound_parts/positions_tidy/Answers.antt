@@ -11,7 +11,7 @@ use borrow.Author.Rules.{rules}
 use Rattle.state_rows.proofs.sound_parts.positions_tidy.Goals as goal
 
 pub loop-s-init : goal.loop-s-init
-loop-s-init c = let a = c.args in (search rules, all_none (position_tidy a.settings.now a.t))
+loop-s-init c = let a = c.args in all_none (position_tidy a.settings.now a.t)
 
 pub returns-then-not-position_tidy : goal.returns-then-not-position_tidy
 unfolding position_tidy
@@ -25,11 +25,10 @@ unfolding position_tidy
 loop-s-preserved c =
     let a = c.args in
     let k = c.position_tidy in
-    let l = c.loop-s in
-    (omega arith, all_more l.s (position_tidy a.settings.now a.t) l.invariant.1 (sym k.ensures ∙ c.if-not-position_tidy.false))
+    let l = c.loop-s in all_more l.s (position_tidy a.settings.now a.t) l.invariant (sym k.ensures ∙ c.if-not-position_tidy.false)
 
 pub returns : goal.returns
 returns c =
     let a = c.args in
     let l = c.loop-s in
-    sym (all_fewer 16 l.s (position_tidy a.settings.now a.t) (omega arith) l.invariant.1)
+    sym (all_fewer 16 l.s (position_tidy a.settings.now a.t) (omega arith) l.invariant)

@@ -6,7 +6,4 @@ use Rattle.state_rows.specs.Ready.{position_tidy}
 use Rattle.state_rows.proofs.sound_parts.positions_tidy.Given as goal
 
 abbrev pub invariant-loop-s : goal.invariant-loop-s
-invariant-loop-s l = (l.s ≤ 16) × (all_below l.s (position_tidy l.settings l.t) ≡ true)
-
-abbrev pub decreases-loop-s : goal.decreases-loop-s
-decreases-loop-s l = 16 - l.s
+invariant-loop-s l = all_below l.s (position_tidy l.settings l.t) ≡ true

@@ -19,7 +19,7 @@ abbrev ok : List Node → List Position → ℕ → Bool
 ok holders targets s = eqb (node_at holders s) 0 && is_start (get_or targets s start)
 
 pub loop-s-init : goal.loop-s-init
-loop-s-init c = let p = c.args.p in (search rules, all_none (ok p.holders p.targets))
+loop-s-init c = let p = c.args.p in all_none (ok p.holders p.targets)
 
 pub returns-then-not-nothing_planned : goal.returns-then-not-nothing_planned
 returns-then-not-nothing_planned c = let p = c.args.p in
@@ -29,10 +29,9 @@ returns-then-not-nothing_planned c = let p = c.args.p in
 pub loop-s-preserved : goal.loop-s-preserved
 loop-s-preserved c = let p = c.args.p in
     let k = c.nothing_planned in
-    let l = c.loop-s in
-    (omega arith, all_more l.s (ok p.holders p.targets) l.invariant.1 (sym k.ensures ∙ c.if-not-nothing_planned.false))
+    let l = c.loop-s in all_more l.s (ok p.holders p.targets) l.invariant (sym k.ensures ∙ c.if-not-nothing_planned.false)
 
 pub returns : goal.returns
 returns c = let p = c.args.p in
     let l = c.loop-s in
-    sym (all_fewer 16 l.s (ok p.holders p.targets) (omega arith) l.invariant.1)
+    sym (all_fewer 16 l.s (ok p.holders p.targets) (omega arith) l.invariant)

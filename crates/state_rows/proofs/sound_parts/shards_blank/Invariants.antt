@@ -14,7 +14,4 @@ abbrev ok : List Node → List Position → ℕ → Bool
 ok holders targets s = eqb (node_at holders s) 0 && is_start (get_or targets s start)
 
 abbrev pub invariant-loop-s : goal.invariant-loop-s
-invariant-loop-s l = (l.s ≤ 16) × (all_below l.s (ok l.holders l.targets) ≡ true)
-
-abbrev pub decreases-loop-s : goal.decreases-loop-s
-decreases-loop-s l = 16 - l.s
+invariant-loop-s l = all_below l.s (ok l.holders l.targets) ≡ true

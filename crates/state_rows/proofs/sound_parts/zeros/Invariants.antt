@@ -12,6 +12,3 @@ zero-at l i = eqb (get_or l i 0) 0
 
 abbrev pub invariant-loop-i : goal.invariant-loop-i
 invariant-loop-i v = (v.i ≤ length v.l) × (all_below v.i (zero-at v.l) ≡ true)
-
-abbrev pub decreases-loop-i : goal.decreases-loop-i
-decreases-loop-i v = length v.l - v.i

@@ -16,14 +16,13 @@ abbrev at : List ℕ → Layout → Layout → ℕ → ℕ
 at σ old new = group_moves σ (mask_at old) (mask_at new)
 
 pub loop-g-init : goal.loop-g-init
-loop-g-init c = let a = c.args in (search rules, sym (sum_zero (at a.settings.now a.old a.new)), search rules)
+loop-g-init c = let a = c.args in (sym (sum_zero (at a.settings.now a.old a.new)), search rules)
 
 pub loop-g-preserved : goal.loop-g-preserved
 loop-g-preserved c = let a = c.args in
     let l = c.loop-g in
     let f : ℕ → ℕ = at a.settings.now a.old a.new in
-    let e : c.group_moves.result ≡ f l.g = c.group_moves.ensures in
-    (omega arith, omega (arith, l.invariant.1, e, sum_next l.g f), omega arith)
+    let e : c.group_moves.result ≡ f l.g = c.group_moves.ensures in (omega (arith, l.invariant.0, e, sum_next l.g f), omega arith)
 
 pub returns : goal.returns
 unfolding all_moves
@@ -31,4 +30,4 @@ returns c = let a = c.args in
     let l = c.loop-g in
     let f : ℕ → ℕ = at a.settings.now a.old a.new in
     let e : l.g ≡ 4 = omega arith in
-    l.invariant.1 ∙ ap (λ (n : ℕ). sum_below n f) e
+    l.invariant.0 ∙ ap (λ (n : ℕ). sum_below n f) e

@@ -11,7 +11,4 @@ abbrev at : List ℕ → Layout → Layout → ℕ → ℕ
 at σ old new = group_moves σ (mask_at old) (mask_at new)
 
 abbrev pub invariant-loop-g : goal.invariant-loop-g
-invariant-loop-g l = (l.g ≤ 4) × (l.total ≡ sum_below l.g (at l.settings l.old l.new)) × (l.total ≤ 4294967296 * l.g)
-
-abbrev pub decreases-loop-g : goal.decreases-loop-g
-decreases-loop-g l = 4 - l.g
+invariant-loop-g l = (l.total ≡ sum_below l.g (at l.settings l.old l.new)) × (l.total ≤ 4294967296 * l.g)

@@ -18,7 +18,7 @@ abbrev ok : List ℕ → ℕ → Layout → ℕ → Bool
 ok σ held w = group_valid σ held (mask_at w)
 
 pub loop-g-init : goal.loop-g-init
-loop-g-init c = let a = c.args in (search rules, all_none (ok a.settings.now a.held a.w))
+loop-g-init c = let a = c.args in all_none (ok a.settings.now a.held a.w)
 
 pub returns-then-not-group_valid : goal.returns-then-not-group_valid
 unfolding groups_valid
@@ -29,11 +29,10 @@ returns-then-not-group_valid c = let a = c.args in
 pub loop-g-preserved : goal.loop-g-preserved
 loop-g-preserved c = let a = c.args in
     let k = c.group_valid in
-    let l = c.loop-g in
-    (omega arith, all_more l.g (ok a.settings.now a.held a.w) l.invariant.1 (sym k.ensures ∙ c.if-not-group_valid.false))
+    let l = c.loop-g in all_more l.g (ok a.settings.now a.held a.w) l.invariant (sym k.ensures ∙ c.if-not-group_valid.false)
 
 pub returns : goal.returns
 unfolding groups_valid
 returns c = let a = c.args in
     let l = c.loop-g in
-    sym (all_fewer 4 l.g (ok a.settings.now a.held a.w) (omega arith) l.invariant.1)
+    sym (all_fewer 4 l.g (ok a.settings.now a.held a.w) (omega arith) l.invariant)

@@ -12,7 +12,4 @@ abbrev ok : List ℕ → ℕ → Layout → ℕ → Bool
 ok σ held w = group_valid σ held (mask_at w)
 
 abbrev pub invariant-loop-g : goal.invariant-loop-g
-invariant-loop-g l = (l.g ≤ 4) × (all_below l.g (ok l.settings l.held l.w) ≡ true)
-
-abbrev pub decreases-loop-g : goal.decreases-loop-g
-decreases-loop-g l = 4 - l.g
+invariant-loop-g l = all_below l.g (ok l.settings l.held l.w) ≡ true

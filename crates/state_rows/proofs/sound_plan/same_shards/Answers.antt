@@ -26,8 +26,7 @@ abbrev ok : Plan → Seen → ℕ → Bool
 ok p x = same p.holders p.targets x.holders x.targets
 
 pub loop-s-init : goal.loop-s-init
-loop-s-init c = let a = c.args in
-    (search rules, all_none (ok a.p a.seen))
+loop-s-init c = let a = c.args in all_none (ok a.p a.seen)
 
 pub returns-then-not-same_shard : goal.returns-then-not-same_shard
 unfolding same_shards same_shard
@@ -38,11 +37,10 @@ returns-then-not-same_shard c = let a = c.args in
 pub loop-s-preserved : goal.loop-s-preserved
 loop-s-preserved c = let a = c.args in
     let k = c.same_shard in
-    let l = c.loop-s in
-    (omega arith, all_more l.s (ok a.p a.seen) l.invariant.1 (sym k.ensures ∙ c.if-not-same_shard.false))
+    let l = c.loop-s in all_more l.s (ok a.p a.seen) l.invariant (sym k.ensures ∙ c.if-not-same_shard.false)
 
 pub returns : goal.returns
 unfolding same_shards same_shard
 returns c = let a = c.args in
     let l = c.loop-s in
-    sym (all_fewer 16 l.s (ok a.p a.seen) (omega arith) l.invariant.1)
+    sym (all_fewer 16 l.s (ok a.p a.seen) (omega arith) l.invariant)

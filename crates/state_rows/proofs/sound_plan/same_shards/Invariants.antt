@@ -14,7 +14,4 @@ abbrev same : List Node → List Position → List Node → List Position → �
 same holders targets others goals s = eqb (node_at holders s) (node_at others s) && same_position (get_or targets s start) (get_or goals s start)
 
 abbrev pub invariant-loop-s : goal.invariant-loop-s
-invariant-loop-s l = (l.s ≤ 16) × (all_below l.s (same l.holders l.targets l.others l.goals) ≡ true)
-
-abbrev pub decreases-loop-s : goal.decreases-loop-s
-decreases-loop-s l = 16 - l.s
+invariant-loop-s l = all_below l.s (same l.holders l.targets l.others l.goals) ≡ true

@@ -1,8 +1,0 @@
-use Prim.Native.Nat.{◌≤◌, ◌-◌}
-use Rattle.hint_oracle.proofs.start.keep_room.Given as goal
-
-abbrev pub invariant-loop-round : goal.invariant-loop-round
-invariant-loop-round l = l.round ≤ 32
-
-abbrev pub decreases-loop-round : goal.decreases-loop-round
-decreases-loop-round l = 32 - l.round
