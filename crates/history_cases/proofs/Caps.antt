@@ -1,6 +1,6 @@
 -- Cases of caps. A shard that needs members from two sets and had four keeps all four. Of three shards one lacks a member: it gets one of those
 -- whose shard keeps another, and where moves and stays are equal the shorter list, a prefix of the other, decides whose.
-use Rattle.std.specs.Prelude.{ℕ, ◌<◌, ◌≤◌, true, not, ◌&&◌, ◌||◌, List, [], ◌⊎◌, ◌≡◌, refl, leb, ltb}
+use Rattle.std.specs.Prelude.{ℕ, ◌<◌, ◌≤◌, true, not, ◌&&◌, ◌||◌, List, ◌⊎◌, ◌≡◌, refl, leb, ltb}
 use Rattle.std.proofs.Math.Bool.{Bool, cond}
 use Rattle.std.proofs.Math.Logic.{inl, inr, ⊎_elim}
 use Rattle.std.proofs.Common.{sym, ◌∙◌, arith}

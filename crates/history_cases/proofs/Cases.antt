@@ -1,6 +1,6 @@
 -- Document 01's cases A to I, Request Five's case J and cases K and L of caps from the rules: the one table. Reports are those of case A, and held masks name who is back.
 -- What decide answers in them stands in state_cases, what the program prints in program_cases; both cite this table.
-use Rattle.std.specs.Prelude.{ℕ, ◌<◌, true, not, ◌||◌, List, [], ◌≡◌, refl, eqb}
+use Rattle.std.specs.Prelude.{ℕ, ◌<◌, true, not, ◌||◌, List, ◌≡◌, refl, eqb}
 use Rattle.std.proofs.Common.{⊎_elim, eq-eqb}
 use Rattle.std.specs.Int.Count.{ones, ones_in}
 use Rattle.base_laws.specs.Bools.{clash, or-holds, of_not_true}

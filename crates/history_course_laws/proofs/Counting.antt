@@ -1,7 +1,7 @@
 -- Whether the view of a restart that nobody is known to have committed counts. It counts if all its members have it on disk, and not if one
 -- of them has reported without it. With all members back that is decided, what one leader finds no later one contradicts, and if it counts
 -- the restart was carried out.
-use Rattle.std.specs.Prelude.{ℕ, true, [], ◌≡◌, eqb}
+use Rattle.std.specs.Prelude.{ℕ, true, ◌≡◌, eqb}
 use Rattle.std.proofs.Common.{◌∙◌}
 use Rattle.base_laws.specs.Bools.{clash, or_left}
 use Rattle.base_laws.specs.Definitions.{with}

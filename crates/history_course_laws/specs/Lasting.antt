@@ -1,7 +1,7 @@
 -- A restart that is carried out, or given up, leaves a history from which the next one loses nothing. The kept view is the last of the
 -- list: a held majority of an earlier one meets those of its members that have logged a later view, and one of them would have reported it. So
 -- the holder of a shard has logged the last view and has what is settled; what it has up to the target every placed node has afterwards.
-use Rattle.std.specs.Prelude.{ℕ, suc, ◌*◌, ◌^◌, ◌<◌, ◌≤◌, true, List, [], ◌≡◌, length}
+use Rattle.std.specs.Prelude.{ℕ, suc, ◌*◌, ◌^◌, ◌<◌, ◌≤◌, true, List, ◌≡◌, length}
 use Rattle.std.proofs.Common.{⊎_elim, sym, subst, arith}
 use Rattle.std.specs.Int.Bits.{bit_and}
 use Rattle.base_laws.specs.Bools.{clash, lt_or_le, eq_or_ne}

@@ -10,7 +10,7 @@ use Rattle.std.proofs.Math.ListN.{get_or-append}
 use Rattle.std.proofs.Math.Seq.{take-length, take-append_seam}
 use Rattle.std.proofs.lemmas.List.{take-append-le, get_or_at}
 use Rattle.base_laws.specs.Bools.{clash, and_left, no_true, lt_or_le, or-holds, or_left}
-use Rattle.base_laws.specs.Definitions.{has, count, without}
+use Rattle.base_laws.specs.Definitions.{has, count}
 use Rattle.base_laws.specs.Masks.{has_zero, has_with, has_without, quorums_meet}
 use Rattle.report_views.specs.declared.Layout.{Layout}
 use Rattle.report_views.specs.Definitions.{no_view}

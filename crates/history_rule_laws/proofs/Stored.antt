@@ -1,6 +1,6 @@
 -- What is stored stays stored in a group that keeps the rule. While a view is open the disks tell two histories: with the view, where it
 -- counts and the copies beside the old logs are the logs; and as before, where it is forgotten. Nothing else is to be decided.
-use Rattle.std.specs.Prelude.{ℕ, ◌<◌, true, List, [], ◌≡◌}
+use Rattle.std.specs.Prelude.{ℕ, ◌<◌, true, List, ◌≡◌}
 use Rattle.base_laws.specs.Definitions.{has}
 use Rattle.base_ids.specs.declared.Position.{Position}
 use Rattle.base_ids.specs.Definitions.{not_after}

@@ -5,7 +5,7 @@ use Rattle.std.specs.Prelude.{ℕ, zero, suc, ◌-◌, ◌<◌, ◌≤◌, Bool,
 use Rattle.std.proofs.Math.Bool.{cond}
 use Rattle.std.proofs.Common.{inl, inr, ⊎_elim, sym, ◌∙◌, subst, arith}
 use Rattle.std.proofs.Math.Path.{ap, subst⁻¹}
-use Rattle.base_laws.specs.Bools.{either, same, and_both, eq_or_ne}
+use Rattle.base_laws.specs.Bools.{either, and_both, eq_or_ne}
 use Rattle.base_laws.specs.Definitions.{has}
 use Rattle.base_ids.specs.declared.Position.{Position}
 use Rattle.report_views.specs.declared.Layout.{Layout}

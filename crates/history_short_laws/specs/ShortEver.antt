@@ -1,6 +1,6 @@
 -- Over any number of restarts from short reports and runs between them: what was settled once is in the holder's log of every later plan and
 -- not past its target. And bases agree after restarts from whole reports too, so that a group can go over to short ones.
-use Rattle.std.specs.Prelude.{ℕ, ◌^◌, ◌<◌, ◌≤◌, true, List, [], ◌≡◌, refl}
+use Rattle.std.specs.Prelude.{ℕ, ◌^◌, ◌<◌, ◌≤◌, true, List, ◌≡◌, refl}
 use Rattle.std.proofs.Common.{◌∙◌}
 use Rattle.settings_values.specs.Definitions.{shards}
 use Rattle.report_views.specs.declared.Layout.{Layout}

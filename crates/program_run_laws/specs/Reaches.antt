@@ -1,6 +1,6 @@
 -- Every run comes to a sound state, so that decide refuses nothing after its last block; and a run is ended only by number 2, by
 -- one of 5 to 13 or 18 alone, or by 8, 9, 16 or 17 with a record.
-use Rattle.std.specs.Prelude.{ℕ, Bool, true, cond, ◌⊎◌, List, [], ◌≡◌, get_or}
+use Rattle.std.specs.Prelude.{ℕ, Bool, true, cond, ◌⊎◌, List, ◌≡◌, get_or}
 use Rattle.std.proofs.Common.{ap, ap₂, ◌∙◌}
 use Rattle.base_ids.specs.Definitions.{none, accepted}
 use Rattle.base_ids.specs.Refusals.{accepted_none, first_none, unless_true}

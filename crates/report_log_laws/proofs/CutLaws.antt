@@ -2,7 +2,7 @@
 -- holder's log up to the target share from their beginning; what the node keeps, followed by what it fetches, is the holder's log up
 -- to the target. It is a legal position that both logs have, no further than the target, and the holder's own cut is the target.
 use Rattle.std.specs.Prelude.{ℕ, true, ◌⊎◌, ◌≡◌, refl}
-use mathlib.Core.List.{List, [], ◌++◌}
+use mathlib.Core.List.{List, ◌++◌}
 use Rattle.std.proofs.Common.{inl, inr, ⊎_elim, sym, ap₂, ◌∙◌, subst}
 use Rattle.std.proofs.Math.Path.{ap}
 use Rattle.base_laws.specs.Bools.{and_right}

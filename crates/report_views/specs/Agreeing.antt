@@ -1,6 +1,6 @@
 -- What the held reports give depends on their contents alone: desks whose held slots say the same give the same quorum, holders and
 -- targets, whatever stands off the chains and in other slots.
-use Rattle.std.specs.Prelude.{ℕ, ◌<◌, true, List, [], ◌≡◌}
+use Rattle.std.specs.Prelude.{ℕ, ◌<◌, true, List, ◌≡◌}
 use Rattle.base_laws.specs.Definitions.{has}
 use Rattle.report_views.specs.Definitions.{report_of}
 

@@ -1,6 +1,6 @@
 -- A sheet of the case: by shard and failure set, 2 where no node of the set is allowed, 1 where each that is allowed moves. It tells
 -- of every valid placement how many moves it has at least, and where there is none.
-use Rattle.std.specs.Prelude.{◌≡◌, refl, Bool, ◌&&◌, List, []}
+use Rattle.std.specs.Prelude.{◌≡◌, refl, Bool, ◌&&◌, List}
 use Rattle.std.proofs.Math.Path.{subst}
 use Rattle.std.proofs.Math.Bool.{true, false, cond}
 use Rattle.std.proofs.Common.{⊎_elim}

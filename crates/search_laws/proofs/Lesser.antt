@@ -12,7 +12,7 @@ use Rattle.base_laws.specs.Bools.{and_left, and_right}
 use Rattle.base_sum_laws.specs.Sums.{sum_mono, count_sum, count_once}
 use Rattle.search_laws.specs.Case.{Case, Valid, size, meets, spread, moves}
 use Rattle.search_laws.specs.Shards.{size_in, size_by_set, unmet_nodes}
-use Rattle.search_laws.specs.Lesser.{Exact, kept_only, narrow_moves, apart, narrow}
+use Rattle.search_laws.specs.Lesser.{Exact, kept_only, narrow_moves, narrow}
 
 module _ (K : Case) (z : ℕ → ℕ) where
   -- an exact placement has at most one node of a set in a shard

@@ -1,6 +1,6 @@
 -- Every call of the planner is an event, by its own promise: what it did is told by what it hands back. An order, and every call that only
 -- looks, leaves the state: nothing happened.
-use Rattle.std.specs.Prelude.{ℕ, true, List, [], ◌≡◌, refl}
+use Rattle.std.specs.Prelude.{ℕ, true, List, ◌≡◌, refl}
 use Rattle.std.proofs.Math.Logic.{⊎_elim}
 use Rattle.std.proofs.Math.Path.{subst⁻¹}
 use Rattle.base_laws.specs.Bools.{either}

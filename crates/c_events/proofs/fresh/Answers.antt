@@ -1,6 +1,5 @@
 -- Each return is a case of what the call answers and leaves.
 use mathlib.Core.Path.{sym, ◌∙◌}
-use borrow.Author.Tests.{not-true, not-false}
 use Rattle.c_events.specs.EventCases.{fresh_barred, fresh_not_640, fresh_stored}
 use Rattle.c_events.proofs.fresh.Goals as goal
 

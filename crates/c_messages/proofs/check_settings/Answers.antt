@@ -1,7 +1,6 @@
 -- The words that are looked at are those that were lent, or both are wrong.
 use mathlib.Core.Path.{sym, ap, ◌∙◌}
 use native.Mathlib.Omega.{arith}
-use borrow.Author.Tests.{not-true, not-false}
 use Rattle.settings_values.specs.Definitions.{settings_ok}
 use Rattle.c_messages.specs.Limits.{check_wrong, check_right}
 use Rattle.c_messages.proofs.check_settings.Goals as goal

@@ -1,9 +1,8 @@
 -- At the loop's head the first k words of the body are stored.
-use Prim.Native.Nat.{ℕ, ◌+◌, ◌-◌, ◌≤◌}
+use Prim.Native.Nat.{ℕ, ◌+◌}
 use mathlib.Core.Path.{◌≡◌, refl, sym, ap, ◌∙◌}
 use mathlib.Core.List.{List}
 use native.Mathlib.Omega.{arith}
-use lib.Dec.{lit≤}
 use lib.ListN.{get_or, set, replicate}
 use Rattle.base_laws.specs.Tables.{filled, filled_none, filled_more, filled_all}
 use Rattle.c_messages.specs.WriteCalls.{contents_from}

@@ -1,5 +1,5 @@
 -- `c_placement::array_16` meets its contract. The invariant: the bytes below n are copied. Assumes nothing.
-use Prim.Native.Nat.{ℕ, ◌-◌}
+use Prim.Native.Nat.{ℕ}
 use native.Mathlib.Omega.{arith}
 use lib.ListN.{length-replicate, replicate}
 use Rattle.c_placement.specs.Copies.{copy_start, copy_turn, copy_end}

@@ -2,7 +2,6 @@
 -- wrong nothing is done. Assumes nothing.
 use mathlib.Core.Path.{refl, sym, ◌∙◌}
 use native.Mathlib.Omega.{arith}
-use borrow.Author.Tests.{not-true, not-false}
 use Rattle.base_laws.specs.Bools.{clash}
 use Rattle.c_placement.specs.Number.{small_within, lengths_of, within_given}
 use Rattle.c_placement.proofs.placement_within.Goals as goal

@@ -1,5 +1,4 @@
 -- `c_placement::put` meets its contract. The invariant: the owners below n are stored. Assumes nothing.
-use Prim.Native.Nat.{◌-◌}
 use native.Mathlib.Omega.{arith}
 use Rattle.c_placement.specs.Copies.{copy_start, copy_turn, copy_long, copy_end}
 use Rattle.c_placement.proofs.put.Goals as goal

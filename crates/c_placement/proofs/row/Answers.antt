@@ -1,5 +1,5 @@
 -- `c_placement::row` meets its contract. The invariant: no entry is above those of its set's nodes below n. Assumes nothing.
-use Prim.Native.Nat.{ℕ, ◌%◌, ◌-◌}
+use Prim.Native.Nat.{ℕ, ◌%◌}
 use mathlib.Core.Path.{ap, subst}
 use native.Mathlib.Nat.{le_antisymm}
 use native.Mathlib.Omega.{arith}

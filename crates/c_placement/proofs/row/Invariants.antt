@@ -1,4 +1,3 @@
-use Prim.Native.Nat.{◌≤◌, ◌-◌}
 use Rattle.c_placement.specs.Rows.{RowBelow}
 use Rattle.c_placement.proofs.row.Given as goal
 

@@ -1,6 +1,4 @@
 -- `c_placement::sheet_of` meets its contract. The invariant: the rows of the shards below i are made. Assumes nothing.
-use Prim.Native.Nat.{◌-◌}
-use native.Mathlib.Omega.{arith}
 use lib.ListN.{replicate}
 use Rattle.c_placement.specs.Rows.{rows_start, rows_turn, rows_end}
 use Rattle.c_placement.proofs.sheet_of.Goals as goal

@@ -1,4 +1,3 @@
-use Prim.Native.Nat.{◌≤◌, ◌-◌}
 use Rattle.c_placement.specs.Rows.{RowsBelow}
 use Rattle.c_placement.proofs.sheet_of.Given as goal
 

@@ -1,12 +1,9 @@
 -- At the loop's head the first k words are stored.
-use Prim.Native.Nat.{◌-◌}
 use mathlib.Core.Path.{refl, sym, ◌∙◌}
 use native.Mathlib.Omega.{arith}
-use lib.ListN.{length-set}
 use Rattle.base_laws.specs.Tables.{filled_none}
 use Rattle.base_laws.proofs.Tables.{filled_turn}
 use Rattle.c_state_words.specs.Laws.{span_filled}
-use borrow.Author.Rules.{rules}
 use Rattle.c_state_words.proofs.copy_from.Goals as goal
 
 pub loop-k-init : goal.loop-k-init

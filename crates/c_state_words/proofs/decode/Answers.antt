@@ -1,6 +1,5 @@
 -- The words are a state or they are none.
 use mathlib.Core.Path.{sym, ◌∙◌}
-use borrow.Author.Tests.{not-true, not-false}
 use Rattle.c_state_words.specs.StateWords.{decoded}
 use Rattle.c_state_words.specs.Laws.{stated}
 use Rattle.c_state_words.proofs.decode.Goals as goal

@@ -1,8 +1,5 @@
 -- At the loop's head the first s masks are stored.
-use Prim.Native.Nat.{◌≤◌, ◌-◌}
-use native.Mathlib.Omega.{arith}
 use mathlib.Core.Path.{refl, sym}
-use lib.Dec.{lit≤}
 use Rattle.base_laws.specs.Loops.{turns_none, turned, turned_all}
 use Rattle.c_state_words.proofs.put_masks.Goals as goal
 

@@ -1,8 +1,5 @@
 -- At the loop's head the first n views are stored.
-use Prim.Native.Nat.{◌≤◌, ◌-◌}
-use native.Mathlib.Omega.{arith}
 use mathlib.Core.Path.{refl, sym}
-use lib.Dec.{lit≤}
 use Rattle.base_laws.specs.Loops.{turns_none, turned, turned_all}
 use Rattle.c_state_words.proofs.put_views.Goals as goal
 

@@ -1,4 +1,3 @@
-use Prim.Native.Nat.{◌≤◌, ◌-◌}
 use mathlib.Core.Path.{◌≡◌}
 use Rattle.base_laws.specs.Loops.{turns}
 use Rattle.c_state_words.specs.Stores.{view_number_at, store_word}

@@ -3,7 +3,6 @@ use mathlib.Core.Path.{◌≡◌, sym, ◌∙◌}
 use native.Mathlib.Omega.{arith}
 use Rattle.base_laws.specs.Below.{any_none, any_more, any_at}
 use Rattle.game_rules.specs.Turns.{absent}
-use borrow.Author.Rules.{rules}
 use Rattle.game_turns.proofs.some_absent.Goals as goal
 
 pub loop-b-init : goal.loop-b-init

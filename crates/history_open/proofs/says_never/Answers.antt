@@ -1,6 +1,5 @@
 -- `history_open::says_never` meets its contract: each test in its turn.
 use mathlib.Core.Path.{sym}
-use borrow.Author.Tests.{not-true, not-false}
 use Rattle.history_open.specs.Definitions.{says_never}
 use Rattle.history_open.proofs.says_never.Goals as goal
 

@@ -1,6 +1,6 @@
 -- `message_contents::head_refusal` meets its contract: each way out has the tests that led there.
 use mathlib.Core.Path.{sym}
-use borrow.Author.Tests.{lt-ltb, le-ltb, le-leb, lt-leb, not-true, not-false}
+use borrow.Author.Tests.{lt-ltb, le-ltb, le-leb, lt-leb}
 use Rattle.base_ids.specs.Definitions.{unless}
 use Rattle.message_format.specs.Definitions.{row6, head_refusal}
 use Rattle.message_contents.proofs.head_refusal.Goals as goal

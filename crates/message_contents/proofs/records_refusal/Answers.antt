@@ -4,7 +4,6 @@ use mathlib.Core.Bool.{Bool}
 use mathlib.Core.List.{List}
 use Prim.Native.Nat.{ℕ}
 use lib.ListN.{get_or}
-use borrow.Author.Tests.{not-true, not-false}
 use Rattle.settings_values.specs.Definitions.{shards, Settings}
 use Rattle.message_format.specs.Definitions.{members_of, row10, row11_at}
 use Rattle.message_contents.specs.Gathered.{shard_masks}

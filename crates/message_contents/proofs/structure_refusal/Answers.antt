@@ -1,6 +1,5 @@
 -- `message_contents::structure_refusal` meets its contract: each way out has what the passes up to it found.
 use mathlib.Core.Path.{sym, ◌∙◌}
-use borrow.Author.Tests.{not-true, not-false}
 use Rattle.message_format.specs.Definitions.{shard_at}
 use Rattle.message_contents.specs.Laws.{shards_small}
 use Rattle.base_laws.proofs.Loops.{bad-holds}

@@ -1,6 +1,5 @@
 -- At the loop's head the records so far stand in the body, and the next one is at hand (`Gathering`). While the chain goes
 -- on there is room for it, since at most 127 records follow the head. At the end of the chain the body is the message's.
-use Prim.Native.Nat.{◌-◌, ◌<◌}
 use native.Mathlib.Omega.{arith}
 use Rattle.message_format.specs.Chain.{following_le}
 use Rattle.message_reader.specs.Bodies.{gathering_start, gathering_room, gathering_more, gathering_contents}

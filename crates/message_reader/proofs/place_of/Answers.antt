@@ -1,8 +1,6 @@
 -- At the loop's head j steps have been made, and `at` is where they lead.
-use Prim.Native.Nat.{◌-◌}
 use mathlib.Core.Path.{sym, ap, ◌∙◌}
 use native.Mathlib.Nat.{le_antisymm}
-use native.Mathlib.Omega.{arith}
 use Rattle.message_format.specs.Definitions.{place, next}
 use Rattle.message_chain.specs.declared.Step.{Step}
 use Rattle.message_reader.specs.Walks.{place_none, place_next}

@@ -1,4 +1,3 @@
-use Prim.Native.Nat.{◌-◌, ◌≤◌}
 use mathlib.Core.Path.{◌≡◌}
 use Rattle.message_format.specs.Definitions.{place}
 use Rattle.message_reader.proofs.place_of.Given as goal

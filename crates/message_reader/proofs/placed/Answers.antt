@@ -1,5 +1,5 @@
 -- An index on the chain leads to a record inside the message, so a refusal has room for it.
-use mathlib.Core.Path.{◌≡◌, ap, ◌∙◌}
+use mathlib.Core.Path.{ap, ◌∙◌}
 use Prim.Native.Nat.{◌/◌}
 use native.Mathlib.Omega.{arith}
 use Rattle.message_format.specs.Definitions.{place}

@@ -1,8 +1,5 @@
 -- Row 2 first; what right settings give is what the other rows ask.
-use mathlib.Core.Bool.{true}
-use mathlib.Core.Path.{◌≡◌, sym, ◌∙◌}
-use borrow.Author.Tests.{not-true, not-false}
-use Rattle.settings_values.specs.Definitions.{settings_ok}
+use mathlib.Core.Path.{sym, ◌∙◌}
 use Rattle.settings_values.specs.Laws.{settings_give}
 use Rattle.message_reader.specs.Readings.{reading_settings, reading_message}
 use Rattle.message_reader.proofs.read.Goals as goal

@@ -1,12 +1,9 @@
 -- Each return is a row of the list: what was found on the way there is what the law for that row asks.
-use mathlib.Core.Bool.{true}
-use mathlib.Core.Path.{◌≡◌, sym, ap, ◌∙◌}
-use borrow.Author.Tests.{not-true, not-false}
-use Rattle.base_ids.specs.Definitions.{none}
-use Rattle.message_format.specs.Definitions.{place, row5, row8}
+use mathlib.Core.Path.{sym, ap, ◌∙◌}
+use Rattle.message_format.specs.Definitions.{place}
 use Rattle.message_format.specs.Placing.{placed_by}
 use Rattle.message_reader.specs.Walks.{row5_gives}
-use Rattle.message_reader.specs.Readings.{head_of, number_zero, chain_linked, records_few, reading_length, reading_head, reading_chain, reading_records, contents_few}
+use Rattle.message_reader.specs.Readings.{number_zero, chain_linked, records_few, reading_length, reading_head, reading_chain, reading_records, contents_few}
 use Rattle.message_reader.proofs.read_under.Goals as goal
 
 pub returns-then-not-length_ok : goal.returns-then-not-length_ok

@@ -1,6 +1,5 @@
 -- `message_rows::row7` meets its contract: each way out has the tests that led there.
 use mathlib.Core.Path.{sym}
-use borrow.Author.Tests.{not-true, not-false}
 use Rattle.message_format.specs.Definitions.{row7}
 use Rattle.message_rows.proofs.row7.Goals as goal
 

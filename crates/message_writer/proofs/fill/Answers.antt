@@ -1,6 +1,6 @@
 -- `message_writer::fill` meets its contract. The loop's invariant: the first k lent words are the message's, the others as they were.
 -- Assumes nothing.
-use Prim.Native.Nat.{ℕ, ◌≤◌, ◌<◌, ◌+◌, ◌-◌}
+use Prim.Native.Nat.{ℕ, ◌≤◌, ◌<◌, ◌+◌}
 use native.Mathlib.Omega.{arith}
 use mathlib.Core.List.{List}
 use mathlib.Core.Path.{◌≡◌, refl, sym, ap, ◌∙◌}
@@ -8,7 +8,6 @@ use lib.ListN.{length, set}
 use Rattle.base_laws.specs.Definitions.{tabulate}
 use Rattle.base_laws.specs.Tables.{filled, filled_none, filled_more, filled_all, length_filled}
 use Rattle.message_format.specs.Definitions.{message_of}
-use borrow.Author.Rules.{rules}
 use Rattle.message_writer.proofs.fill.Goals as goal
 
 -- the lent words so far: their length, a turn of the loop, and the last

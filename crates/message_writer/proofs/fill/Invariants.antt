@@ -1,4 +1,3 @@
-use Prim.Native.Nat.{◌≤◌, ◌-◌}
 use mathlib.Core.Path.{◌≡◌}
 use Rattle.base_laws.specs.Tables.{filled}
 use Rattle.message_format.specs.Definitions.{message_word}

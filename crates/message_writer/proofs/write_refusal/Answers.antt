@@ -1,7 +1,7 @@
 -- `message_writer::write_refusal` meets its contract: each return is the row that the tests on the way there pick.
 -- Assumes nothing.
 use mathlib.Core.Path.{sym, ◌∙◌}
-use borrow.Author.Tests.{eq-eqb, ne_eqb, not-true, not-false}
+use borrow.Author.Tests.{eq-eqb, ne_eqb}
 use Rattle.base_ids.specs.Refusals.{unless_true, unless_false}
 use Rattle.settings_values.specs.Laws.{settings_give}
 use Rattle.message_format.specs.Messages.{write_refusal}

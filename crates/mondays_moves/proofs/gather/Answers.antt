@@ -1,6 +1,6 @@
 -- `mondays_moves::gather` meets its contract. The loop's invariant: the lines below i are good and their moves put, and the whole walk is these
 -- moves and the walk from line i on. Assumes nothing.
-use Prim.Native.Nat.{ℕ, ◌-◌}
+use Prim.Native.Nat.{ℕ}
 use mathlib.Core.List.{[], ◌∷◌}
 use mathlib.Core.Path.{sym, ap, ◌∙◌}
 use native.Mathlib.Omega.{arith}

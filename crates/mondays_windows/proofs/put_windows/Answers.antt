@@ -1,6 +1,6 @@
 -- `mondays_windows::put_windows` meets its contract. The loop's invariant: the lines of the windows before i are put, and the window at hand
 -- is that of the 64 moves from i on. Assumes nothing.
-use Prim.Native.Nat.{◌-◌, zero-le}
+use Prim.Native.Nat.{zero-le}
 use mathlib.Core.Path.{sym, ap, ◌∙◌}
 use native.Mathlib.Omega.{arith}
 use lib.ListN.{length-take, length-drop}

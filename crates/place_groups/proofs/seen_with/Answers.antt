@@ -1,7 +1,6 @@
 use native.Mathlib.Omega.{arith}
 use Rattle.place_groups.specs.Sets.{seen_with}
 use mathlib.Core.Path.{sym}
-use borrow.Author.Tests.{not-true, not-false}
 use Rattle.place_groups.proofs.seen_with.Goals as goal
 
 pub returns-then-not-has : goal.returns-then-not-has

@@ -1,5 +1,5 @@
 -- `place_groups::sets_of` meets its contract. The invariant: the sets seen are those of the nodes below n in the mask. Assumes nothing.
-use Prim.Native.Nat.{ℕ, ◌-◌}
+use Prim.Native.Nat.{ℕ}
 use mathlib.Core.Path.{ap, ◌∙◌}
 use native.Mathlib.Omega.{arith}
 use Rattle.place_groups.specs.Sets.{seen_with, sets_none, sets_more, sets_all}

@@ -1,6 +1,4 @@
-use Prim.Native.Nat.{◌≤◌, ◌-◌}
 use mathlib.Core.Path.{◌≡◌}
-use Rattle.settings_values.specs.Definitions.{nodes}
 use Rattle.place_groups.specs.Sets.{sets_below}
 use Rattle.place_groups.proofs.sets_of.Given as goal
 

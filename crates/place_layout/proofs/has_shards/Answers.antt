@@ -1,7 +1,6 @@
 -- `place_layout::has_shards` meets its contract. The invariant: no shard below s is of the subgroup. Assumes nothing.
-use Prim.Native.Nat.{ℕ, ◌-◌}
+use Prim.Native.Nat.{ℕ}
 use mathlib.Core.Path.{◌≡◌, sym, ap, ◌∙◌}
-use mathlib.Core.Bool.{false}
 use native.Mathlib.Omega.{arith}
 use Rattle.base_laws.specs.Definitions.{any_below}
 use Rattle.base_laws.specs.Below.{any_none, any_more, any_at}

@@ -1,7 +1,6 @@
 -- `place_layout::mask_with` meets its contract: the definition's test, taken or not. Assumes nothing.
 use mathlib.Core.Path.{sym, ap, ◌∙◌}
 use mathlib.Core.Bool.{Bool, cond}
-use borrow.Author.Tests.{not-true, not-false}
 use Rattle.place_laws.specs.Adding.{owned_by, mask_with}
 use Rattle.place_layout.proofs.mask_with.Goals as goal
 

@@ -1,5 +1,5 @@
 -- `place_layout::masks_with` meets its contract. The invariant: the masks below s are filled in. Assumes nothing.
-use Prim.Native.Nat.{ℕ, ◌-◌}
+use Prim.Native.Nat.{ℕ}
 use mathlib.Core.List.{List}
 use native.Mathlib.Omega.{arith}
 use lib.ListN.{get_or}

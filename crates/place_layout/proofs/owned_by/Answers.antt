@@ -1,5 +1,5 @@
 -- `place_layout::owned_by` meets its contract. The invariant: the mask has the nodes below n that the shard owns. Assumes nothing.
-use Prim.Native.Nat.{ℕ, ◌-◌}
+use Prim.Native.Nat.{ℕ}
 use mathlib.Core.Path.{sym, ap, ◌∙◌}
 use mathlib.Core.Bool.{Bool}
 use mathlib.Core.List.{List}

@@ -1,5 +1,5 @@
 -- `place_rounds::finish` meets its contract. The invariant: in the subgroups below g stands what 128 rounds reach there. Assumes nothing.
-use Prim.Native.Nat.{ℕ, ◌-◌}
+use Prim.Native.Nat.{ℕ}
 use mathlib.Core.Path.{◌≡◌, refl, subst, subst⁻¹}
 use native.Mathlib.Nat.{le_antisymm}
 use native.Mathlib.Omega.{arith}

@@ -1,4 +1,3 @@
-use Prim.Native.Nat.{◌≤◌, ◌-◌}
 use lib.ListN.{get_or}
 use Rattle.place_rounds.specs.Post.{EndedSoFar}
 use Rattle.place_rounds.proofs.finish.Given as goal

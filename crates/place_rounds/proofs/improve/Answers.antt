@@ -1,5 +1,5 @@
 -- `place_rounds::improve` meets its contract. From 128 rounds on they are 128. The invariant: in the subgroups below g stands what the rounds reach there. Assumes nothing.
-use Prim.Native.Nat.{ℕ, ◌-◌, min}
+use Prim.Native.Nat.{ℕ, min}
 use mathlib.Core.Path.{◌≡◌, refl, subst, subst⁻¹}
 use native.Mathlib.Nat.{le_antisymm}
 use native.Mathlib.Omega.{arith}

@@ -1,4 +1,4 @@
-use Prim.Native.Nat.{◌≤◌, ◌-◌, min}
+use Prim.Native.Nat.{min}
 use lib.ListN.{get_or}
 use Rattle.place_rounds.specs.Post.{ReachedSoFar}
 use Rattle.place_rounds.proofs.improve.Given as goal

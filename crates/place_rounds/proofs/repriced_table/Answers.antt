@@ -1,5 +1,5 @@
 -- `place_rounds::repriced_table` meets its contract. The invariant: the costs below t are filled in. Assumes nothing.
-use Prim.Native.Nat.{ℕ, ◌-◌}
+use Prim.Native.Nat.{ℕ}
 use mathlib.Core.List.{List}
 use native.Mathlib.Omega.{arith}
 use lib.ListN.{get_or}

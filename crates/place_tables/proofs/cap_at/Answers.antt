@@ -1,7 +1,6 @@
 -- `place_tables::cap_at` meets its contract: a cap is at most 16, so it fits a byte. Assumes nothing.
 use mathlib.Core.Path.{sym, ◌∙◌}
 use native.Mathlib.Omega.{arith}
-use borrow.Author.Tests.{not-true, not-false}
 use Rattle.place_laws.specs.Cases.{group_shard, cap_of, cap_none}
 use Rattle.place_tables.proofs.cap_at.Goals as goal
 

@@ -3,7 +3,6 @@
 use mathlib.Core.Path.{sym, ◌∙◌}
 use native.Mathlib.Omega.{arith}
 use lib.ListN.{get_or}
-use borrow.Author.Tests.{not-true, not-false}
 use Rattle.base_laws.specs.Masks.{has_past}
 use Rattle.settings_values.specs.Definitions.{nodes}
 use Rattle.place_groups.proofs.Laws.{entry_none, entry_moves}

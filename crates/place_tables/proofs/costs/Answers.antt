@@ -1,6 +1,6 @@
 -- `place_tables::costs` meets its contract. The invariant: the costs of the shards below s are filled in; those of another subgroup's
 -- shards are 255, as the table has them from the start. Assumes nothing.
-use Prim.Native.Nat.{◌+◌, ◌*◌, ◌/◌, ◌%◌, ◌-◌}
+use Prim.Native.Nat.{◌+◌, ◌*◌, ◌/◌, ◌%◌}
 use mathlib.Core.Path.{◌≡◌, sym, ap, ◌∙◌}
 use native.Mathlib.Omega.{arith}
 use lib.ListN.{get_or}

@@ -1,6 +1,5 @@
 -- `place_tables::need_at` meets its contract: a need is at most 16, so it fits a byte. Assumes nothing.
 use mathlib.Core.Path.{sym, ◌∙◌}
-use borrow.Author.Tests.{not-true, not-false}
 use Rattle.place_laws.specs.Cases.{group_shard, need-of, need_none}
 use Rattle.place_tables.proofs.need_at.Goals as goal
 

@@ -1,5 +1,4 @@
 -- `place_tables::needs` meets its contract. The invariant: the entries below s are filled in. Assumes nothing.
-use Prim.Native.Nat.{◌-◌}
 use native.Mathlib.Omega.{arith}
 use Rattle.base_laws.proofs.Tables.{fill_start, fill_turn, fill_end}
 use Rattle.place_laws.specs.Cases.{need_in}

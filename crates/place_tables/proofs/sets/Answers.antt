@@ -1,5 +1,4 @@
 -- `place_tables::sets` meets its contract. The invariant: the entries below n are filled in. Assumes nothing.
-use Prim.Native.Nat.{◌-◌}
 use native.Mathlib.Omega.{arith}
 use Rattle.base_laws.proofs.Tables.{fill_start, fill_turn, fill_end}
 use Rattle.place_laws.specs.Cases.{set_in}

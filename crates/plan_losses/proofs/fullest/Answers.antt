@@ -1,5 +1,4 @@
 -- `plan_losses::fullest` meets its contract: its numbers and tables stay inside their ends. Assumes nothing.
-use Prim.Native.Nat.{◌-◌}
 use borrow.Author.Rules.{rules}
 use Rattle.plan_losses.proofs.fullest.Goals as goal
 

@@ -1,6 +1,6 @@
 -- `plan_losses::group_needs` meets its contract. The invariant: the total is the sum over the shards below s, of at most 16 each.
 -- Assumes nothing.
-use Prim.Native.Nat.{ℕ, ◌-◌}
+use Prim.Native.Nat.{ℕ}
 use mathlib.Core.Path.{◌≡◌, sym, ap, ◌∙◌}
 use native.Mathlib.Omega.{arith}
 use Rattle.base_sum_laws.specs.Definitions.{sum_below}

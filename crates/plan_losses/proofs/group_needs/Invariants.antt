@@ -1,7 +1,6 @@
-use Prim.Native.Nat.{◌≤◌, ◌-◌, ◌*◌}
+use Prim.Native.Nat.{◌≤◌, ◌*◌}
 use mathlib.Core.Path.{◌≡◌}
 use Rattle.base_sum_laws.specs.Definitions.{sum_below}
-use Rattle.settings_values.specs.Definitions.{shards}
 use Rattle.plan_losses.specs.Needs.{need_of}
 use Rattle.plan_losses.proofs.group_needs.Given as goal
 

@@ -1,5 +1,4 @@
 -- `plan_losses::held_counts` meets its contract. The invariant: the counts of the sets below f are stored. Assumes nothing.
-use Prim.Native.Nat.{◌-◌}
 use native.Mathlib.Omega.{arith}
 use Rattle.base_laws.proofs.Tables.{fill_start, fill_turn, fill_end}
 use Rattle.plan_losses.specs.Needs.{held_in}

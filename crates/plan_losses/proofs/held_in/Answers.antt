@@ -1,11 +1,10 @@
 -- `plan_losses::held_in` meets its contract. The invariant: the total is the count below n. Assumes nothing.
-use Prim.Native.Nat.{◌-◌}
 use mathlib.Core.Bool.{Bool, cond}
 use mathlib.Core.Path.{sym, ap, ◌∙◌}
 use native.Mathlib.Omega.{arith}
 use Rattle.base_laws.specs.Below.{count_zero}
 use Rattle.base_laws.specs.Loops.{count_turn, count_done}
-use Rattle.plan_losses.specs.Needs.{held_of, held_in}
+use Rattle.plan_losses.specs.Needs.{held_in}
 use Rattle.plan_losses.proofs.held_in.Goals as goal
 
 pub loop-n-init : goal.loop-n-init

@@ -1,7 +1,6 @@
-use Prim.Native.Nat.{◌≤◌, ◌-◌}
+use Prim.Native.Nat.{◌≤◌}
 use mathlib.Core.Path.{◌≡◌}
 use Rattle.base_laws.specs.Definitions.{count_below}
-use Rattle.settings_values.specs.Definitions.{nodes}
 use Rattle.plan_losses.specs.Needs.{held_of}
 use Rattle.plan_losses.proofs.held_in.Given as goal
 

@@ -2,7 +2,6 @@
 use Prim.Native.Nat.{ℕ}
 use mathlib.Core.Path.{sym, ap, ◌∙◌}
 use lib.Dec.{eqb}
-use borrow.Author.Tests.{not-true, not-false}
 use Rattle.plan_losses.specs.Needs.{held_not, held_is}
 use Rattle.plan_losses.proofs.held_of.Goals as goal
 

@@ -1,5 +1,4 @@
 -- `plan_losses::instead` meets its contract: its numbers and tables stay inside their ends. Assumes nothing.
-use Prim.Native.Nat.{◌-◌}
 use borrow.Author.Rules.{rules}
 use Rattle.plan_losses.proofs.instead.Goals as goal
 

@@ -1,10 +1,9 @@
 -- `plan_losses::losses` meets its contract. The invariant: of the nodes below n the losses are noted. Assumes nothing.
-use Prim.Native.Nat.{ℕ, ◌-◌}
+use Prim.Native.Nat.{ℕ}
 use mathlib.Core.Path.{◌≡◌, subst}
 use native.Mathlib.Omega.{arith}
 use Rattle.settings_values.specs.Definitions.{nodes}
 use Rattle.plan_losses.specs.Losses.{quorums_in, LostBelow, lost_none, lost_all}
-use borrow.Author.Rules.{rules}
 use Rattle.plan_losses.proofs.losses.Goals as goal
 
 pub loop-n-init : goal.loop-n-init

@@ -1,4 +1,3 @@
-use Prim.Native.Nat.{◌≤◌, ◌-◌}
 use Rattle.plan_losses.specs.Losses.{quorums_in, LostBelow}
 use Rattle.plan_losses.proofs.losses.Given as goal
 

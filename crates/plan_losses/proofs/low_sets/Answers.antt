@@ -1,5 +1,5 @@
 -- `plan_losses::low_sets` meets its contract. The invariant: the sets are low ones below f. Assumes nothing.
-use Prim.Native.Nat.{ℕ, ◌-◌}
+use Prim.Native.Nat.{ℕ}
 use mathlib.Core.Path.{◌≡◌, subst}
 use native.Mathlib.Omega.{arith}
 use Rattle.plan_losses.specs.Needs.{LowBelow, low_none}

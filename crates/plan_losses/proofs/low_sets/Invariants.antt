@@ -1,4 +1,3 @@
-use Prim.Native.Nat.{◌≤◌, ◌-◌}
 use Rattle.plan_losses.specs.Needs.{LowBelow}
 use Rattle.plan_losses.proofs.low_sets.Given as goal
 

@@ -1,7 +1,6 @@
 -- `plan_losses::need_of` meets its contract: by whether the shard is one of them. Assumes nothing.
 use mathlib.Core.Path.{sym, ◌∙◌}
 use native.Mathlib.Omega.{arith}
-use borrow.Author.Tests.{not-true, not-false}
 use Rattle.plan_losses.specs.Needs.{need_other, need_own}
 use borrow.Author.Rules.{rules}
 use Rattle.plan_losses.proofs.need_of.Goals as goal

@@ -1,11 +1,10 @@
 -- `plan_losses::needy` meets its contract. The invariant: the total is the count below s. Assumes nothing.
-use Prim.Native.Nat.{◌-◌}
 use mathlib.Core.Bool.{Bool, cond}
 use mathlib.Core.Path.{sym, ap, ◌∙◌}
 use native.Mathlib.Omega.{arith}
 use Rattle.base_laws.specs.Below.{count_zero}
 use Rattle.base_laws.specs.Loops.{count_turn, count_done}
-use Rattle.plan_losses.specs.Needs.{needs_at, needy_shards}
+use Rattle.plan_losses.specs.Needs.{needy_shards}
 use Rattle.plan_losses.proofs.needy.Goals as goal
 
 pub loop-s-init : goal.loop-s-init

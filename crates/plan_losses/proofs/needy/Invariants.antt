@@ -1,7 +1,6 @@
-use Prim.Native.Nat.{◌≤◌, ◌-◌}
+use Prim.Native.Nat.{◌≤◌}
 use mathlib.Core.Path.{◌≡◌}
 use Rattle.base_laws.specs.Definitions.{count_below}
-use Rattle.settings_values.specs.Definitions.{shards}
 use Rattle.plan_losses.specs.Needs.{needs_at}
 use Rattle.plan_losses.proofs.needy.Given as goal
 

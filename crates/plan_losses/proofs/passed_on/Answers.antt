@@ -1,5 +1,4 @@
 -- `plan_losses::passed_on` meets its contract: its numbers and tables stay inside their ends. Assumes nothing.
-use Prim.Native.Nat.{◌-◌}
 use borrow.Author.Rules.{rules}
 use Rattle.plan_losses.proofs.passed_on.Goals as goal
 

@@ -1,5 +1,4 @@
 -- `plan_losses::served` meets its contract. The invariant: the total is the sum over the sets below f. Assumes nothing.
-use Prim.Native.Nat.{◌-◌}
 use mathlib.Core.Path.{sym}
 use native.Mathlib.Omega.{arith}
 use Rattle.base_sum_laws.specs.Sums.{sum_zero, sum_done}

@@ -1,11 +1,8 @@
 -- `plan_losses::stays_placed` meets its contract. The invariant: every subgroup below g has a valid placement, the one that was judged.
-use Prim.Native.Nat.{◌-◌}
 use mathlib.Core.Path.{◌≡◌, refl, subst}
 use native.Mathlib.Omega.{arith}
-use borrow.Author.Tests.{not-false}
 use Rattle.base_laws.specs.Bools.{clash}
 use Rattle.plan_losses.specs.Losses.{PlacedBelow, placed_more}
-use borrow.Author.Rules.{rules}
 use Rattle.plan_losses.proofs.stays_placed.Goals as goal
 
 pub loop-g-init : goal.loop-g-init

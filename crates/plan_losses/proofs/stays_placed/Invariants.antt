@@ -1,4 +1,3 @@
-use Prim.Native.Nat.{◌≤◌, ◌-◌}
 use Rattle.plan_losses.specs.Losses.{PlacedBelow}
 use Rattle.plan_losses.proofs.stays_placed.Given as goal
 

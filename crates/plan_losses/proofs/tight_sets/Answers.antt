@@ -1,5 +1,4 @@
 -- `plan_losses::tight_sets` meets its contract. The invariant: the sets are tight ones. Assumes nothing.
-use Prim.Native.Nat.{◌-◌}
 use native.Mathlib.Omega.{arith}
 use Rattle.plan_losses.specs.Needs.{tight_none}
 use Rattle.plan_losses.proofs.tight_sets.Goals as goal

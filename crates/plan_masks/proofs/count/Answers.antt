@@ -1,7 +1,6 @@
 -- `plan_masks::count` meets its contract. The invariant: the slots of the nodes below n are sound, and the masks have those of them that count.
-use Prim.Native.Nat.{ℕ, ◌-◌, ◌+◌}
+use Prim.Native.Nat.{ℕ, ◌+◌}
 use mathlib.Core.Bool.{false}
-use mathlib.Core.Logic.{⊎_elim}
 use mathlib.Core.Path.{◌≡◌, sym, ap, ◌∙◌, subst, subst⁻¹}
 use native.Mathlib.Omega.{arith}
 use Rattle.base_laws.specs.Bools.{of_not_true, of_not_false}

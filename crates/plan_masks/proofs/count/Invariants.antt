@@ -1,4 +1,3 @@
-use Prim.Native.Nat.{◌-◌}
 use Rattle.base_lent.specs.Definitions.{words_in}
 use Rattle.plan_masks.specs.Turns.{CountedTo}
 use Rattle.plan_masks.proofs.count.Given as goal

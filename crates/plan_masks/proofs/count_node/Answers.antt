@@ -1,5 +1,5 @@
 -- `plan_masks::count_node` meets its contract. The invariant: the masks of the shards below s have the node, the others are as they were.
-use Prim.Native.Nat.{ℕ, ◌<◌, ◌-◌}
+use Prim.Native.Nat.{ℕ, ◌<◌}
 use mathlib.Core.List.{List}
 use mathlib.Core.Path.{◌≡◌, sym, ap, ◌∙◌, subst}
 use native.Mathlib.Omega.{arith}
@@ -8,7 +8,6 @@ use Rattle.base_laws.specs.Tables.{filled, filled_none, get_or_filled_rest}
 use Rattle.base_laws.proofs.Tables.{filled_turn}
 use Rattle.report_views.specs.Definitions.{node_at}
 use Rattle.plan_masks.specs.Counting.{counted_with, counted_at}
-use borrow.Author.Rules.{rules}
 use Rattle.plan_masks.proofs.count_node.Goals as goal
 
 pub loop-s-init : goal.loop-s-init

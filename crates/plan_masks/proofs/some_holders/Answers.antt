@@ -1,5 +1,5 @@
 -- `plan_masks::some_holders` meets its contract. The invariant: what is said of the shards below s is stored.
-use Prim.Native.Nat.{ℕ, ◌-◌}
+use Prim.Native.Nat.{ℕ}
 use mathlib.Core.List.{List}
 use mathlib.Core.Path.{ap}
 use native.Mathlib.Omega.{arith}
@@ -7,7 +7,6 @@ use lib.ListN.{get_or}
 use Rattle.base_laws.proofs.Tables.{fill_start, fill_turn, fill_end}
 use Rattle.base_ids.specs.declared.Node.{Node}
 use Rattle.plan_masks.specs.Masks.{some_holder, some_holders}
-use borrow.Author.Rules.{rules}
 use Rattle.plan_masks.proofs.some_holders.Goals as goal
 
 abbrev none : Node

@@ -1,6 +1,5 @@
 -- `plan_order::cut_for` meets its contract: the holder's report is read, and the cut is that against it.
 use mathlib.Core.Path.{sym, ◌∙◌}
-use borrow.Author.Tests.{not-true, not-false}
 use Rattle.report_desk.specs.Bytes.{desk_bytes}
 use Rattle.plan_order.specs.Readable.{read_few, cut_read, cut_taken, cut_left}
 use Rattle.plan_order.proofs.cut_for.Goals as goal

@@ -1,5 +1,5 @@
 -- `plan_order::cuts_of` meets its contract. The invariant: the cuts of the shards below s are stored.
-use Prim.Native.Nat.{◌<◌, ◌-◌}
+use Prim.Native.Nat.{◌<◌}
 use native.Mathlib.Omega.{arith}
 use mathlib.Core.Path.{◌≡◌}
 use Rattle.base_lent.specs.Definitions.{words_in}

@@ -1,4 +1,4 @@
-use Prim.Native.Nat.{◌≤◌, ◌-◌}
+use Prim.Native.Nat.{◌≤◌}
 use mathlib.Core.Path.{◌≡◌}
 use Rattle.base_lent.specs.Definitions.{words_in}
 use Rattle.settings_values.specs.Definitions.{shards}

@@ -1,5 +1,5 @@
 -- `plan_order::put_cuts` meets its contract: turn s stores the cut of shard s where the node carries it.
-use Prim.Native.Nat.{◌-◌, ◌+◌}
+use Prim.Native.Nat.{◌+◌}
 use native.Mathlib.Omega.{arith}
 use mathlib.Core.Path.{sym, ◌∙◌}
 use Rattle.plan_order.specs.Definitions.{is_member}

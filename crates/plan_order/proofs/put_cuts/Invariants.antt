@@ -1,4 +1,3 @@
-use Prim.Native.Nat.{◌-◌}
 use Rattle.plan_order.specs.Definitions.{is_member}
 use Rattle.plan_order.specs.Stores.{store_tabled, Storing}
 use Rattle.plan_order.proofs.put_cuts.Given as goal

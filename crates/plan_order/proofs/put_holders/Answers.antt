@@ -1,5 +1,5 @@
 -- `plan_order::put_holders` meets its contract: turn s stores the holder of shard s where the node carries it.
-use Prim.Native.Nat.{◌-◌, ◌+◌}
+use Prim.Native.Nat.{◌+◌}
 use native.Mathlib.Omega.{arith}
 use mathlib.Core.Path.{sym, ◌∙◌}
 use Rattle.report_views.specs.Definitions.{holder_at}

@@ -1,4 +1,3 @@
-use Prim.Native.Nat.{◌-◌}
 use Rattle.plan_order.specs.Definitions.{carries}
 use Rattle.plan_order.specs.Stores.{store_holder, Storing}
 use Rattle.plan_order.proofs.put_holders.Given as goal

@@ -1,6 +1,4 @@
 -- `plan_order::put_members` meets its contract: turn s stores the members of shard s.
-use Prim.Native.Nat.{◌-◌}
-use native.Mathlib.Omega.{arith}
 use mathlib.Core.Path.{sym}
 use Rattle.base_laws.specs.Loops.{turns_none, turned, turned_all}
 use Rattle.plan_order.proofs.put_members.Goals as goal

@@ -1,6 +1,5 @@
 -- `plan_page::holder_shown` meets its contract: the holder where it is shown. Assumes nothing.
 use mathlib.Core.Path.{sym, ◌∙◌}
-use borrow.Author.Tests.{not-true, not-false}
 use Rattle.plan_page.specs.Turns.{holder_kept, holder_hidden}
 use Rattle.plan_page.proofs.holder_shown.Goals as goal
 

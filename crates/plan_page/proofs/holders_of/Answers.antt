@@ -1,5 +1,4 @@
 -- `plan_page::holders_of` meets its contract. The invariant: the holders of the shards below s are stored. Assumes nothing.
-use Prim.Native.Nat.{◌-◌}
 use native.Mathlib.Omega.{arith}
 use Rattle.base_laws.proofs.Tables.{fill_start, fill_turn, fill_end}
 use Rattle.base_ids.specs.declared.Node.{Node}

@@ -1,6 +1,5 @@
 -- `plan_page::is_shown` meets its contract: by the two tests. Assumes nothing.
 use mathlib.Core.Path.{sym, ◌∙◌}
-use borrow.Author.Tests.{not-true, not-false}
 use Rattle.plan_page.specs.Turns.{other_shard, own_shard}
 use Rattle.plan_page.proofs.is_shown.Goals as goal
 

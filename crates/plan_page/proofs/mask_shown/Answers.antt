@@ -1,6 +1,5 @@
 -- `plan_page::mask_shown` meets its contract: by the test. Assumes nothing.
 use mathlib.Core.Path.{sym, ◌∙◌}
-use borrow.Author.Tests.{not-true, not-false}
 use Rattle.plan_page.specs.Turns.{mask_kept, mask_hidden}
 use Rattle.plan_page.proofs.mask_shown.Goals as goal
 

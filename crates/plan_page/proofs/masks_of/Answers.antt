@@ -1,5 +1,4 @@
 -- `plan_page::masks_of` meets its contract. The invariant: the masks of the shards below s are stored. Assumes nothing.
-use Prim.Native.Nat.{◌-◌}
 use native.Mathlib.Omega.{arith}
 use lib.ListN.{get_or}
 use Rattle.base_laws.proofs.Tables.{fill_start, fill_turn, fill_end}

@@ -1,8 +1,7 @@
 -- `plan_page::shards_of` meets its contract. The invariant: the mask has the shards below s. Assumes nothing.
-use Prim.Native.Nat.{ℕ, ◌-◌}
+use Prim.Native.Nat.{ℕ}
 use mathlib.Core.Path.{sym, ap, ◌∙◌}
 use native.Mathlib.Nat.{le_antisymm}
-use native.Mathlib.Omega.{arith}
 use Rattle.base_sum_laws.specs.Definitions.{mask_below}
 use Rattle.base_sum_laws.specs.Picked.{mask_none}
 use Rattle.place_groups.specs.Definitions.{of_group}

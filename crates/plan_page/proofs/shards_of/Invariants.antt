@@ -1,4 +1,3 @@
-use Prim.Native.Nat.{◌≤◌, ◌-◌}
 use mathlib.Core.Path.{◌≡◌}
 use Rattle.base_sum_laws.specs.Definitions.{mask_below}
 use Rattle.place_groups.specs.Definitions.{of_group}

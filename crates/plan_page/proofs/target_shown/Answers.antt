@@ -1,6 +1,5 @@
 -- `plan_page::target_shown` meets its contract: the target where the holder is shown. Assumes nothing.
 use mathlib.Core.Path.{sym, ◌∙◌}
-use borrow.Author.Tests.{not-true, not-false}
 use Rattle.plan_page.specs.Turns.{target_kept, target_hidden}
 use Rattle.plan_page.proofs.target_shown.Goals as goal
 

@@ -1,5 +1,4 @@
 -- `plan_page::targets_of` meets its contract. The invariant: the targets of the shards below s are stored. Assumes nothing.
-use Prim.Native.Nat.{◌-◌}
 use mathlib.Core.Path.{◌∙◌}
 use native.Mathlib.Omega.{arith}
 use lib.ListN.{get_or}

@@ -1,6 +1,6 @@
 -- `plan_quorum::first_without` meets its contract. The invariant: every shard below s has a holder.
-use Prim.Native.Nat.{ℕ, ◌-◌}
-use mathlib.Core.Bool.{Bool, false}
+use Prim.Native.Nat.{ℕ}
+use mathlib.Core.Bool.{Bool}
 use mathlib.Core.List.{List}
 use mathlib.Core.Path.{◌≡◌, sym}
 use native.Mathlib.Omega.{arith}
@@ -11,7 +11,6 @@ use Rattle.base_laws.proofs.Below.{lowest_at}
 use Rattle.base_ids.specs.declared.Node.{Node}
 use Rattle.report_views.specs.Definitions.{node_at}
 use Rattle.plan_quorum.specs.Quorum.{first_without}
-use borrow.Author.Rules.{rules}
 use Rattle.plan_quorum.proofs.first_without.Goals as goal
 
 abbrev without : List Node → ℕ → Bool

@@ -2,7 +2,6 @@
 use Prim.Native.Nat.{◌<◌, ◌≤◌}
 use mathlib.Core.Path.{sym, ◌∙◌}
 use native.Mathlib.Omega.{arith}
-use borrow.Author.Tests.{not-true, not-false}
 use Rattle.base_laws.specs.Definitions.{count}
 use Rattle.settings_values.specs.Definitions.{least}
 use Rattle.plan_quorum.specs.Quorum.{quorum_view, quorum_most, quorum_few, quorum_holder, quorum_met}

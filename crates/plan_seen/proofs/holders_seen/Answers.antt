@@ -1,5 +1,5 @@
 -- `plan_seen::holders_seen` meets its contract. The invariant: the holders of the shards below s are stored.
-use Prim.Native.Nat.{ℕ, ◌-◌}
+use Prim.Native.Nat.{ℕ}
 use mathlib.Core.Path.{◌≡◌, refl, ap, ◌∙◌}
 use native.Mathlib.Omega.{arith}
 use mathlib.Core.List.{List}
@@ -8,7 +8,6 @@ use Rattle.base_laws.specs.Tables.{filled}
 use Rattle.base_laws.proofs.Tables.{fill_start, fill_turn, filled_else}
 use Rattle.base_ids.specs.declared.Node.{Node}
 use Rattle.plan_seen.specs.Fold.{holders_from}
-use borrow.Author.Rules.{rules}
 use Rattle.plan_seen.proofs.holders_seen.Goals as goal
 
 abbrev none : Node

@@ -1,7 +1,6 @@
 -- `plan_seen::member_end` meets its contract: of a shard of another node nothing is asked.
 use mathlib.Core.Path.{sym, ◌∙◌}
 use native.Mathlib.Omega.{arith}
-use borrow.Author.Tests.{not-true}
 use Rattle.base_laws.specs.Bools.{clash}
 use Rattle.plan_seen.proofs.member_end.Goals as goal
 

@@ -1,10 +1,9 @@
 -- `plan_seen::member_ends` meets its contract. The invariant: the ends of the shards below s are stored.
-use Prim.Native.Nat.{ℕ, ◌-◌}
+use Prim.Native.Nat.{ℕ}
 use mathlib.Core.Path.{◌∙◌}
 use native.Mathlib.Omega.{arith}
 use lib.ListN.{length-set, length-replicate}
 use Rattle.plan_seen.specs.Quick.{ends_more}
-use borrow.Author.Rules.{rules}
 use Rattle.plan_seen.proofs.member_ends.Goals as goal
 
 pub loop-s-init : goal.loop-s-init

@@ -1,10 +1,9 @@
 -- `plan_seen::note` meets its contract. The invariant: the shards below s are renewed.
-use Prim.Native.Nat.{ℕ, ◌-◌}
+use Prim.Native.Nat.{ℕ}
 use mathlib.Core.Path.{◌≡◌, subst}
 use native.Mathlib.Omega.{arith}
 use Rattle.settings_values.specs.Definitions.{shards}
 use Rattle.plan_seen.specs.Nodes.{RenewedBelow, renewed_none, renewed_more}
-use borrow.Author.Rules.{rules}
 use Rattle.plan_seen.proofs.note.Goals as goal
 
 pub loop-s-init : goal.loop-s-init

@@ -3,7 +3,6 @@ use native.Mathlib.Omega.{arith}
 use mathlib.Core.Path.{sym, ◌∙◌}
 use mathlib.Core.Bool.{true}
 use lib.ListN.{length-set}
-use borrow.Author.Tests.{not-true, not-false}
 use Rattle.plan_seen.specs.Nodes.{renewed_not, renewed_set}
 use Rattle.plan_seen.proofs.note_best.Goals as goal
 

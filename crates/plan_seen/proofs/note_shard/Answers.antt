@@ -1,6 +1,5 @@
 -- `plan_seen::note_shard` meets its contract: a node that is no member, or whose log lacks the position, is passed over.
 use mathlib.Core.Path.{◌≡◌, sym, ap, ◌∙◌}
-use borrow.Author.Tests.{not-true, not-false}
 use Prim.Native.Nat.{ℕ}
 use mathlib.Core.Bool.{true}
 use mathlib.Core.List.{List}

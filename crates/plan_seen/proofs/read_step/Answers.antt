@@ -1,6 +1,5 @@
 -- `plan_seen::read_step` meets its contract: what is accepted at once is sound, and so is what the reader accepts and fits.
 use mathlib.Core.Path.{refl, sym, ◌∙◌}
-use borrow.Author.Tests.{not-true, not-false}
 use mathlib.Core.Bool.{true}
 use Rattle.base_laws.specs.Bools.{clash}
 use Rattle.plan_seen.specs.Steps.{words_long, read_few, stepped_other, stepped_refused, stepped_unfit, fits_sound, contents_are}

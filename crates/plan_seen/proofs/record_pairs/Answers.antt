@@ -1,12 +1,11 @@
 -- `plan_seen::record_pairs` meets its contract. The invariant: the records below j are stored.
-use Prim.Native.Nat.{ℕ, ◌-◌, ◌<◌, ◌+◌, ◌*◌, ◌/◌, ◌%◌}
+use Prim.Native.Nat.{ℕ, ◌<◌, ◌+◌, ◌*◌, ◌/◌, ◌%◌}
 use mathlib.Core.Path.{◌≡◌, ◌∙◌, subst}
 use native.Mathlib.Omega.{arith}
 use lib.ListN.{set, length-set, length-replicate}
 use Rattle.message_format.specs.Definitions.{tag, word1, word2}
 use Rattle.report_walk.specs.Updates.{RecordsAre}
 use Rattle.plan_seen.specs.Steps.{pairs_more}
-use borrow.Author.Rules.{rules}
 use Rattle.plan_seen.proofs.record_pairs.Goals as goal
 
 -- the halves of a pair

@@ -1,7 +1,6 @@
 -- `plan_seen::see` meets its contract: sound slots, then what the walk gives.
 use mathlib.Core.Path.{refl, sym, ap, ◌∙◌}
 use native.Mathlib.Omega.{arith}
-use borrow.Author.Tests.{not-true, not-false}
 use Rattle.report_walk.specs.Pairs.{FitWords}
 use Rattle.plan_seen.specs.Fold.{holders_from, targets_from, holders_last, targets_last}
 use Rattle.plan_seen.specs.Sight.{seen_none, seen_all}

@@ -1,5 +1,5 @@
 -- `plan_seen::targets_seen` meets its contract. The invariant: the targets of the shards below s are stored.
-use Prim.Native.Nat.{ℕ, ◌-◌}
+use Prim.Native.Nat.{ℕ}
 use mathlib.Core.Path.{◌≡◌, ap, ◌∙◌}
 use native.Mathlib.Omega.{arith}
 use mathlib.Core.List.{List}
@@ -10,7 +10,6 @@ use Rattle.base_ids.specs.declared.Position.{Position}
 use Rattle.report_views.specs.Definitions.{start, position_at}
 use Rattle.report_views.specs.declared.Termination.{Termination}
 use Rattle.plan_seen.specs.Fold.{target_from, targets_from}
-use borrow.Author.Rules.{rules}
 use Rattle.plan_seen.proofs.targets_seen.Goals as goal
 
 abbrev target_in : Termination → List ℕ → ℕ → Position

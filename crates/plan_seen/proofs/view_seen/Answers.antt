@@ -4,7 +4,6 @@ use Rattle.base_lent.specs.Definitions.{words_in}
 use Rattle.report_desk.specs.Bytes.{desk_length, desk_word}
 use native.Mathlib.Omega.{arith}
 use Prim.Native.Nat.{◌+◌, ◌*◌}
-use borrow.Author.Tests.{not-true, not-false}
 use Rattle.report_desk.specs.Ends.{view-at}
 use Rattle.plan_seen.specs.Sight.{view_unheld, view_held}
 use Rattle.plan_seen.proofs.view_seen.Goals as goal

@@ -1,5 +1,5 @@
 -- `plan_seen::views_seen` meets its contract. The invariant: the views of the nodes below n are stored.
-use Prim.Native.Nat.{ℕ, ◌-◌}
+use Prim.Native.Nat.{ℕ}
 use mathlib.Core.Path.{◌≡◌, sym, ap, ◌∙◌}
 use native.Mathlib.Omega.{arith}
 use Rattle.base_ids.specs.declared.View.{View}
@@ -8,7 +8,6 @@ use Rattle.base_lent.specs.Definitions.{words_in}
 use Rattle.base_laws.specs.Tables.{filled, filled_none, filled_all}
 use Rattle.base_laws.proofs.Tables.{filled_turn}
 use Rattle.plan_seen.specs.Sight.{view_seen, views_seen}
-use borrow.Author.Rules.{rules}
 use Rattle.plan_seen.proofs.views_seen.Goals as goal
 
 abbrev none : View

@@ -1,5 +1,5 @@
 -- `plan_seen::walk_nodes` meets its contract. The invariant: the slots of the held nodes below n are sound, and the lists are their bests.
-use Prim.Native.Nat.{ℕ, ◌-◌, ◌+◌, ◌*◌}
+use Prim.Native.Nat.{ℕ, ◌+◌, ◌*◌}
 use mathlib.Core.Path.{◌≡◌, refl, sym, ◌∙◌, subst}
 use native.Mathlib.Omega.{arith}
 use mathlib.Core.Bool.{false}

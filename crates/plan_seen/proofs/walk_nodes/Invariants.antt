@@ -1,4 +1,3 @@
-use Prim.Native.Nat.{◌-◌}
 use Rattle.plan_seen.specs.Turns.{WalkedTo}
 use Rattle.base_lent.specs.Definitions.{words_in}
 use Rattle.plan_seen.proofs.walk_nodes.Given as goal

@@ -1,9 +1,6 @@
 -- `plan_seen::words_of` meets its contract. The invariant: the words below k are stored.
-use Prim.Native.Nat.{◌-◌}
-use native.Mathlib.Omega.{arith}
 use Rattle.base_laws.proofs.Tables.{fill_start, fill_turn, fill_end}
 use Rattle.plan_seen.specs.Nodes.{word_of_pairs, words_of_pairs}
-use borrow.Author.Rules.{rules}
 use Rattle.plan_seen.proofs.words_of.Goals as goal
 
 pub loop-k-init : goal.loop-k-init

@@ -1,6 +1,5 @@
 -- `program_run::begin` meets its contract: settings that are refused, and right ones. Assumes nothing.
 use mathlib.Core.Path.{sym, ◌∙◌}
-use borrow.Author.Tests.{not-true, not-false}
 use Rattle.program_run.specs.Steps.{settings_size, open_refused, open_accepted}
 use Rattle.program_run.proofs.begin.Goals as goal
 

@@ -1,10 +1,7 @@
 -- `report_cuts::cut` meets its contract. The invariant: a is the end of what the logs share before runs i and j, and the cut is where the
 -- logs after a stop being the same.
-use Prim.Native.Nat.{◌-◌}
-use mathlib.Core.Bool.{true}
 use mathlib.Core.Path.{sym, ◌∙◌}
 use native.Mathlib.Omega.{arith}
-use borrow.Author.Tests.{not-true, not-false}
 use Rattle.report_cuts.specs.Walks.{walk_starts, walk_ends, walk_holder_ends, walk_stops, walk_goes}
 use Rattle.report_cuts.proofs.cut.Goals as goal
 

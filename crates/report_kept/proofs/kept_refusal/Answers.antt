@@ -1,6 +1,5 @@
 -- `report_kept::kept_refusal` meets its contract: row by row. Assumes nothing.
 use mathlib.Core.Path.{sym}
-use borrow.Author.Tests.{not-true, not-false}
 use Rattle.base_ids.specs.Definitions.{unless}
 use Rattle.report_rows.specs.Definitions.{row18}
 use Rattle.report_kept.specs.Definitions.{kept_refusal}

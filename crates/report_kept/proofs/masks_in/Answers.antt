@@ -1,8 +1,7 @@
 -- `report_kept::masks_in` meets its contract. The invariant: the masks of the shards below s are stored. Assumes nothing.
-use Prim.Native.Nat.{◌-◌}
 use native.Mathlib.Omega.{arith}
 use Rattle.base_laws.proofs.Tables.{fill_start, fill_turn, fill_end}
-use Rattle.report_kept.specs.Words.{mask_in, masks_in}
+use Rattle.report_kept.specs.Words.{masks_in}
 use Rattle.report_kept.proofs.masks_in.Goals as goal
 
 pub loop-s-init : goal.loop-s-init

@@ -1,10 +1,9 @@
 -- `report_kept::positions_in` meets its contract. The invariant: the positions of the shards below s are stored. Assumes nothing.
-use Prim.Native.Nat.{◌-◌}
 use mathlib.Core.Path.{◌∙◌}
 use native.Mathlib.Omega.{arith}
 use Rattle.base_laws.proofs.Tables.{fill_start, fill_turn, fill_end}
 use Rattle.report_views.specs.Definitions.{start}
-use Rattle.report_kept.specs.Words.{position_in, positions_in}
+use Rattle.report_kept.specs.Words.{positions_in}
 use Rattle.report_kept.proofs.positions_in.Goals as goal
 
 pub loop-s-init : goal.loop-s-init

@@ -2,7 +2,6 @@
 use mathlib.Core.Bool.{true, false}
 use mathlib.Core.List.{List}
 use mathlib.Core.Path.{sym, ap, ◌∙◌}
-use borrow.Author.Tests.{not-true, not-false}
 use Rattle.base_ids.specs.declared.Position.{Position}
 use Rattle.report_kept.specs.Laws.{termination_by, termination_none}
 use Rattle.report_kept.proofs.termination_of.Goals as goal

@@ -1,12 +1,10 @@
 -- `report_quick::members_told` meets its contract. The invariant: what is promised, of the shards below s.
-use Prim.Native.Nat.{◌-◌}
 use mathlib.Core.Bool.{false≢true}
 use mathlib.Core.Logic.{⊎_elim}
 use mathlib.Core.Path.{sym, subst}
 use native.Mathlib.Omega.{arith}
 use Rattle.base_laws.specs.Bools.{eq_or_ne}
 use Rattle.report_quick.specs.Told.{MemberTold}
-use borrow.Author.Rules.{rules}
 use Rattle.report_quick.proofs.members_told.Goals as goal
 
 pub loop-s-init : goal.loop-s-init

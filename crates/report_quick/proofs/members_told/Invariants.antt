@@ -1,4 +1,4 @@
-use Prim.Native.Nat.{ℕ, ◌≤◌, ◌<◌, ◌-◌}
+use Prim.Native.Nat.{ℕ, ◌<◌}
 use Rattle.report_quick.specs.Told.{MemberTold}
 use Rattle.report_quick.proofs.members_told.Given as goal
 

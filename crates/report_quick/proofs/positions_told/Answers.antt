@@ -1,12 +1,11 @@
 -- `report_quick::positions_told` meets its contract. The invariant: what is promised, of the shards below s.
-use Prim.Native.Nat.{ℕ, ◌+◌, ◌-◌}
+use Prim.Native.Nat.{ℕ, ◌+◌}
 use mathlib.Core.Bool.{false≢true}
 use mathlib.Core.Logic.{⊎_elim}
 use mathlib.Core.Path.{sym, subst}
 use native.Mathlib.Omega.{arith}
 use Rattle.base_laws.specs.Bools.{eq_or_ne}
 use Rattle.report_quick.specs.Told.{PositionTold}
-use borrow.Author.Rules.{rules}
 use Rattle.report_quick.proofs.positions_told.Goals as goal
 
 pub loop-s-init : goal.loop-s-init

@@ -1,6 +1,5 @@
 -- `report_rows::kept_terminated` meets its contract, test by test.
 use mathlib.Core.Path.{sym, ◌∙◌}
-use borrow.Author.Tests.{not-true, not-false}
 use Rattle.base_laws.specs.Bools.{and_fails_left, and_rest}
 use Rattle.report_rows.proofs.kept_terminated.Goals as goal
 

@@ -1,6 +1,5 @@
 -- `report_rows::row12` meets its contract: nothing is asked of a report of another view.
 use mathlib.Core.Path.{sym, ◌∙◌}
-use borrow.Author.Tests.{not-true, not-false}
 use Rattle.report_views.specs.Definitions.{row12}
 use Rattle.base_laws.specs.Bools.{unasked, asked}
 use Rattle.report_rows.proofs.row12.Goals as goal

@@ -1,6 +1,6 @@
 -- `report_rows::same_masks` meets its contract. The invariant: the masks of the shards below s are the same.
-use Prim.Native.Nat.{ℕ, ◌-◌}
-use mathlib.Core.Bool.{Bool, true}
+use Prim.Native.Nat.{ℕ}
+use mathlib.Core.Bool.{Bool}
 use mathlib.Core.List.{List}
 use mathlib.Core.Path.{◌≡◌, sym, ◌∙◌}
 use native.Mathlib.Omega.{arith}
@@ -11,7 +11,6 @@ use Rattle.base_laws.specs.Below.{all_none}
 use Rattle.base_laws.proofs.Below.{all_more, all_fails}
 use Rattle.message_format.specs.Definitions.{members_of}
 use Rattle.report_rows.specs.Comparisons.{masks_same}
-use borrow.Author.Rules.{rules}
 use Rattle.report_rows.proofs.same_masks.Goals as goal
 
 abbrev same : List ℕ → List ℕ → ℕ → Bool

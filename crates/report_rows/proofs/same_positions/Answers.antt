@@ -1,17 +1,15 @@
 -- `report_rows::same_positions` meets its contract. The invariant: the positions of the shards below s are the same.
-use Prim.Native.Nat.{ℕ, ◌+◌, ◌-◌}
-use mathlib.Core.Bool.{Bool, true}
+use Prim.Native.Nat.{ℕ, ◌+◌}
+use mathlib.Core.Bool.{Bool}
 use mathlib.Core.List.{List}
 use mathlib.Core.Path.{◌≡◌, sym, ◌∙◌}
 use native.Mathlib.Omega.{arith}
 use lib.ListN.{get_or}
-use borrow.Author.Tests.{not-true, not-false}
 use Rattle.base_laws.specs.Below.{all_none}
 use Rattle.base_laws.proofs.Below.{all_more, all_fails}
 use Rattle.base_ids.specs.declared.Position.{Position}
 use Rattle.report_views.specs.Definitions.{start}
 use Rattle.report_rows.specs.Comparisons.{record_same, positions_same}
-use borrow.Author.Rules.{rules}
 use Rattle.report_rows.proofs.same_positions.Goals as goal
 
 abbrev same : List Position → List ℕ → ℕ → ℕ → Bool

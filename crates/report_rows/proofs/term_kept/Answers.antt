@@ -1,6 +1,5 @@
 -- `report_rows::term_kept` meets its contract: nothing is asked of a report with no termination of the kept view.
 use mathlib.Core.Path.{sym, ◌∙◌}
-use borrow.Author.Tests.{not-true, not-false}
 use Rattle.report_views.specs.Definitions.{term_kept}
 use Rattle.base_laws.specs.Bools.{unasked, asked}
 use Rattle.report_rows.proofs.term_kept.Goals as goal

@@ -1,9 +1,8 @@
 -- `report_walk::has_update` meets its contract. The invariant: no record below j is the one.
-use Rattle.std.proofs.Common.{◌≡◌, ℕ, ◌+◌, ◌-◌, ◌*◌, ◌%◌, true, false, sym, ap, ◌∙◌, arith, rules}
+use Rattle.std.proofs.Common.{◌≡◌, ℕ, ◌+◌, ◌*◌, ◌%◌, true, false, sym, ap, ◌∙◌, arith}
 use Rattle.base_laws.specs.Definitions.{any_below}
 use Rattle.base_laws.specs.Below.{any_none, any_more, any_at}
 use Rattle.report_walk.specs.Updates.{run_has, update_start, update_no_place, update_found}
-use borrow.Author.Rules.{rules}
 use Rattle.report_walk.proofs.has_update.Goals as goal
 
 pub returns-then-goal-eq0 : goal.returns-then-goal-eq0

@@ -1,4 +1,4 @@
-use Rattle.std.proofs.Common.{◌≡◌, ◌-◌, ◌≤◌, false}
+use Rattle.std.proofs.Common.{◌≡◌, false}
 use Rattle.base_laws.specs.Definitions.{any_below}
 use Rattle.report_walk.specs.Updates.{run_has}
 use Rattle.report_walk.proofs.has_update.Given as goal

@@ -1,5 +1,5 @@
 -- `report_walk::mask_records` meets its contract. The invariant: what is promised, of the shards below s.
-use Rattle.std.proofs.Common.{◌+◌, ◌-◌, ◌*◌, get_or, set, ◌∙◌, arith, length-set, rules}
+use Rattle.std.proofs.Common.{◌+◌, ◌*◌, get_or, set, ◌∙◌, arith, length-set, rules}
 use Rattle.report_walk.specs.Seen.{records_turn}
 use borrow.Author.Rules.{rules}
 use Rattle.report_walk.proofs.mask_records.Goals as goal

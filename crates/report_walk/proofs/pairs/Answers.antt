@@ -1,5 +1,5 @@
 -- `report_walk::pairs` meets its contract. The invariant: the pairs below i are stored.
-use Rattle.std.proofs.Common.{◌-◌, arith}
+use Rattle.std.proofs.Common.{arith}
 use Rattle.base_laws.proofs.Tables.{fill_start, fill_turn}
 use Rattle.report_walk.specs.Pairs.{pairs_filled}
 use Rattle.report_walk.proofs.pairs.Goals as goal

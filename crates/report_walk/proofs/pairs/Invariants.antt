@@ -1,4 +1,4 @@
-use Rattle.std.proofs.Common.{◌≡◌, ◌-◌, ◌≤◌, replicate}
+use Rattle.std.proofs.Common.{◌≡◌, replicate}
 use Rattle.base_laws.specs.Tables.{filled}
 use Rattle.report_walk.specs.Pairs.{pair_of}
 use Rattle.report_walk.proofs.pairs.Given as goal

@@ -1,7 +1,6 @@
 -- `report_walk::position_legal` meets its contract.
 use Rattle.report_views.specs.Definitions.{position_sound}
 use Rattle.std.proofs.Common.{sym}
-use borrow.Author.Tests.{not-true, not-false}
 use Rattle.report_walk.proofs.position_legal.Goals as goal
 
 pub returns-then-not-position : goal.returns-then-not-position

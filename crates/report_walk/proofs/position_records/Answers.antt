@@ -1,5 +1,5 @@
 -- `report_walk::position_records` meets its contract. The invariant: what is promised, of the shards below s.
-use Rattle.std.proofs.Common.{ℕ, ◌+◌, ◌-◌, ◌*◌, ◌<◌, get_or, set, sym, ◌∙◌, subst, ⊎_elim, arith, length-set, rules}
+use Rattle.std.proofs.Common.{ℕ, ◌+◌, ◌*◌, ◌<◌, get_or, set, sym, ◌∙◌, subst, ⊎_elim, arith, length-set, rules}
 use Rattle.base_laws.specs.Bools.{eq_or_ne}
 use Rattle.report_views.specs.Definitions.{start}
 use Rattle.report_walk.specs.Seen.{records_turn}

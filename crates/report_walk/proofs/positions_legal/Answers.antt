@@ -1,11 +1,9 @@
 -- `report_walk::positions_legal` meets its contract. The invariant: every position below s passes.
-use Rattle.std.proofs.Common.{ℕ, ◌-◌, Bool, true, List, get_or, sym, ◌∙◌, arith, rules}
-use borrow.Author.Tests.{not-true, not-false}
+use Rattle.std.proofs.Common.{ℕ, Bool, List, get_or, sym, ◌∙◌, arith}
 use Rattle.base_laws.specs.Below.{all_none}
 use Rattle.base_laws.proofs.Below.{all_more, all_fails, all_fewer}
 use Rattle.base_ids.specs.declared.Position.{Position}
 use Rattle.report_views.specs.Definitions.{start, position_sound}
-use borrow.Author.Rules.{rules}
 use Rattle.report_walk.proofs.positions_legal.Goals as goal
 
 abbrev ok : ℕ → List Position → ℕ → Bool

@@ -1,4 +1,4 @@
-use Rattle.std.proofs.Common.{◌≡◌, ℕ, ◌-◌, ◌≤◌, Bool, true, List, get_or}
+use Rattle.std.proofs.Common.{◌≡◌, ℕ, Bool, true, List, get_or}
 use Rattle.base_laws.specs.Definitions.{all_below}
 use Rattle.base_ids.specs.declared.Position.{Position}
 use Rattle.report_views.specs.Definitions.{start, position_sound}

@@ -1,8 +1,7 @@
 -- `report_walk::same_records` meets its contract. The invariant: what is promised, of the pairs below k.
-use Rattle.std.proofs.Common.{◌≡◌, ℕ, ◌+◌, ◌-◌, ◌*◌, get_or, sym, subst, ⊎_elim, arith, rules}
+use Rattle.std.proofs.Common.{◌≡◌, ℕ, ◌+◌, ◌*◌, get_or, sym, subst, ⊎_elim, arith}
 use mathlib.Core.Bool.{false≢true}
 use Rattle.base_laws.specs.Bools.{eq_or_ne}
-use borrow.Author.Rules.{rules}
 use Rattle.report_walk.proofs.same_records.Goals as goal
 
 pub loop-k-init : goal.loop-k-init

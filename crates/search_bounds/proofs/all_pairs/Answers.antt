@@ -1,5 +1,4 @@
 -- The loop's invariant: the sum so far is that of the shards below i. Assumes nothing.
-use Prim.Native.Nat.{◌-◌}
 use mathlib.Core.Path.{sym}
 use native.Mathlib.Omega.{arith}
 use Rattle.base_sum_laws.specs.Sums.{sum_zero, sum_done}

@@ -1,13 +1,10 @@
 -- The loop's invariant: the inequality of every node below n holds. Assumes nothing.
-use Prim.Native.Nat.{◌-◌}
 use mathlib.Core.Path.{sym, ◌∙◌}
 use mathlib.Core.Bool.{true}
 use native.Mathlib.Omega.{arith}
-use borrow.Author.Tests.{not-true, not-false}
 use Rattle.base_laws.specs.Below.{all_none}
 use Rattle.base_laws.proofs.Below.{all_more, all_fails}
 use Rattle.base_laws.specs.Loops.{all_done}
-use Rattle.search_bounds.specs.Post.{steady}
 use Rattle.search_bounds.proofs.all_steady.Goals as goal
 
 pub loop-n-init : goal.loop-n-init

@@ -1,4 +1,4 @@
-use Prim.Native.Nat.{◌≤◌, ◌-◌, ◌/◌}
+use Prim.Native.Nat.{◌≤◌, ◌/◌}
 use Rattle.search_laws.specs.Tables.{case_of}
 use Rattle.search_bounds.specs.Post.{weights_of}
 use Rattle.search_bounds.specs.Rows.{RowsPassed}

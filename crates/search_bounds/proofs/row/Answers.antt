@@ -1,5 +1,5 @@
 -- The loop's invariant: the sum so far is that of the sets below f. Assumes nothing.
-use Prim.Native.Nat.{◌-◌, ◌+◌, ◌*◌, min}
+use Prim.Native.Nat.{◌+◌, ◌*◌, min}
 use mathlib.Core.Path.{sym, ◌∙◌}
 use native.Mathlib.Omega.{arith}
 use lib.ListN.{get_or}

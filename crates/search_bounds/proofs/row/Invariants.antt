@@ -1,4 +1,4 @@
-use Prim.Native.Nat.{◌≤◌, ◌-◌, ◌+◌, ◌*◌, min}
+use Prim.Native.Nat.{◌≤◌, ◌+◌, ◌*◌, min}
 use mathlib.Core.Path.{◌≡◌}
 use lib.ListN.{get_or}
 use Rattle.base_sum_laws.specs.Definitions.{sum_below}

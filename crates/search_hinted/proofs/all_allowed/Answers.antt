@@ -1,5 +1,5 @@
 -- The loop's invariant: the rows of the shards below i have each pair that is allowed of shards that may have nodes. Assumes nothing.
-use Prim.Native.Nat.{ℕ, ◌-◌}
+use Prim.Native.Nat.{ℕ}
 use mathlib.Core.Path.{subst}
 use native.Mathlib.Nat.{le_antisymm}
 use native.Mathlib.Omega.{arith}

@@ -1,4 +1,3 @@
-use Prim.Native.Nat.{◌≤◌, ◌-◌}
 use Rattle.search_hinted.specs.Stage.{OpenBelow}
 use Rattle.search_hinted.proofs.all_allowed.Given as goal
 

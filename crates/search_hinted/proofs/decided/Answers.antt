@@ -3,7 +3,6 @@ use Prim.Native.Nat.{ℕ, ◌<◌, ◌+◌, ◌/◌}
 use mathlib.Core.Path.{refl, sym, ◌∙◌, subst₂}
 use mathlib.Core.List.{List}
 use native.Mathlib.Omega.{arith}
-use borrow.Author.Tests.{not-true}
 use Rattle.search_laws.specs.Tables.{case_of}
 use Rattle.search_hinted.specs.Stage.{Moved, stage_shut, stage_owned, advance_leave, advance_take, moved_next, moved_passed}
 use Rattle.search_hinted.proofs.decided.Goals as goal

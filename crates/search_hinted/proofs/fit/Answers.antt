@@ -1,5 +1,4 @@
 -- The loop's invariant: every set of a node below n is below 16. Assumes nothing.
-use Prim.Native.Nat.{◌-◌}
 use mathlib.Core.Bool.{false≢true}
 use native.Mathlib.Omega.{arith}
 use borrow.Author.Count.{below_more}

@@ -1,5 +1,4 @@
 -- The loop's invariant: what is first from p is first of all. At the end the owners are tested. Assumes nothing.
-use Prim.Native.Nat.{◌-◌}
 use native.Mathlib.Omega.{arith}
 use Rattle.base_laws.specs.Bools.{clash}
 use Rattle.search_laws.specs.Case.{weight}

@@ -1,4 +1,3 @@
-use Prim.Native.Nat.{◌≤◌, ◌-◌}
 use Rattle.search_hinted.specs.Stage.{Later}
 use Rattle.search_hinted.proofs.later.Given as goal
 

@@ -1,6 +1,5 @@
 -- The sheet tells where there is none by a row that is too short; else by the claim. Assumes nothing.
 use mathlib.Core.Path.{sym, ◌∙◌}
-use borrow.Author.Tests.{not-false}
 use Rattle.base_laws.specs.Bools.{clash}
 use Rattle.search_laws.specs.Floor.{short_at, too_few}
 use Rattle.search_laws.proofs.Floor.{sheet_none}

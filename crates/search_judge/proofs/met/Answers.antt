@@ -1,6 +1,4 @@
 -- The loop's invariant: the mask has the sets of shard i's nodes below n. Assumes nothing.
-use Prim.Native.Nat.{◌-◌}
-use native.Mathlib.Omega.{arith}
 use Rattle.search_judge.specs.Met.{met_none, met_turn, met_done}
 use Rattle.search_judge.proofs.met.Goals as goal
 

@@ -1,4 +1,3 @@
-use Prim.Native.Nat.{◌≤◌, ◌-◌}
 use Rattle.search_judge.specs.Met.{Met}
 use Rattle.search_judge.proofs.met.Given as goal
 

@@ -1,6 +1,4 @@
 -- The loop's invariant: the mask has the owners of the nodes below n. Assumes nothing.
-use Prim.Native.Nat.{◌-◌}
-use native.Mathlib.Omega.{arith}
 use Rattle.search_judge.specs.Owners.{owners_none, owners_turn, owners_done}
 use Rattle.search_judge.proofs.owners.Goals as goal
 

@@ -1,4 +1,3 @@
-use Prim.Native.Nat.{◌≤◌, ◌-◌}
 use Rattle.search_judge.specs.Owners.{OwnersHeld}
 use Rattle.search_judge.proofs.owners.Given as goal
 

@@ -1,5 +1,5 @@
 -- The loop's invariant: every shard below i has enough sets. Assumes nothing.
-use Prim.Native.Nat.{ℕ, ◌-◌}
+use Prim.Native.Nat.{ℕ}
 use mathlib.Core.Path.{sym, ◌∙◌, ap₂}
 use mathlib.Core.Bool.{false}
 use native.Mathlib.Omega.{arith}
@@ -7,7 +7,6 @@ use borrow.Author.Tests.{lt-ltb, le-ltb}
 use lib.Dec.{ltb}
 use Rattle.base_laws.specs.Below.{any_none, any_more, any_at}
 use Rattle.base_laws.specs.Loops.{any_done}
-use Rattle.search_laws.specs.Case.{spread}
 use Rattle.search_judge.proofs.thin.Goals as goal
 
 pub loop-i-init : goal.loop-i-init

@@ -1,5 +1,5 @@
 -- The loop's invariant: the sum so far is that of the nodes below n. Assumes nothing.
-use Prim.Native.Nat.{ℕ, ◌-◌, ◌*◌, ◌+◌}
+use Prim.Native.Nat.{ℕ, ◌*◌, ◌+◌}
 use mathlib.Core.Path.{ap, ◌∙◌, sym}
 use mathlib.Core.Bool.{cond}
 use native.Mathlib.Omega.{arith}

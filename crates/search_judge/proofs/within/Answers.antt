@@ -1,7 +1,6 @@
 -- Each test that fails is one that a valid placement of a weight of at most k passes; all passed, the placement is one. Assumes nothing.
 use mathlib.Core.Path.{sym, ◌∙◌}
 use native.Mathlib.Omega.{arith}
-use borrow.Author.Tests.{not-true, not-false}
 use Rattle.base_laws.specs.Bools.{clash}
 use Rattle.search_laws.specs.Case.{weight, spread, meets}
 use Rattle.search_laws.specs.Tests.{valid_of, valid_stands, valid_met}

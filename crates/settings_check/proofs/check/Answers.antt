@@ -1,6 +1,5 @@
 -- `settings_check::check` meets its contract. Right sizes are what the other two checks require.
 use mathlib.Core.Path.{sym, ◌∙◌}
-use borrow.Author.Tests.{not-true, not-false}
 use Rattle.settings_values.specs.Laws.{sizes_give}
 use Rattle.settings_values.specs.Definitions.{settings_ok}
 use Rattle.settings_check.proofs.check.Goals as goal

@@ -1,15 +1,14 @@
 -- `settings_check::nodes_ok` meets its contract. The invariant: the nodes below i are right.
 use mathlib.Core.Path.{sym}
-use mathlib.Core.Bool.{Bool, true}
+use mathlib.Core.Bool.{Bool}
 use mathlib.Core.List.{List}
-use Prim.Native.Nat.{ℕ, ◌-◌}
+use Prim.Native.Nat.{ℕ}
 use native.Mathlib.Omega.{arith}
 use lib.Dec.{ltb}
 use borrow.Author.Tests.{le-ltb, lt-ltb}
 use Rattle.base_laws.specs.Below.{all_none}
 use Rattle.base_laws.proofs.Below.{all_more, all_fails, all_fewer}
 use Rattle.settings_values.specs.Definitions.{nodes, sets, set_of, nodes_ok}
-use borrow.Author.Rules.{rules}
 use Rattle.settings_check.proofs.nodes_ok.Goals as goal
 
 abbrev ok : List ℕ → ℕ → Bool

@@ -1,10 +1,10 @@
 use mathlib.Core.Path.{◌≡◌}
 use mathlib.Core.Bool.{Bool, true}
 use mathlib.Core.List.{List}
-use Prim.Native.Nat.{ℕ, ◌≤◌, ◌-◌}
+use Prim.Native.Nat.{ℕ}
 use lib.Dec.{ltb}
 use Rattle.base_laws.specs.Definitions.{all_below}
-use Rattle.settings_values.specs.Definitions.{nodes, sets, set_of}
+use Rattle.settings_values.specs.Definitions.{sets, set_of}
 use Rattle.settings_check.proofs.nodes_ok.Given as goal
 
 abbrev ok : List ℕ → ℕ → Bool

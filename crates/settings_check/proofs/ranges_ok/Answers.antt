@@ -1,6 +1,5 @@
 -- `settings_check::ranges_ok` meets its contract: each way out has the tests that led there.
 use mathlib.Core.Path.{sym}
-use borrow.Author.Tests.{not-true, not-false}
 use Rattle.settings_check.proofs.ranges_ok.Goals as goal
 
 pub returns-then-not-from_to : goal.returns-then-not-from_to

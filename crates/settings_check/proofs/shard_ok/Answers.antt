@@ -1,5 +1,5 @@
 -- `settings_check::shard_ok` meets its contract: the word is the shard's, and each way out has the tests that led there.
-use borrow.Author.Tests.{le-leb, lt-leb, not-true, not-false}
+use borrow.Author.Tests.{le-leb, lt-leb}
 use Rattle.settings_values.specs.Definitions.{shard_ok}
 use Rattle.settings_check.proofs.shard_ok.Goals as goal
 

@@ -1,13 +1,9 @@
 -- `settings_check::shards_ok` meets its contract. The invariant: the shards below s are right.
 use mathlib.Core.Path.{sym, ◌∙◌}
-use mathlib.Core.Bool.{true}
-use Prim.Native.Nat.{◌-◌}
 use native.Mathlib.Omega.{arith}
-use borrow.Author.Tests.{not-true, not-false}
 use Rattle.base_laws.specs.Below.{all_none}
 use Rattle.base_laws.proofs.Below.{all_more, all_fails, all_fewer}
 use Rattle.settings_values.specs.Definitions.{shards, shard_ok, shards_ok}
-use borrow.Author.Rules.{rules}
 use Rattle.settings_check.proofs.shards_ok.Goals as goal
 
 pub loop-s-init : goal.loop-s-init

@@ -1,8 +1,7 @@
 use mathlib.Core.Path.{◌≡◌}
 use mathlib.Core.Bool.{true}
-use Prim.Native.Nat.{◌≤◌, ◌-◌}
 use Rattle.base_laws.specs.Definitions.{all_below}
-use Rattle.settings_values.specs.Definitions.{shards, shard_ok}
+use Rattle.settings_values.specs.Definitions.{shard_ok}
 use Rattle.settings_check.proofs.shards_ok.Given as goal
 
 abbrev pub invariant-loop-s : goal.invariant-loop-s

@@ -6,7 +6,7 @@ use Prim.Native.Nat.{ℕ, ◌+◌}
 use native.Mathlib.Omega.{arith}
 use lib.Dec.{eqb, leb}
 use lib.ListN.{length}
-use borrow.Author.Tests.{le-leb, lt-leb, not-true, not-false}
+use borrow.Author.Tests.{le-leb, lt-leb}
 use Rattle.settings_values.specs.Definitions.{nodes, shards, ranges_ok, sizes_ok}
 use Rattle.settings_values.specs.Laws.{ranges_give, range_high}
 use Rattle.settings_check.proofs.sizes_ok.Goals as goal

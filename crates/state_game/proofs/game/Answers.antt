@@ -1,6 +1,6 @@
 -- `state_game::game` meets its contract: rows 1 and 2, then the rest. Assumes nothing.
 use mathlib.Core.Path.{sym, ◌∙◌}
-use borrow.Author.Tests.{eq-eqb, ne_eqb, not-true, not-false}
+use borrow.Author.Tests.{eq-eqb, ne_eqb}
 use Rattle.base_lent.specs.Definitions.{words_in}
 use Rattle.base_lent.specs.Lent.{length-test}
 use Rattle.settings_values.specs.Laws.{settings_give}

@@ -1,6 +1,6 @@
 -- `state_order::call_refusal` meets its contract: row by row. Assumes nothing.
 use mathlib.Core.Path.{sym, ◌∙◌}
-use borrow.Author.Tests.{eq-eqb, ne_eqb, not-true, not-false}
+use borrow.Author.Tests.{eq-eqb, ne_eqb}
 use Rattle.base_ids.specs.Refusals.{unless_true, unless_false}
 use Rattle.base_lent.specs.Lent.{length-test}
 use Rattle.state_planner.specs.CallLaws.{call_length, call_settings, call_none}

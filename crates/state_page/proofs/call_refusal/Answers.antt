@@ -1,6 +1,6 @@
 -- `state_page::call_refusal` meets its contract: row by row. Assumes nothing.
 use mathlib.Core.Path.{sym, ◌∙◌}
-use borrow.Author.Tests.{eq-eqb, ne_eqb, not-true, not-false}
+use borrow.Author.Tests.{eq-eqb, ne_eqb}
 use Rattle.base_lent.specs.Lent.{length-test}
 use Rattle.state_page.specs.Steps.{asked_length, asked_settings, asked_role, asked_none}
 use Rattle.state_page.proofs.call_refusal.Goals as goal

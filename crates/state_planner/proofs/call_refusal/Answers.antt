@@ -1,6 +1,6 @@
 -- `state_planner::call_refusal` meets its contract: row by row. Assumes nothing.
 use mathlib.Core.Path.{sym, ◌∙◌}
-use borrow.Author.Tests.{not-true, not-false, eq-eqb, ne_eqb}
+use borrow.Author.Tests.{eq-eqb, ne_eqb}
 use Rattle.state_planner.specs.CallLaws.{call_length, call_settings, call_none}
 use Rattle.base_lent.specs.Definitions.{words_in}
 use Rattle.base_lent.specs.Lent.{length-test}

@@ -1,7 +1,7 @@
 -- `state_planner::enter` meets its contract: row by row, after rows 1 and 2. Assumes nothing.
 use mathlib.Core.Path.{sym, ◌∙◌}
 use lib.ListN.{length}
-use borrow.Author.Tests.{eq-eqb, not-true, not-false}
+use borrow.Author.Tests.{eq-eqb}
 use Rattle.base_lent.specs.Definitions.{words_in}
 use Rattle.report_desk.specs.Bytes.{desk_length}
 use Rattle.state_rows.specs.Laws.{row_3, row_4, no_row, rows_passed}

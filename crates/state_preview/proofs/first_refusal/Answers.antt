@@ -1,7 +1,6 @@
 -- `state_preview::first_refusal` meets its contract: the rows in their order, or row 3 of the node alone. Assumes nothing.
 use mathlib.Core.Logic.{inl, inr}
 use mathlib.Core.Path.{sym, ap, ◌∙◌}
-use borrow.Author.Tests.{not-true, not-false}
 use Rattle.base_lent.specs.Definitions.{words_in}
 use Rattle.report_desk.specs.Bytes.{desk_length}
 use Rattle.state_planner.specs.declared.State.{State}

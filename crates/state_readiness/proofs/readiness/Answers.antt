@@ -1,7 +1,7 @@
 -- `state_readiness::readiness` meets its contract: rows 1 and 2, then the rest. Assumes nothing.
 use mathlib.Core.Path.{sym, ◌∙◌}
 use native.Mathlib.Omega.{arith}
-use borrow.Author.Tests.{eq-eqb, ne_eqb, not-true, not-false}
+use borrow.Author.Tests.{eq-eqb, ne_eqb}
 use Rattle.base_lent.specs.Definitions.{words_in}
 use Rattle.base_lent.specs.Lent.{length-test}
 use Rattle.settings_values.specs.Laws.{settings_give}

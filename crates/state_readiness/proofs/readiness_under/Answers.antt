@@ -1,7 +1,7 @@
 -- `state_readiness::readiness_under` meets its contract: rows 3 and 4 as every event finds them, then 22, then the rest. Assumes nothing.
 use mathlib.Core.Path.{sym, ◌∙◌}
 use native.Mathlib.Omega.{arith}
-use borrow.Author.Tests.{not-true, not-false, leb-true}
+use borrow.Author.Tests.{leb-true}
 use lib.Dec.{leb}
 use Rattle.base_lent.specs.Definitions.{words_in}
 use Rattle.base_laws.specs.Bools.{and_left}

@@ -1,6 +1,5 @@
 -- `state_rows::lacks` meets its contract: test by test. Assumes nothing.
 use mathlib.Core.Path.{sym}
-use borrow.Author.Tests.{not-true, not-false}
 use Rattle.state_rows.proofs.lacks.Goals as goal
 
 pub returns-then-not-has : goal.returns-then-not-has

@@ -1,6 +1,6 @@
 -- `state_rows::node_refusal` meets its contract: row by row. Assumes nothing.
 use mathlib.Core.Path.{sym}
-use borrow.Author.Tests.{not-true, not-false, lt-ltb, le-ltb}
+use borrow.Author.Tests.{lt-ltb, le-ltb}
 use Rattle.base_ids.specs.Definitions.{unless}
 use Rattle.state_rows.specs.Definitions.{node_refusal}
 use Rattle.state_rows.proofs.node_refusal.Goals as goal

@@ -1,6 +1,6 @@
 -- Each return is the row that the tests on the way there pick.
 use mathlib.Core.Path.{sym, ◌∙◌}
-use borrow.Author.Tests.{eq-eqb, ne_eqb, not-true, not-false}
+use borrow.Author.Tests.{eq-eqb, ne_eqb}
 use Rattle.base_ids.specs.Refusals.{unless_true, unless_false}
 use Rattle.c_messages.specs.Turning.{flat_rows}
 use Rattle.c_messages.proofs.flat.flat_rows.Goals as goal

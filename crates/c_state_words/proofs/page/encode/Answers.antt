@@ -1,11 +1,9 @@
 -- At the loop's head the first k words are stored.
-use Prim.Native.Nat.{◌-◌}
 use native.Mathlib.Omega.{arith}
 use mathlib.Core.Path.{sym, ap, ◌∙◌}
 use lib.ListN.{length, replicate}
 use Rattle.base_laws.specs.Tables.{filled_none, length_filled}
 use Rattle.base_laws.proofs.Tables.{filled_turn}
-use Rattle.c_state_words.specs.Definitions.{page_word}
 use Rattle.c_state_words.specs.PageStored.{words-stored}
 use Rattle.c_state_words.proofs.page.encode.Goals as goal
 

@@ -1,4 +1,4 @@
-use Prim.Native.Nat.{◌*◌, ◌≤◌, ◌-◌}
+use Prim.Native.Nat.{◌*◌, ◌≤◌}
 use Rattle.hint_oracle.proofs.start.enter_rooms.Given as goal
 
 abbrev pub invariant-loop-i : goal.invariant-loop-i

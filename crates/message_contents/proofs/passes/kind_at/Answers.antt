@@ -1,6 +1,5 @@
 -- `message_contents::passes::kind_at` meets its contract: each way out has the tests that led there.
 use mathlib.Core.Path.{sym}
-use borrow.Author.Tests.{not-true, not-false}
 use Rattle.message_format.specs.Definitions.{kind_at}
 use Rattle.message_contents.proofs.passes.kind_at.Goals as goal
 

@@ -1,14 +1,10 @@
 -- `message_contents::passes::positions` meets its contract. The invariant: the records below j pass.
 use mathlib.Core.Path.{sym, ◌∙◌}
-use mathlib.Core.Bool.{true}
-use Prim.Native.Nat.{◌-◌}
 use native.Mathlib.Omega.{arith}
-use borrow.Author.Tests.{not-true, not-false}
 use Rattle.base_laws.specs.Below.{all_none}
 use Rattle.base_laws.proofs.Below.{all_more, all_fewer}
 use Rattle.base_laws.proofs.Loops.{bad_at, bad_none}
 use Rattle.message_format.specs.Definitions.{row11_at}
-use borrow.Author.Rules.{rules}
 use Rattle.message_contents.proofs.passes.positions.Goals as goal
 
 pub loop-j-init : goal.loop-j-init

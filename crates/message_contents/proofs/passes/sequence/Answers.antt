@@ -1,17 +1,14 @@
 -- `message_contents::passes::sequence` meets its contract. The invariant: the records below j pass, and carried has the shards that
 -- the node carries by them.
 use mathlib.Core.Path.{sym, ap, ◌∙◌}
-use mathlib.Core.Bool.{true}
-use Prim.Native.Nat.{ℕ, ◌-◌}
+use Prim.Native.Nat.{ℕ}
 use native.Mathlib.Omega.{arith}
-use borrow.Author.Tests.{not-true, not-false}
 use Rattle.message_contents.specs.Gathered.{gives_shard, with_shard}
 use Rattle.base_laws.specs.Below.{all_none}
 use Rattle.base_laws.proofs.Below.{all_more, all_fewer}
 use Rattle.base_laws.proofs.Loops.{bad_at, bad_none}
 use Rattle.message_format.specs.Definitions.{sequence_at}
 use Rattle.message_contents.specs.Laws.{where_none, where_step}
-use borrow.Author.Rules.{rules}
 use Rattle.message_contents.proofs.passes.sequence.Goals as goal
 
 pub loop-j-init : goal.loop-j-init

@@ -2,7 +2,6 @@
 use mathlib.Core.Bool.{not}
 use mathlib.Core.Path.{sym, ap, ◌∙◌}
 use Prim.Native.Nat.{ℕ}
-use borrow.Author.Tests.{not-true, not-false}
 use Rattle.message_contents.specs.Sequence.{stray_at}
 use Rattle.message_format.specs.Definitions.{surplus, sequence_at}
 use Rattle.message_contents.proofs.passes.sequence_at.Goals as goal

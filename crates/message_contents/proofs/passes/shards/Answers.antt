@@ -2,7 +2,7 @@
 use mathlib.Core.Path.{◌≡◌, sym}
 use mathlib.Core.Bool.{true, false}
 use mathlib.Core.List.{List}
-use Prim.Native.Nat.{ℕ, ◌<◌, ◌≤◌, ◌-◌}
+use Prim.Native.Nat.{ℕ, ◌<◌, ◌≤◌}
 use native.Mathlib.Omega.{arith}
 use borrow.Author.Tests.{le-ltb, lt-ltb}
 use Rattle.base_laws.specs.Below.{all_none}
@@ -10,7 +10,6 @@ use Rattle.base_laws.proofs.Below.{all_more, all_fewer}
 use Rattle.base_laws.proofs.Loops.{bad_at, bad_none}
 use Rattle.message_format.specs.Definitions.{record_shard, shard_at}
 use Rattle.settings_values.specs.Definitions as Definitions
-use borrow.Author.Rules.{rules}
 use Rattle.message_contents.proofs.passes.shards.Goals as goal
 
 module _ (σ b : List ℕ) (j count s : ℕ) (e : count ≡ Definitions.shards σ) (f : s ≡ record_shard b j) where

@@ -1,11 +1,10 @@
 -- `message_contents::records::carried_by` meets its contract. The invariant: the mask has the shards carried by the records below j.
 use mathlib.Core.Path.{◌≡◌, sym, ap, ◌∙◌}
-use Prim.Native.Nat.{ℕ, ◌-◌}
+use Prim.Native.Nat.{ℕ}
 use native.Mathlib.Omega.{arith}
 use Rattle.message_contents.specs.Gathered.{gives_shard, with_shard}
 use Rattle.message_format.specs.Definitions.{carried_by}
 use Rattle.message_contents.specs.Laws.{where_none, where_step}
-use borrow.Author.Rules.{rules}
 use Rattle.message_contents.proofs.records.carried_by.Goals as goal
 
 pub loop-j-init : goal.loop-j-init

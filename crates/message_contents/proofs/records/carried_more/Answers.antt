@@ -1,6 +1,6 @@
 -- `message_contents::records::carried_more` meets its contract: each way out has the tests that led there.
 use mathlib.Core.Path.{sym}
-use borrow.Author.Tests.{eq-eqb, ne_eqb, not-true, not-false}
+use borrow.Author.Tests.{eq-eqb, ne_eqb}
 use Rattle.message_contents.proofs.records.carried_more.Goals as goal
 
 pub returns-then-kind-ne1 : goal.returns-then-kind-ne1

@@ -1,6 +1,5 @@
 -- `message_contents::records::complete_order` meets its contract: each way out has the tests that led there.
 use mathlib.Core.Path.{sym}
-use borrow.Author.Tests.{not-true, not-false}
 use Rattle.message_format.specs.Definitions.{complete}
 use Rattle.message_contents.proofs.records.complete_order.Goals as goal
 

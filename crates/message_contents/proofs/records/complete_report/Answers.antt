@@ -1,6 +1,6 @@
 -- `message_contents::records::complete_report` meets its contract: each way out has the tests that led there.
 use mathlib.Core.Path.{sym}
-use borrow.Author.Tests.{eq-eqb, ne_eqb, not-true, not-false}
+use borrow.Author.Tests.{eq-eqb, ne_eqb}
 use Rattle.message_format.specs.Definitions.{complete}
 use Rattle.message_contents.proofs.records.complete_report.Goals as goal
 

@@ -1,6 +1,6 @@
 -- `message_contents::records::masks_of` meets its contract. The invariant: the table is filled below s.
 use mathlib.Core.Path.{◌≡◌, sym, ap, ◌∙◌}
-use Prim.Native.Nat.{ℕ, ◌-◌}
+use Prim.Native.Nat.{ℕ}
 use native.Mathlib.Omega.{arith}
 use lib.ListN.{replicate}
 use Rattle.base_laws.specs.Tables.{filled, filled_none}
@@ -8,7 +8,6 @@ use Rattle.base_laws.proofs.Tables.{filled_turn}
 use Rattle.settings_values.specs.Definitions.{shards}
 use Rattle.message_format.specs.Definitions.{members_of}
 use Rattle.message_contents.specs.Laws.{masks_filled}
-use borrow.Author.Rules.{rules}
 use Rattle.message_contents.proofs.records.masks_of.Goals as goal
 
 pub loop-s-init : goal.loop-s-init

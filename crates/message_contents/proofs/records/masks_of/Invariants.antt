@@ -1,8 +1,6 @@
 use mathlib.Core.Path.{◌≡◌}
-use Prim.Native.Nat.{◌≤◌, ◌-◌}
 use lib.ListN.{replicate}
 use Rattle.base_laws.specs.Tables.{filled}
-use Rattle.settings_values.specs.Definitions.{shards}
 use Rattle.message_format.specs.Definitions.{members_of}
 use Rattle.message_contents.proofs.records.masks_of.Given as goal
 

@@ -1,11 +1,10 @@
 -- `message_contents::records::shards_of` meets its contract. The invariant: the mask has the shards of the records below j.
 use mathlib.Core.Path.{◌≡◌, sym, ap, ◌∙◌}
-use Prim.Native.Nat.{ℕ, ◌-◌}
+use Prim.Native.Nat.{ℕ}
 use native.Mathlib.Omega.{arith}
 use Rattle.message_contents.specs.Gathered.{of_kind, with_shard}
 use Rattle.message_format.specs.Definitions.{shards_of}
 use Rattle.message_contents.specs.Laws.{where_none, where_step}
-use borrow.Author.Rules.{rules}
 use Rattle.message_contents.proofs.records.shards_of.Goals as goal
 
 pub loop-j-init : goal.loop-j-init

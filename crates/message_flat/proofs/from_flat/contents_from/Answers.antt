@@ -1,8 +1,6 @@
 -- At the loop's head the first k words of the body are stored.
-use Prim.Native.Nat.{◌-◌, ◌≤◌}
 use native.Mathlib.Omega.{arith}
 use mathlib.Core.Path.{refl, sym, ap, ◌∙◌}
-use lib.Dec.{lit≤}
 use lib.ListN.{replicate}
 use Rattle.base_laws.specs.Definitions.{tabulate}
 use Rattle.base_laws.specs.Tables.{filled_none}

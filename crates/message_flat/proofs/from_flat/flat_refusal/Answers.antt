@@ -1,5 +1,4 @@
 -- Each return is the row that the tests pick.
-use borrow.Author.Tests.{not-true, not-false}
 use Rattle.message_flat.proofs.Counted.{row_19, row_20, row_21, no_row}
 use Rattle.message_flat.proofs.from_flat.flat_refusal.Goals as goal
 

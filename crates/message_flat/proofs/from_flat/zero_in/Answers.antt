@@ -1,12 +1,8 @@
 -- At the loop's head no triple before the i-th has count 0.
-use Prim.Native.Nat.{◌-◌}
-use native.Mathlib.Omega.{arith}
-use mathlib.Core.Bool.{false}
 use mathlib.Core.Path.{sym, ◌∙◌}
 use borrow.Author.Tests.{ne_eqb}
 use Rattle.base_laws.specs.Below.{any_none, any_more}
 use Rattle.message_flat.specs.Counted.{zero_found, zero_none}
-use borrow.Author.Rules.{rules}
 use Rattle.message_flat.proofs.from_flat.zero_in.Goals as goal
 
 pub loop-i-init : goal.loop-i-init

@@ -1,4 +1,3 @@
-use Prim.Native.Nat.{◌-◌, ◌≤◌}
 use mathlib.Core.Path.{◌≡◌}
 use Rattle.base_laws.specs.Tables.{filled}
 use Rattle.message_flat.specs.Parted.{word_of}

@@ -1,15 +1,13 @@
 -- `message_rows::shards::apart_below` meets its contract. The invariant: shard s is apart from the shards below t.
 use mathlib.Core.Path.{sym, ◌∙◌}
-use mathlib.Core.Bool.{Bool, true}
+use mathlib.Core.Bool.{Bool}
 use mathlib.Core.List.{List}
-use Prim.Native.Nat.{ℕ, ◌-◌}
+use Prim.Native.Nat.{ℕ}
 use native.Mathlib.Omega.{arith}
 use lib.ListN.{get_or}
-use borrow.Author.Tests.{not-true, not-false}
 use Rattle.base_laws.specs.Below.{all_none}
 use Rattle.base_laws.proofs.Below.{all_more, all_fails, all_fewer}
 use Rattle.message_format.specs.Definitions.{shard_apart}
-use borrow.Author.Rules.{rules}
 use Rattle.message_rows.proofs.shards.apart_below.Goals as goal
 
 abbrev ok : List ℕ → List ℕ → ℕ → ℕ → Bool

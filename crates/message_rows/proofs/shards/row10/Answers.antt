@@ -1,16 +1,14 @@
 -- `message_rows::shards::row10` meets its contract. The invariant: row 10 finds nothing wrong at the shards below s.
 use mathlib.Core.Path.{sym, ◌∙◌}
-use mathlib.Core.Bool.{Bool, true}
+use mathlib.Core.Bool.{Bool}
 use mathlib.Core.List.{List}
-use Prim.Native.Nat.{ℕ, ◌-◌}
+use Prim.Native.Nat.{ℕ}
 use native.Mathlib.Omega.{arith}
 use lib.ListN.{get_or}
-use borrow.Author.Tests.{not-true, not-false}
 use Rattle.base_laws.specs.Below.{all_none}
 use Rattle.base_laws.proofs.Below.{all_more, all_fails, all_fewer}
 use Rattle.settings_values.specs.Definitions.{shards}
 use Rattle.message_format.specs.Definitions.{row10_at, row10}
-use borrow.Author.Rules.{rules}
 use Rattle.message_rows.proofs.shards.row10.Goals as goal
 
 abbrev ok : List ℕ → ℕ → List ℕ → ℕ → Bool

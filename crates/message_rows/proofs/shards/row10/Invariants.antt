@@ -1,10 +1,9 @@
 use mathlib.Core.Path.{◌≡◌}
 use mathlib.Core.Bool.{Bool, true}
 use mathlib.Core.List.{List}
-use Prim.Native.Nat.{ℕ, ◌≤◌, ◌-◌}
+use Prim.Native.Nat.{ℕ}
 use lib.ListN.{get_or}
 use Rattle.base_laws.specs.Definitions.{all_below}
-use Rattle.settings_values.specs.Definitions.{shards}
 use Rattle.message_format.specs.Definitions.{row10_at}
 use Rattle.message_rows.proofs.shards.row10.Given as goal
 

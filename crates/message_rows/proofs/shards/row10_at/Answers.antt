@@ -1,6 +1,6 @@
 -- `message_rows::shards::row10_at` meets its contract: each way out has the tests that led there.
 use mathlib.Core.Path.{sym}
-use borrow.Author.Tests.{lt-ltb, le-ltb, le-leb, lt-leb, not-true, not-false}
+use borrow.Author.Tests.{lt-ltb, le-ltb, le-leb, lt-leb}
 use Rattle.message_format.specs.Definitions.{row10_at}
 use Rattle.message_rows.proofs.shards.row10_at.Goals as goal
 

@@ -1,6 +1,6 @@
 -- `place_groups::check::group_moves` meets its contract. The invariant: the total is the sum over the shards below s, of at most 32 each.
 -- Assumes nothing.
-use Prim.Native.Nat.{ℕ, ◌-◌}
+use Prim.Native.Nat.{ℕ}
 use mathlib.Core.List.{List}
 use mathlib.Core.Path.{◌≡◌, sym, ap, ◌∙◌}
 use native.Mathlib.Omega.{arith}

@@ -1,9 +1,8 @@
-use Prim.Native.Nat.{ℕ, ◌≤◌, ◌-◌, ◌*◌}
+use Prim.Native.Nat.{ℕ, ◌≤◌, ◌*◌}
 use mathlib.Core.List.{List}
 use mathlib.Core.Path.{◌≡◌}
 use lib.ListN.{get_or}
 use Rattle.base_sum_laws.specs.Definitions.{sum_below}
-use Rattle.settings_values.specs.Definitions.{shards}
 use Rattle.place_groups.specs.Definitions.{group_moves_at}
 use Rattle.place_groups.proofs.check.group_moves.Given as goal
 

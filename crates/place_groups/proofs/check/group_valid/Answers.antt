@@ -1,16 +1,14 @@
 -- `place_groups::check::group_valid` meets its contract. The invariant: every shard below s passes. Assumes nothing.
-use Prim.Native.Nat.{ℕ, ◌-◌}
-use mathlib.Core.Bool.{Bool, true}
+use Prim.Native.Nat.{ℕ}
+use mathlib.Core.Bool.{Bool}
 use mathlib.Core.List.{List}
 use mathlib.Core.Path.{sym, ◌∙◌}
 use native.Mathlib.Omega.{arith}
 use lib.ListN.{get_or}
-use borrow.Author.Tests.{not-true, not-false}
 use Rattle.base_laws.specs.Below.{all_none}
 use Rattle.base_laws.proofs.Below.{all_more, all_fails, all_fewer}
 use Rattle.settings_values.specs.Definitions.{shards}
 use Rattle.place_groups.specs.Definitions.{group_valid, group_valid_at}
-use borrow.Author.Rules.{rules}
 use Rattle.place_groups.proofs.check.group_valid.Goals as goal
 
 abbrev ok : List ℕ → ℕ → List ℕ → ℕ → ℕ → Bool

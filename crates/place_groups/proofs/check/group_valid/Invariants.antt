@@ -1,10 +1,9 @@
-use Prim.Native.Nat.{ℕ, ◌≤◌, ◌-◌}
+use Prim.Native.Nat.{ℕ}
 use mathlib.Core.Bool.{Bool, true}
 use mathlib.Core.List.{List}
 use mathlib.Core.Path.{◌≡◌}
 use lib.ListN.{get_or}
 use Rattle.base_laws.specs.Definitions.{all_below}
-use Rattle.settings_values.specs.Definitions.{shards}
 use Rattle.place_groups.specs.Definitions.{group_valid_at}
 use Rattle.place_groups.proofs.check.group_valid.Given as goal
 

@@ -1,6 +1,6 @@
 use Rattle.place_groups.specs.Definitions.{group_valid_at}
 use mathlib.Core.Path.{sym}
-use borrow.Author.Tests.{eq-eqb, ne_eqb, not-true, not-false}
+use borrow.Author.Tests.{eq-eqb, ne_eqb}
 use Rattle.place_groups.proofs.check.group_valid_at.Goals as goal
 
 pub returns-then-subgroup-g : goal.returns-then-subgroup-g

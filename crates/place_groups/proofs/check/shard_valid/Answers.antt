@@ -1,6 +1,6 @@
 use Rattle.place_groups.specs.Definitions.{shard_valid}
 use mathlib.Core.Path.{sym}
-use borrow.Author.Tests.{le-leb, lt-leb, not-true, not-false}
+use borrow.Author.Tests.{le-leb, lt-leb}
 use Rattle.place_groups.proofs.check.shard_valid.Goals as goal
 
 pub returns-then-not-subset : goal.returns-then-not-subset

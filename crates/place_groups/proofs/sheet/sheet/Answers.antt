@@ -1,6 +1,6 @@
 -- `place_groups::sheet::sheet` meets its contract. The invariant: the rows below s are filled in, each from the sets of its shard's held old
 -- members and of all held nodes. Assumes nothing.
-use Prim.Native.Nat.{ℕ, ◌-◌}
+use Prim.Native.Nat.{ℕ}
 use mathlib.Core.Path.{◌∙◌}
 use mathlib.Core.List.{List}
 use native.Mathlib.Omega.{arith}

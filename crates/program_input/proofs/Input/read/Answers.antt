@@ -2,7 +2,6 @@
 use Prim.Native.Nat.{◌≤◌}
 use mathlib.Core.Path.{refl, ap, ◌∙◌}
 use native.Mathlib.Omega.{arith}
-use lib.ListN.{length-take}
 use Rattle.base_laws.specs.Tables.{part_front}
 use Rattle.program_input.specs.Definitions.{read_to, most, most_counted}
 use Rattle.program_input.specs.Inputs.{read_failed, read_gave}

@@ -1,9 +1,7 @@
 -- `report_desk::ends::ends_of` meets its contract. The invariant: the ends are those of the first j records.
-use Prim.Native.Nat.{◌-◌}
 use mathlib.Core.Path.{◌≡◌, ap, ◌∙◌}
 use native.Mathlib.Omega.{arith}
 use Rattle.report_desk.specs.Ends.{ends_of, ends_none, ends_noted}
-use borrow.Author.Rules.{rules}
 use Rattle.report_desk.proofs.ends.ends_of.Goals as goal
 
 pub loop-j-init : goal.loop-j-init

@@ -1,4 +1,3 @@
-use Prim.Native.Nat.{◌≤◌, ◌-◌}
 use mathlib.Core.Path.{◌≡◌}
 use Rattle.report_desk.specs.Ends.{ends_of}
 use Rattle.report_desk.proofs.ends.ends_of.Given as goal

@@ -1,6 +1,6 @@
 -- `report_desk::slots::report_fits` meets its contract, test by test.
 use mathlib.Core.Path.{sym}
-use borrow.Author.Tests.{eq-eqb, ne_eqb, le-leb, lt-leb, not-true, not-false}
+use borrow.Author.Tests.{eq-eqb, ne_eqb, le-leb, lt-leb}
 use Rattle.report_desk.specs.SlotsOf.{report_fits}
 use Rattle.report_desk.proofs.slots.report_fits.Goals as goal
 

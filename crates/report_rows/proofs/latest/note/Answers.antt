@@ -1,9 +1,7 @@
 -- `report_rows::latest::note` meets its contract. The invariant: the entries below n are filled in. Assumes nothing.
-use Prim.Native.Nat.{◌≤◌, ◌-◌}
 use mathlib.Core.List.{List}
 use mathlib.Core.Path.{ap}
 use native.Mathlib.Omega.{arith}
-use lib.Dec.{lit≤}
 use Rattle.base_laws.proofs.Tables.{fill_start, fill_turn, fill_end}
 use Rattle.base_ids.specs.declared.View.{View}
 use Rattle.report_rows.specs.Definitions.{noted_at, noted}

@@ -1,6 +1,5 @@
 -- `report_rows::latest::recalled` meets its contract: one test after the other. Assumes nothing.
 use mathlib.Core.Path.{sym, ◌∙◌}
-use borrow.Author.Tests.{not-true, not-false}
 use Rattle.report_rows.specs.Laws.{not_known, not_held, is_held}
 use Rattle.report_rows.proofs.latest.recalled.Goals as goal
 

@@ -1,5 +1,4 @@
 -- The loop's invariant: the count so far is that of the sets below f. Assumes nothing.
-use Prim.Native.Nat.{◌-◌}
 use mathlib.Core.Path.{sym}
 use native.Mathlib.Omega.{arith}
 use Rattle.base_laws.specs.Below.{count_zero}

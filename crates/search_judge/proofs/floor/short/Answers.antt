@@ -1,11 +1,10 @@
 -- The loop's invariant: no shard below i needs more sets than have a node for it. Assumes nothing.
-use Prim.Native.Nat.{◌-◌}
 use mathlib.Core.Path.{sym, ◌∙◌}
 use mathlib.Core.Bool.{false}
 use native.Mathlib.Omega.{arith}
 use Rattle.base_laws.specs.Below.{any_none, any_more, any_at}
 use Rattle.base_laws.specs.Loops.{any_done}
-use Rattle.search_laws.specs.Floor.{short_at, too_few}
+use Rattle.search_laws.specs.Floor.{too_few}
 use Rattle.search_judge.proofs.floor.short.Goals as goal
 
 pub loop-i-init : goal.loop-i-init

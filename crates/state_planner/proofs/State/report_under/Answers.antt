@@ -1,6 +1,5 @@
 -- `state_planner::State::report_under` meets its contract: the outcome, and where it accepts the message is stored. Assumes nothing.
 use mathlib.Core.Path.{sym, ◌∙◌}
-use borrow.Author.Tests.{not-true, not-false}
 use Rattle.state_planner.specs.ReportLaws.{answer_leaves, reporter_told, report_small, reporter_named, stored_desk}
 use borrow.Author.Rules.{rules}
 use Rattle.state_planner.proofs.State.report_under.Goals as goal

@@ -1,6 +1,5 @@
 -- `state_rows::sound_parts::kept_sound` meets its contract: its parts are those of `Ready.kept_ready`. Assumes nothing.
 use mathlib.Core.Path.{sym}
-use borrow.Author.Tests.{not-true, not-false}
 use Rattle.state_rows.specs.Ready.{kept_ready}
 use Rattle.state_rows.proofs.sound_parts.kept_sound.Goals as goal
 

@@ -1,6 +1,6 @@
 use Rattle.report_views.specs.Definitions.{nothing_kept}
 use mathlib.Core.Path.{sym}
-use borrow.Author.Tests.{eq-eqb, ne_eqb, not-true, not-false}
+use borrow.Author.Tests.{eq-eqb, ne_eqb}
 use Rattle.state_rows.proofs.sound_parts.nothing_kept.Goals as goal
 
 pub returns-then-not-layout_blank : goal.returns-then-not-layout_blank

@@ -1,6 +1,6 @@
 use Rattle.report_views.specs.Definitions.{plan_blank}
 use mathlib.Core.Path.{sym}
-use borrow.Author.Tests.{eq-eqb, ne_eqb, not-true, not-false}
+use borrow.Author.Tests.{eq-eqb, ne_eqb}
 use Rattle.state_rows.proofs.sound_parts.plan_blank.Goals as goal
 
 pub returns-then-not-layout_blank : goal.returns-then-not-layout_blank

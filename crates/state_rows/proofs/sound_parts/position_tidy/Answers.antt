@@ -1,6 +1,6 @@
 -- `state_rows::sound_parts::position_tidy` meets its contract, test by test. Assumes nothing.
 use mathlib.Core.Path.{sym}
-use borrow.Author.Tests.{lt-ltb, le-ltb, not-true, not-false}
+use borrow.Author.Tests.{lt-ltb, le-ltb}
 use Rattle.state_rows.proofs.sound_parts.position_tidy.Goals as goal
 
 pub returns-then-not-made : goal.returns-then-not-made

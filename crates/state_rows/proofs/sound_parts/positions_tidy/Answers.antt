@@ -1,13 +1,9 @@
 -- `state_rows::sound_parts::positions_tidy` meets its contract. The invariant: every shard below s passes. Assumes nothing.
-use Prim.Native.Nat.{◌-◌}
-use mathlib.Core.Bool.{true}
 use mathlib.Core.Path.{sym, ◌∙◌}
 use native.Mathlib.Omega.{arith}
-use borrow.Author.Tests.{not-true, not-false}
 use Rattle.base_laws.specs.Below.{all_none}
 use Rattle.base_laws.proofs.Below.{all_more, all_fails, all_fewer}
 use Rattle.state_rows.specs.Ready.{position_tidy}
-use borrow.Author.Rules.{rules}
 use Rattle.state_rows.proofs.sound_parts.positions_tidy.Goals as goal
 
 pub loop-s-init : goal.loop-s-init

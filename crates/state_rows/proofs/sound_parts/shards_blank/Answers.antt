@@ -1,18 +1,16 @@
 -- `state_rows::sound_parts::shards_blank` meets its contract. The invariant: every shard below s passes. Assumes nothing.
-use Prim.Native.Nat.{ℕ, ◌-◌}
-use mathlib.Core.Bool.{Bool, true, ◌&&◌}
+use Prim.Native.Nat.{ℕ}
+use mathlib.Core.Bool.{Bool, ◌&&◌}
 use mathlib.Core.List.{List}
 use mathlib.Core.Path.{sym, ◌∙◌}
 use native.Mathlib.Omega.{arith}
 use lib.Dec.{eqb}
 use lib.ListN.{get_or}
-use borrow.Author.Tests.{not-true, not-false}
 use Rattle.base_laws.specs.Below.{all_none}
 use Rattle.base_laws.proofs.Below.{all_more, all_fails, all_fewer}
 use Rattle.base_ids.specs.declared.Node.{Node}
 use Rattle.base_ids.specs.declared.Position.{Position}
 use Rattle.report_views.specs.Definitions.{is_start, start, node_at}
-use borrow.Author.Rules.{rules}
 use Rattle.state_rows.proofs.sound_parts.shards_blank.Goals as goal
 
 abbrev ok : List Node → List Position → ℕ → Bool

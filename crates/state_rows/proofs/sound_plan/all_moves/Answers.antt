@@ -1,5 +1,5 @@
 -- `state_rows::sound_plan::all_moves` meets its contract: The invariant: the total is the sum over the subgroups below g, each below 2 ^ 32. Assumes nothing.
-use Prim.Native.Nat.{ℕ, ◌-◌}
+use Prim.Native.Nat.{ℕ}
 use mathlib.Core.List.{List}
 use mathlib.Core.Path.{◌≡◌, sym, ap, ◌∙◌}
 use native.Mathlib.Omega.{arith}

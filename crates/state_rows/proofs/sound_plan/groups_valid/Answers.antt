@@ -1,17 +1,15 @@
 -- `state_rows::sound_plan::groups_valid` meets its contract: The invariant: every subgroup below g is valid. Assumes nothing.
-use Prim.Native.Nat.{ℕ, ◌-◌}
-use mathlib.Core.Bool.{Bool, true}
+use Prim.Native.Nat.{ℕ}
+use mathlib.Core.Bool.{Bool}
 use mathlib.Core.List.{List}
 use mathlib.Core.Path.{sym, ◌∙◌}
 use native.Mathlib.Omega.{arith}
-use borrow.Author.Tests.{not-true, not-false}
 use Rattle.base_laws.specs.Below.{all_none}
 use Rattle.base_laws.proofs.Below.{all_more, all_fails, all_fewer}
 use Rattle.place_groups.specs.Definitions.{group_valid}
 use Rattle.report_views.specs.declared.Layout.{Layout}
 use Rattle.report_views.specs.Definitions.{mask_at}
 use Rattle.state_rows.specs.Matches.{groups_valid}
-use borrow.Author.Rules.{rules}
 use Rattle.state_rows.proofs.sound_plan.groups_valid.Goals as goal
 
 abbrev ok : List ℕ → ℕ → Layout → ℕ → Bool

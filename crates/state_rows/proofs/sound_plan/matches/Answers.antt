@@ -1,6 +1,5 @@
 -- `state_rows::sound_plan::matches` meets its contract: test by test. Assumes nothing.
 use mathlib.Core.Path.{sym}
-use borrow.Author.Tests.{not-true, not-false}
 use Rattle.state_rows.specs.Matches.{matches}
 use Rattle.state_rows.proofs.sound_plan.matches.Goals as goal
 

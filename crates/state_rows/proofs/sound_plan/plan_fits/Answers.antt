@@ -1,6 +1,5 @@
 -- `state_rows::sound_plan::plan_fits` meets its contract: by whether a plan stands in the phase. Assumes nothing.
 use mathlib.Core.Path.{sym, ◌∙◌}
-use borrow.Author.Tests.{not-true, not-false}
 use Rattle.state_rows.specs.Matches.{fits_blank, fits_matches}
 use Rattle.state_rows.proofs.sound_plan.plan_fits.Goals as goal
 

@@ -1,12 +1,11 @@
 -- `state_rows::sound_plan::same_shards` meets its contract: The invariant: every shard below s agrees. Assumes nothing.
-use Prim.Native.Nat.{ℕ, ◌-◌}
-use mathlib.Core.Bool.{Bool, true, ◌&&◌}
+use Prim.Native.Nat.{ℕ}
+use mathlib.Core.Bool.{Bool, ◌&&◌}
 use mathlib.Core.List.{List}
 use mathlib.Core.Path.{sym, ◌∙◌}
 use native.Mathlib.Omega.{arith}
 use lib.Dec.{eqb}
 use lib.ListN.{get_or}
-use borrow.Author.Tests.{not-true, not-false}
 use Rattle.base_laws.specs.Below.{all_none}
 use Rattle.base_laws.proofs.Below.{all_more, all_fails, all_fewer}
 use Rattle.base_ids.specs.declared.Node.{Node}
@@ -16,7 +15,6 @@ use Rattle.report_views.specs.Definitions.{start, node_at, same_position}
 use Rattle.report_views.specs.PlanLaws.{same_shard}
 use Rattle.plan_seen.specs.declared.Seen.{Seen}
 use Rattle.state_rows.specs.Matches.{same_shards}
-use borrow.Author.Rules.{rules}
 use Rattle.state_rows.proofs.sound_plan.same_shards.Goals as goal
 
 abbrev same : List Node → List Position → List Node → List Position → ℕ → Bool
