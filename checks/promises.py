@@ -7,7 +7,7 @@
 - a path in backquotes that begins with a folder of the repository is there;
 - every row of docs/PROMISES.md, a line that starts with "- ", has such a link to a name, and each word in backquotes after it is a name: of
   the file that the link before it opens, else of the specs of that file's crate, else one that the specs of all crates have once;
-- docs/ and README.md together have at most 90 KB, docs/PORT.md aside.
+- docs/ and README.md together have at most 90 KB, docs/PORT.md and docs/DESIGN-PASS.md aside.
 
     python3 checks/promises.py [--write]     --write puts the lines where names are defined into the links
 
@@ -18,8 +18,8 @@ import os
 import re
 import sys
 
-# PORT has names as they were beside those of today, and is no page to be read
-PROMISES, READING, PORT = "docs/PROMISES.md", "docs/READING.md", "docs/PORT.md"
+# these have names as they were beside those of today, and are no pages to be read
+PROMISES, READING, ASIDE = "docs/PROMISES.md", "docs/READING.md", ("docs/PORT.md", "docs/DESIGN-PASS.md")
 MOST = 90 * 1024
 LINK = re.compile(r"\[([^\]]*)\]\(([^)\s]+)\)")
 QUALIFIED = re.compile(r"`([a-z0-9_]+)(::|/)([A-Za-z0-9_.:'-]+)`")
@@ -31,7 +31,7 @@ CODE = re.compile(r'^\s*(?:pub )?(?:extern "C" )?(?:fn|struct|enum|const) (\w+)'
 
 def pages():
     found = ["README.md", "CONTRIBUTING.md", *sorted(glob.glob("docs/*.md"))]
-    return [page for page in found if os.path.exists(page) and page != PORT]
+    return [page for page in found if os.path.exists(page) and page not in ASIDE]
 
 
 @functools.lru_cache(None)

@@ -1,6 +1,5 @@
 """What serves nothing. Checked, one test each:
-- every name in a line `use` of code, specs and proofs is used in its file, or by a wrong program that changes it; but for LEFT lines of specs
-  and proofs, at most, which the way to today's kit has left: taking a name out proves its crate again, and those above;
+- every name in a line `use` of code, specs and proofs is used in its file, or by a wrong program that changes it;
 - every crate in a line of crates.txt is named by that crate's code, specs or proofs, or its code touches a type from there;
 - every public function is called by another crate's code, is a call for C, or stands in a program; and every struct and enum is named;
 - every declaration of specs is reached: from a contract, from a function's proof, or from a name in docs/PROMISES.md or docs/ASSUMPTIONS.md,
@@ -32,7 +31,6 @@ PUBLIC = re.compile(r'^( *)pub (extern "C" )?fn (\w+)')
 TYPE = re.compile(r"(?m)^(?:pub )?(?:struct|enum) (\w+)")
 BUILT = re.compile(r"(?ms)^(?:pub )?(?:struct|enum) (\w+)(?:<[^>]*>)?(?: \{(.*?)^\}|\((.*?)\);)")
 ALLOWED = "checks/allowed.txt"
-LEFT = 360
 
 
 def words_of(text):
@@ -343,10 +341,8 @@ def main():
         tree = Tree()
     found, kept = [*tree.uncalled(), *tree.unreached()], allowed("unused")
     functions, rest = [[entry for entry in found if ("::" in entry[0]) is code and entry[0] not in kept] for code in (True, False)]
-    names = list(tree.unused_names())
-    left = [fault for fault in names if ".antt:" in fault]
     tests = [
-        names if len(left) > LEFT else [fault for fault in names if fault not in left],
+        list(tree.unused_names()),
         list(tree.unused_crates()),
         ["%s: %s" % entry for entry in functions],
         ["%s: %s" % entry for entry in rest],
@@ -358,7 +354,6 @@ def main():
     print("%d functions and types, %d declarations kept without use" % tuple(
         sum(1 for name in kept if ("::" in name) is code) for code in (True, False)
     ))
-    print("%d lines use of specs and proofs with a name that nothing uses, at most %d" % (len(left), LEFT))
     print("%d passed, %d failed" % (len(tests) - failed, failed))
     sys.exit(1 if failed else 0)
 
