@@ -330,6 +330,22 @@ def shaped(code):
             yield kind, "%s: %s" % (kind, ", ".join(name + ("(%s)" % ", ".join(types) if types else "") for name, types in kind.cases))
 
 
+def answers_beside(code):
+    enums = {kind.name for kind, _ in shaped(code)}
+    for kind in code.types:
+        found = [name for name, type_ in kind.fields if type_ in enums]
+        if found and len(kind.fields) > len(found):
+            yield kind, "%s: %s beside %s" % (kind, " ".join(found), " ".join(name for name, _ in kind.fields if name not in found))
+
+
+def blanks(code):
+    own = {kind.name for kind in code.types}
+    for function in code.functions:
+        types = [type_ for _, type_ in function.params]
+        if function.result in own - {"Refusal"} and set(types) <= {"Refusal"}:
+            yield function, "%s gives %s" % (function, function.result)
+
+
 def codes(code):
     for function in code.functions:
         if function.result == "Refusal":
@@ -592,6 +608,14 @@ def matched(function):
     return []
 
 
+def packed(code):
+    for function in code.functions:
+        text = plain(function.body)
+        joins = re.search(r"\b(256|65536|16777216|4294967296)[*]|[*/](256|65536|16777216|4294967296)\b|%(256|4294967296)\b", text)
+        if joins and "mem" not in dict(function.params):
+            yield function, "%s: %s" % (function, text[:90])
+
+
 def to_numbers(code):
     for function in code.functions:
         values, text = matched(function), plain(function.body)
@@ -760,6 +784,8 @@ KINDS = {
     "1.flag": ("structs with a `bool` beside a value", flags),
     "1.refusal": ("structs with a `Refusal` beside a value", refusals_beside),
     "1.enum": ("own enums of two cases with a value in one or in both, or with a case that holds a `Refusal`", shaped),
+    "1.answer": ("structs with an enum of 1.enum beside a value", answers_beside),
+    "1.blank": ("functions that give a value of an own type from nothing, or from a refusal", blanks),
     "1.code": ("functions that give a `Refusal`, or its number", codes),
     "1.special": ("functions of a number or identifier that give on one way a constant or a literal from 2 up (of an identifier: any), or that where a loop finds nothing", special),
     "1.test": ("tests of a refusal's number or of an identifier's against a number, as `r.code != 0`, `n.0 == 32`", tests),
@@ -782,6 +808,7 @@ KINDS = {
     "4.less": ("functions that give a - b, or 0", less_or_none),
     "4.cast": ("casts `x as u32` and the like", casts),
     "4.convert": ("functions that are one cast", conversions),
+    "4.pack": ("functions that join numbers, or take one apart, by 256, 2^16, 2^24 or 2^32", packed),
     "4.number": ("functions from the cases of an enum, or from a `bool`, to numbers", to_numbers),
     "4.from": ("functions from numbers to the cases of an enum", from_numbers),
     "4.case": ("functions from the cases of an enum to `true` and `false`", is_case),
