@@ -23,6 +23,7 @@ NUMBERS = ("u8", "u16", "u32", "u64", "usize")
 LITERAL = re.compile(r"(\d[\w]*|b?\".*|b'.*)$", re.S)
 CONSTANT = re.compile(r"(?:\w+::)*[A-Z][A-Z_0-9]+$")
 WORDS = {"if", "else", "for", "in", "while", "loop", "match", "return", "let", "mut", "as", "true", "false", "self", "break", "continue"}
+CLAUSES = ("requires", "ensures", "decreases")
 OPENS, CLOSES = ("(", "[", "{"), (")", "]", "}")
 
 
@@ -115,14 +116,16 @@ class Code:
                 at = self.kind(file, lines, tokens, at)
             elif word == "const":
                 self.constants.append((file, line, tokens[at + 1][0]))
-            elif word == "impl":
+            elif word in ("impl", "trait"):
+                of = None
+                while tokens[at][0] != "{" and "where" not in (word, tokens[at][0]):
+                    at = closing(tokens, at) if tokens[at][0] == "<" else at
+                    of, at = tokens[at][0] if tokens[at][0].isidentifier() else of, at + 1
                 while tokens[at][0] != "{":
-                    at += closing(tokens, at) - at if tokens[at][0] == "<" else 0
-                    owner_name, at = tokens[at][0] if tokens[at][0].isidentifier() else owner, at + 1
-                    owner = owner_name
+                    at += 1
                 end = closing(tokens, at)
-                self.scan(file, lines, tokens[at + 1 : end], owner)
-                owner, at = None, end
+                self.scan(file, lines, tokens[at + 1 : end], of)
+                at = end
             at += 1
 
     def above(self, lines, line):
@@ -161,20 +164,20 @@ class Code:
         end = closing(tokens, at)
         made.params = [typed(part) for part in split(tokens[at + 1 : end], ",")]
         at = end + 1
-        if tokens[at][0] == "->":
-            start = at + 1
-            while tokens[at][0] not in ("{", "requires", "ensures"):
-                at += 1
-            made.result = plain(tokens[start:at])
-        while tokens[at][0] in ("requires", "ensures"):
+        start = at + 1
+        while tokens[at][0] not in (*CLAUSES, "{", "where", ";"):
+            at = closing(tokens, at) + 1 if tokens[at][0] in ("(", "[") else at + 1
+        made.result = plain(tokens[start:at])
+        while tokens[at][0] not in ("{", ";"):
             clause = tokens[at][0]
-            while tokens[at][0] != "{":
+            while clause in CLAUSES and tokens[at][0] != "{":
                 at += 1
-            end = closing(tokens, at)
-            if clause == "requires":
-                made.requires.append(tokens[at + 1 : end])
-            at = end + 1
-        end = closing(tokens, at)
+            if clause in CLAUSES:
+                end = closing(tokens, at)
+                made.requires += [tokens[at + 1 : end]] if clause == "requires" else []
+                at = end
+            at += 1
+        end = closing(tokens, at) if tokens[at][0] == "{" else at
         made.body = tokens[at + 1 : end]
         self.functions.append(made)
         return end
@@ -218,7 +221,7 @@ def exits(body):
     while at < len(body):
         if body[at][0] == "return":
             end = at
-            while body[end][0] != ";":
+            while end < len(body) and body[end][0] not in (";", ",", "}"):
                 end = closing(body, end) + 1 if body[end][0] in OPENS else end + 1
             found.append(plain(body[at + 1 : end]))
             at = end
@@ -255,24 +258,21 @@ def blocks(tokens):
 
 def arms(tokens):
     """What stands in the arms of a `match`."""
-    at = next(place for place, (text, _) in enumerate(tokens) if text == "{")
-    inner, found, now, at, depth = tokens[at + 1 : closing(tokens, at)], [], None, 0, 0
+    start = next(place for place, (text, _) in enumerate(tokens) if text == "{")
+    inner, found, now, at = tokens[start + 1 : closing(tokens, start)], [], None, 0
     while at < len(inner):
-        word = inner[at][0]
-        if now is not None and word in OPENS:
-            end = closing(inner, at)
-            now += inner[at : end + 1]
-            at = end
-            if word == "{" and len(now) == end - at + len(now) and (at + 1 == len(inner) or inner[at + 1][0] not in (",", ".")) and now[0][0] == "{":
-                found, now = found + [now], None
-        elif now is None:
+        word, end = inner[at][0], closing(inner, at) if inner[at][0] in OPENS else at
+        follows = inner[end + 1][0] if end + 1 < len(inner) else ""
+        if now is None:
             now = [] if word == "=>" else None
-        elif word == "," and depth == 0:
+        elif word == ",":
             found, now = found + [now], None
+        elif word == "{" and not now and follows not in (",", ".", "?"):
+            found, now = found + [inner[at : end + 1]], None
         else:
-            now.append(inner[at])
-        at += 1
-    return [arm for arm in found + [now or []] if arm]
+            now += inner[at : end + 1]
+        at = end + 1
+    return found + ([now] if now else [])
 
 
 class Loop:
@@ -328,6 +328,22 @@ def shaped(code):
         full = [types for _, types in kind.cases if types]
         if len(kind.cases) == 2 and full and all(len(types) == 1 for types in full) or ["Refusal"] in full:
             yield kind, "%s: %s" % (kind, ", ".join(name + ("(%s)" % ", ".join(types) if types else "") for name, types in kind.cases))
+
+
+def answers_beside(code):
+    enums = {kind.name for kind, _ in shaped(code)}
+    for kind in code.types:
+        found = [name for name, type_ in kind.fields if type_ in enums]
+        if found and len(kind.fields) > len(found):
+            yield kind, "%s: %s beside %s" % (kind, " ".join(found), " ".join(name for name, _ in kind.fields if name not in found))
+
+
+def blanks(code):
+    own = {kind.name for kind in code.types}
+    for function in code.functions:
+        types = [type_ for _, type_ in function.params]
+        if function.result in own - {"Refusal"} and set(types) <= {"Refusal"}:
+            yield function, "%s gives %s" % (function, function.result)
 
 
 def codes(code):
@@ -592,6 +608,14 @@ def matched(function):
     return []
 
 
+def packed(code):
+    for function in code.functions:
+        text = plain(function.body)
+        joins = re.search(r"\b(256|65536|16777216|4294967296)[*]|[*/](256|65536|16777216|4294967296)\b|%(256|4294967296)\b", text)
+        if joins and "mem" not in dict(function.params):
+            yield function, "%s: %s" % (function, text[:90])
+
+
 def to_numbers(code):
     for function in code.functions:
         values, text = matched(function), plain(function.body)
@@ -760,6 +784,8 @@ KINDS = {
     "1.flag": ("structs with a `bool` beside a value", flags),
     "1.refusal": ("structs with a `Refusal` beside a value", refusals_beside),
     "1.enum": ("own enums of two cases with a value in one or in both, or with a case that holds a `Refusal`", shaped),
+    "1.answer": ("structs with an enum of 1.enum beside a value", answers_beside),
+    "1.blank": ("functions that give a value of an own type from nothing, or from a refusal", blanks),
     "1.code": ("functions that give a `Refusal`, or its number", codes),
     "1.special": ("functions of a number or identifier that give on one way a constant or a literal from 2 up (of an identifier: any), or that where a loop finds nothing", special),
     "1.test": ("tests of a refusal's number or of an identifier's against a number, as `r.code != 0`, `n.0 == 32`", tests),
@@ -782,6 +808,7 @@ KINDS = {
     "4.less": ("functions that give a - b, or 0", less_or_none),
     "4.cast": ("casts `x as u32` and the like", casts),
     "4.convert": ("functions that are one cast", conversions),
+    "4.pack": ("functions that join numbers, or take one apart, by 256, 2^16, 2^24 or 2^32", packed),
     "4.number": ("functions from the cases of an enum, or from a `bool`, to numbers", to_numbers),
     "4.from": ("functions from numbers to the cases of an enum", from_numbers),
     "4.case": ("functions from the cases of an enum to `true` and `false`", is_case),

@@ -1,5 +1,5 @@
 -- What contracts cite, each definition after those that it builds on. Laws stand in the files beside this one.
-use Rattle.std.specs.Prelude.{ℕ, ◌+◌, ◌*◌, ◌/◌, ◌%◌, Bool, cond, ◌||◌, eqb}
+use Rattle.std.specs.Prelude.{ℕ, ◌+◌, ◌*◌, ◌/◌, ◌%◌, Bool, cond, ◌||◌, eqb, Result, Ok, Err}
 use Rattle.base_laws.specs.Definitions.{pair_not_after as not-after}
 use Rattle.base_ids.specs.declared.Position.{Position}
 use Rattle.base_ids.specs.declared.Refusal.{Refusal}
@@ -51,3 +51,7 @@ unless_at ok k i rest = cond ok rest (refused_at k i)
 -- the refusal of a list that is followed by another
 unfoldable pub first_of : Refusal → Refusal → Refusal
 first_of r rest = cond (accepted r) rest r
+
+-- what a call gives under a refusal: the value where nothing is refused, and else the refusal
+unfoldable pub or_refusal : {A : Type 0} → Refusal → A → Result A Refusal
+or_refusal r a = cond (accepted r) (Ok a) (Err r)

@@ -2,3 +2,4 @@
 pub mod Definitions
 pub mod Order
 pub mod Refusals
+pub mod Results

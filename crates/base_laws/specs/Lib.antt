@@ -6,3 +6,4 @@ pub mod Loops
 pub mod Masks
 pub mod Tables
 pub mod Positions
+pub mod Options
