@@ -1,14 +1,10 @@
--- `base_bytes::decode` meets its contract. The loop's invariant: the slice is filled with words below i. The measure is what is left of it.
--- Assumes nothing.
-use mathlib.Core.Path.{refl, sym, ◌∙◌}
-use Prim.Native.Nat.{◌-◌}
+-- `base_bytes::decode` meets its contract. The loop's invariant: the slice is filled with words below i. Assumes nothing.
+use mathlib.Core.Path.{sym, ◌∙◌}
 use native.Mathlib.Omega.{arith}
-use lib.ListN.{length-set}
 use Rattle.base_laws.specs.Tables.{filled_none}
 use Rattle.base_laws.proofs.Tables.{filled_turn}
 use Rattle.base_bytes.specs.Definitions.{word_at}
 use Rattle.base_bytes.specs.Words.{words_filled}
-use borrow.Author.Rules.{rules}
 use Rattle.base_bytes.proofs.decode.Goals as goal
 
 pub loop-i-init : goal.loop-i-init

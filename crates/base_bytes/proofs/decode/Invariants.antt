@@ -1,6 +1,4 @@
 use mathlib.Core.Path.{◌≡◌}
-use Prim.Native.Nat.{◌-◌, ◌≤◌}
-use lib.ListN.{length}
 use Rattle.base_laws.specs.Tables.{filled}
 use Rattle.base_bytes.specs.Definitions.{word_at}
 use Rattle.base_bytes.proofs.decode.Given as goal

@@ -1,13 +1,10 @@
--- `base_bytes::encode` meets its contract. The loop's invariant: the slice is filled with the bytes of the words below i. The measure is what is
--- left of the words. Assumes nothing.
-use mathlib.Core.Path.{refl, sym, ap, ◌∙◌}
-use Prim.Native.Nat.{◌*◌, ◌-◌}
+-- `base_bytes::encode` meets its contract. The loop's invariant: the slice is filled with the bytes of the words below i.
+-- Assumes nothing.
+use mathlib.Core.Path.{sym, ◌∙◌}
 use native.Mathlib.Omega.{arith}
-use lib.ListN.{length, get_or}
 use Rattle.base_laws.specs.Tables.{filled_none}
 use Rattle.base_bytes.specs.Definitions.{byte_at}
-use Rattle.base_bytes.specs.Words.{bytes_filled, stored_turn, length_stored}
-use borrow.Author.Rules.{rules}
+use Rattle.base_bytes.specs.Words.{bytes_filled, stored_turn}
 use Rattle.base_bytes.proofs.encode.Goals as goal
 
 pub loop-i-init : goal.loop-i-init

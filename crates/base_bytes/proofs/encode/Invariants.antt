@@ -1,6 +1,5 @@
 use mathlib.Core.Path.{◌≡◌}
-use Prim.Native.Nat.{◌*◌, ◌-◌, ◌≤◌}
-use lib.ListN.{length}
+use Prim.Native.Nat.{◌*◌}
 use Rattle.base_laws.specs.Tables.{filled}
 use Rattle.base_bytes.specs.Definitions.{byte_at}
 use Rattle.base_bytes.proofs.encode.Given as goal

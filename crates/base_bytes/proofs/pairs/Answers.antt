@@ -1,12 +1,8 @@
--- `base_bytes::pairs` meets its contract. The loop's invariant: the table is filled below i. The measure is what is left of it.
--- Assumes nothing.
+-- `base_bytes::pairs` meets its contract. The loop's invariant: the table is filled below i. Assumes nothing.
 use mathlib.Core.Path.{sym}
-use Prim.Native.Nat.{◌-◌, ◌≤◌}
 use native.Mathlib.Omega.{arith}
-use lib.Dec.{lit≤}
 use Rattle.base_laws.specs.Tables.{filled_none}
 use Rattle.base_laws.proofs.Tables.{filled_turn, filled_end}
-use Rattle.base_bytes.specs.Words.{pair_at}
 use Rattle.base_bytes.proofs.pairs.Goals as goal
 
 pub loop-i-init : goal.loop-i-init

@@ -1,5 +1,4 @@
 use mathlib.Core.Path.{◌≡◌}
-use Prim.Native.Nat.{◌-◌, ◌≤◌}
 use Rattle.base_laws.specs.Tables.{filled}
 use Rattle.base_bytes.specs.Words.{pair_at}
 use Rattle.base_bytes.proofs.pairs.Given as goal
