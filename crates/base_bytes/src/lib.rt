@@ -4,21 +4,7 @@
 ghost use Rattle.std.specs.Prelude.{◌≡◌, ◌+◌, ◌*◌, ◌≤◌, length};
 ghost use Rattle.base_laws.specs.Definitions.{tabulate};
 ghost use Rattle.base_bytes.specs.Definitions.{word_at, words_of, bytes_of};
-ghost use Rattle.base_bytes.specs.Shorthands.{word_from};
 ghost use Rattle.base_bytes.specs.Words.{stored, pair_at};
-
-fn wide(x: u8) -> u32
-    ensures { result ≡ x }
-{
-    x as u32
-}
-
-// The word that four bytes make, the lowest first.
-fn join(a: u8, b: u8, c: u8, d: u8) -> u32
-    ensures { result ≡ word_from a b c d }
-{
-    wide(a) + 256 * wide(b) + 65536 * wide(c) + 16777216 * wide(d)
-}
 
 // Word i of the bytes.
 pub fn word_at(bytes: &[u8], i: usize) -> u32
@@ -26,7 +12,7 @@ pub fn word_at(bytes: &[u8], i: usize) -> u32
     ensures { result ≡ word_at bytes.now i }
 {
     let at = 4 * i;
-    join(bytes[at], bytes[at + 1], bytes[at + 2], bytes[at + 3])
+    u32::from_le_bytes([bytes[at], bytes[at + 1], bytes[at + 2], bytes[at + 3]])
 }
 
 // Stores a word in each place of words, from the bytes' start on.
@@ -44,10 +30,7 @@ fn put(bytes: &mut [u8], at: usize, w: u32)
     requires { at + 4 ≤ length bytes.old }
     ensures { bytes.new ≡ stored bytes.old at w }
 {
-    bytes[at] = (w % 256) as u8;
-    bytes[at + 1] = (w / 256 % 256) as u8;
-    bytes[at + 2] = (w / 65536 % 256) as u8;
-    bytes[at + 3] = (w / 16777216 % 256) as u8;
+    bytes[at..at + 4].copy_from_slice(&w.to_le_bytes());
 }
 
 // Stores the bytes of all words.
@@ -60,33 +43,13 @@ pub fn encode(words: &[u32], bytes: &mut [u8])
     }
 }
 
-fn wider(x: u8) -> u64
-    ensures { result ≡ x }
-{
-    x as u64
-}
-
-// The two words that eight bytes make as one number, the first in the lower half.
-fn join_pair(a: u8, b: u8, c: u8, d: u8, e: u8, f: u8, g: u8, h: u8) -> u64
-    ensures { result ≡ word_from a b c d + 4294967296 * word_from e f g h }
-{
-    wider(a)
-        + 256 * wider(b)
-        + 65536 * wider(c)
-        + 16777216 * wider(d)
-        + 4294967296 * wider(e)
-        + 1099511627776 * wider(f)
-        + 281474976710656 * wider(g)
-        + 72057594037927936 * wider(h)
-}
-
-// Words 2 i and 2 i + 1 of the bytes as one number.
+// Words 2 i and 2 i + 1 of the bytes as one number, word 2 i in the lower half.
 fn pair_at(bytes: &[u8], i: usize) -> u64
     requires { 8 * i + 8 ≤ length bytes.now }
     ensures { result ≡ pair_at bytes.now i }
 {
     let at = 8 * i;
-    join_pair(
+    u64::from_le_bytes([
         bytes[at],
         bytes[at + 1],
         bytes[at + 2],
@@ -95,7 +58,7 @@ fn pair_at(bytes: &[u8], i: usize) -> u64
         bytes[at + 5],
         bytes[at + 6],
         bytes[at + 7],
-    )
+    ])
 }
 
 // The words of 2048 bytes, two by two: words 2 i and 2 i + 1 as one number, word 2 i in the lower half.

@@ -1,6 +1,6 @@
 -- Laws of what a call gives under a refusal, for the ways out of a function and for the arms of its callers.
-use Rattle.std.specs.Prelude.{ℕ, Bool, true, false, cond, eqb, ◌≡◌, refl, Result, Ok, Err}
-use Rattle.std.proofs.Common.{sym, ap, ◌∙◌, subst, eqb-true, arith}
+use Rattle.std.specs.Prelude.{ℕ, Bool, true, false, cond, eqb, ◌≡◌, refl, Ok, Err}
+use Rattle.std.proofs.Common.{sym, ap, ◌∙◌}
 use mathlib.Core.Bool.{true≢false}
 use Rattle.base_ids.specs.declared.Refusal.{Refusal}
 use Rattle.base_ids.specs.Definitions.{none, accepted, or_refusal}

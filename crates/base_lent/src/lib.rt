@@ -3,20 +3,13 @@
 
 ghost use Rattle.std.specs.Prelude.{◌≡◌, ◌≤◌};
 ghost use Rattle.base_lent.specs.Definitions.{with_length};
-ghost use Rattle.base_lent.specs.Lent.{count_within, HoldsWords, HoldsSettings};
+ghost use Rattle.base_lent.specs.Lent.{count_within, HoldsIn, HoldsWords, HoldsSettings};
 
-// The words of lent bytes: the first len of the table.
+// The words of lent bytes: the first len of a table of N.
 #[derive(Clone, Copy)]
-pub struct Lent {
+pub struct Lent<const N: usize> {
     pub len: usize,
-    pub table: [u32; 512],
-}
-
-// The words of lent settings: the first len of the table.
-#[derive(Clone, Copy)]
-pub struct LentSettings {
-    pub len: usize,
-    pub table: [u32; 52],
+    pub table: [u32; N],
 }
 
 // How many words so many bytes are, for a call that looks at no more than `most`; 0 where they are more, or no whole words.
@@ -32,25 +25,31 @@ fn count_within(most: usize, bytes: usize) -> usize
     bytes / 4
 }
 
-// The words of the bytes, for a call that looks at no more than `most`.
-pub fn words_of(most: usize, bytes: &[u8]) -> Lent
-    requires { most ≤ 512 }
-    ensures { HoldsWords result.table result.len most bytes.now }
+// The words of the bytes in a table of N, for a call that looks at no more than `most`.
+fn words_within<const N: usize>(most: usize, bytes: &[u8]) -> Lent<N>
+    requires { most ≤ N }
+    ensures { HoldsIn N result.table result.len most bytes.now }
 {
     let len = count_within(most, bytes.len());
-    let mut table = [0u32; 512];
-    base_bytes::decode(bytes, &mut table[0..len]);
+    let mut table = [0u32; N];
+    let places = &mut table[..];
+    base_bytes::decode(bytes, &mut places[0..len]);
     Lent { len, table }
 }
 
+// The words of the bytes, for a call that looks at no more than `most`.
+pub fn words_of(most: usize, bytes: &[u8]) -> Lent<512>
+    requires { most ≤ 512 }
+    ensures { HoldsWords result.table result.len most bytes.now }
+{
+    words_within(most, bytes)
+}
+
 // The words of settings, which are at most 52.
-pub fn settings_of(bytes: &[u8]) -> LentSettings
+pub fn settings_of(bytes: &[u8]) -> Lent<52>
     ensures { HoldsSettings result.table result.len bytes.now }
 {
-    let len = count_within(52, bytes.len());
-    let mut table = [0u32; 52];
-    base_bytes::decode(bytes, &mut table[0..len]);
-    LentSettings { len, table }
+    words_within(52, bytes)
 }
 
 // The number of words, of which there are few, as an answer.

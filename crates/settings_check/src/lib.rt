@@ -11,16 +11,10 @@ fn ranges_ok(settings: &[u32]) -> bool
     requires { 4 ≤ length settings.now }
     ensures { result ≡ ranges_ok settings.now }
 {
-    if !settings_values::from_to(1, 32, settings[0]) {
-        return false;
-    }
-    if !settings_values::from_to(1, 16, settings[1]) {
-        return false;
-    }
-    if !settings_values::from_to(1, settings[0], settings[2]) {
-        return false;
-    }
-    settings_values::from_to(1, 16, settings[3])
+    settings_values::from_to(1, 32, settings[0])
+        && settings_values::from_to(1, 16, settings[1])
+        && settings_values::from_to(1, settings[0], settings[2])
+        && settings_values::from_to(1, 16, settings[3])
 }
 
 // The first four words are in their ranges, and the length is what they say.

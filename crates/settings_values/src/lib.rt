@@ -10,7 +10,7 @@ use base_ids::{Node, Shard};
 pub fn from_to(low: u32, high: u32, x: u32) -> bool
     ensures { result ≡ from_to low high x }
 {
-    low <= x && x <= high
+    (low..=high).contains(&x)
 }
 
 // The word of a shard.

@@ -1,5 +1,4 @@
--- `base_bytes::decode` meets its contract. The loop's invariant: the slice is filled with words below i. The measure is what is left of it.
--- Assumes nothing.
+-- `base_bytes::decode` meets its contract. The loop's invariant: the slice is filled with words below i. Assumes nothing.
 use mathlib.Core.Path.{sym, ◌∙◌}
 use native.Mathlib.Omega.{arith}
 use Rattle.base_laws.specs.Tables.{filled_none}

@@ -1,5 +1,5 @@
--- `base_bytes::encode` meets its contract. The loop's invariant: the slice is filled with the bytes of the words below i. The measure is what is
--- left of the words. Assumes nothing.
+-- `base_bytes::encode` meets its contract. The loop's invariant: the slice is filled with the bytes of the words below i.
+-- Assumes nothing.
 use mathlib.Core.Path.{sym, ◌∙◌}
 use native.Mathlib.Omega.{arith}
 use Rattle.base_laws.specs.Tables.{filled_none}

@@ -1,8 +1,8 @@
--- `base_bytes::pair_at` meets its contract: the eight bytes are within the slice, and `join_pair` gives the number that they make.
+-- `base_bytes::pair_at` meets its contract: the library's sum of the eight bytes is that of the two words.
 -- Assumes nothing.
-use mathlib.Core.Path.{◌∙◌}
+use native.Mathlib.Omega.{arith}
 use Rattle.base_bytes.specs.Words.{pair_bytes}
 use Rattle.base_bytes.proofs.pair_at.Goals as goal
 
 pub returns : goal.returns
-returns c = c.join_pair.ensures ∙ pair_bytes _ _
+returns c = omega (arith, c.from_le_bytes.ensures, pair_bytes c.args.bytes.now c.args.i)

@@ -3,19 +3,18 @@ use Prim.Native.Nat.{◌≤◌}
 use native.Mathlib.Omega.{arith}
 use lib.ListN.{length}
 use Rattle.base_lent.specs.Lent.{within_le, part_fits, part-holds}
-use Rattle.base_lent.proofs.words_of.Goals as goal
+use Rattle.base_lent.proofs.words_within.Goals as goal
 
-pub slice_bounds-table-end : goal.slice_bounds-table-end
-slice_bounds-table-end c = omega (arith, within_le c.args.most (length c.args.bytes.now))
+pub slice_bounds-decode-end : goal.slice_bounds-decode-end
+slice_bounds-decode-end g c = omega (arith, within_le c.args.most (length c.args.bytes.now))
 
 pub decode-requires : goal.decode-requires
-decode-requires c =
+decode-requires g c =
     part_fits c.args.most _ c.args.bytes.now c.count_within-len.ensures _
 
 pub returns : goal.returns
-returns c =
-    let n = c.count_within-len.result in
-    let room : n ≤ 512 =
+returns g c =
+    let room : c.count_within-len.result ≤ g.row.N =
     omega (arith, within_le c.args.most (length c.args.bytes.now)) in
     part-holds c.args.most _ c.args.bytes.now
-    c.count_within-len.ensures 512 room _ c.decode.ensures
+    c.count_within-len.ensures g.row.N room _ c.decode.ensures

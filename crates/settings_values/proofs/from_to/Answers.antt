@@ -1,9 +1,0 @@
--- `settings_values::from_to` meets its contract: each way out has the test that led there.
-use borrow.Author.Tests.{le-leb, lt-leb}
-use Rattle.settings_values.proofs.from_to.Goals as goal
-
-pub returns-then-low-x : goal.returns-then-low-x
-returns-then-low-x c = simp (le-leb _ _ c.if-low-x.true)
-
-pub returns-else-low-x : goal.returns-else-low-x
-returns-else-low-x c = simp (lt-leb _ _ c.if-low-x.false)
