@@ -3,19 +3,21 @@
 -- ---- only the buffer's length matters
 -- an order has few words
 -- ---- the cases
-use Rattle.std.specs.Prelude.{ℕ, ◌≤◌, Bool, ◌&&◌, List, ◌≡◌, eqb, leb, length}
+use Rattle.std.specs.Prelude.{ℕ, ◌≤◌, Bool, ◌&&◌, List, ◌≡◌, eqb, leb, length, Ok, Err}
 use Rattle.std.proofs.Math.Path.{sym}
-use Rattle.std.proofs.Common.{ap, ◌∙◌, arith, eq-eqb, ne_eqb, leb-true}
+use Rattle.std.proofs.Common.{ap, ◌∙◌, arith, leb-true}
 use Rattle.base_bytes.specs.Definitions.{bytes_of}
 use Rattle.base_lent.specs.Definitions.{words_in, with_length}
 use Rattle.base_lent.specs.Answers.{Told, told_refused, told_accepted}
-use Rattle.base_ids.specs.Definitions.{none}
-use Rattle.base_ids.specs.Refusals.{accepted_none, unless_ok, unless_rest}
+use Rattle.base_ids.specs.declared.Refusal.{Refusal}
+use Rattle.base_ids.specs.Definitions.{none, accepted}
+use Rattle.base_ids.specs.Refusals.{unless_ok, unless_rest}
+use Rattle.base_ids.specs.Results.{ok_none, ok_value, err_value, err_refused}
 use Rattle.settings_values.specs.Definitions.{settings_ok}
 use Rattle.message_format.specs.declared.Form.TheVariants.{Order}
 use Rattle.message_format.specs.declared.Writing.{Writing}
 use Rattle.message_format.specs.Definitions.{contents_refusal}
-use Rattle.message_format.specs.Messages.{write_refusal}
+use Rattle.message_format.specs.Messages.{write_refusal, as_written}
 use Rattle.plan_order.specs.Definitions.{order_contents}
 use Rattle.state_planner.specs.declared.State.{State}
 use Rattle.state_planner.specs.Definitions.{order_refusal}
@@ -73,44 +75,47 @@ module _ (role : ℕ) (settings state desk : List ℕ) (node : ℕ) (buffer : Li
       passes_entry = buffer_passes (by_planner role) settings state desk buffer lengths ok e given h
 
       -- the order was written into 512 words z
-      module _ (z : List ℕ) (long : length z ≡ 512) (w : Writing) (f : w ≡ ordered (words_in settings) e.state (words_in desk) node z) where
-        writing_is : w ≡ ordered (words_in settings) (state_lent state) (words_in desk) node z
-        writing_is = f ∙ ap (λ (x : State). ordered (words_in settings) x (words_in desk) node z) passes_entry.state_is
+      module _ (z : List ℕ) (long : length z ≡ 512) where
+        writing_is : ordered (words_in settings) e.state (words_in desk) node z ≡ ordered (words_in settings) (state_lent state) (words_in desk) node z
+        writing_is = ap (λ (x : State). ordered (words_in settings) x (words_in desk) node z) passes_entry.state_is
 
         same_length : length (words_in buffer) ≡ length z
         same_length = buffer_words (by_planner role) settings state desk buffer lengths ok e given h ∙ sym long
 
-        refusal_is : order_refused role settings state desk node buffer ≡ w.refusal
-        unfolding order_refused ordered
+        refusal_is : order_refused role settings state desk node buffer ≡ order_refusal (words_in settings) (state_lent state) (words_in desk) node z
+        unfolding order_refused
         refusal_is =
             passes_entry.event _
             ∙ refusal_same (words_in settings) (state_lent state) (words_in desk) node (words_in buffer) z same_length
-            ∙ sym (ap (λ (y : Writing). y.refusal) writing_is)
 
-        pub order-refused : (w.refusal.code ≡ 0 → ⊥) → ToldOrder w.refusal.code buffer
-        order-refused n = told (told_refused w.refusal _ refusal_is _ _ buffer (ne_eqb w.refusal.code 0 n))
+        pub order-refused : (r : Refusal) → Err r ≡ as_written (ordered (words_in settings) e.state (words_in desk) node z) → ToldOrder r.code buffer
+        unfolding ordered
+        order-refused r f =
+            let g = f ∙ ap as_written writing_is in
+            let v = err_value _ r _ g in
+            told (told_refused r _ (refusal_is ∙ sym v) _ _ buffer (ap accepted v ∙ err_refused _ r _ g))
 
-        module _ (n : w.refusal.code ≡ 0) where
+        module _ (k : ℕ) (f : Ok k ≡ as_written (ordered (words_in settings) e.state (words_in desk) node z)) where
           none_is : order_refusal (words_in settings) (state_lent state) (words_in desk) node z ≡ none
           unfolding ordered
-          none_is = sym (ap (λ (y : Writing). y.refusal) writing_is) ∙ accepted_none w.refusal (eq-eqb w.refusal.code 0 n)
+          none_is = ok_none _ _ k (f ∙ ap as_written writing_is)
 
-          pub order_few : w.length ≤ 512
-          order_few =
-              let few = few_words (words_in settings) (state_lent state) (words_in desk) node z none_is in
-              let is : w.length ≡ (ordered (words_in settings) (state_lent state) (words_in desk) node z).length =
-              ap (λ (y : Writing). y.length) writing_is in
-              omega arith
+          long_is : k ≡ (ordered (words_in settings) (state_lent state) (words_in desk) node z).length
+          long_is = ok_value _ _ k (f ∙ ap as_written writing_is)
+
+          pub order_few : k ≤ 512
+          order_few = omega (arith, long_is, few_words (words_in settings) (state_lent state) (words_in desk) node z none_is)
 
           pub order_written : (out : List ℕ) → out ≡ order_buffer (words_in settings) e.state (words_in desk) node z
-              → ToldOrder (with_length w.length) (bytes_of out)
+              → ToldOrder (with_length k) (bytes_of out)
           order_written out g =
-              let length_is : w.length ≡ (ordered (words_in settings) (state_lent state) (words_in desk) node (words_in buffer)).length =
-              ap (λ (y : Writing). y.length)
-              (writing_is ∙ sym (ordered_same (words_in settings) (state_lent state) (words_in desk) node (words_in buffer) z same_length)) in
+              let length_is : k ≡ (ordered (words_in settings) (state_lent state) (words_in desk) node (words_in buffer)).length =
+              long_is
+              ∙ ap (λ (y : Writing). y.length)
+              (sym (ordered_same (words_in settings) (state_lent state) (words_in desk) node (words_in buffer) z same_length)) in
               let out-is : out ≡ order_buffer (words_in settings) (state_lent state) (words_in desk) node (words_in buffer) =
               g
               ∙ ap (λ (x : State). order_buffer (words_in settings) x (words_in desk) node z) passes_entry.state_is
               ∙ sym (buffer_same (words_in settings) (state_lent state) (words_in desk) node (words_in buffer) z same_length none_is) in
               rw (length_is, out-is)
-              (told (told_accepted w.refusal _ refusal_is _ _ buffer (eq-eqb w.refusal.code 0 n)))
+              (told (told_accepted _ _ refusal_is _ _ buffer (ap accepted none_is)))

@@ -25,11 +25,11 @@ pub fn order(
     let mut words = [0u32; 512];
     let n = entry.words;
     let own = entry.settings;
-    let written = state_order::order_under(&own[0..n], entry.state, desk, Node(node), &mut words);
-    let refusal = written.refusal;
-    if refusal.code != 0 {
-        return refusal.code;
+    match state_order::order_under(&own[0..n], entry.state, desk, Node(node), &mut words) {
+        Ok(length) => {
+            base_bytes::encode(&words, buffer);
+            base_lent::with_length(length)
+        }
+        Err(refusal) => refusal.code,
     }
-    base_bytes::encode(&words, buffer);
-    base_lent::with_length(written.length)
 }

@@ -1,6 +1,6 @@
 -- Both ways on words: what is answered, the lent words afterwards; and that the words that a call looks at are as good as those that
 -- were lent.
-use Rattle.std.specs.Prelude.{ℕ, ◌≤◌, Bool, true, false, List, ◌≡◌, refl, eqb, leb, length}
+use Rattle.std.specs.Prelude.{ℕ, ◌≤◌, Bool, true, false, List, ◌≡◌, refl, eqb, leb, length, Ok, Err}
 use Rattle.std.proofs.Common.{arith, ◌∙◌}
 use Rattle.std.proofs.Math.Bool.{cond}
 use Rattle.std.proofs.Math.Logic.{⊎_elim}
@@ -10,9 +10,11 @@ use Rattle.base_laws.specs.Bools.{either, clash}
 use Rattle.base_laws.proofs.Below.{lowest_le}
 use Rattle.base_bytes.specs.Definitions.{bytes_of}
 use Rattle.base_lent.specs.Definitions.{words_in, answer_word, with_length, bytes_left}
+use Rattle.base_lent.specs.Answers.{told_refused, told_accepted}
 use Rattle.base_lent.specs.Lent.{words_within}
 use Rattle.base_ids.specs.declared.Refusal.{Refusal}
-use Rattle.base_ids.specs.Definitions.{none, refused, accepted, unless, first_of}
+use Rattle.base_ids.specs.Definitions.{none, refused, accepted, unless, first_of, or_refusal}
+use Rattle.base_ids.specs.Results.{err_is, ok_none, ok_value, err_value, err_refused}
 use Rattle.base_ids.specs.Refusals.{accepted_none, unless_ok, unless_rest, unless_true, unless_false, first_right, first_none, first_refused}
 use Rattle.settings_values.specs.Definitions.{settings_ok, Settings}
 use Rattle.settings_values.specs.Laws.{settings_give}
@@ -21,7 +23,7 @@ use Rattle.message_format.specs.declared.Contents.{Contents}
 use Rattle.message_format.specs.declared.Reading.{Reading}
 use Rattle.message_format.specs.declared.Writing.{Writing}
 use Rattle.message_format.specs.Definitions.{row5, following, place, ends, contents_of, message_refusal, read_refusal, contents_refusal, message_length, message_of}
-use Rattle.message_format.specs.Messages.{reading_of, write_refusal, writing_of, buffer_after}
+use Rattle.message_format.specs.Messages.{reading_of, as_read, write_refusal, writing_of, as_written, buffer_after}
 use Rattle.message_flat.specs.Definitions.{flat_refusal, flat_contents, has_places, places_in, flat_length, flat_words}
 use Rattle.message_flat.specs.Flat.{from_flat_refusal, to_flat_refusal}
 use Rattle.c_messages.specs.Limits.{settings_within, message_within, reading_within}
@@ -61,23 +63,22 @@ rows_first σ f b = go (eqb (length b) 512) (settings_ok σ) (flat_refusal f) (c
     go true false r s = refl
     go false y r s = refl
 
-module _ (σ f b : List ℕ) (r : Refusal) (e : r ≡ flat_rows σ f b) where
-  module _ (h : r.code ≡ 0 → ⊥) where
-    refusal_kept : from_flat_refusal σ f b ≡ r
-    refusal_kept =
-        rows_first σ f b ∙ first_refused (flat_rows σ f b) _ (sym (ap accepted e) ∙ ne_eqb r.code 0 h) ∙ sym e
+module _ (σ f b : List ℕ) where
+  module _ (r : Refusal) (e : Err r ≡ or_refusal (flat_rows σ f b) (tt {0})) where
+    refusal_kept : from_flat_refusal σ f b ≡ flat_rows σ f b
+    refusal_kept = rows_first σ f b ∙ first_refused (flat_rows σ f b) _ (err_refused _ r _ e)
 
-    pub turn_refused : ◌≡◌ {A = Writing} (record { refusal = r; length = 0 }) (turning_of σ f b)
+    pub turn_refused : Err r ≡ as_written (turning_of σ f b)
     unfolding turning_of
-    turn_refused = rw (refusal_kept, ne_eqb r.code 0 h)
+    turn_refused = err_is _ r _ (err_value _ r _ e ∙ sym refusal_kept) (ap accepted (err_value _ r _ e) ∙ err_refused _ r _ e)
 
     pub turn_keeps : b ≡ turned_words σ f b
     unfolding turned_words
-    turn_keeps = rw (refusal_kept, ne_eqb r.code 0 h)
+    turn_keeps = rw (refusal_kept, err_refused _ r _ e)
 
-  module _ (h : r.code ≡ 0) (c : Contents) (d : c ≡ flat_contents f) where
+  module _ (e : Ok (tt {0}) ≡ or_refusal (flat_rows σ f b) (tt {0})) (c : Contents) (d : c ≡ flat_contents f) where
     passed : flat_rows σ f b ≡ none
-    passed = sym e ∙ accepted_none r (eq-eqb r.code 0 h)
+    passed = ok_none _ _ _ e
 
     same_refusal : write_refusal Report σ (flat_contents f) b ≡ from_flat_refusal σ f b
     unfolding write_refusal flat_rows
@@ -87,7 +88,7 @@ module _ (σ f b : List ℕ) (r : Refusal) (e : r ≡ flat_rows σ f b) where
         unless_true (eqb (length b) 512) 1 _ long ∙ unless_true (settings_ok σ) 2 _ (unless_ok (settings_ok σ) 1 _ rest)
         ∙ sym (rows_first σ f b ∙ first_none (flat_rows σ f b) _ passed)
 
-    pub turn_writes : writing_of Report σ c b ≡ turning_of σ f b
+    pub turn_writes : as_written (writing_of Report σ c b) ≡ as_written (turning_of σ f b)
     unfolding writing_of turning_of
     turn_writes = rw (d, same_refusal)
 
@@ -105,7 +106,7 @@ from_within s f b =
     (settings_within s)
 
 module _ (s σ f b : List ℕ) (e : σ ≡ words_within 52 s) where
-  pub turning_within : turning_of σ f b ≡ turning_of (words_in s) f b
+  pub turning_within : as_written (turning_of σ f b) ≡ as_written (turning_of (words_in s) f b)
   unfolding turning_of
   turning_within = rw (e, from_within s f b)
 
@@ -116,45 +117,49 @@ module _ (s σ f b : List ℕ) (e : σ ≡ words_within 52 s) where
 -- ---- our report turned into a flat one
 
 module _ (σ w b : List ℕ) where
-  pub back_not_512 : (length b ≡ 512 → ⊥) → (◌≡◌ {A = Writing} (record { refusal = refused 1; length = 0 }) (back_of σ w b)) × (b ≡ back_words σ w b)
-  unfolding back_of back_words to_flat_refusal
-  back_not_512 h =
-      let no : unless (eqb (length b) 512) 1 (read_refusal Report σ w) ≡ refused 1 = unless_false (eqb (length b) 512) 1 _ (ne_eqb (length b) 512 h) in
-      (rw no, rw no)
+  -- beside a refusal
+  back_told : (r : Refusal) → r ≡ to_flat_refusal σ w b → accepted r ≡ false → (Err r ≡ as_written (back_of σ w b)) × (b ≡ back_words σ w b)
+  unfolding back_of back_words
+  back_told r e h = let no = sym (ap accepted e) ∙ h in (err_is _ r _ e h, rw no)
 
-  module _ (long : length b ≡ 512) (r : Reading) (e : r ≡ reading_of Report σ w) where
-    same_read : to_flat_refusal σ w b ≡ r.refusal
-    unfolding to_flat_refusal reading_of
-    same_read = unless_true (eqb (length b) 512) 1 _ (eq-eqb (length b) 512 long) ∙ sym (ap (λ (x : Reading). x.refusal) e)
+  pub back_not_512 : (length b ≡ 512 → ⊥) → (Err (refused 1) ≡ as_written (back_of σ w b)) × (b ≡ back_words σ w b)
+  unfolding to_flat_refusal
+  back_not_512 h = back_told (refused 1) (sym (unless_false (eqb (length b) 512) 1 _ (ne_eqb (length b) 512 h))) refl
 
-    pub back_refused : (r.refusal.code ≡ 0 → ⊥)
-        → (◌≡◌ {A = Writing} (record { refusal = r.refusal; length = 0 }) (back_of σ w b)) × (b ≡ back_words σ w b)
-    unfolding back_of back_words
-    back_refused h = let no = ne_eqb r.refusal.code 0 h in (rw (same_read, no), rw (same_read, no))
+  module _ (long : length b ≡ 512) where
+    same_read : to_flat_refusal σ w b ≡ read_refusal Report σ w
+    unfolding to_flat_refusal
+    same_read = unless_true (eqb (length b) 512) 1 _ (eq-eqb (length b) 512 long)
 
-    module _ (h : r.refusal.code ≡ 0) where
+    pub back_refused : (r : Refusal) → Err r ≡ as_read (reading_of Report σ w) → (Err r ≡ as_written (back_of σ w b)) × (b ≡ back_words σ w b)
+    unfolding reading_of
+    back_refused r e =
+        let v = err_value _ r _ e in
+        back_told r (v ∙ sym same_read) (ap accepted v ∙ err_refused _ r _ e)
+
+    module _ (c : Contents) (e : Ok c ≡ as_read (reading_of Report σ w)) where
       read_none : read_refusal Report σ w ≡ none
       unfolding reading_of
-      read_none = sym (ap (λ (x : Reading). x.refusal) e) ∙ ap refused h
+      read_none = ok_none _ _ c e
 
       pub back_settings : Settings σ
       unfolding read_refusal
       back_settings = settings_give σ (unless_ok (settings_ok σ) 1 _ read_none)
 
-      contents_are : r.contents ≡ contents_of w
+      contents_are : c ≡ contents_of w
       unfolding reading_of
-      contents_are = ap (λ (x : Reading). x.contents) e ∙ rw read_none
+      contents_are = ok_value _ _ c e ∙ rw read_none
 
-      pub back_few : r.contents.len ≤ 127
+      pub back_few : c.len ≤ 127
       unfolding contents_of following
       back_few =
-          let len : r.contents.len ≡ following w = ap (λ (c : Contents). c.len) contents_are in
+          let len : c.len ≡ following w = ap (λ (x : Contents). x.len) contents_are in
           omega (arith, lowest_le 127 (λ j. ends w (place w j)))
 
-      pub back_written : (n : ℕ) (out : List ℕ) → n ≡ flat_length σ r.contents → out ≡ flat_words σ r.contents
-          → (◌≡◌ {A = Writing} (record { refusal = r.refusal; length = n }) (back_of σ w b)) × (out ≡ back_words σ w b)
-      unfolding back_of back_words
-      back_written n out p q = let yes = eq-eqb r.refusal.code 0 h in (rw (same_read, yes, p, contents_are), rw (same_read, yes, q, contents_are))
+      pub back_written : (n : ℕ) (out : List ℕ) → n ≡ flat_length σ c → out ≡ flat_words σ c
+          → (Ok n ≡ as_written (back_of σ w b)) × (out ≡ back_words σ w b)
+      unfolding back_of back_words or_refusal
+      back_written n out p q = (rw (same_read, read_none, p, contents_are), rw (same_read, read_none, q, contents_are))
 
 -- beside a refusal it does not matter what would be made
 answered_alike : (r : Refusal) (x y : ℕ) → accepted r ≡ false → answered r x ≡ answered r y
@@ -202,26 +207,13 @@ module _ (s m b : List ℕ) where
       (either (accepted (to_flat_refusal (words_in s) (words_in m) b)))
 
 module _ (s m b σ w : List ℕ) (e : σ ≡ words_within 52 s) (g : w ≡ words_within 512 m) where
-  pub back_seen : back_of σ w b ≡ back_of (words_in s) (words_in m) b
-  back_seen = rw (e, g) (back_within s m b)
+  pub back_seen : as_written (back_of σ w b) ≡ as_written (back_of (words_in s) (words_in m) b)
+  back_seen = rw (e, g) (ap as_written (back_within s m b))
 
   pub back_words_seen : back_words σ w b ≡ back_words (words_in s) (words_in m) b
   back_words_seen = rw (e, g) (back_words_within s m b)
 
 -- ---- the calls
-
--- a length and words that stand only beside an acceptance
-module _ (r : Refusal) where
-  length_told : (n : ℕ) → answer_word r (with_length (cond (accepted r) n 0)) ≡ answer_word r (with_length n)
-  unfolding answer_word
-  length_told n = ⊎_elim (λ h. rw h) (λ h. rw h) (either (accepted r))
-
-  words_left : (made z b : List ℕ) → bytes_left r (bytes_of (cond (accepted r) made z)) b ≡ bytes_left r (bytes_of made) b
-  unfolding bytes_left
-  words_left made z b = ⊎_elim (λ h. rw h) (λ h. rw h) (either (accepted r))
-
-  few_told : (n : ℕ) → (r ≡ none → n ≤ 512) → cond (accepted r) n 0 ≤ 512
-  few_told n h = ⊎_elim (λ k. rw k (h (accepted_none r k))) (λ k. rw k (omega arith)) (either (accepted r))
 
 module _ (s f b : List ℕ) where
   pub from_not_2048 : (length b ≡ 2048 → ⊥) → (1 ≡ from_flat_answer s f b) × (b ≡ from_flat_leaves s f b)
@@ -230,28 +222,41 @@ module _ (s f b : List ℕ) where
       let no : from_flat_refused s f b ≡ refused 1 = unless_false (eqb (length b) 2048) 1 _ (ne_eqb (length b) 2048 h) in
       (rw no, rw no)
 
-  module _ (whole : length b ≡ 2048) (z : List ℕ) (q : length z ≡ 512) (w : Writing) (e : w ≡ turning_of (words_in s) (words_in f) z) where
-    from_same : from_flat_refusal (words_in s) (words_in f) z ≡ from_flat_refused s f b
+  module _ (whole : length b ≡ 2048) (z : List ℕ) (q : length z ≡ 512) where
+    from_same : from_flat_refused s f b ≡ from_flat_refusal (words_in s) (words_in f) z
     unfolding from_flat_refusal from_flat_refused
-    from_same = unless_true (eqb (length z) 512) 1 _ (eq-eqb (length z) 512 q) ∙ sym (unless_true (eqb (length b) 2048) 1 _ (eq-eqb (length b) 2048 whole))
+    from_same = unless_true (eqb (length b) 2048) 1 _ (eq-eqb (length b) 2048 whole) ∙ sym (unless_true (eqb (length z) 512) 1 _ (eq-eqb (length z) 512 q))
 
-    pub from_few : w.length ≤ 512
-    unfolding turning_of from_flat_refusal contents_refusal
-    from_few =
-        rw e
-        (few_told (from_flat_refusal (words_in s) (words_in f) z) (message_length (flat_contents (words_in f)))
-        (λ h.
-        let rest = unless_rest (settings_ok (words_in s)) 1 _ (unless_rest (eqb (length z) 512) 0 _ h) in
-        let few = leb-true (flat_contents (words_in f)).len 127 (unless_ok (leb (flat_contents (words_in f)).len 127) 4 _ (first_right (flat_refusal (words_in f)) _ rest)) in
-        omega (arith, few)))
+    pub from_told : (r : Refusal) → Err r ≡ as_written (turning_of (words_in s) (words_in f) z) → (r.code ≡ from_flat_answer s f b) × (b ≡ from_flat_leaves s f b)
+    unfolding turning_of from_flat_answer from_flat_leaves
+    from_told r e =
+        let v = err_value _ r _ e in
+        let t = told_refused r _ (from_same ∙ sym v) _ _ b (ap accepted v ∙ err_refused _ r _ e) in
+        (t.answers, t.leaves)
 
-    pub from_told : (answer : ℕ) (out left : List ℕ) → out ≡ turned_words (words_in s) (words_in f) z → answer ≡ answer_word w.refusal (with_length w.length)
-        → left ≡ bytes_left w.refusal (bytes_of out) b → (answer ≡ from_flat_answer s f b) × (left ≡ from_flat_leaves s f b)
-    unfolding turning_of turned_words from_flat_answer from_flat_leaves
-    from_told answer out left o a l = (
-      a ∙ rw (e, from_same) (length_told (from_flat_refused s f b) (message_length (flat_contents (words_in f)))),
-      l ∙ rw (e, o, from_same) (words_left (from_flat_refused s f b) (message_of (flat_contents (words_in f)) 512) z b),
-    )
+    module _ (n : ℕ) (e : Ok n ≡ as_written (turning_of (words_in s) (words_in f) z)) where
+      from_taken : from_flat_refusal (words_in s) (words_in f) z ≡ none
+      unfolding turning_of
+      from_taken = ok_none _ _ n e
+
+      from_long : n ≡ message_length (flat_contents (words_in f))
+      unfolding turning_of
+      from_long = ok_value _ _ n e ∙ rw from_taken
+
+      pub from_few : n ≤ 512
+      unfolding from_flat_refusal contents_refusal
+      from_few =
+          let rest = unless_rest (settings_ok (words_in s)) 1 _ (unless_rest (eqb (length z) 512) 0 _ from_taken) in
+          let few = leb-true (flat_contents (words_in f)).len 127 (unless_ok (leb (flat_contents (words_in f)).len 127) 4 _ (first_right (flat_refusal (words_in f)) _ rest)) in
+          omega (arith, few, from_long)
+
+      pub from_given : (out : List ℕ) → out ≡ turned_words (words_in s) (words_in f) z
+          → (with_length n ≡ from_flat_answer s f b) × (bytes_of out ≡ from_flat_leaves s f b)
+      unfolding turned_words from_flat_answer from_flat_leaves
+      from_given out o =
+          let t = told_accepted _ _ from_same (with_length (message_length (flat_contents (words_in f)))) (bytes_of (message_of (flat_contents (words_in f)) 512)) b (ap accepted from_taken) in
+          let made : out ≡ message_of (flat_contents (words_in f)) 512 = o ∙ rw from_taken in
+          (rw from_long t.answers, rw made t.leaves)
 
 module _ (s m b : List ℕ) where
   pub to_not_2048 : (length b ≡ 2048 → ⊥) → (1 ≡ to_flat_answer s m b) × (b ≡ to_flat_leaves s m b)
@@ -260,10 +265,17 @@ module _ (s m b : List ℕ) where
       let no : to_flat_refused s m b ≡ refused 1 = unless_false (eqb (length b) 2048) 1 _ (ne_eqb (length b) 2048 h) in
       (rw no, rw no)
 
-  module _ (whole : length b ≡ 2048) (z : List ℕ) (q : length z ≡ 512) (w : Writing) (e : w ≡ back_of (words_in s) (words_in m) z) where
-    to_same : to_flat_refusal (words_in s) (words_in m) z ≡ to_flat_refused s m b
+  module _ (whole : length b ≡ 2048) (z : List ℕ) (q : length z ≡ 512) where
+    to_same : to_flat_refused s m b ≡ to_flat_refusal (words_in s) (words_in m) z
     unfolding to_flat_refusal to_flat_refused
-    to_same = unless_true (eqb (length z) 512) 1 _ (eq-eqb (length z) 512 q) ∙ sym (unless_true (eqb (length b) 2048) 1 _ (eq-eqb (length b) 2048 whole))
+    to_same = unless_true (eqb (length b) 2048) 1 _ (eq-eqb (length b) 2048 whole) ∙ sym (unless_true (eqb (length z) 512) 1 _ (eq-eqb (length z) 512 q))
+
+    pub to_told : (r : Refusal) → Err r ≡ as_written (back_of (words_in s) (words_in m) z) → (r.code ≡ to_flat_answer s m b) × (b ≡ to_flat_leaves s m b)
+    unfolding back_of to_flat_answer to_flat_leaves
+    to_told r e =
+        let v = err_value _ r _ e in
+        let t = told_refused r _ (to_same ∙ sym v) _ _ b (ap accepted v ∙ err_refused _ r _ e) in
+        (t.answers, t.leaves)
 
     flat_short : Settings (words_in s) → flat_length (words_in s) (contents_of (words_in m)) ≤ 512
     unfolding places_in contents_of following
@@ -273,17 +285,25 @@ module _ (s m b : List ℕ) where
         ⊎_elim (λ (h : has_places (words_in s) (contents_of (words_in m)) ≡ true). rw h (omega (arith, few, low))) (λ h. rw h (omega (arith, few, low)))
         (either (has_places (words_in s) (contents_of (words_in m))))
 
-    pub to_few : w.length ≤ 512
-    unfolding back_of to_flat_refusal read_refusal
-    to_few =
-        rw e
-        (few_told (to_flat_refusal (words_in s) (words_in m) z) (flat_length (words_in s) (contents_of (words_in m)))
-        (λ h. flat_short (settings_give (words_in s) (unless_ok (settings_ok (words_in s)) 1 _ (unless_rest (eqb (length z) 512) 0 _ h)))))
+    module _ (n : ℕ) (e : Ok n ≡ as_written (back_of (words_in s) (words_in m) z)) where
+      to_taken : to_flat_refusal (words_in s) (words_in m) z ≡ none
+      unfolding back_of
+      to_taken = ok_none _ _ n e
 
-    pub to_told : (answer : ℕ) (out left : List ℕ) → out ≡ back_words (words_in s) (words_in m) z → answer ≡ answer_word w.refusal (with_length w.length)
-        → left ≡ bytes_left w.refusal (bytes_of out) b → (answer ≡ to_flat_answer s m b) × (left ≡ to_flat_leaves s m b)
-    unfolding back_of back_words to_flat_answer to_flat_leaves
-    to_told answer out left o a l = (
-      a ∙ rw (e, to_same) (length_told (to_flat_refused s m b) (flat_length (words_in s) (contents_of (words_in m)))),
-      l ∙ rw (e, o, to_same) (words_left (to_flat_refused s m b) (flat_words (words_in s) (contents_of (words_in m))) z b),
-    )
+      to_long : n ≡ flat_length (words_in s) (contents_of (words_in m))
+      unfolding back_of
+      to_long = ok_value _ _ n e ∙ rw to_taken
+
+      pub to_few : n ≤ 512
+      unfolding to_flat_refusal read_refusal
+      to_few =
+          rw to_long
+          (flat_short (settings_give (words_in s) (unless_ok (settings_ok (words_in s)) 1 _ (unless_rest (eqb (length z) 512) 0 _ to_taken))))
+
+      pub to_given : (out : List ℕ) → out ≡ back_words (words_in s) (words_in m) z
+          → (with_length n ≡ to_flat_answer s m b) × (bytes_of out ≡ to_flat_leaves s m b)
+      unfolding back_words to_flat_answer to_flat_leaves
+      to_given out o =
+          let t = told_accepted _ _ to_same (with_length (flat_length (words_in s) (contents_of (words_in m)))) (bytes_of (flat_words (words_in s) (contents_of (words_in m)))) b (ap accepted to_taken) in
+          let made : out ≡ flat_words (words_in s) (contents_of (words_in m)) = o ∙ rw to_taken in
+          (rw to_long t.answers, rw made t.leaves)

@@ -1,6 +1,6 @@
 -- Contents lent as bytes; and what a call that writes answers and leaves, case by case: the lent buffer is too long or too short,
 -- the contents are refused, the message is written.
-use Rattle.std.specs.Prelude.{◌≡◌, refl, ◌⊎◌, ◌&&◌, List, ℕ, ◌+◌, ◌%◌, ◌≤◌, ◌<◌, eqb, leb, length, get_or}
+use Rattle.std.specs.Prelude.{◌≡◌, refl, ◌⊎◌, ◌&&◌, List, ℕ, ◌+◌, ◌%◌, ◌≤◌, ◌<◌, eqb, leb, length, get_or, Ok, Err}
 use Rattle.std.proofs.Math.Path.{sym, ap}
 use Rattle.std.proofs.Common.{ap₂, ◌∙◌, inl, inr, ⊎_elim, arith, lit<}
 use borrow.Author.Tests.{eq-eqb, ne_eqb, lt-leb, leb-true, eqb-true}
@@ -13,14 +13,14 @@ use Rattle.base_lent.specs.Definitions.{words_in, with_length}
 use Rattle.base_lent.specs.Lent.{words_within, within_cases, HoldsWords}
 use Rattle.base_lent.specs.Answers.{Told, told_refused, told_accepted}
 use Rattle.base_ids.specs.declared.Refusal.{Refusal}
-use Rattle.base_ids.specs.Definitions.{refused, none, unless}
+use Rattle.base_ids.specs.Definitions.{refused, none, accepted, unless}
 use Rattle.base_ids.specs.Refusals.{unless_ok, unless_rest, unless_true, unless_false}
+use Rattle.base_ids.specs.Results.{ok_none, ok_value, err_value, err_refused}
 use Rattle.settings_values.specs.Definitions.{settings_ok}
 use Rattle.message_format.specs.declared.Form.{Form}
 use Rattle.message_format.specs.declared.Contents.{Contents}
-use Rattle.message_format.specs.declared.Writing.{Writing}
 use Rattle.message_format.specs.Definitions.{contents_refusal, message_length, message_of}
-use Rattle.message_format.specs.Messages.{write_refusal, writing_of, buffer_after}
+use Rattle.message_format.specs.Messages.{write_refusal, writing_of, as_written, buffer_after}
 use Rattle.c_messages.specs.Definitions.{record_count, contents_in, contents_lent, write_refused, write_answer, write_leaves}
 
 -- ---- contents
@@ -101,30 +101,30 @@ module _ (form : Form) (s k b : List ℕ) where
       told (told_refused (refused 1) _ (unless_false (eqb (length b) 2048) 1 _ (ne_eqb (length b) 2048 h)) _ _ b refl)
 
   -- the message of c was written into 512 words z
-  module _ (whole : length b ≡ 2048) (z : List ℕ) (long : length z ≡ 512) (c : Contents) (q : c ≡ contents_within k) (w : Writing)
-      (f : w ≡ writing_of form (words_in s) c z) where
-    e : w ≡ writing_of form (words_in s) (contents_within k) z
-    e = f ∙ ap (λ (x : Contents). writing_of form (words_in s) x z) q
-
-    refusal_is : write_refused form s k b ≡ w.refusal
-    unfolding write_refused writing_of write_refusal
+  module _ (whole : length b ≡ 2048) (z : List ℕ) (long : length z ≡ 512) (c : Contents) (q : c ≡ contents_within k) where
+    refusal_is : write_refused form s k b ≡ write_refusal form (words_in s) c z
+    unfolding write_refused write_refusal
     refusal_is =
         unless_true (eqb (length b) 2048) 1 _ (eq-eqb (length b) 2048 whole)
-        ∙ ap (unless (settings_ok (words_in s)) 2) (sym (refusal_within form (words_in s) k))
+        ∙ ap (unless (settings_ok (words_in s)) 2) (sym (ap (contents_refusal form (words_in s)) q ∙ refusal_within form (words_in s) k))
         ∙ sym (unless_true (eqb (length z) 512) 1 _ (eq-eqb (length z) 512 long))
-        ∙ sym (ap (λ (x : Writing). x.refusal) e)
 
-    pub write-refused : (w.refusal.code ≡ 0 → ⊥) → ToldWrite w.refusal.code b
-    write-refused h = told (told_refused w.refusal _ refusal_is _ _ b (ne_eqb w.refusal.code 0 h))
+    pub write-refused : (r : Refusal) → Err r ≡ as_written (writing_of form (words_in s) c z) → ToldWrite r.code b
+    unfolding writing_of
+    write-refused r e =
+        let v = err_value _ r _ e in
+        told (told_refused r _ (refusal_is ∙ sym v) _ _ b (ap accepted v ∙ err_refused _ r _ e))
 
-    module _ (h : w.refusal.code ≡ 0) where
-      written : write_refusal form (words_in s) (contents_within k) z ≡ none
+    module _ (n : ℕ) (e : Ok n ≡ as_written (writing_of form (words_in s) c z)) where
+      written : write_refusal form (words_in s) c z ≡ none
       unfolding writing_of
-      written = sym (ap (λ (x : Writing). x.refusal) e) ∙ ap refused h
+      written = ok_none _ _ n e
 
       taken : contents_refusal form (words_in s) (contents_within k) ≡ none
       unfolding write_refusal
-      taken = unless_rest (settings_ok (words_in s)) 1 _ (unless_rest (eqb (length z) 512) 0 _ written)
+      taken =
+          ap (contents_refusal form (words_in s)) (sym q)
+          ∙ unless_rest (settings_ok (words_in s)) 1 _ (unless_rest (eqb (length z) 512) 0 _ written)
 
       same_contents : contents_within k ≡ contents_lent k
       same_contents =
@@ -132,19 +132,22 @@ module _ (form : Form) (s k b : List ℕ) where
           (λ l. absurd (let five : 5 ≡ 0 = ap (λ (r : Refusal). r.code) (sym (too_many form (words_in s) (contents_within k) l.0) ∙ taken) in omega arith))
           (contents-within k)
 
-      length_is : w.length ≡ message_length (contents_within k)
+      length_is : n ≡ message_length c
       unfolding writing_of
-      length_is = ap (λ (x : Writing). x.length) e ∙ rw written
+      length_is = ok_value _ _ n e ∙ rw written
 
-      pub write_few : w.length ≤ 512
+      pub write_few : n ≤ 512
       unfolding contents_refusal
       write_few =
           let few = leb-true (contents_within k).len 127 (unless_ok (leb (contents_within k).len 127) 4 _ taken) in
+          let same : c.len ≡ (contents_within k).len = ap (λ (x : Contents). x.len) q in
           omega (arith, length_is)
 
-      pub write_taken : (out : List ℕ) → out ≡ buffer_after form (words_in s) c z → ToldWrite (with_length w.length) (bytes_of out)
+      pub write_taken : (out : List ℕ) → out ≡ buffer_after form (words_in s) c z → ToldWrite (with_length n) (bytes_of out)
       unfolding buffer_after
       write_taken out g =
-          let made : out ≡ message_of (contents_lent k) 512 = g ∙ rw (q, written, same_contents) in
-          let counted : w.length ≡ message_length (contents_lent k) = length_is ∙ ap message_length same_contents in
-          rw (made, counted) (told (told_accepted w.refusal _ refusal_is _ _ b (eq-eqb w.refusal.code 0 h)))
+          let same : c ≡ contents_lent k = q ∙ same_contents in
+          let made : out ≡ message_of (contents_lent k) 512 = g ∙ rw (written, same) in
+          let counted : n ≡ message_length (contents_lent k) = length_is ∙ ap message_length same in
+          rw (made, counted)
+          (told (told_accepted (write_refusal form (words_in s) c z) _ refusal_is _ _ b (ap accepted written)))

@@ -3,15 +3,15 @@
 
 pub mod flat;
 
-ghost use Rattle.std.specs.Prelude.{◌≡◌, ◌+◌, ◌*◌, ◌≤◌, length};
+ghost use Rattle.std.specs.Prelude.{◌≡◌, ◌≤◌, length};
 ghost use Rattle.base_bytes.specs.Definitions.{bytes_of};
 ghost use Rattle.base_lent.specs.Definitions.{words_in, with_length};
-ghost use Rattle.message_format.specs.Messages.{reading_of, writing_of, buffer_after};
-ghost use Rattle.c_messages.specs.Definitions.{check_answer, contents_words, contents_length, read_answer, read_leaves, record_count, contents_in, write_answer, write_leaves};
+ghost use Rattle.message_format.specs.Messages.{reading_of, as_read, writing_of, as_written, buffer_after};
+ghost use Rattle.c_messages.specs.Definitions.{check_answer, contents_words, read_answer, read_leaves, record_count, contents_in, write_answer, write_leaves};
 ghost use Rattle.c_messages.specs.WriteCalls.{contents_within};
 
-use base_ids::{Node, View};
-use message_format::{Contents, Form, Reading, Writing};
+use base_ids::{Node, Refusal, View};
+use message_format::{Contents, Form};
 
 // 0 where the settings are right, else 2.
 pub fn check_settings(settings: &[u8]) -> u32
@@ -27,8 +27,8 @@ pub fn check_settings(settings: &[u8]) -> u32
 }
 
 // Reads a message lent as bytes.
-fn read_lent(form: Form, settings: &[u8], message: &[u8]) -> Reading
-    ensures { result ≡ reading_of form (words_in settings.now) (words_in message.now) }
+fn read_lent(form: Form, settings: &[u8], message: &[u8]) -> Result<Contents, Refusal>
+    ensures { result ≡ as_read (reading_of form (words_in settings.now) (words_in message.now)) }
 {
     let s = base_lent::settings_of(settings);
     let n = s.len;
@@ -40,28 +40,26 @@ fn read_lent(form: Form, settings: &[u8], message: &[u8]) -> Reading
 }
 
 // Contents as words: node, view, members, then the records' words, then zeros.
-fn lay_out(c: Contents) -> [u32; 512]
-    ensures { result ≡ contents_words c }
+fn lay_out(c: &Contents) -> [u32; 512]
+    ensures { result ≡ contents_words c.now }
 {
     let mut words = [0u32; 512];
     words[0] = c.node.0;
     words[1] = c.view.0;
     words[2] = c.members;
-    let body = c.body;
     for k in 0..381 {
-        words[k + 3] = body[k];
+        words[k + 3] = c.body[k];
     }
     words
 }
 
-// Stores contents in 2048 lent bytes, and answers how many words they are.
-fn give(c: Contents, bytes: &mut [u8]) -> u32
-    requires { (c.len ≤ 127) × (length bytes.old ≡ 2048) }
-    ensures { (result ≡ with_length (contents_length c)) × (bytes.new ≡ bytes_of (contents_words c)) }
+// Stores 512 words in as many lent bytes, and answers how many of them say something.
+fn give(words: &[u32; 512], count: usize, bytes: &mut [u8]) -> u32
+    requires { (count ≤ 512) × (length bytes.old ≡ 2048) }
+    ensures { (result ≡ with_length count) × (bytes.new ≡ bytes_of words.now) }
 {
-    let words = lay_out(c);
-    base_bytes::encode(&words, bytes);
-    base_lent::with_length(3 + 3 * c.len)
+    base_bytes::encode(words, bytes);
+    base_lent::with_length(count)
 }
 
 // Reads a message into lent contents: rows 1 (the contents are not 2048 bytes), 2 and 5 to 11.
@@ -72,12 +70,10 @@ pub fn read_into(form: Form, settings: &[u8], message: &[u8], contents: &mut [u8
     if contents.len() != 2048 {
         return 1;
     }
-    let reading = read_lent(form, settings, message);
-    let refusal = reading.refusal;
-    if refusal.code != 0 {
-        return refusal.code;
+    match read_lent(form, settings, message) {
+        Ok(c) => give(&lay_out(&c), 3 + 3 * c.len, contents),
+        Err(refusal) => refusal.code,
     }
-    give(reading.contents, contents)
 }
 
 // How many records so many words of contents are.
@@ -120,9 +116,14 @@ fn contents_lent(bytes: &[u8]) -> Contents
 }
 
 // Writes a message into 512 words, under settings lent as bytes.
-fn write_under(form: Form, settings: &[u8], c: Contents, words: &mut [u32]) -> Writing
-    ensures answer { result ≡ writing_of form (words_in settings.now) c words.old }
-    ensures words { words.new ≡ buffer_after form (words_in settings.now) c words.old }
+fn write_under(
+    form: Form,
+    settings: &[u8],
+    c: &Contents,
+    words: &mut [u32],
+) -> Result<usize, Refusal>
+    ensures answer { result ≡ as_written (writing_of form (words_in settings.now) c.now words.old) }
+    ensures words { words.new ≡ buffer_after form (words_in settings.now) c.now words.old }
 {
     let s = base_lent::settings_of(settings);
     let n = s.len;
@@ -141,11 +142,8 @@ pub fn write_into(form: Form, settings: &[u8], contents: &[u8], buffer: &mut [u8
     }
     let c = contents_lent(contents);
     let mut words = [0u32; 512];
-    let writing = write_under(form, settings, c, &mut words);
-    let refusal = writing.refusal;
-    if refusal.code != 0 {
-        return refusal.code;
+    match write_under(form, settings, &c, &mut words) {
+        Ok(length) => give(&words, length, buffer),
+        Err(refusal) => refusal.code,
     }
-    base_bytes::encode(&words, buffer);
-    base_lent::with_length(writing.length)
 }

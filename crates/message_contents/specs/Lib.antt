@@ -4,3 +4,5 @@ pub mod Whole
 pub mod Gathered
 pub mod Laws
 pub mod Sequence
+pub mod Passes
+pub mod Ways

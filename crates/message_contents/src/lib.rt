@@ -6,7 +6,7 @@ mod passes;
 mod records;
 
 ghost use Rattle.std.specs.Prelude.{◌≡◌, ◌<◌, ◌≤◌};
-ghost use Rattle.base_ids.specs.Definitions.{refused_at};
+ghost use Rattle.base_ids.specs.Definitions.{refused_at, or_refusal};
 ghost use Rattle.settings_values.specs.Definitions.{Settings};
 ghost use Rattle.message_format.specs.Definitions.{head_refusal, in_order, records_refusal, contents_refusal};
 ghost use Rattle.message_contents.specs.Structure.{structure_refusal};
@@ -15,17 +15,23 @@ use base_ids::{Node, Refusal, View};
 use message_format::{Contents, Form};
 
 // Rows 6 and 7 over the contents' head.
-pub fn head_refusal(form: Form, settings: &[u32], node: Node, view: View, members: u32) -> Refusal
+pub fn head_refusal(
+    form: Form,
+    settings: &[u32],
+    node: Node,
+    view: View,
+    members: u32,
+) -> Result<(), Refusal>
     requires { Settings settings.now }
-    ensures { result ≡ head_refusal form settings.now node.0 view.0 members }
+    ensures { result ≡ or_refusal (head_refusal form settings.now node.0 view.0 members) tt }
 {
     if settings_values::nodes(settings) <= node.0 {
-        return Refusal { code: 6 };
+        return Err(Refusal { code: 6 });
     }
     if !message_rows::row7(form, settings, node, view, members) {
-        return Refusal { code: 7 };
+        return Err(Refusal { code: 7 });
     }
-    Refusal { code: 0 }
+    Ok(())
 }
 
 // The refusal by the number of a row, told at record i.
@@ -41,75 +47,52 @@ pub fn told_at(row: u32, i: usize) -> Refusal
 
 // Rows 9, 16 and 17: the first record with a wrong kind or word 2, with an unknown shard, out of sequence; then a missing
 // one, told at the last.
-fn structure_refusal(
-    form: Form,
-    settings: &[u32],
-    node: Node,
-    body: &[u32; 381],
-    len: usize,
-) -> Refusal
+fn structure_refusal(form: Form, settings: &[u32], c: &Contents) -> Result<(), Refusal>
     requires settings { Settings settings.now }
-    requires len_bound { len ≤ 127 }
-    ensures { result ≡ structure_refusal form settings.now node.0 body.now len }
+    requires len_bound { c.now.len ≤ 127 }
+    ensures { result ≡ or_refusal (structure_refusal form settings.now c.now.node.0 c.now.body c.now.len) tt }
 {
-    let kind = crate::passes::kinds(form, body, len);
-    if kind < len {
-        return told_at(9, kind + 1);
+    if let Some(j) = crate::passes::kinds(form, c) {
+        return Err(told_at(9, j + 1));
     }
-    let shard = crate::passes::shards(settings, body, len);
-    if shard < len {
-        return told_at(16, shard + 1);
+    if let Some(j) = crate::passes::shards(settings, c) {
+        return Err(told_at(16, j + 1));
     }
-    let place = crate::passes::sequence(node, body, len);
-    if place < len {
-        return told_at(17, place + 1);
+    if let Some(j) = crate::passes::sequence(c) {
+        return Err(told_at(17, j + 1));
     }
-    if !crate::records::complete(form, settings, node, body, len) {
-        return told_at(17, len);
+    if !crate::records::complete(form, settings, c) {
+        return Err(told_at(17, c.len));
     }
-    Refusal { code: 0 }
+    Ok(())
 }
 
 // Rows 9, 16, 17, 10 and 11 over the contents' records, told at their steps along the chain.
-pub fn records_refusal(
-    form: Form,
-    settings: &[u32],
-    node: Node,
-    view: View,
-    members: u32,
-    body: &[u32; 381],
-    len: usize,
-) -> Refusal
+pub fn records_refusal(form: Form, settings: &[u32], c: &Contents) -> Result<(), Refusal>
     requires settings { Settings settings.now }
-    requires len_bound { len ≤ 127 }
-    ensures { result ≡ records_refusal in_order form settings.now node.0 view.0 members body.now len }
+    requires len_bound { c.now.len ≤ 127 }
+    ensures { result
+        ≡ or_refusal (records_refusal in_order form settings.now c.now.node.0 c.now.view.0 c.now.members c.now.body c.now.len) tt }
 {
-    let structure = structure_refusal(form, settings, node, body, len);
-    if structure.code != 0 {
-        return structure;
+    structure_refusal(form, settings, c)?;
+    let masks = crate::records::masks_of(settings, c);
+    if !message_rows::shards::row10(settings, c.members, &masks) {
+        return Err(Refusal { code: 10 });
     }
-    let masks = crate::records::masks_of(settings, body);
-    if !message_rows::shards::row10(settings, members, &masks) {
-        return Refusal { code: 10 };
+    if !crate::passes::positions(form, c) {
+        return Err(Refusal { code: 11 });
     }
-    if crate::passes::positions(form, view, members, body, len) < len {
-        return Refusal { code: 11 };
-    }
-    Refusal { code: 0 }
+    Ok(())
 }
 
 // The refusal of contents under right settings: row 5 (by the words needed), then the rows above.
-pub fn contents_refusal(form: Form, settings: &[u32], c: Contents) -> Refusal
+pub fn contents_refusal(form: Form, settings: &[u32], c: &Contents) -> Result<(), Refusal>
     requires { Settings settings.now }
-    ensures { result ≡ contents_refusal form settings.now c }
+    ensures { result ≡ or_refusal (contents_refusal form settings.now c.now) tt }
 {
-    let len = c.len;
-    if 127 < len {
-        return Refusal { code: 5 };
+    if 127 < c.len {
+        return Err(Refusal { code: 5 });
     }
-    let head = head_refusal(form, settings, c.node, c.view, c.members);
-    if head.code != 0 {
-        return head;
-    }
-    records_refusal(form, settings, c.node, c.view, c.members, &c.body, len)
+    head_refusal(form, settings, c.node, c.view, c.members)?;
+    records_refusal(form, settings, c)
 }

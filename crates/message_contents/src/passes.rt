@@ -1,15 +1,15 @@
-// The passes of rows 9, 16, 17 and 11 over the contents' records. Each gives the index of the first record that fails it, or the
-// number of records where none does.
+// The passes of rows 9, 16 and 17 over the contents' records, each of which gives the first record that fails it, and of row 11.
 ghost use Rattle.std.specs.Prelude.{◌≡◌, ◌<◌, ◌≤◌};
 ghost use Rattle.settings_values.specs.Definitions.{Settings};
 ghost use Rattle.message_format.specs.Definitions.{carried_by};
 ghost use Rattle.message_format.specs.Definitions as Definitions;
-ghost use Rattle.base_laws.specs.Loops.{first_bad};
+ghost use Rattle.base_laws.specs.Definitions.{all_below};
 ghost use Rattle.message_contents.specs.Gathered.{SmallShards};
+ghost use Rattle.message_contents.specs.Passes.{failing};
 ghost use Rattle.message_contents.specs.Sequence.{follows_at, stray_at};
 
 use base_ids::{Node, View};
-use message_format::Form;
+use message_format::{Contents, Form};
 
 // Row 9 at record j: its kind and its word 2.
 fn kind_at(form: Form, body: &[u32; 381], j: usize) -> bool
@@ -24,32 +24,32 @@ fn kind_at(form: Form, body: &[u32; 381], j: usize) -> bool
 }
 
 // Row 9: kinds and word 2.
-pub fn kinds(form: Form, body: &[u32; 381], len: usize) -> usize
-    requires { len ≤ 127 }
-    ensures { result ≡ first_bad len (Definitions.kind_at form body.now) }
+pub fn kinds(form: Form, c: &Contents) -> Option<usize>
+    requires { c.now.len ≤ 127 }
+    ensures { result ≡ failing c.now.len (Definitions.kind_at form c.now.body) }
 {
-    for j in 0..len {
-        if !kind_at(form, body, j) {
-            return j;
+    for j in 0..c.len {
+        if !kind_at(form, &c.body, j) {
+            return Some(j);
         }
     }
-    len
+    None
 }
 
 // Row 16: shards.
-pub fn shards(settings: &[u32], body: &[u32; 381], len: usize) -> usize
+pub fn shards(settings: &[u32], c: &Contents) -> Option<usize>
     requires settings { Settings settings.now }
-    requires len_bound { len ≤ 127 }
-    ensures { result ≡ first_bad len (Definitions.shard_at settings.now body.now) }
+    requires len_bound { c.now.len ≤ 127 }
+    ensures { result ≡ failing c.now.len (Definitions.shard_at settings.now c.now.body) }
 {
     let count = settings_values::shards(settings);
-    for j in 0..len {
-        let shard = message_rows::fields::shard(body, j);
+    for j in 0..c.len {
+        let shard = message_rows::fields::shard(&c.body, j);
         if count <= shard.0 {
-            return j;
+            return Some(j);
         }
     }
-    len
+    None
 }
 
 // Record j is the first or follows the record before it.
@@ -88,47 +88,41 @@ fn sequence_at(node: Node, carried: u32, body: &[u32; 381], j: usize) -> bool
 }
 
 // Row 17: sequence and surplus.
-pub fn sequence(node: Node, body: &[u32; 381], len: usize) -> usize
-    requires len_bound { len ≤ 127 }
-    requires small_shards { SmallShards body.now len }
-    ensures { result ≡ first_bad len (Definitions.sequence_at node.0 body.now) }
+pub fn sequence(c: &Contents) -> Option<usize>
+    requires len_bound { c.now.len ≤ 127 }
+    requires small_shards { SmallShards c.now.body c.now.len }
+    ensures { result ≡ failing c.now.len (Definitions.sequence_at c.now.node.0 c.now.body) }
 {
     let mut carried: u32 = 0;
-    for j in 0..len {
-        if !sequence_at(node, carried, body, j) {
-            return j;
+    for j in 0..c.len {
+        if !sequence_at(c.node, carried, &c.body, j) {
+            return Some(j);
         }
-        carried = crate::records::carried_more(carried, node, body, j);
+        carried = crate::records::carried_more(carried, c.node, &c.body, j);
     }
-    len
+    None
 }
 
 // Row 11 at record j.
-fn position_at(form: Form, view: View, members: u32, body: &[u32; 381], j: usize) -> bool
+fn position_at(form: Form, c: &Contents, j: usize) -> bool
     requires { j < 127 }
-    ensures { result ≡ Definitions.row11_at form view.0 members body.now j }
+    ensures { result ≡ Definitions.row11_at form c.now.view.0 c.now.members c.now.body j }
 {
-    let first = message_rows::fields::word1(body, j);
-    let second = message_rows::fields::word2(body, j);
-    message_rows::legal(
-        form,
-        view,
-        members,
-        message_rows::fields::kind(body, j),
-        first,
-        second,
-    )
+    let kind = message_rows::fields::kind(&c.body, j);
+    let first = message_rows::fields::word1(&c.body, j);
+    let second = message_rows::fields::word2(&c.body, j);
+    message_rows::legal(form, c.view, c.members, kind, first, second)
 }
 
 // Row 11.
-pub fn positions(form: Form, view: View, members: u32, body: &[u32; 381], len: usize) -> usize
-    requires { len ≤ 127 }
-    ensures { result ≡ first_bad len (Definitions.row11_at form view.0 members body.now) }
+pub fn positions(form: Form, c: &Contents) -> bool
+    requires { c.now.len ≤ 127 }
+    ensures { result ≡ all_below c.now.len (Definitions.row11_at form c.now.view.0 c.now.members c.now.body) }
 {
-    for j in 0..len {
-        if !position_at(form, view, members, body, j) {
-            return j;
+    for j in 0..c.len {
+        if !position_at(form, c, j) {
+            return false;
         }
     }
-    len
+    true
 }

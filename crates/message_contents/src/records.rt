@@ -7,7 +7,7 @@ ghost use Rattle.message_format.specs.Definitions as Format;
 ghost use Rattle.message_contents.specs.Gathered.{SmallShards, of_kind, gives_shard, with_shard, shard_masks};
 
 use base_ids::Node;
-use message_format::Form;
+use message_format::{Contents, Form};
 
 // The mask with the shard of record j, if its kind is k.
 fn shards_more(mask: u32, k: u32, body: &[u32; 381], j: usize) -> u32
@@ -23,14 +23,14 @@ fn shards_more(mask: u32, k: u32, body: &[u32; 381], j: usize) -> u32
 }
 
 // The shards that have a record of kind k.
-fn shards_of(k: u32, body: &[u32; 381], len: usize) -> u32
-    requires len_bound { len ≤ 127 }
-    requires small_shards { SmallShards body.now len }
-    ensures { result ≡ Format.shards_of k body.now len }
+fn shards_of(k: u32, c: &Contents) -> u32
+    requires len_bound { c.now.len ≤ 127 }
+    requires small_shards { SmallShards c.now.body c.now.len }
+    ensures { result ≡ Format.shards_of k c.now.body c.now.len }
 {
     let mut mask: u32 = 0;
-    for j in 0..len {
-        mask = shards_more(mask, k, body, j);
+    for j in 0..c.len {
+        mask = shards_more(mask, k, &c.body, j);
     }
     mask
 }
@@ -51,15 +51,15 @@ pub fn carried_more(mask: u32, node: Node, body: &[u32; 381], j: usize) -> u32
     base_masks::with(mask, shard.0 as usize)
 }
 
-// The shards that the node carries, by the members that the records give.
-fn carried_by(node: Node, body: &[u32; 381], len: usize) -> u32
-    requires len_bound { len ≤ 127 }
-    requires small_shards { SmallShards body.now len }
-    ensures { result ≡ Format.carried_by node.0 body.now len }
+// The shards that the contents' node carries, by the members that the records give.
+fn carried_by(c: &Contents) -> u32
+    requires len_bound { c.now.len ≤ 127 }
+    requires small_shards { SmallShards c.now.body c.now.len }
+    ensures { result ≡ Format.carried_by c.now.node.0 c.now.body c.now.len }
 {
     let mut mask: u32 = 0;
-    for j in 0..len {
-        mask = carried_more(mask, node, body, j);
+    for j in 0..c.len {
+        mask = carried_more(mask, c.node, &c.body, j);
     }
     mask
 }
@@ -73,26 +73,26 @@ fn every_shard(settings: &[u32]) -> u32
 }
 
 // Every shard of the mask has a record of kind k.
-fn covered(mask: u32, k: u32, body: &[u32; 381], len: usize) -> bool
-    requires len_bound { len ≤ 127 }
-    requires small_shards { SmallShards body.now len }
-    ensures { result ≡ Definitions.subset mask (Format.shards_of k body.now len) }
+fn covered(mask: u32, k: u32, c: &Contents) -> bool
+    requires len_bound { c.now.len ≤ 127 }
+    requires small_shards { SmallShards c.now.body c.now.len }
+    ensures { result ≡ Definitions.subset mask (Format.shards_of k c.now.body c.now.len) }
 {
-    base_masks::subset(mask, shards_of(k, body, len))
+    base_masks::subset(mask, shards_of(k, c))
 }
 
 // A report has kind 1 for each shard, and kind 2 for every shard or for none.
-fn complete_report(settings: &[u32], body: &[u32; 381], len: usize) -> bool
+fn complete_report(settings: &[u32], c: &Contents) -> bool
     requires settings { Settings settings.now }
-    requires len_bound { len ≤ 127 }
-    requires small_shards { SmallShards body.now len }
-    ensures { result ≡ Format.complete Form.Report settings.now 0 body.now len }
+    requires len_bound { c.now.len ≤ 127 }
+    requires small_shards { SmallShards c.now.body c.now.len }
+    ensures { result ≡ Format.complete Form.Report settings.now 0 c.now.body c.now.len }
 {
     let every = every_shard(settings);
-    if !covered(every, 1, body, len) {
+    if !covered(every, 1, c) {
         return false;
     }
-    let second = shards_of(2, body, len);
+    let second = shards_of(2, c);
     if second == 0 {
         return true;
     }
@@ -100,48 +100,48 @@ fn complete_report(settings: &[u32], body: &[u32; 381], len: usize) -> bool
 }
 
 // An order has kinds 1 and 2 for each shard, and kinds 4 and 5 for the shards that its recipient carries.
-fn complete_order(settings: &[u32], node: Node, body: &[u32; 381], len: usize) -> bool
+fn complete_order(settings: &[u32], c: &Contents) -> bool
     requires settings { Settings settings.now }
-    requires len_bound { len ≤ 127 }
-    requires small_shards { SmallShards body.now len }
-    ensures { result ≡ Format.complete Form.Order settings.now node.0 body.now len }
+    requires len_bound { c.now.len ≤ 127 }
+    requires small_shards { SmallShards c.now.body c.now.len }
+    ensures { result ≡ Format.complete Form.Order settings.now c.now.node.0 c.now.body c.now.len }
 {
     let every = every_shard(settings);
-    if !covered(every, 1, body, len) {
+    if !covered(every, 1, c) {
         return false;
     }
-    if !covered(every, 2, body, len) {
+    if !covered(every, 2, c) {
         return false;
     }
-    let carried = carried_by(node, body, len);
-    if !covered(carried, 4, body, len) {
+    let carried = carried_by(c);
+    if !covered(carried, 4, c) {
         return false;
     }
-    covered(carried, 5, body, len)
+    covered(carried, 5, c)
 }
 
 // Row 17: no record is missing.
-pub fn complete(form: Form, settings: &[u32], node: Node, body: &[u32; 381], len: usize) -> bool
+pub fn complete(form: Form, settings: &[u32], c: &Contents) -> bool
     requires settings { Settings settings.now }
-    requires len_bound { len ≤ 127 }
-    requires small_shards { SmallShards body.now len }
-    ensures { result ≡ Format.complete form settings.now node.0 body.now len }
+    requires len_bound { c.now.len ≤ 127 }
+    requires small_shards { SmallShards c.now.body c.now.len }
+    ensures { result ≡ Format.complete form settings.now c.now.node.0 c.now.body c.now.len }
 {
     match form {
-        Form::Report => complete_report(settings, body, len),
-        Form::Order => complete_order(settings, node, body, len),
+        Form::Report => complete_report(settings, c),
+        Form::Order => complete_order(settings, c),
     }
 }
 
 // The members of each shard, and zeros from S up.
-pub fn masks_of(settings: &[u32], body: &[u32; 381]) -> [u32; 16]
+pub fn masks_of(settings: &[u32], c: &Contents) -> [u32; 16]
     requires { Settings settings.now }
-    ensures { result ≡ shard_masks (shards settings.now) body.now }
+    ensures { result ≡ shard_masks (shards settings.now) c.now.body }
 {
     let count = settings_values::shards(settings) as usize;
     let mut masks = [0u32; 16];
     for s in 0..count {
-        masks[s] = message_rows::fields::word1(body, s);
+        masks[s] = message_rows::fields::word1(&c.body, s);
     }
     masks
 }

@@ -1,6 +1,7 @@
 // Flat reports of the former seller, read where they lie in lent bytes: rows 19 to 21, and the contents of the report that they are
 // turned into.
 ghost use Rattle.std.specs.Prelude.{◌≡◌, ◌+◌, ◌*◌, ◌<◌, min, length, get_or};
+ghost use Rattle.base_ids.specs.Definitions.{or_refusal};
 ghost use Rattle.base_lent.specs.Definitions.{words_in};
 ghost use Rattle.message_flat.specs.Definitions.{flat_refusal, flat_contents};
 ghost use Rattle.message_flat.specs.Counted.{counts_of, places_by, explained_by, zero_in, records_of, mask_word, place_word, run_word, record_in, body_in};
@@ -102,20 +103,20 @@ fn records_of(n: Counts) -> usize
 }
 
 // Why a flat report is no such one: rows 19, 20 and 21.
-pub fn flat_refusal(flat: &[u8]) -> Refusal
-    ensures { result ≡ flat_refusal (words_in flat.now) }
+pub fn flat_refusal(flat: &[u8]) -> Result<(), Refusal>
+    ensures { result ≡ or_refusal (flat_refusal (words_in flat.now)) tt }
 {
     let n = counts_of(flat);
     if !explained(n, words_in(flat)) {
-        return Refusal { code: 19 };
+        return Err(Refusal { code: 19 });
     }
     if zero_in(flat, n) {
-        return Refusal { code: 20 };
+        return Err(Refusal { code: 20 });
     }
     if 127 < records_of(n) {
-        return Refusal { code: 21 };
+        return Err(Refusal { code: 21 });
     }
-    Refusal { code: 0 }
+    Ok(())
 }
 
 // Word p of the record of mask j.

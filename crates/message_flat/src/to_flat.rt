@@ -4,7 +4,6 @@ ghost use Rattle.settings_values.specs.Definitions.{Settings};
 ghost use Rattle.message_flat.specs.Definitions.{flat_length, flat_words, triple_word};
 ghost use Rattle.message_flat.specs.Parted.{ended_in, parts_of, Few, length_of, head_by, flag_of, pair_word, front_word, word_of};
 
-use base_ids::{Node, View};
 use message_format::Contents;
 
 // What a report consists of: whether it has a termination, and how many masks, positions and runs.
@@ -16,15 +15,15 @@ struct Parts {
     runs: usize,
 }
 
-// A report of so many records after the head has a termination: the record after the masks is of kind 2.
-fn has_places(shards: usize, len: usize, body: &[u32; 381]) -> bool
+// A report has a termination: the record after the masks is of kind 2.
+fn has_places(shards: usize, c: &Contents) -> bool
     requires { shards < 127 }
-    ensures { result ≡ ended_in shards len body.now }
+    ensures { result ≡ ended_in shards c.now.len c.now.body }
 {
-    if len <= shards {
+    if c.len <= shards {
         return false;
     }
-    message_rows::fields::kind(body, shards) == 2
+    message_rows::fields::kind(&c.body, shards) == 2
 }
 
 // How many positions there are.
@@ -48,14 +47,14 @@ fn rest_of(len: usize, first: usize) -> usize
 }
 
 // The parts of a report.
-fn parts_of(settings: &[u32], len: usize, body: &[u32; 381]) -> Parts
+fn parts_of(settings: &[u32], c: &Contents) -> Parts
     requires { Settings settings.now }
-    ensures { result ≡ parts_of settings.now len body.now }
+    ensures { result ≡ parts_of settings.now c.now.len c.now.body }
 {
     let shards = base_ids::wide(settings_values::shards(settings));
-    let ended = has_places(shards, len, body);
+    let ended = has_places(shards, c);
     let places = places_of(ended, shards);
-    let runs = rest_of(len, shards + places);
+    let runs = rest_of(c.len, shards + places);
     Parts {
         ended,
         shards,
@@ -73,16 +72,16 @@ fn length_of(parts: Parts) -> usize
 }
 
 // Word k of the head.
-fn head_word(node: Node, view: View, members: u32, k: usize) -> u32
-    ensures { result ≡ head_by node view members k }
+fn head_word(c: &Contents, k: usize) -> u32
+    ensures { result ≡ head_by c.now.node c.now.view c.now.members k }
 {
     if k == 0 {
-        return node.0;
+        return c.node.0;
     }
     if k == 1 {
-        return view.0;
+        return c.view.0;
     }
-    members
+    c.members
 }
 
 // The word before the positions.
@@ -116,64 +115,55 @@ fn triple_word(body: &[u32; 381], first: usize, i: usize) -> u32
 }
 
 // Word k before the positions: the head, the number of shards, the masks, and whether positions follow.
-fn front_word(
-    node: Node,
-    view: View,
-    members: u32,
-    body: &[u32; 381],
-    parts: Parts,
-    k: usize,
-) -> u32
+fn front_word(c: &Contents, parts: Parts, k: usize) -> u32
     requires { Few parts }
-    ensures { result ≡ front_word node view members body.now parts k }
+    ensures { result ≡ front_word c.now.node c.now.view c.now.members c.now.body parts k }
 {
     if k < 3 {
-        return head_word(node, view, members, k);
+        return head_word(c, k);
     }
     if k < 4 {
         return parts.shards as u32;
     }
     if k < 4 + parts.shards {
-        return message_rows::fields::word1(body, k - 4);
+        return message_rows::fields::word1(&c.body, k - 4);
     }
     flag_of(parts.ended)
 }
 
 // Word k of the flat report, 0 past its end.
-fn word_of(node: Node, view: View, members: u32, body: &[u32; 381], parts: Parts, k: usize) -> u32
+fn word_of(c: &Contents, parts: Parts, k: usize) -> u32
     requires { Few parts }
-    ensures { result ≡ word_of node view members body.now parts k }
+    ensures { result ≡ word_of c.now.node c.now.view c.now.members c.now.body parts k }
 {
     let places = 5 + parts.shards;
     let count = places + 2 * parts.places;
     if k < places {
-        return front_word(node, view, members, body, parts, k);
+        return front_word(c, parts, k);
     }
     if k < count {
-        return position_word(body, parts.shards, k - places);
+        return position_word(&c.body, parts.shards, k - places);
     }
     if k < count + 1 {
         return parts.runs as u32;
     }
     if k < length_of(parts) {
-        return triple_word(body, parts.shards + parts.places, k - (count + 1));
+        return triple_word(&c.body, parts.shards + parts.places, k - (count + 1));
     }
     0
 }
 
 // Writes the flat report of the contents c into 512 lent words, with zeros after it, and answers its length.
-pub fn write(settings: &[u32], c: Contents, words: &mut [u32]) -> usize
+pub fn write(settings: &[u32], c: &Contents, words: &mut [u32]) -> usize
     requires settings { Settings settings.now }
-    requires len_bound { c.len ≤ 127 }
+    requires len_bound { c.now.len ≤ 127 }
     requires words_len { length words.old ≡ 512 }
-    ensures answer { result ≡ flat_length settings.now c }
-    ensures words { words.new ≡ flat_words settings.now c }
+    ensures answer { result ≡ flat_length settings.now c.now }
+    ensures words { words.new ≡ flat_words settings.now c.now }
 {
-    let parts = parts_of(settings, c.len, &c.body);
-    let node = c.node;
-    let view = c.view;
+    let parts = parts_of(settings, c);
     for k in 0..512 {
-        words[k] = word_of(node, view, c.members, &c.body, parts, k);
+        words[k] = word_of(c, parts, k);
     }
     length_of(parts)
 }

@@ -1,7 +1,7 @@
 -- What reader and writer hand back, refusals included.
-use Rattle.std.specs.Prelude.{ℕ, ◌*◌, cond, List, eqb, ltb, length, get_or, replicate}
+use Rattle.std.specs.Prelude.{ℕ, ◌*◌, cond, List, eqb, ltb, length, get_or, replicate, Result}
 use Rattle.base_laws.specs.Definitions.{tabulate}
-use Rattle.base_ids.specs.Definitions.{accepted, unless}
+use Rattle.base_ids.specs.Definitions.{accepted, unless, or_refusal}
 use Rattle.base_ids.specs.declared.Refusal.{Refusal}
 use Rattle.settings_values.specs.Definitions.{settings_ok}
 use Rattle.message_format.specs.declared.Form.{Form}
@@ -29,6 +29,10 @@ reading_of form σ w =
       contents = cond (accepted (read_refusal form σ w)) (contents_of w) blank;
     }
 
+-- the same as calls give it: the contents, or the refusal
+abbrev pub as_read : Reading → Result Contents Refusal
+as_read r = or_refusal r.refusal r.contents
+
 -- the writer: rows 1, 2 and those of the contents
 unfoldable pub write_refusal : Form → List ℕ → Contents → List ℕ → Refusal
 write_refusal form σ c buffer =
@@ -41,6 +45,10 @@ writing_of form σ c buffer =
       refusal = write_refusal form σ c buffer;
       length = cond (accepted (write_refusal form σ c buffer)) (message_length c) 0;
     }
+
+-- the same as calls give it: the length, or the refusal
+abbrev pub as_written : Writing → Result ℕ Refusal
+as_written a = or_refusal a.refusal a.length
 
 -- the lent words afterwards: the message, or what they were
 unfoldable pub buffer_after : Form → List ℕ → Contents → List ℕ → List ℕ

@@ -21,14 +21,14 @@ pub struct Contents {
     pub body: [u32; 381],
 }
 
-// What reading gives: the contents, or blank ones beside a refusal.
+// What reading gives, as definitions have it: the contents, or blank ones beside a refusal. Calls give a Result.
 #[derive(Clone, Copy)]
 pub struct Reading {
     pub refusal: Refusal,
     pub contents: Contents,
 }
 
-// What writing answers: the message's length in words, or 0 beside a refusal.
+// What writing answers, as definitions have it: the message's length in words, or 0 beside a refusal. Calls give a Result.
 #[derive(Clone, Copy)]
 pub struct Writing {
     pub refusal: Refusal,

@@ -1,19 +1,19 @@
 // Reads a message: its length (row 5), its chain (row 8) and what the records on the chain say.
 #![tactic(auto)]
 
-ghost use Rattle.std.specs.Prelude.{true, ◌≡◌, ◌<◌, ◌≤◌};
-ghost use Rattle.base_ids.specs.Definitions.{index_in};
-ghost use Rattle.message_format.specs.Definitions.{place, following, row5, row8, contents_of, in_order, records_refusal};
-ghost use Rattle.message_format.specs.Messages.{reading_of};
+ghost use Rattle.std.specs.Prelude.{true, false, ◌≡◌, ◌<◌, ◌≤◌};
+ghost use Rattle.base_ids.specs.Definitions.{accepted, index_in, or_refusal};
+ghost use Rattle.message_format.specs.Definitions.{place, following, row5, row8, contents_of};
+ghost use Rattle.message_format.specs.Messages.{reading_of, as_read};
 ghost use Rattle.message_format.specs.Placing.{placed_by};
 ghost use Rattle.message_reader.specs.Walks.{SizedMessage, chain_refusal};
 ghost use Rattle.message_reader.specs.Bodies.{record_put};
-ghost use Rattle.message_reader.specs.Readings.{read_or, nothing_read, head_of, reading_under};
+ghost use Rattle.message_reader.specs.Readings.{head_of, reading_under};
 ghost use Rattle.settings_values.specs.Definitions.{Settings};
 
 use base_ids::{Node, Refusal, View};
 use message_chain::Record;
-use message_format::{Contents, Form, Reading};
+use message_format::{Contents, Form};
 
 // Row 5: 1 to 128 records of four words.
 fn length_ok(words: &[u32]) -> bool
@@ -30,22 +30,22 @@ fn length_ok(words: &[u32]) -> bool
 
 // Row 8: each next index on the chain is larger than its own record's and lies inside the message, or is 0. A refusal
 // tells the first record of which this fails.
-fn chain_refusal(words: &[u32]) -> Refusal
+fn chain_refusal(words: &[u32]) -> Result<(), Refusal>
     requires { SizedMessage words.now }
-    ensures { result ≡ chain_refusal words.now }
+    ensures { result ≡ or_refusal (chain_refusal words.now) tt }
 {
     let mut at: usize = 0;
     loop {
         let step = message_chain::step_from(words, at);
         let next = step.next;
         if next == 0 {
-            return Refusal { code: 0 };
+            return Ok(());
         }
         if next <= at {
-            return message_contents::told_at(8, at);
+            return Err(message_contents::told_at(8, at));
         }
         if words.len() / 4 <= next {
-            return message_contents::told_at(8, at);
+            return Err(message_contents::told_at(8, at));
         }
         at = next;
     }
@@ -67,12 +67,10 @@ fn place_of(words: &[u32], steps: usize) -> usize
 fn placed(words: &[u32], refusal: Refusal) -> Refusal
     requires sized_message { SizedMessage words.now }
     requires words_value { row8 words.now ≡ true }
+    requires refused { accepted refusal ≡ false }
     requires refusal_bound { index_in refusal ≤ following words.now }
     ensures { result ≡ placed_by (place words.now) refusal }
 {
-    if refusal.code == 0 {
-        return refusal;
-    }
     let at = place_of(words, base_ids::wide(refusal.code / 256));
     message_contents::told_at(refusal.code % 256, at)
 }
@@ -113,40 +111,11 @@ pub fn contents_of(words: &[u32]) -> Contents
     }
 }
 
-// A refusal, with blank contents beside it.
-fn refuse(refusal: Refusal) -> Reading
-    ensures { result ≡ nothing_read refusal }
-{
-    Reading {
-        refusal,
-        contents: Contents {
-            node: Node(0),
-            view: View(0),
-            members: 0,
-            len: 0,
-            body: [0u32; 381],
-        },
-    }
-}
-
-// The contents, or blank ones beside a refusal.
-fn answer_with(refusal: Refusal, c: Contents) -> Reading
-    ensures { result ≡ read_or refusal c }
-{
-    if refusal.code != 0 {
-        return refuse(refusal);
-    }
-    Reading {
-        refusal,
-        contents: c,
-    }
-}
-
 // Rows 6 and 7 of a message's head.
-fn head_of(form: Form, settings: &[u32], words: &[u32]) -> Refusal
+fn head_of(form: Form, settings: &[u32], words: &[u32]) -> Result<(), Refusal>
     requires settings { Settings settings.now }
     requires sized_message { SizedMessage words.now }
-    ensures { result ≡ head_of form settings.now words.now }
+    ensures { result ≡ or_refusal (head_of form settings.now words.now) tt }
 {
     let first = message_chain::step_from(words, 0);
     let head = first.reached;
@@ -159,46 +128,29 @@ fn head_of(form: Form, settings: &[u32], words: &[u32]) -> Refusal
     )
 }
 
-// The rows of a message's records, told at their steps along the chain.
-fn records_of(form: Form, settings: &[u32], c: Contents) -> Refusal
-    requires settings { Settings settings.now }
-    requires len_bound { c.len ≤ 127 }
-    ensures { result ≡ records_refusal in_order form settings.now c.node.0 c.view.0 c.members c.body c.len }
-{
-    let node = c.node;
-    let view = c.view;
-    let members = c.members;
-    let len = c.len;
-    message_contents::records_refusal(form, settings, node, view, members, &c.body, len)
-}
-
 // The rows of a message, and what it says where they pass.
-pub fn read_under(form: Form, settings: &[u32], words: &[u32]) -> Reading
+pub fn read_under(form: Form, settings: &[u32], words: &[u32]) -> Result<Contents, Refusal>
     requires { Settings settings.now }
-    ensures { result ≡ reading_under form settings.now words.now }
+    ensures { result ≡ as_read (reading_under form settings.now words.now) }
 {
     if !length_ok(words) {
-        return refuse(Refusal { code: 5 });
+        return Err(Refusal { code: 5 });
     }
-    let head = head_of(form, settings, words);
-    if head.code != 0 {
-        return refuse(head);
-    }
-    let chain = chain_refusal(words);
-    if chain.code != 0 {
-        return refuse(chain);
-    }
+    head_of(form, settings, words)?;
+    chain_refusal(words)?;
     let c = contents_of(words);
-    let records = records_of(form, settings, c);
-    answer_with(placed(words, records), c)
+    match message_contents::records_refusal(form, settings, &c) {
+        Ok(()) => Ok(c),
+        Err(refusal) => Err(placed(words, refusal)),
+    }
 }
 
 // Reads a report or an order: row 2 and those of a message.
-pub fn read(form: Form, settings: &[u32], words: &[u32]) -> Reading
-    ensures { result ≡ reading_of form settings.now words.now }
+pub fn read(form: Form, settings: &[u32], words: &[u32]) -> Result<Contents, Refusal>
+    ensures { result ≡ as_read (reading_of form settings.now words.now) }
 {
     if !settings_check::check(settings) {
-        return refuse(Refusal { code: 2 });
+        return Err(Refusal { code: 2 });
     }
     read_under(form, settings, words)
 }

@@ -1,19 +1,21 @@
 -- What the code of a step over a slot finds, and what it means for the desk.
-use Rattle.std.specs.Prelude.{ℕ, ◌+◌, ◌*◌, ◌/◌, ◌%◌, ◌<◌, ◌≤◌, Bool, true, false, not, ◌||◌, ◌≡◌, refl, length, set}
+use Rattle.std.specs.Prelude.{ℕ, ◌+◌, ◌*◌, ◌/◌, ◌%◌, ◌<◌, ◌≤◌, Bool, true, false, not, ◌||◌, ◌≡◌, refl, length, set, Result, Ok}
 use mathlib.Core.List.{List}
 use Rattle.std.proofs.Common.{⊎_elim, ◌∙◌, subst, arith, length-set, get_or-set_same, get_or-set_other, eq-eqb, ne_eqb}
 use Rattle.std.proofs.Math.Path.{sym, ap, subst⁻¹}
 use Rattle.std.proofs.Math.ListN.{get_or}
-use Rattle.base_laws.specs.Bools.{clash, and_fails_left, eq_or_ne}
+use Rattle.base_laws.specs.Bools.{clash, no_true, and_fails_left, eq_or_ne}
 use Rattle.base_laws.specs.Definitions.{has}
 use Rattle.base_laws.specs.Tables.{get_d_tabulate, length_tabulate}
 use Rattle.base_ids.specs.declared.Position.{Position}
-use Rattle.base_ids.specs.Definitions.{accepted}
+use Rattle.base_ids.specs.declared.Refusal.{Refusal}
+use Rattle.base_ids.specs.Definitions.{accepted, or_refusal}
+use Rattle.base_ids.specs.Results.{ok_none, ok_value}
 use Rattle.settings_values.specs.Definitions.{shards, Settings}
 use Rattle.message_format.specs.declared.Contents.{Contents}
-use Rattle.message_format.specs.declared.Reading.{Reading}
 use Rattle.message_format.specs.declared.Form.TheVariants.{Report}
 use Rattle.message_format.specs.Definitions.{contents_of, message_refusal, tag, word1, word2}
+use Rattle.message_format.specs.Messages.{as_read}
 use Rattle.message_reader.specs.Readings.{reading_under, contents_few}
 use Rattle.report_views.specs.declared.Layout.{Layout}
 use Rattle.report_views.specs.declared.Termination.{Termination}
@@ -48,20 +50,13 @@ slot_back d n b is l =
 
 -- ---- a reading
 
-module _ (σ w : List ℕ) (r : Reading) (e : r ≡ reading_under Report σ w) where
-  refusal_told : r.refusal ≡ message_refusal Report σ w
+module _ (σ w : List ℕ) (c : Contents) (e : Ok c ≡ as_read (reading_under Report σ w)) where
+  pub read_contents : c ≡ contents_of w
   unfolding reading_under
-  refusal_told = ap (λ (x : Reading). x.refusal) e
+  read_contents = ok_value _ _ c e ∙ rw (ok_none _ _ c e)
 
-  pub read_valid : r.refusal.code ≡ 0 → accepted (message_refusal Report σ w) ≡ true
-  read_valid h = rw refusal_told at (eq-eqb r.refusal.code 0 h)
-
-  pub read_contents : r.refusal.code ≡ 0 → r.contents ≡ contents_of w
-  unfolding reading_under
-  read_contents h = ap (λ (x : Reading). x.contents) e ∙ rw (read_valid h)
-
-  pub read_few : r.refusal.code ≡ 0 → r.contents.len ≤ 127
-  read_few h = contents_few w r.contents (read_contents h)
+  pub read_few : c.len ≤ 127
+  read_few = contents_few w c read_contents
 
 -- ---- a shard
 
@@ -155,19 +150,23 @@ module _ (σ : List ℕ) (v : Layout) (t : Termination) (d : List ℕ) (n : ℕ)
             omega (arith, fit.head.earlier, first, z)) (shards σ) hs ts;
       }
 
-  module _ (r : Reading) (read : r ≡ reading_under Report σ w) where
-    read_slot : r ≡ reading_under Report σ (slot d n)
-    read_slot = read ∙ ap (reading_under Report σ) words_are
+  pub stepped_refused : (r : Result Contents Refusal) → r ≡ as_read (reading_under Report σ w) → ((c : Contents) → r ≡ Ok c → ⊥)
+      → Stepped σ v t d n false hs ts hs ts
+  unfolding reading_under or_refusal
+  stepped_refused r read h =
+      let bad : accepted (message_refusal Report σ w) ≡ false = no_true _ (λ g. h _ (read ∙ rw g)) in
+      record { sound = slot_refused σ v t d n (rw words_are at bad); renewed = λ q. clash q refl }
 
-    pub stepped_refused : (r.refusal.code ≡ 0 → ⊥) → Stepped σ v t d n false hs ts hs ts
-    stepped_refused h = record { sound = slot_refused σ v t d n r read_slot h; renewed = λ q. clash q refl }
+  module _ (c : Contents) (read : Ok c ≡ as_read (reading_under Report σ w)) where
+    read_slot : Ok c ≡ as_read (reading_under Report σ (slot d n))
+    read_slot = read ∙ ap (λ (x : List ℕ). as_read (reading_under Report σ x)) words_are
 
-    pub fits_sound : r.refusal.code ≡ 0 → (x : Bool) → report_fits σ v t r.contents n ≡ x → slot_ok σ v t d n ≡ x
-    fits_sound h x f = sym (slot_read σ v t d n r read_slot h) ∙ f
+    pub fits_sound : (x : Bool) → report_fits σ v t c n ≡ x → slot_ok σ v t d n ≡ x
+    fits_sound x f = sym (slot_read σ v t d n c read_slot) ∙ f
 
-    pub stepped_unfit : r.refusal.code ≡ 0 → report_fits σ v t r.contents n ≡ false → Stepped σ v t d n false hs ts hs ts
-    stepped_unfit h f = record { sound = sym (fits_sound h false f); renewed = λ q. clash q refl }
+    pub stepped_unfit : report_fits σ v t c n ≡ false → Stepped σ v t d n false hs ts hs ts
+    stepped_unfit f = record { sound = sym (fits_sound false f); renewed = λ q. clash q refl }
 
-    pub contents_are : r.refusal.code ≡ 0 → r.contents ≡ report_of d n
+    pub contents_are : c ≡ report_of d n
     unfolding report_of
-    contents_are h = read_contents σ (slot d n) r read_slot h
+    contents_are = read_contents σ (slot d n) c read_slot

@@ -304,12 +304,9 @@ fn read_step(
     if report_quick::words_fit(settings, v.number, &w, slot.node) {
         return true;
     }
-    let r = message_reader::read_under(Form::Report, settings, &w);
-    let refusal = r.refusal;
-    if refusal.code != 0 {
+    let Ok(c) = message_reader::read_under(Form::Report, settings, &w) else {
         return false;
-    }
-    let c = r.contents;
+    };
     if !report_desk::slots::report_fits(settings, v, t, c, slot.node) {
         return false;
     }

@@ -1,15 +1,15 @@
 -- A slot of a desk of 16,384 words is 512 words long: row 5 passes, and the reader can walk its chain.
-use Rattle.std.specs.Prelude.{ℕ, ◌+◌, ◌*◌, ◌<◌, Bool, not, ◌&&◌, ◌||◌, List, ◌≡◌, eqb, leb, length, get_or}
+use Rattle.std.specs.Prelude.{ℕ, ◌+◌, ◌*◌, ◌<◌, Bool, not, ◌&&◌, ◌||◌, List, ◌≡◌, eqb, leb, length, get_or, Ok}
 use Rattle.std.proofs.Math.Bool.{true, false}
-use Rattle.std.proofs.Common.{sym, ◌∙◌, arith, eq-eqb, ne_eqb}
-use Rattle.std.proofs.Math.Path.{ap}
+use Rattle.std.proofs.Common.{sym, ◌∙◌, arith}
 use Rattle.base_laws.specs.Definitions.{has}
 use Rattle.base_laws.specs.Tables.{get_d_part}
-use Rattle.base_ids.specs.Definitions.{accepted}
+use Rattle.base_ids.specs.Definitions.{none, accepted}
+use Rattle.base_ids.specs.Results.{ok_none, ok_value}
 use Rattle.message_format.specs.declared.Form.TheVariants.{Report}
 use Rattle.message_format.specs.declared.Contents.{Contents}
-use Rattle.message_format.specs.declared.Reading.{Reading}
 use Rattle.message_format.specs.Definitions.{row8, contents_of, message_refusal}
+use Rattle.message_format.specs.Messages.{as_read}
 use Rattle.message_reader.specs.Walks.{SizedMessage}
 use Rattle.message_reader.specs.Readings.{reading_under}
 use Rattle.report_views.specs.declared.Layout.{Layout}
@@ -36,22 +36,16 @@ module _ (d : List ℕ) (n : ℕ) (whole : length d ≡ 16384) (below : n < 32) 
   get_or_slot k l = get_d_part (512 * n) (512 * n + 512) d k 0 (omega arith)
 
 -- what a reading of the slot gives of its soundness
-module _ (σ : List ℕ) (v : Layout) (t : Termination) (d : List ℕ) (n : ℕ) (r : Reading) (e : r ≡ reading_under Report σ (slot d n)) where
-  refusal_is : r.refusal ≡ message_refusal Report σ (slot d n)
-  unfolding reading_under
-  refusal_is = ap (λ (x : Reading). x.refusal) e
-
-  pub slot_refused : (r.refusal.code ≡ 0 → ⊥) → false ≡ slot_ok σ v t d n
+module _ (σ : List ℕ) (v : Layout) (t : Termination) (d : List ℕ) (n : ℕ) where
+  pub slot_refused : accepted (message_refusal Report σ (slot d n)) ≡ false → false ≡ slot_ok σ v t d n
   unfolding slot_ok
-  slot_refused h =
-      let bad : accepted (message_refusal Report σ (slot d n)) ≡ false = rw refusal_is at (ne_eqb r.refusal.code 0 h) in
-      rw bad
+  slot_refused bad = rw bad
 
-  pub slot_read : r.refusal.code ≡ 0 → report_fits σ v t r.contents n ≡ slot_ok σ v t d n
+  pub slot_read : (c : Contents) → Ok c ≡ as_read (reading_under Report σ (slot d n)) → report_fits σ v t c n ≡ slot_ok σ v t d n
   unfolding slot_ok report_fits report_of reading_under
-  slot_read h =
-      let good : accepted (message_refusal Report σ (slot d n)) ≡ true = rw refusal_is at (eq-eqb r.refusal.code 0 h) in
-      let same : r.contents ≡ contents_of (slot d n) = ap (λ (x : Reading). x.contents) e ∙ rw good in
+  slot_read c e =
+      let good : message_refusal Report σ (slot d n) ≡ none = ok_none _ _ c e in
+      let same : c ≡ contents_of (slot d n) = ok_value _ _ c e ∙ rw good in
       rw (good, same)
 
 -- one node of all: not held, or held with its slot sound or not

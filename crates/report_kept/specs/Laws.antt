@@ -1,6 +1,6 @@
 -- The functions' answers as the definitions: a view and a termination from the words of the body, what is kept case by
 -- case, and what acceptance gives of a report.
-use Rattle.std.specs.Prelude.{ℕ, ◌%◌, ◌<◌, ◌≤◌, ◌&&◌, List, ◌≡◌, refl, eqb, length, replicate}
+use Rattle.std.specs.Prelude.{ℕ, ◌%◌, ◌<◌, ◌≤◌, ◌&&◌, List, ◌≡◌, refl, eqb, length, replicate, Ok, Err}
 use Rattle.std.proofs.Math.Bool.{true, false}
 use Rattle.std.proofs.Math.Logic.{⊎_elim}
 use Rattle.std.proofs.Math.Path.{sym, ap}
@@ -13,12 +13,13 @@ use Rattle.base_laws.specs.Tables.{tabulate_same}
 use Rattle.settings_values.specs.Definitions.{nodes, shards, Settings}
 use Rattle.base_ids.specs.declared.Position.{Position}
 use Rattle.base_ids.specs.declared.Refusal.{Refusal}
-use Rattle.base_ids.specs.Definitions.{refused, none, accepted}
+use Rattle.base_ids.specs.Definitions.{none, accepted, or_refusal}
+use Rattle.base_ids.specs.Results.{err_is, ok_none, ok_value, err_value, err_refused}
 use Rattle.base_ids.specs.Refusals.{accepted_none, first_left, first_none, first_refused}
 use Rattle.message_format.specs.declared.Form.TheVariants.{Report}
 use Rattle.message_format.specs.declared.Contents.{Contents}
-use Rattle.message_format.specs.declared.Reading.{Reading}
 use Rattle.message_format.specs.Definitions.{row5, row6, message_refusal, contents_of}
+use Rattle.message_format.specs.Messages.{as_read}
 use Rattle.message_format.specs.Passed.{message_given}
 use Rattle.message_reader.specs.Readings.{reading_under}
 use Rattle.report_views.specs.declared.Layout.{Layout}
@@ -39,34 +40,48 @@ unfolding row6
 message_node σ w right h =
     omega (arith, ltb-true (get_or w 0 0) (nodes σ) (message_given Report σ w h).head_passes.node_passes, right.sizes.nodes_to)
 
-module _ (σ : List ℕ) (v : Layout) (t : Termination) (m : Latest) (w : List ℕ) (r : Reading) (e : r ≡ reading_under Report σ w) where
-  refusal_is : r.refusal ≡ message_refusal Report σ w
-  unfolding reading_under
-  refusal_is = ap (λ (x : Reading). x.refusal) e
-
-  pub beside_refused : (r.refusal.code ≡ 0 → ⊥) → r ≡ reading_beside σ v t m w
+-- q: rows 5 to 11 refuse
+module _ (σ : List ℕ) (v : Layout) (t : Termination) (m : Latest) (w : List ℕ) where
+  pub beside_refused : (q : Refusal) → Err q ≡ as_read (reading_under Report σ w) → Err q ≡ as_read (reading_beside σ v t m w)
   unfolding reading_beside refusal_beside reading_under
-  beside_refused h =
-      let bad : accepted (message_refusal Report σ w) ≡ false = rw refusal_is at (ne_eqb r.refusal.code 0 h) in
-      e
-      ∙ ap (λ (k : Refusal). record { refusal = k; contents = (reading_under Report σ w).contents })
-      (sym (first_refused (message_refusal Report σ w) (kept_refusal σ v t m (contents_of w)) bad))
+  beside_refused q e =
+      let is = err_value _ q _ e in
+      let bad = err_refused _ q _ e in
+      err_is _ q _ (is ∙ sym (first_refused (message_refusal Report σ w) (kept_refusal σ v t m (contents_of w)) bad)) (ap accepted is ∙ bad)
 
-  -- the node of a report that rows 5 to 11 do not refuse is one of the settings
-  pub read_node : Settings σ → r.refusal.code ≡ 0 → r.contents.node.0 < 32
-  unfolding reading_under row6 contents_of
-  read_node right h =
-      let good : accepted (message_refusal Report σ w) ≡ true = rw refusal_is at (eq-eqb r.refusal.code 0 h) in
-      let same : r.contents.node.0 ≡ get_or w 0 0 = ap (λ (x : Reading). x.contents.node.0) e ∙ rw good in
-      rw same (message_node σ w right (accepted_none (message_refusal Report σ w) good))
+  -- c: what they read
+  module _ (c : Contents) (e : Ok c ≡ as_read (reading_under Report σ w)) where
+    read_passes : message_refusal Report σ w ≡ none
+    unfolding reading_under
+    read_passes = ok_none _ _ c e
 
-  pub beside_read : r.refusal.code ≡ 0 → (k : Refusal) → k ≡ kept_refusal σ v t m r.contents
-      → record { refusal = k; contents = r.contents } ≡ reading_beside σ v t m w
-  unfolding reading_beside refusal_beside reading_under
-  beside_read h k f =
-      let good : accepted (message_refusal Report σ w) ≡ true = rw refusal_is at (eq-eqb r.refusal.code 0 h) in
-      let same : r.contents ≡ contents_of w = ap (λ (x : Reading). x.contents) e ∙ rw good in
-      rw (f, same, good, first_none (message_refusal Report σ w) (kept_refusal σ v t m (contents_of w)) (accepted_none (message_refusal Report σ w) good))
+    read_says : c ≡ contents_of w
+    unfolding reading_under
+    read_says = ok_value _ _ c e ∙ rw read_passes
+
+    -- its node is one of the settings
+    pub read_node : Settings σ → c.node.0 < 32
+    unfolding row6 contents_of
+    read_node right =
+        let same : c.node.0 ≡ get_or w 0 0 = ap (λ (x : Contents). x.node.0) read_says in
+        rw same (message_node σ w right read_passes)
+
+    beside_rows : kept_refusal σ v t m c ≡ refusal_beside σ v t m w
+    unfolding refusal_beside
+    beside_rows =
+        ap (kept_refusal σ v t m) read_says
+        ∙ sym (first_none (message_refusal Report σ w) (kept_refusal σ v t m (contents_of w)) read_passes)
+
+    -- rows 18, 12 and 13 refuse, or pass
+    pub beside_kept : (q : Refusal) → Err q ≡ or_refusal (kept_refusal σ v t m c) (tt {0}) → Err q ≡ as_read (reading_beside σ v t m w)
+    unfolding reading_beside
+    beside_kept q f =
+        let is = err_value _ q _ f in
+        err_is _ q _ (is ∙ beside_rows) (ap accepted is ∙ err_refused _ q _ f)
+
+    pub beside_taken : Ok (tt {0}) ≡ or_refusal (kept_refusal σ v t m c) (tt {0}) → Ok c ≡ as_read (reading_beside σ v t m w)
+    unfolding reading_beside reading_under or_refusal
+    beside_taken f = rw (sym beside_rows, ok_none _ _ _ f, read_passes) (ap Ok read_says)
 
 -- what acceptance gives
 module _ (σ : List ℕ) (v : Layout) (t : Termination) (m : Latest) (w : List ℕ) (taken : accepted (refusal_beside σ v t m w) ≡ true) where
@@ -146,20 +161,15 @@ module _ (σ : List ℕ) (v : Layout) (t : Termination) (m : Latest) (w : List �
       ⊎_elim (λ h. ap (λ (x : Received). x.refusal) (in_taken h) ∙ sym (accepted_none (refusal_beside σ v t m w) h))
       (λ h. ap (λ (x : Received). x.refusal) (in-refused h)) (either (accepted (refusal_beside σ v t m w)))
 
-  -- r: what the reading gives
-  module _ (r : Reading) (e : r ≡ reading_beside σ v t m w) where
-    beside_refusal : r.refusal ≡ refusal_beside σ v t m w
-    unfolding reading_beside
-    beside_refusal = ap (λ (x : Reading). x.refusal) e
+  -- what the reading gives: q refuses, or c is taken
+  pub reading_leaves : (q : Refusal) → Err q ≡ as_read (reading_beside σ v t m w) → leaves q v t ≡ taken_in σ v t m w
+  unfolding reading_beside
+  reading_leaves q e = ap (λ (k : Refusal). leaves k v t) (err_value _ q _ e) ∙ sym (in-refused (err_refused _ q _ e))
 
-    pub reading_leaves : (r.refusal.code ≡ 0 → ⊥) → leaves r.refusal v t ≡ taken_in σ v t m w
-    reading_leaves h =
-        ap (λ (k : Refusal). leaves k v t) beside_refusal ∙ sym (in-refused (sym (ap accepted beside_refusal) ∙ ne_eqb r.refusal.code 0 h))
-
-    pub reading_takes : r.refusal.code ≡ 0 → (k : Kept) → k ≡ renewed σ v t r.contents
-        → record { refusal = r.refusal; node = r.contents.node; view = r.contents.view; kept = k.view; termination = k.termination } ≡ taken_in σ v t m w
-    unfolding reading_beside
-    reading_takes h k f =
-        let good : accepted (refusal_beside σ v t m w) ≡ true = sym (ap accepted beside_refusal) ∙ eq-eqb r.refusal.code 0 h in
-        let same : r.contents ≡ contents_of w = ap (λ (x : Reading). x.contents) e ∙ taken_contents σ v t m w good in
-        rw (ap refused h, f, same, in_taken good)
+  pub reading_takes : (c : Contents) → Ok c ≡ as_read (reading_beside σ v t m w) → (k : Kept) → k ≡ renewed σ v t c
+      → takes_in c k ≡ taken_in σ v t m w
+  unfolding reading_beside
+  reading_takes c e k f =
+      let good : accepted (refusal_beside σ v t m w) ≡ true = ap accepted (ok_none _ _ c e) in
+      let same : c ≡ contents_of w = ok_value _ _ c e ∙ taken_contents σ v t m w good in
+      rw (f, same, in_taken good)

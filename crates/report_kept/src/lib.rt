@@ -2,7 +2,9 @@
 #![tactic(auto)]
 
 ghost use Rattle.std.specs.Prelude.{true, List, ◌≡◌, ℕ, ◌%◌, ◌<◌, ◌≤◌, length};
+ghost use Rattle.base_ids.specs.Definitions.{or_refusal};
 ghost use Rattle.settings_values.specs.Definitions.{Settings};
+ghost use Rattle.message_format.specs.Messages.{as_read};
 ghost use Rattle.report_views.specs.declared.Layout as Layouts;
 ghost use Rattle.report_views.specs.declared.Termination as Terminations;
 ghost use Rattle.report_walk.specs.Kept.{TablesOf};
@@ -12,7 +14,7 @@ ghost use Rattle.report_kept.specs.Words.{mask_in, masks_in, position_in, positi
 ghost use Rattle.report_kept.specs.AtOnce.{ReportsKept, TakenAtOnce, kept_stays};
 
 use base_ids::{Node, Position, Refusal, View};
-use message_format::{Contents, Form, Reading};
+use message_format::{Contents, Form};
 use report_rows::latest::Latest;
 use report_views::{Layout, Termination};
 use report_walk::Tables;
@@ -36,21 +38,27 @@ pub struct Received {
 }
 
 // Row 18, then rows 12 and 13.
-fn kept_refusal(settings: &[u32], v: Layout, t: Termination, latest: Latest, c: Contents) -> Refusal
+fn kept_refusal(
+    settings: &[u32],
+    v: Layout,
+    t: Termination,
+    latest: Latest,
+    c: Contents,
+) -> Result<(), Refusal>
     requires settings { Settings settings.now }
     requires node_bound { c.node.0 < 32 }
-    ensures { result ≡ Definitions.kept_refusal settings.now v t latest c }
+    ensures { result ≡ or_refusal (Definitions.kept_refusal settings.now v t latest c) tt }
 {
     if !report_rows::latest::row18(latest, c.node, c.view) {
-        return Refusal { code: 18 };
+        return Err(Refusal { code: 18 });
     }
     if !report_rows::row12(settings, v, c) {
-        return Refusal { code: 12 };
+        return Err(Refusal { code: 12 });
     }
     if !report_rows::row13(settings, v, t, c) {
-        return Refusal { code: 13 };
+        return Err(Refusal { code: 13 });
     }
-    Refusal { code: 0 }
+    Ok(())
 }
 
 // Reads a report beside what is kept and remembered: rows 5 to 11, 18, 12 and 13, and what it says.
@@ -60,17 +68,13 @@ fn read_beside(
     t: Termination,
     latest: Latest,
     message: &[u32],
-) -> Reading
+) -> Result<Contents, Refusal>
     requires { Settings settings.now }
-    ensures { result ≡ Reports.reading_beside settings.now v t latest message.now }
+    ensures { result ≡ as_read (Reports.reading_beside settings.now v t latest message.now) }
 {
-    let r = message_reader::read_under(Form::Report, settings, message);
-    let refusal = r.refusal;
-    if refusal.code != 0 {
-        return r;
-    }
-    let refusal = kept_refusal(settings, v, t, latest, r.contents);
-    Reading { refusal, ..r }
+    let c = message_reader::read_under(Form::Report, settings, message)?;
+    kept_refusal(settings, v, t, latest, c)?;
+    Ok(c)
 }
 
 // The members of shard s, of the first count; 0 from count up.
@@ -188,29 +192,24 @@ fn read_in(settings: &[u32], v: Layout, t: Termination, latest: Latest, message:
     requires { Settings settings.now }
     ensures { result ≡ Reports.taken_in settings.now v t latest message.now }
 {
-    let reading = read_beside(settings, v, t, latest, message);
-    let refusal = reading.refusal;
-    if refusal.code != 0 {
-        return Received {
+    match read_beside(settings, v, t, latest, message) {
+        Ok(c) => {
+            let renewed = renew(settings, v, t, c);
+            Received {
+                refusal: Refusal { code: 0 },
+                node: c.node,
+                view: c.view,
+                kept: renewed.view,
+                termination: renewed.termination,
+            }
+        }
+        Err(refusal) => Received {
             refusal,
             node: Node(0),
             view: View(0),
             kept: v,
             termination: t,
-        };
-    }
-    let c = reading.contents;
-    let node = c.node;
-    let view = c.view;
-    let renewed = renew(settings, v, t, c);
-    let kept = renewed.view;
-    let termination = renewed.termination;
-    Received {
-        refusal,
-        node,
-        view,
-        kept,
-        termination,
+        },
     }
 }
 

@@ -1,6 +1,6 @@
 -- What an order that is not refused gives: a sound plan and a held node. So the writer takes the node's order, and its message and
 -- length are what the event leaves and answers.
-use Rattle.std.specs.Prelude.{ℕ, ◌<◌, ◌≤◌, Bool, ◌&&◌, List, ◌++◌, ◌≡◌, length}
+use Rattle.std.specs.Prelude.{ℕ, ◌<◌, ◌≤◌, Bool, ◌&&◌, List, ◌++◌, ◌≡◌, length, Ok, Err}
 use Rattle.std.proofs.Math.Bool.{true, false}
 use Rattle.std.proofs.Math.Logic.{⊎_elim}
 use Rattle.std.proofs.Math.Path.{refl, sym}
@@ -12,13 +12,13 @@ use Rattle.base_laws.specs.Definitions.{has}
 use Rattle.settings_values.specs.Definitions.{shards, settings_ok, Settings}
 use Rattle.settings_values.specs.Laws.{settings_give}
 use Rattle.base_ids.specs.declared.Refusal.{Refusal}
-use Rattle.base_ids.specs.Definitions.{refused, none}
+use Rattle.base_ids.specs.Definitions.{refused, none, or_refusal}
+use Rattle.base_ids.specs.Results.{err_is}
 use Rattle.base_ids.specs.Refusals.{unless_true, unless_false, unless_ok, unless_rest, first_refused}
 use Rattle.message_format.specs.declared.Form.TheVariants.{Order}
 use Rattle.message_format.specs.declared.Contents.{Contents}
-use Rattle.message_format.specs.declared.Writing.{Writing}
 use Rattle.message_format.specs.Definitions.{contents_refusal, message_length, message_of}
-use Rattle.message_format.specs.Messages.{write_refusal, writing_of, buffer_after}
+use Rattle.message_format.specs.Messages.{write_refusal, writing_of, as_written, buffer_after}
 use Rattle.message_format.specs.Passed.{contents_few, write_none}
 use Rattle.report_views.specs.declared.Layout.{Layout}
 use Rattle.report_views.specs.declared.Termination.{Termination}
@@ -71,11 +71,8 @@ module _ (σ : List ℕ) (x : State) (d : List ℕ) (n : ℕ) (buffer : List ℕ
       ⊎_elim (λ h. call-refuses h r (e ∙ unless_true (eqb (length buffer) 512) 1 (call_refusal σ d) h) k)
       (λ h. e ∙ unless_false (eqb (length buffer) 512) 1 (call_refusal σ d) h ∙ sym (buffer_wrong h)) (either (eqb (length buffer) 512))
 
--- rows 1 and 2 do not refuse: r is what the code found of them
-module _ (σ d buffer : List ℕ) (r : Refusal) (e : r ≡ call_refuses σ d buffer) (h : r.code ≡ 0) where
-  calls : call_refuses σ d buffer ≡ none
-  calls = sym e ∙ ap refused h
-
+-- rows 1 and 2 do not refuse
+module _ (σ d buffer : List ℕ) (calls : call_refuses σ d buffer ≡ none) where
   passed : call_refusal σ d ≡ none
   unfolding call_refuses
   passed = unless_rest (eqb (length buffer) 512) 0 _ calls
@@ -182,14 +179,10 @@ module _ (σ : List ℕ) (x : State) (d : List ℕ) (n : ℕ) (buffer : List ℕ
 
 -- ---- what is answered and left beside a refusal
 
--- what is answered beside the refusal r
-abbrev writing_beside : Refusal → ℕ → Writing
-writing_beside r n = record { refusal = r; length = n }
-
 module _ (σ : List ℕ) (x : State) (d : List ℕ) (n : ℕ) (buffer : List ℕ) (r : Refusal) (e : r ≡ order_refusal σ x d n buffer) where
-  pub refused_answer : (r.code ≡ 0 → ⊥) → writing_beside r 0 ≡ ordered σ x d n buffer
+  pub refused_answer : (r.code ≡ 0 → ⊥) → Err r ≡ as_written (ordered σ x d n buffer)
   unfolding ordered
-  refused_answer h = rw (sym e, ne_eqb r.code 0 h)
+  refused_answer h = err_is _ r _ e (ne_eqb r.code 0 h)
 
   pub refused_words : (r.code ≡ 0 → ⊥) → buffer ≡ order_buffer σ x d n buffer
   unfolding order_buffer
@@ -203,9 +196,9 @@ module _ (σ : List ℕ) (x : State) (d : List ℕ) (n : ℕ) (buffer : List ℕ
     pub made_few : c.len ≤ 127
     made_few = contents_few Order σ c (ap (contents_refusal Order σ) made ∙ taken_passes σ x d n buffer (not_refused h))
 
-    pub made_answer : (l : ℕ) → l ≡ message_length c → writing_beside r l ≡ ordered σ x d n buffer
-    unfolding ordered
-    made_answer l i = rw (i, made, e, not_refused h)
+    pub made_answer : (l : ℕ) → l ≡ message_length c → Ok l ≡ as_written (ordered σ x d n buffer)
+    unfolding ordered or_refusal
+    made_answer l i = rw (i, made, not_refused h)
 
     pub made_words : (after : List ℕ) → after ≡ message_of c 512 → after ≡ order_buffer σ x d n buffer
     unfolding order_buffer

@@ -2,13 +2,14 @@
 #![tactic(auto)]
 
 ghost use Rattle.std.specs.Prelude.{◌≡◌, length};
+ghost use Rattle.base_ids.specs.Definitions.{or_refusal};
 ghost use Rattle.base_lent.specs.Definitions.{words_in};
+ghost use Rattle.message_format.specs.Messages.{as_written};
 ghost use Rattle.settings_values.specs.Definitions.{Settings};
 ghost use Rattle.state_order.specs.Definitions.{ordered, order_buffer};
 ghost use Rattle.state_order.specs.Orders.{call_refuses};
 
 use base_ids::{Node, Refusal};
-use message_format::Writing;
 use state_planner::State;
 
 // Writes the node's order into 512 lent words, where rows 1 and 2 do not refuse: rows 3, 4, 6 and 14. No row of the writer refuses an
@@ -19,11 +20,11 @@ pub fn order_under(
     desk: &[u8],
     node: Node,
     buffer: &mut [u32],
-) -> Writing
+) -> Result<usize, Refusal>
     requires settings { Settings settings.now }
     requires desk_len { length desk.now ≡ 65536 }
     requires buffer_len { length buffer.old ≡ 512 }
-    ensures answer { result ≡ ordered settings.now x (words_in desk.now) node.0 buffer.old }
+    ensures answer { result ≡ as_written (ordered settings.now x (words_in desk.now) node.0 buffer.old) }
     ensures words { buffer.new ≡ order_buffer settings.now x (words_in desk.now) node.0 buffer.old }
 {
     let phase = x.phase;
@@ -31,37 +32,39 @@ pub fn order_under(
     let known = base_masks::has(x.held, node.0 as usize);
     let refusal = state_planner::event_refusal(settings, x, desk, in_phase, node, known);
     if refusal.code != 0 {
-        return Writing { refusal, length: 0 };
+        return Err(refusal);
     }
     let c = plan_order::order_contents(settings, x.plan, desk, node);
-    let length = message_writer::fill(buffer, c);
-    Writing { refusal, length }
+    Ok(message_writer::fill(buffer, &c))
 }
 
 // Rows 1 and 2. The buffer's length and the desk's make row 1.
-fn call_refusal(settings: &[u32], desk: &[u8], buffer: &[u32]) -> Refusal
-    ensures { result ≡ call_refuses settings.now (words_in desk.now) buffer.now }
+fn call_refusal(settings: &[u32], desk: &[u8], buffer: &[u32]) -> Result<(), Refusal>
+    ensures { result ≡ or_refusal (call_refuses settings.now (words_in desk.now) buffer.now) tt }
 {
     if buffer.len() != 512 {
-        return Refusal { code: 1 };
+        return Err(Refusal { code: 1 });
     }
     if desk.len() != 65536 {
-        return Refusal { code: 1 };
+        return Err(Refusal { code: 1 });
     }
     if !settings_check::check(settings) {
-        return Refusal { code: 2 };
+        return Err(Refusal { code: 2 });
     }
-    Refusal { code: 0 }
+    Ok(())
 }
 
 // Writes the node's order into 512 lent words, and answers its length; a refusal leaves the words as they were.
-pub fn order(settings: &[u32], x: State, desk: &[u8], node: Node, buffer: &mut [u32]) -> Writing
-    ensures answer { result ≡ ordered settings.now x (words_in desk.now) node.0 buffer.old }
+pub fn order(
+    settings: &[u32],
+    x: State,
+    desk: &[u8],
+    node: Node,
+    buffer: &mut [u32],
+) -> Result<usize, Refusal>
+    ensures answer { result ≡ as_written (ordered settings.now x (words_in desk.now) node.0 buffer.old) }
     ensures words { buffer.new ≡ order_buffer settings.now x (words_in desk.now) node.0 buffer.old }
 {
-    let refusal = call_refusal(settings, desk, buffer);
-    if refusal.code != 0 {
-        return Writing { refusal, length: 0 };
-    }
+    call_refusal(settings, desk, buffer)?;
     order_under(settings, x, desk, node, buffer)
 }

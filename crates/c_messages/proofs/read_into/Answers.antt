@@ -1,5 +1,7 @@
--- Each return is a case of what the call answers and leaves.
-use mathlib.Core.Path.{◌∙◌}
+-- Each way out is a case of what the call answers and leaves.
+use native.Mathlib.Omega.{arith}
+use mathlib.Core.Path.{ap, ◌∙◌}
+use Rattle.base_bytes.specs.Definitions.{bytes_of}
 use Rattle.c_messages.specs.ReadCalls.{read_not_2048, read-refused, read_taken, read_few}
 use Rattle.c_messages.proofs.read_into.Goals as goal
 
@@ -8,18 +10,24 @@ returns-then-contents-ne2048 c =
     let t = read_not_2048 c.args.form c.args.settings.now c.args.message.now c.args.contents.now c.if-contents-ne2048.true in
     record { answer = t.0; bytes = t.1 }
 
-pub returns-then-refusal-ne0 : goal.returns-then-refusal-ne0
-returns-then-refusal-ne0 c =
-    let t = read-refused c.args.form c.args.settings.now c.args.message.now c.args.contents.now c.if-contents-ne2048.false _ c.read_lent-reading.ensures c.if-refusal-ne0.true in
-    record { answer = t.0; bytes = t.1 }
+pub overflow_mul-result : goal.overflow_mul-result
+overflow_mul-result c = omega (arith, read_few _ _ _ c.args.contents.now c.if-contents-ne2048.false _ c.in-Ok.ensures)
+
+pub overflow_add-result : goal.overflow_add-result
+overflow_add-result c = omega (arith, read_few _ _ _ c.args.contents.now c.if-contents-ne2048.false _ c.in-Ok.ensures)
 
 pub give-requires : goal.give-requires
 give-requires c =
-    let whole = c.if-contents-ne2048.false in
-    (read_few _ _ _ c.args.contents.now whole _ c.read_lent-reading.ensures c.if-refusal-ne0.false, whole)
+    let few = read_few _ _ _ c.args.contents.now c.if-contents-ne2048.false _ c.in-Ok.ensures in
+    (omega (arith, few), c.if-contents-ne2048.false)
 
-pub returns : goal.returns
-returns c =
+pub returns-in-Ok : goal.returns-in-Ok
+returns-in-Ok c =
     let given = c.give.ensures in
-    let a = read_taken c.args.form c.args.settings.now c.args.message.now c.args.contents.now c.if-contents-ne2048.false _ c.read_lent-reading.ensures c.if-refusal-ne0.false in
-    (record { answer = given.0 ∙ a.0; bytes = given.1 ∙ a.1 })
+    let a = read_taken c.args.form c.args.settings.now c.args.message.now c.args.contents.now c.if-contents-ne2048.false _ c.in-Ok.ensures in
+    (record { answer = given.0 ∙ a.0; bytes = given.1 ∙ ap bytes_of c.lay_out.ensures ∙ a.1 })
+
+pub returns-in-Err : goal.returns-in-Err
+returns-in-Err c =
+    let t = read-refused c.args.form c.args.settings.now c.args.message.now c.args.contents.now c.if-contents-ne2048.false _ c.in-Err.ensures in
+    record { answer = t.0; bytes = t.1 }

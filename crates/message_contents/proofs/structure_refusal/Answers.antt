@@ -1,66 +1,61 @@
--- `message_contents::structure_refusal` meets its contract: each way out has what the passes up to it found.
-use mathlib.Core.Path.{sym, ◌∙◌}
-use Rattle.message_format.specs.Definitions.{shard_at}
+-- `message_contents::structure_refusal` meets its contract: each way out has what the passes up to it gave.
+use Rattle.std.proofs.Common.{sym, ◌∙◌}
+use native.Mathlib.Omega.{arith}
+use Rattle.base_ids.specs.Results.{ok_is}
 use Rattle.message_contents.specs.Laws.{shards_small}
-use Rattle.base_laws.proofs.Loops.{bad-holds}
+use Rattle.message_contents.specs.Passes.{failing_inside, none_failing}
 use Rattle.message_contents.specs.Structure.{kind_told, shard_told, sequence_told, missing_told, nothing_told}
-use borrow.Author.Rules.{rules}
+use Rattle.message_contents.specs.Ways.{told_is}
 use Rattle.message_contents.proofs.structure_refusal.Goals as goal
 
-pub returns-then-kind-len : goal.returns-then-kind-len
-returns-then-kind-len c = let a = c.args in
-    let kinds = c.kinds-kind in
-    kind_told a.form a.settings.now a.node.0 a.body.now a.len kinds.result kinds.ensures _ c.told_at.ensures c.if-kind-len.true
+pub overflow_add-j : goal.overflow_add-j
+overflow_add-j c = omega (arith, failing_inside _ _ _ (c.in-Some.ensures), c.requires.len_bound)
 
-pub returns-then-shard-len : goal.returns-then-shard-len
-returns-then-shard-len c = let a = c.args in
-    let kinds = c.kinds-kind in
-    let shards = c.shards-shard in
-    shard_told a.form a.settings.now a.node.0 a.body.now a.len kinds.result kinds.ensures shards.result shards.ensures c.if-kind-len.false
-    _ c.told_at-then-shard-len.ensures c.if-shard-len.true
+pub told_at-requires-clause-i_bound : goal.told_at-requires-clause-i_bound
+told_at-requires-clause-i_bound c = omega (arith, failing_inside _ _ _ (c.in-Some.ensures), c.requires.len_bound)
 
-pub sequence-place-requires : goal.sequence-place-requires
-sequence-place-requires c = let a = c.args in
-    let shards = c.shards-shard in (record {
-      len_bound = search rules;
-      small_shards = shards_small a.settings.now a.body.now a.len (search rules)
-          (bad-holds a.len (shard_at a.settings.now a.body.now) shards.result shards.ensures c.if-shard-len.false);
-    })
+pub returns-in-Some : goal.returns-in-Some
+returns-in-Some c = told_is _ _ _ _ _ c.told_at.ensures (kind_told _ _ _ _ _ _ (c.in-Some.ensures))
 
-pub returns-then-place-len : goal.returns-then-place-len
-returns-then-place-len c = let a = c.args in
-    let kinds = c.kinds-kind in
-    let shards = c.shards-shard in
-    let sequence = c.sequence-place in
-    sequence_told a.form a.settings.now a.node.0 a.body.now a.len kinds.result kinds.ensures shards.result shards.ensures c.if-kind-len.false
-    sequence.result sequence.ensures c.if-shard-len.false
-    _ c.told_at-then-place-len.ensures c.if-place-len.true
+pub overflow_add-j-in-Some-shards : goal.overflow_add-j-in-Some-shards
+overflow_add-j-in-Some-shards c = omega (arith, failing_inside _ _ _ (c.in-Some-shards.ensures), c.requires.len_bound)
 
-pub complete-requires : goal.complete-requires
-complete-requires c = let a = c.args in
-    let shards = c.shards-shard in record {
-      settings = search rules;
-      len_bound = search rules;
-      small_shards = shards_small a.settings.now a.body.now a.len (search rules)
-          (bad-holds a.len (shard_at a.settings.now a.body.now) shards.result shards.ensures c.if-shard-len.false);
-    }
+pub told_at-requires-in-Some-shards-clause-i_bound : goal.told_at-requires-in-Some-shards-clause-i_bound
+told_at-requires-in-Some-shards-clause-i_bound c = omega (arith, failing_inside _ _ _ (c.in-Some-shards.ensures), c.requires.len_bound)
+
+pub returns-in-Some-shards : goal.returns-in-Some-shards
+returns-in-Some-shards c =
+    told_is _ _ _ _ _ c.told_at-in-Some-shards.ensures
+    (shard_told _ _ _ _ _ (c.in_default.ensures) _ (c.in-Some-shards.ensures))
+
+pub sequence-requires-clause-small_shards : goal.sequence-requires-clause-small_shards
+sequence-requires-clause-small_shards c =
+    shards_small c.args.settings.now _ _ c.requires.settings (none_failing _ _ (c.in_default-shards.ensures))
+
+pub overflow_add-j-in-Some-sequence : goal.overflow_add-j-in-Some-sequence
+overflow_add-j-in-Some-sequence c = omega (arith, failing_inside _ _ _ (c.in-Some-sequence.ensures), c.requires.len_bound)
+
+pub told_at-requires-in-Some-sequence-clause-i_bound : goal.told_at-requires-in-Some-sequence-clause-i_bound
+told_at-requires-in-Some-sequence-clause-i_bound c =
+    omega (arith, failing_inside _ _ _ (c.in-Some-sequence.ensures), c.requires.len_bound)
+
+pub returns-in-Some-sequence : goal.returns-in-Some-sequence
+returns-in-Some-sequence c =
+    told_is _ _ _ _ _ c.told_at-in-Some-sequence.ensures
+    (sequence_told _ _ _ _ _ (c.in_default.ensures) (c.in_default-shards.ensures) _ (c.in-Some-sequence.ensures))
+
+pub complete-requires-clause-small_shards : goal.complete-requires-clause-small_shards
+complete-requires-clause-small_shards c =
+    shards_small c.args.settings.now _ _ c.requires.settings (none_failing _ _ (c.in_default-shards.ensures))
 
 pub returns-then-not-complete : goal.returns-then-not-complete
-returns-then-not-complete c = let a = c.args in
-    let kinds = c.kinds-kind in
-    let shards = c.shards-shard in
-    let sequence = c.sequence-place in
-    let complete = c.complete in
-    missing_told a.form a.settings.now a.node.0 a.body.now a.len kinds.result kinds.ensures shards.result shards.ensures c.if-kind-len.false
-    sequence.result sequence.ensures c.if-shard-len.false c.if-place-len.false
-    _ c.told_at-then-not-complete.ensures (sym complete.ensures ∙ c.if-not-complete.true)
+returns-then-not-complete c =
+    told_is _ _ _ _ _ c.told_at-then-not-complete.ensures
+    (missing_told _ _ _ _ _ (c.in_default.ensures) (c.in_default-shards.ensures) (c.in_default-sequence.ensures)
+    (sym c.complete.ensures ∙ c.if-not-complete.true))
 
 pub returns : goal.returns
-returns c = let a = c.args in
-    let kinds = c.kinds-kind in
-    let shards = c.shards-shard in
-    let sequence = c.sequence-place in
-    let complete = c.complete in
-    nothing_told a.form a.settings.now a.node.0 a.body.now a.len kinds.result kinds.ensures shards.result shards.ensures c.if-kind-len.false
-    sequence.result sequence.ensures c.if-shard-len.false c.if-place-len.false
-    (sym complete.ensures ∙ c.if-not-complete.false)
+returns c =
+    ok_is _ _
+    (sym (nothing_told _ _ _ _ _ (c.in_default.ensures) (c.in_default-shards.ensures) (c.in_default-sequence.ensures)
+    (sym c.complete.ensures ∙ c.if-not-complete.false)))

@@ -4,11 +4,8 @@ use Prim.Native.Nat.{◌/◌}
 use native.Mathlib.Omega.{arith}
 use Rattle.message_format.specs.Definitions.{place}
 use Rattle.message_reader.specs.Walks.{place_inside}
-use Rattle.message_reader.specs.Readings.{placed_none, placed_told}
+use Rattle.message_reader.specs.Readings.{placed_told}
 use Rattle.message_reader.proofs.placed.Goals as goal
-
-pub returns-then-refusal-eq0 : goal.returns-then-refusal-eq0
-returns-then-refusal-eq0 c = placed_none _ _ c.if-refusal-eq0.true
 
 pub told_at-requires : goal.told_at-requires
 told_at-requires c =
@@ -22,4 +19,4 @@ told_at-requires c =
 pub returns : goal.returns
 returns c =
     c.told_at.ensures
-    ∙ placed_told (place c.args.words.now) _ c.if-refusal-eq0.false _ (c.place_of-at.ensures ∙ ap (place c.args.words.now) c.wide.ensures)
+    ∙ placed_told (place c.args.words.now) _ c.requires.refused _ (c.place_of-at.ensures ∙ ap (place c.args.words.now) c.wide.ensures)

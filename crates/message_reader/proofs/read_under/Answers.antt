@@ -1,44 +1,58 @@
--- Each return is a row of the list: what was found on the way there is what the law for that row asks.
+-- Each way out is a row of the list: what was found on the way there is what the law for that row asks.
 use mathlib.Core.Path.{sym, ap, ◌∙◌}
-use Rattle.message_format.specs.Definitions.{place}
-use Rattle.message_format.specs.Placing.{placed_by}
+use Rattle.std.proofs.lemmas.Result.{err_from_is_err_and}
+use Rattle.base_ids.specs.Definitions.{accepted}
+use Rattle.base_ids.specs.Results.{ok_none, err_value, err_refused}
 use Rattle.message_reader.specs.Walks.{row5_gives}
-use Rattle.message_reader.specs.Readings.{number_zero, chain_linked, records_few, reading_length, reading_head, reading_chain, reading_records, contents_few}
+use Rattle.message_reader.specs.Readings.{chain_linked, records_few, reading_length, reading_head, reading_chain, reading_placed, reading_records, contents_few}
 use Rattle.message_reader.proofs.read_under.Goals as goal
 
 pub returns-then-not-length_ok : goal.returns-then-not-length_ok
-returns-then-not-length_ok c =
-    c.refuse.ensures ∙ reading_length _ _ _ (sym c.length_ok.ensures ∙ c.if-not-length_ok.true)
+returns-then-not-length_ok c = reading_length _ _ _ (sym c.length_ok.ensures ∙ c.if-not-length_ok.true)
 
-pub head_of-head-requires : goal.head_of-head-requires
-head_of-head-requires c = record { settings = c.requires; sized_message = row5_gives _ (sym c.length_ok.ensures ∙ c.if-not-length_ok.false) }
+pub head_of-requires : goal.head_of-requires
+head_of-requires c = record { settings = c.requires; sized_message = row5_gives _ (sym c.length_ok.ensures ∙ c.if-not-length_ok.false) }
 
-pub returns-then-head-ne0 : goal.returns-then-head-ne0
-returns-then-head-ne0 c =
-    c.refuse-then-head-ne0.ensures
-    ∙ reading_head _ _ _ (sym c.length_ok.ensures ∙ c.if-not-length_ok.false) _ c.head_of-head.ensures c.if-head-ne0.true
+pub returns-in_err-head_of : goal.returns-in_err-head_of
+returns-in_err-head_of c =
+    let p = err_from_is_err_and c.from_residual.result c.from_residual.ensures.1 in
+    rw (p.1, p.2) (reading_head _ _ _ (sym c.length_ok.ensures ∙ c.if-not-length_ok.false) _ c.in_err-head_of.ensures)
 
-pub chain_refusal-chain-requires : goal.chain_refusal-chain-requires
-chain_refusal-chain-requires c = row5_gives _ (sym c.length_ok.ensures ∙ c.if-not-length_ok.false)
+pub chain_refusal-requires : goal.chain_refusal-requires
+chain_refusal-requires c = row5_gives _ (sym c.length_ok.ensures ∙ c.if-not-length_ok.false)
 
-pub returns-then-chain-ne0 : goal.returns-then-chain-ne0
-returns-then-chain-ne0 c =
-    c.refuse-then-chain-ne0.ensures
-    ∙ reading_chain _ _ _ (sym c.length_ok.ensures ∙ c.if-not-length_ok.false) (number_zero _ _ c.head_of-head.ensures c.if-head-ne0.false) _
-    c.chain_refusal-chain.ensures c.if-chain-ne0.true
+pub returns-in_err-chain_refusal : goal.returns-in_err-chain_refusal
+returns-in_err-chain_refusal c =
+    let p = err_from_is_err_and c.from_residual-in_err-chain_refusal.result c.from_residual-in_err-chain_refusal.ensures.1 in
+    rw (p.1, p.2)
+    (reading_chain _ _ _ (sym c.length_ok.ensures ∙ c.if-not-length_ok.false) c.in_ok-head_of.ensures _ c.in_err-chain_refusal.ensures)
 
 pub contents_of-c-requires : goal.contents_of-c-requires
-contents_of-c-requires c = record { sized_message = row5_gives _ (sym c.length_ok.ensures ∙ c.if-not-length_ok.false); words_value = chain_linked _ _ c.chain_refusal-chain.ensures c.if-chain-ne0.false }
+contents_of-c-requires c =
+    record {
+      sized_message = row5_gives _ (sym c.length_ok.ensures ∙ c.if-not-length_ok.false);
+      words_value = chain_linked _ (ok_none _ _ _ c.in_ok-chain_refusal.ensures);
+    }
 
-pub records_of-records-requires : goal.records_of-records-requires
-records_of-records-requires c = record { settings = c.requires; len_bound = contents_few _ _ c.contents_of-c.ensures }
+pub records_refusal-requires : goal.records_refusal-requires
+records_refusal-requires c = record { settings = c.requires; len_bound = contents_few _ _ c.contents_of-c.ensures }
 
 pub placed-requires : goal.placed-requires
-placed-requires c = record { sized_message = row5_gives _ (sym c.length_ok.ensures ∙ c.if-not-length_ok.false); words_value = chain_linked _ _ c.chain_refusal-chain.ensures c.if-chain-ne0.false; refusal_bound = records_few _ _ _ _ _ c.contents_of-c.ensures c.records_of-records.ensures }
+placed-requires c =
+    let e = err_value _ _ _ c.in-Err.ensures in
+    record {
+      sized_message = row5_gives _ (sym c.length_ok.ensures ∙ c.if-not-length_ok.false);
+      words_value = chain_linked _ (ok_none _ _ _ c.in_ok-chain_refusal.ensures);
+      refused = ap accepted e ∙ err_refused _ _ _ c.in-Err.ensures;
+      refusal_bound = records_few _ _ _ _ _ c.contents_of-c.ensures e;
+    }
 
-pub returns : goal.returns
-returns c =
-    c.answer_with.ensures
-    ∙ reading_records _ _ _ (sym c.length_ok.ensures ∙ c.if-not-length_ok.false) (number_zero _ _ c.head_of-head.ensures c.if-head-ne0.false) (chain_linked _ _ c.chain_refusal-chain.ensures c.if-chain-ne0.false) _ _
-    c.contents_of-c.ensures
-    (c.placed.ensures ∙ ap (placed_by (place c.args.words.now)) c.records_of-records.ensures)
+pub returns-in-Ok : goal.returns-in-Ok
+returns-in-Ok c =
+    reading_records _ _ _ (sym c.length_ok.ensures ∙ c.if-not-length_ok.false) c.in_ok-head_of.ensures
+    (chain_linked _ (ok_none _ _ _ c.in_ok-chain_refusal.ensures)) _ c.contents_of-c.ensures c.in-Ok.ensures
+
+pub returns-in-Err : goal.returns-in-Err
+returns-in-Err c =
+    reading_placed _ _ _ (sym c.length_ok.ensures ∙ c.if-not-length_ok.false) c.in_ok-head_of.ensures
+    (chain_linked _ (ok_none _ _ _ c.in_ok-chain_refusal.ensures)) _ c.contents_of-c.ensures _ _ c.in-Err.ensures c.placed.ensures

@@ -5,18 +5,18 @@ use mathlib.Core.Path.{sym}
 use borrow.Author.Tests.{lt-ltb, le-ltb}
 use Rattle.message_writer.proofs.word.Goals as goal
 
-pub returns-then-len-i : goal.returns-then-len-i
+pub returns-then-c-i : goal.returns-then-c-i
 unfolding message_word
-returns-then-len-i c = simp (lt-ltb _ _ c.if-len-i.true)
+returns-then-c-i c = simp (lt-ltb _ _ c.if-c-i.true)
 
 pub returns-then-p-lt3 : goal.returns-then-p-lt3
 unfolding message_word record_word head_word
-returns-then-p-lt3 c = simp (le-ltb _ _ c.if-len-i.false, lt-ltb _ _ c.if-p-lt3.true, sym c.record_word.ensures)
+returns-then-p-lt3 c = simp (le-ltb _ _ c.if-c-i.false, lt-ltb _ _ c.if-p-lt3.true, sym c.record_word.ensures)
 
-pub returns-then-i-len : goal.returns-then-i-len
+pub returns-then-i-c : goal.returns-then-i-c
 unfolding message_word
-returns-then-i-len c = simp (le-ltb _ _ c.if-len-i.false, le-ltb _ _ c.if-p-lt3.false, lt-ltb _ _ c.if-i-len.true)
+returns-then-i-c c = simp (le-ltb _ _ c.if-c-i.false, le-ltb _ _ c.if-p-lt3.false, lt-ltb _ _ c.if-i-c.true)
 
 pub returns : goal.returns
 unfolding message_word
-returns c = simp (le-ltb _ _ c.if-len-i.false, le-ltb _ _ c.if-p-lt3.false, le-ltb _ _ c.if-i-len.false)
+returns c = simp (le-ltb _ _ c.if-c-i.false, le-ltb _ _ c.if-p-lt3.false, le-ltb _ _ c.if-i-c.false)

@@ -19,46 +19,40 @@ returns-then-words_fit c = let s = c in
     let w = c.words_of-w in
     (record { holders_len_2 = s.requires.holders_len; value = λ e. clash e c.if-slot.false; stepped = λ e d is. stepped_other a.settings.now a.v a.t d a.slot.node.0 a.b.now w.result s.requires.settings is s.requires.node_bound w.ensures a.holders.now a.tops.now (c.words_fit.ensures c.if-words_fit.true) })
 
-pub returns-then-refusal-ne0 : goal.returns-then-refusal-ne0
-returns-then-refusal-ne0 c = let s = c in
+pub returns-in_default : goal.returns-in_default
+returns-in_default c = let s = c in
     let a = s.args in
     let w = c.words_of-w in
-    let r = c.read_under-r in
-    (record { holders_len_2 = s.requires.holders_len; value = λ e. clash e c.if-slot.false; stepped = λ e d is. stepped_refused a.settings.now a.v a.t d a.slot.node.0 a.b.now w.result s.requires.settings is s.requires.node_bound w.ensures a.holders.now a.tops.now r.result r.ensures c.if-refusal-ne0.true })
+    (record { holders_len_2 = s.requires.holders_len; value = λ e. clash e c.if-slot.false; stepped = λ e d is. stepped_refused a.settings.now a.v a.t d a.slot.node.0 a.b.now w.result s.requires.settings is s.requires.node_bound w.ensures a.holders.now a.tops.now c.read_under.result c.read_under.ensures c.in_default.not-Ok })
 
 pub returns-then-not-report_fits : goal.returns-then-not-report_fits
 returns-then-not-report_fits c = let s = c in
     let a = s.args in
     let w = c.words_of-w in
-    let r = c.read_under-r in
     let f = c.report_fits in (record {
       holders_len_2 = s.requires.holders_len;
       value = λ e. clash e c.if-slot.false;
-      stepped = λ e d is. stepped_unfit a.settings.now a.v a.t d a.slot.node.0 a.b.now w.result s.requires.settings is s.requires.node_bound w.ensures a.holders.now a.tops.now r.result r.ensures c.if-refusal-ne0.false
+      stepped = λ e d is. stepped_unfit a.settings.now a.v a.t d a.slot.node.0 a.b.now w.result s.requires.settings is s.requires.node_bound w.ensures a.holders.now a.tops.now _ c.in-Ok.ensures
           (sym f.ensures ∙ c.if-not-report_fits.true);
     })
 
 pub note_report-requires : goal.note_report-requires
 note_report-requires c = let s = c in
-    let w = c.words_of-w in
-    let r = c.read_under-r in
-    record { settings = s.requires.settings; holders_len = s.requires.holders_len; position_records = s.requires.position_records; len_bound = read_few s.args.settings.now w.result r.result r.ensures c.if-refusal-ne0.false }
+    record { settings = s.requires.settings; holders_len = s.requires.holders_len; position_records = s.requires.position_records; len_bound = read_few _ _ _ c.in-Ok.ensures }
 
 pub returns : goal.returns
 returns c = let s = c in
     let a = s.args in
     let w = c.words_of-w in
-    let r = c.read_under-r in
-    let f = c.report_fits in
-    let h = c.if-refusal-ne0.false in (record {
+    let f = c.report_fits in (record {
       holders_len_2 = c.note_report.ensures.holders_len_2;
       value = λ e. clash e c.if-slot.false;
       stepped = λ e d is.
-          let ok = fits_sound a.settings.now a.v a.t d a.slot.node.0 a.b.now w.result s.requires.settings is s.requires.node_bound w.ensures a.holders.now a.tops.now r.result r.ensures h true
+          let ok = fits_sound a.settings.now a.v a.t d a.slot.node.0 a.b.now w.result s.requires.settings is s.requires.node_bound w.ensures a.holders.now a.tops.now _ c.in-Ok.ensures true
           (sym f.ensures ∙ c.if-not-report_fits.false) in
           record {
             sound = sym ok;
             renewed = λ q. c.note_report.ensures.by_index d a.b.now is s.requires.node_bound ok
-                (contents_are a.settings.now a.v a.t d a.slot.node.0 a.b.now w.result s.requires.settings is s.requires.node_bound w.ensures a.holders.now a.tops.now r.result r.ensures h);
+                (contents_are a.settings.now a.v a.t d a.slot.node.0 a.b.now w.result s.requires.settings is s.requires.node_bound w.ensures a.holders.now a.tops.now _ c.in-Ok.ensures);
           };
     })

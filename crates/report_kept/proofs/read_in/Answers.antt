@@ -2,15 +2,12 @@
 use Rattle.report_kept.specs.Laws.{reading_leaves, reading_takes}
 use Rattle.report_kept.proofs.read_in.Goals as goal
 
-pub returns-then-refusal-ne0 : goal.returns-then-refusal-ne0
-returns-then-refusal-ne0 c =
+pub returns-in-Ok : goal.returns-in-Ok
+returns-in-Ok c =
     let a = c.args in
-    let r = c.read_beside-reading in
-    reading_leaves a.settings.now a.v a.t a.latest a.message.now r.result r.ensures c.if-refusal-ne0.true
+    reading_takes a.settings.now a.v a.t a.latest a.message.now _ c.in-Ok.ensures _ c.renew-renewed.ensures
 
-pub returns : goal.returns
-returns c =
+pub returns-in-Err : goal.returns-in-Err
+returns-in-Err c =
     let a = c.args in
-    let r = c.read_beside-reading in
-    let k = c.renew-renewed in
-    reading_takes a.settings.now a.v a.t a.latest a.message.now r.result r.ensures c.if-refusal-ne0.false k.result k.ensures
+    reading_leaves a.settings.now a.v a.t a.latest a.message.now _ c.in-Err.ensures

@@ -22,8 +22,8 @@ order_contents-c-requires c =
     let h = not_refused _ _ _ _ _ _ e c.if-refusal-ne0.false in
     record { sizes = s.requires.settings.sizes; readable_slot = taken_node _ _ _ _ _ h; holders = taken_holders _ _ _ _ _ h }
 
-pub fill-length-requires : goal.fill-length-requires
-fill-length-requires c =
+pub fill-requires : goal.fill-requires
+fill-requires c =
     let s = c in
     let a = s.args in
     let d = words_in a.desk.now in
@@ -37,7 +37,7 @@ returns c =
     let d = words_in a.desk.now in
     let e = found_refusal a.settings.now a.x d a.node.0 a.buffer.now (eq-eqb _ _ s.requires.buffer_len) _ _ c.is_ordered-in_phase.ensures c.has-known.ensures _ c.event_refusal-refusal.ensures in
     let made = c.order_contents-c.ensures in
-    let filled = c.fill-length.ensures in record {
+    let filled = c.fill.ensures in record {
       answer = made_answer _ _ _ _ _ _ e c.if-refusal-ne0.false _ made _ filled.answer;
       words = made_words _ _ _ _ _ _ e c.if-refusal-ne0.false _ made _ filled.words;
     }

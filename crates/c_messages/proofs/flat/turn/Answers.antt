@@ -1,14 +1,16 @@
 -- A refusal by the first rows is the call's; where they pass, the writer's is.
 use mathlib.Core.Path.{◌∙◌}
+use Rattle.std.proofs.lemmas.Result.{err_from_is_err_and}
 use Rattle.c_messages.specs.Turning.{turn_refused, turn_keeps, turn_writes, turn_leaves}
 use Rattle.c_messages.proofs.flat.turn.Goals as goal
 
-pub returns-then-refusal-ne0 : goal.returns-then-refusal-ne0
-returns-then-refusal-ne0 c = (record { answer = turn_refused _ _ _ _ c.flat_rows-refusal.ensures c.if-refusal-ne0.true; words = turn_keeps _ _ _ _ c.flat_rows-refusal.ensures c.if-refusal-ne0.true })
+pub returns-in_err-flat_rows : goal.returns-in_err-flat_rows
+returns-in_err-flat_rows c =
+    let p = err_from_is_err_and c.from_residual.result c.from_residual.ensures.1 in
+    record { answer = rw (p.1, p.2) (turn_refused _ _ _ _ c.in_err-flat_rows.ensures); words = turn_keeps _ _ _ _ c.in_err-flat_rows.ensures }
 
 pub returns : goal.returns
 returns c =
     let given = c.write.ensures in
-    let s = c in
-    let rows = s.flat_rows-refusal.ensures in
-    (record { answer = given.answer ∙ turn_writes _ _ _ _ rows s.if-refusal-ne0.false _ s.contents_from-c.ensures; words = given.words ∙ turn_leaves _ _ _ _ rows s.if-refusal-ne0.false _ s.contents_from-c.ensures })
+    let rows = c.in_ok-flat_rows.ensures in
+    (record { answer = given.answer ∙ turn_writes _ _ _ rows _ c.contents_from-c.ensures; words = given.words ∙ turn_leaves _ _ _ rows _ c.contents_from-c.ensures })

@@ -5,4 +5,4 @@ use Rattle.message_contents.proofs.passes.position_at.Goals as goal
 
 pub returns : goal.returns
 unfolding row11_at
-returns c = simp (sym c.kind.ensures, sym c.word2-second.ensures, sym c.word1-first.ensures) c.legal.ensures
+returns c = simp (sym c.kind-kind.ensures, sym c.word2-second.ensures, sym c.word1-first.ensures) c.legal.ensures

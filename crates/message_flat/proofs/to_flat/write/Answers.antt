@@ -44,5 +44,5 @@ returns c =
     let l = c.loop-k in
     let s = c in
     let σ = s.args.settings.now in
-    let x = s.args.c in
+    let x = s.args.c.now in
     let all = filled_end 512 _ _ l.words l.k (omega arith) l.auto.k-end (omega arith) l.invariant in record { answer = c.length_of.ensures ∙ ap length_of s.parts_of-parts.ensures ∙ length_own σ x; words = all ∙ ap (λ (p : Parts). tabulate 512 (word_of x.node x.view x.members x.body p)) s.parts_of-parts.ensures ∙ words_own σ x }

@@ -1,2 +1,0 @@
--- Contents by their parts.
-pub mod Parts
