@@ -3,7 +3,7 @@
 // Pairs that are open: masks of nodes by shard; after them the mask of the nodes that must be placed.
 #![tactic(auto)]
 
-ghost use Rattle.std.specs.Prelude.{◌≡◌, true, false, cond, [], ◌+◌, ◌*◌, ◌-◌, ◌/◌, ◌^◌, ◌≤◌, ◌<◌, min, length, get_or, leb, ltb};
+ghost use Rattle.std.specs.Prelude.{◌≡◌, true, false, cond, [], IfSome, ◌+◌, ◌*◌, ◌-◌, ◌/◌, ◌^◌, ◌≤◌, ◌<◌, min, length, get_or, leb, ltb};
 ghost use Rattle.base_laws.specs.Definitions.{all_below, has, with, without};
 ghost use Rattle.base_sum_laws.specs.Definitions.{mask_below, sum_below};
 ghost use Rattle.search_laws.specs.Tables.{case_of, owners_of};
@@ -260,14 +260,7 @@ fn lowest(m: u32) -> usize
     u32::trailing_zeros(m) as usize
 }
 
-// A row of open pairs, and whether its inequalities hold.
-#[derive(Clone, Copy)]
-struct OpenRow {
-    good: bool,
-    row: u32,
-}
-
-// The row of shard i without the nodes of `from` that ask more than `most`. Not good: one of them asks less than `least`.
+// The row of shard i without the nodes of `from` that ask more than `most`; none where one of them asks less than `least`.
 fn sift(
     sets: &[u8; 32],
     costs: &[u8; 512],
@@ -279,10 +272,10 @@ fn sift(
     from: u32,
     least: usize,
     most: usize,
-) -> OpenRow
+) -> Option<u32>
     requires i_bound { i < 16 }
     requires small { Small sets.now }
-    ensures { result.good ≡ true → Sifted (λ n. get_or costs.now (i * 32 + n) 0 + min want (get_or pairs.now (i * 16 + get_or sets.now n 0) 0) + get_or nodes.now n 0) row from least most result.row }
+    ensures { IfSome result (λ kept. Sifted (λ n. get_or costs.now (i * 32 + n) 0 + min want (get_or pairs.now (i * 16 + get_or sets.now n 0) 0) + get_or nodes.now n 0) row from least most kept) }
 {
     let mut m = row & from;
     let mut kept = row;
@@ -290,18 +283,12 @@ fn sift(
         let n = lowest(m);
         let x = asks(sets, want, nodes, pairs, costs[i * 32 + n], i, n);
         if x < least {
-            return OpenRow {
-                good: false,
-                row: 0,
-            };
+            return None;
         }
         kept = dropped(kept, n, x > most);
         m = base_masks::without(m, n);
     }
-    OpenRow {
-        good: true,
-        row: kept,
-    }
+    Some(kept)
 }
 
 // a - b, or 0 where b is the larger.
@@ -334,7 +321,7 @@ fn cut_row(
     let want = wants[i];
     let u = based(want);
     let h = large(rooms[i]);
-    let v = sift(
+    match sift(
         sets,
         costs,
         want,
@@ -345,9 +332,13 @@ fn cut_row(
         onward(free, t, i),
         floor(u, h),
         floor(low + u, high + h),
-    );
-    rows[i] = v.row;
-    v.good
+    ) {
+        Some(kept) => {
+            rows[i] = kept;
+            true
+        }
+        None => false,
+    }
 }
 
 // Whether the weights are good, and the floor that they prove.
