@@ -14,7 +14,7 @@ loop-i-init c = (search rules, search rules, search rules, λ j k l. absurd (ome
 
 pub returns-then-w-i-eq0 : goal.returns-then-w-i-eq0
 returns-then-w-i-eq0 c =
-    λ h. record { from = c.loop-i.invariant.0; few = c.loop-i.auto.i-end; each = c.loop-i.invariant.3; end = c.if-w-i-eq0.true }
+    λ h. record { from = c.loop-i.invariant.0; few = c.loop-i.auto.i-end (omega arith); each = c.loop-i.invariant.3; end = c.if-w-i-eq0.true }
 
 pub returns-then-w-i : goal.returns-then-w-i
 returns-then-w-i c =
