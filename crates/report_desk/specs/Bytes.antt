@@ -1,14 +1,14 @@
 -- A desk of 65536 bytes: its words and the words of a slot; and what a message stored in a slot's bytes makes of both.
-use Rattle.std.specs.Prelude.{◌≡◌, List, ℕ, ◌+◌, ◌*◌, ◌-◌, ◌/◌, ◌%◌, ◌^◌, ◌≤◌, ◌<◌, length, set}
+use Rattle.std.specs.Prelude.{◌≡◌, List, ℕ, ◌+◌, ◌*◌, ◌-◌, ◌/◌, ◌%◌, ◌^◌, ◌≤◌, ◌<◌, length, take, drop, replicate}
 use Rattle.std.proofs.Math.Path.{sym, ap}
-use Rattle.std.proofs.Common.{◌∙◌, subst, add-zero, length-set}
+use Rattle.std.proofs.Common.{◌∙◌, subst, add-zero}
 use Rattle.std.proofs.Math.Logic.{⊎_elim}
 use native.Mathlib.Omega.{arith}
-use Rattle.std.proofs.Math.ListN.{get_or, get_or-eq_default}
+use Rattle.std.proofs.Math.ListN.{get_or, get_or-eq_default, get_or-replicate, length-replicate, length-take, length-drop}
 use borrow.Rule.Slice.PartMut.{put_mid}
 use Rattle.base_laws.specs.Bools.{lt_or_le}
 use Rattle.base_laws.specs.Definitions.{part, padded, replaced}
-use Rattle.base_laws.specs.Tables.{tabulate_ext, length_part, get_d_part, length_padded, get_or_padded, padded_ext, set_more, length_replaced, get_or_replaced_low, get_or_replaced, get_or_replaced_high, put_replaced}
+use Rattle.base_laws.specs.Tables.{tabulate_ext, length_part, get_d_part, length_padded, get_or_padded, padded_ext, length_replaced, get_or_replaced_low, get_or_replaced, get_or_replaced_high, put_replaced}
 use Rattle.base_bytes.specs.Definitions.{word_at, words_of, bytes_of}
 use Rattle.base_bytes.specs.Words.{length_words, length_bytes, get_d_words, word_lt, words_bytes, bytes_words}
 use Rattle.base_lent.specs.Definitions.{words_in}
@@ -167,7 +167,12 @@ module _ (b : List ℕ) (n : ℕ) (w : List ℕ) (e : length b ≡ 65536) (l : n
   bytes_stored h =
       bytes_put b n (bytes_of w) e l whole (omega (arith, length_bytes w)) s f h ∙ ap (λ (x : List ℕ). bytes_of (desk_with (words_in b) n x)) back
 
--- ---- a loop that copies a message to a slot's bytes
+-- zeros have a zero at any place
+get_or-replicate_any : (n i a : ℕ) → get_or (replicate n a) i a ≡ a
+get_or-replicate_any n i a =
+    ⊎_elim (λ h. get_or-replicate n i a a h) (λ h. get_or-eq_default (replicate n a) a (omega (arith, length-replicate n a))) (lt_or_le i n)
+
+-- ---- a message copied to a slot's bytes
 
 -- the first k bytes are the message's, with zeros after it
 pub record CopiedSoFar (m s : List ℕ) (k : ℕ) : Type 0 where
@@ -191,18 +196,19 @@ copied_front m s p k f r e q =
           ∙ get_or_replaced 0 m s i 0 (omega arith) (omega arith);
     }
 
-module _ {m s : List ℕ} {k : ℕ} (c : CopiedSoFar m s k) where
-  pub copied_turn : (v : ℕ) → k < 2048 → v ≡ get_or m k 0 → CopiedSoFar m (set s k v) (k + 1)
-  copied_turn v l e =
-      record {
-        few = c.few;
-        room = length-set s k v ∙ c.room;
-        same = set_more 0 (λ i. get_or m i 0) s k v (omega (arith, c.room)) e c.same;
-      }
-
-  -- a zero past the end
-  pub copied_zero : k < 2048 → length m ≤ k → CopiedSoFar m (set s k 0) (k + 1)
-  copied_zero l h = copied_turn 0 l (sym (get_or-eq_default m 0 h))
-
-  pub copied_all : 2048 ≤ k → s ≡ padded 2048 m
-  copied_all h = padded_ext 2048 m s c.room (λ i l. c.same i (omega arith))
+-- and zeros q after them
+pub copied_all : {m s : List ℕ} {k : ℕ} → CopiedSoFar m s k → k ≡ length m → (q : List ℕ) → q ≡ replicate (length (take (length s - k) (drop k s))) 0
+    → put_mid k (length s - k) s q ≡ padded 2048 m
+copied_all {m} {s} {k} c e q z =
+    let long : length q ≡ length s - k =
+    ap length z ∙ (length-replicate (length (take (length s - k) (drop k s))) 0 ∙ omega (arith, length-take (length s - k) (drop k s), length-drop k s)) in
+    put_replaced k (length s - k) s q long
+    ∙ padded_ext 2048 m (replaced k q s) (length_replaced k q s (omega (arith, c.few, c.room)) ∙ c.room)
+    (λ i l. ⊎_elim
+    (λ h. get_or_replaced_low k q s i 0 (omega (arith, c.few, c.room)) h ∙ c.same i h)
+    (λ h.
+    let at : k + (i - k) ≡ i = omega arith in
+    sym (ap (λ (x : ℕ). get_or (replaced k q s) x 0) at)
+    ∙ (get_or_replaced k q s (i - k) 0 (omega (arith, c.few, c.room)) (omega (arith, c.room))
+    ∙ (ap (λ (x : List ℕ). get_or x (i - k) 0) z ∙ (get_or-replicate_any (length (take (length s - k) (drop k s))) (i - k) 0 ∙ sym (get_or-eq_default m 0 (omega arith))))))
+    (lt_or_le i k))

@@ -29,12 +29,9 @@ fn copy(slot: &mut [u8], message: &[u32])
     requires { (length slot.old ≡ 2048) × (length message.now ≤ 512) }
     ensures { slot.new ≡ padded 2048 (bytes_of message.now) }
 {
-    let mut k = 4 * message.len();
-    base_bytes::encode(message, &mut slot[0..k]);
-    while k < 2048 {
-        slot[k] = 0;
-        k += 1;
-    }
+    let end = 4 * message.len();
+    base_bytes::encode(message, &mut slot[0..end]);
+    slot[end..].fill(0);
 }
 
 // Copies a message to a node's slot of the desk. No other byte is written.

@@ -108,19 +108,19 @@ fn run_fits(before: u32, since: u32, tag: u32, v: u32, k: u32, count: u32, view:
     1 <= k
 }
 
-// The runs, which stand one after another after record at: the index of the last record. 128: they do not.
-fn runs_told(w: &[u32], at: usize, count: u32, view: u32) -> usize
+// The runs stand one after another after record at, up to a last record.
+fn runs_told(w: &[u32], at: usize, count: u32, view: u32) -> bool
     requires { (length w.now ≡ 512) × (at ≤ 32) × (count ≤ 16) }
-    ensures { result ≤ 127 → RunsTold w.now at count view result }
+    ensures { result ≡ true → (last : ℕ) × RunsTold w.now at count view last }
 {
     let mut tag = w[4 * at];
     let mut word = w[4 * at + 1];
     for i in at..127 {
         if w[4 * i + 3] == 0 {
-            return i;
+            return true;
         }
         if w[4 * i + 3] != i as u32 + 1 {
-            return 128;
+            return false;
         }
         if !run_fits(
             tag,
@@ -131,12 +131,12 @@ fn runs_told(w: &[u32], at: usize, count: u32, view: u32) -> usize
             count,
             view,
         ) {
-            return 128;
+            return false;
         }
         tag = w[4 * i + 4];
         word = w[4 * i + 5];
     }
-    if w[511] == 0 { 127 } else { 128 }
+    w[511] == 0
 }
 
 // The head is the node's, of a view below the kept one.
@@ -185,12 +185,12 @@ fn rest_fits(w: &[u32], count: usize) -> bool
     ensures { result ≡ true → RestFits count w.now }
 {
     if w[4 * count + 4] / 256 != 2 {
-        return runs_told(w, count, count as u32, w[1]) <= 127;
+        return runs_told(w, count, count as u32, w[1]);
     }
     if !positions_told(w, count, w[1]) {
         return false;
     }
-    runs_told(w, count + count, count as u32, w[1]) <= 127
+    runs_told(w, count + count, count as u32, w[1])
 }
 
 // The words of a node's slot are sound beside a kept view of this number, as far as is seen at once: a report of an earlier view.

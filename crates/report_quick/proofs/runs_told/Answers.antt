@@ -1,8 +1,10 @@
 -- `report_quick::runs_told` meets its contract. The invariant: runs stand up to record i, and tag and word are its words.
-use Prim.Native.Nat.{ℕ, ◌+◌, ◌*◌}
+use Prim.Native.Nat.{ℕ, ◌+◌, ◌*◌, ◌-◌}
+use mathlib.Core.Bool.{false≢true}
 use mathlib.Core.Logic.{⊎_elim}
 use mathlib.Core.Path.{sym, ap, subst}
 use native.Mathlib.Omega.{arith}
+use borrow.Author.Tests.{eqb-true}
 use Rattle.base_laws.specs.Bools.{eq_or_ne}
 use lib.ListN.{get_or}
 use Rattle.report_quick.specs.Told.{RunFits, RunTold}
@@ -14,15 +16,13 @@ loop-i-init c = (search rules, search rules, search rules, λ j k l. absurd (ome
 
 pub returns-then-w-i-eq0 : goal.returns-then-w-i-eq0
 returns-then-w-i-eq0 c =
-    λ h. record { from = c.loop-i.invariant.0; few = omega (arith, c.loop-i-test.true); each = c.loop-i.invariant.3; end = c.if-w-i-eq0.true }
+    λ h. (c.loop-i.i, record { from = c.loop-i.invariant.0; few = c.loop-i.auto.i-end (omega arith); each = c.loop-i.invariant.3; end = c.if-w-i-eq0.true })
 
 pub returns-then-w-i : goal.returns-then-w-i
-returns-then-w-i c =
-    λ h. absurd (omega arith)
+returns-then-w-i c = λ h. absurd (false≢true h)
 
 pub returns-then-not-run_fits : goal.returns-then-not-run_fits
-returns-then-not-run_fits c =
-    λ h. absurd (omega arith)
+returns-then-not-run_fits c = λ h. absurd (false≢true h)
 
 pub loop-i-preserved : goal.loop-i-preserved
 loop-i-preserved c = (
@@ -39,10 +39,6 @@ loop-i-preserved c = (
       (λ e. c.loop-i.invariant.3 j k (omega arith)) (eq_or_ne j c.loop-i.i),
 )
 
-pub returns-then-w-eq0 : goal.returns-then-w-eq0
-returns-then-w-eq0 c =
-    λ h. record { from = omega (arith, c.loop-i.invariant.0, c.loop-i.auto.i-end (search rules)); few = search rules; each = λ j k l. c.loop-i.invariant.3 j k (omega (arith, c.loop-i-test.false)); end = c.if-w-eq0.true }
-
-pub returns-else-w-eq0 : goal.returns-else-w-eq0
-returns-else-w-eq0 c =
-    λ h. absurd (omega arith)
+pub returns : goal.returns
+returns c =
+    λ h. (127, record { from = omega arith; few = search rules; each = λ j k l. c.loop-i.invariant.3 j k (omega (arith, c.loop-i.auto.i-end)); end = eqb-true _ _ h })
