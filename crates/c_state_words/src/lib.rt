@@ -151,23 +151,13 @@ fn phase_of(n: u32) -> Phase
     Phase::Committed
 }
 
-// Stores the words from a place on.
-fn copy_from(words: &[u32], at: usize, out: &mut [u32])
-    requires { at + length out.old ≤ length words.now }
-    ensures { out.new ≡ Definitions.span words.now at (length out.old) }
-{
-    for k in 0..out.len() {
-        out[k] = words[at + k];
-    }
-}
-
 // The 16 words from a place on.
 fn sixteen(words: &[u32], at: usize) -> [u32; 16]
     requires { at + 16 ≤ length words.now }
     ensures { result ≡ Definitions.span words.now at 16 }
 {
     let mut out = [0u32; 16];
-    copy_from(words, at, &mut out);
+    out.copy_from_slice(&words[at..at + 16]);
     out
 }
 
