@@ -8,7 +8,9 @@
 -- an entry by its parts
 -- the entry of a call that is lent a desk
 -- ---- a call whose event hands back an outcome
-use Rattle.std.specs.Prelude.{◌≡◌, Bool, ◌&&◌, List, ℕ, ◌-◌, ◌≤◌, eqb, drop}
+use Rattle.std.specs.Prelude.{◌≡◌, Bool, ◌&&◌, List, ℕ, ◌-◌, ◌≤◌, eqb, drop, Option, is_some}
+use Rattle.core.specs.Option.{unwrap_or}
+use Rattle.base_laws.specs.Definitions.{some_if}
 use Rattle.std.proofs.Math.Path.{sym, ap}
 use Rattle.std.proofs.Common.{ap₂, ◌∙◌, ⊎_elim, arith}
 use Rattle.std.proofs.Math.Bool.{true, false}
@@ -33,7 +35,6 @@ use Rattle.state_planner.specs.Definitions.{fresh, desk_ok}
 use Rattle.c_state_words.specs.Definitions.{state_words, is_state}
 use Rattle.c_state_words.specs.StateWords.{decoded}
 use Rattle.c_state_words.specs.Laws.{stated}
-use Rattle.c_state_words.specs.declared.DecodedState.{DecodedState}
 use Rattle.c_state.specs.declared.CallFinds.{CallFinds}
 use Rattle.c_state.specs.Definitions.{lengths_ok, by_planner, state_lent, entry_refused, called, refusal_of, event_refused, event_answer, event_leaves}
 use Rattle.c_state.specs.Calls.{entry}
@@ -41,30 +42,35 @@ use Rattle.c_state.specs.Calls.{entry}
 not_state : (w : List ℕ) → (length w ≡ 160 → ⊥) → is_state w ≡ false
 not_state w h = no_true (is_state w) (λ s. h (stated w s).long)
 
-decoded_ok : (w : List ℕ) → (decoded w).ok ≡ is_state w
-unfolding decoded
-decoded_ok w = ⊎_elim (λ e. rw e) (λ e. rw e) (either (is_state w))
-
 pub settings_whole : (s : List ℕ) → settings_ok (words_in s) ≡ true → words_within 52 s ≡ words_in s
 settings_whole s h =
     ⊎_elim (λ e. e) (λ c. absurd (let z : true ≡ false = sym h ∙ c.1 in let n : ◌≡◌ {A = ℕ} 0 1 = cc in omega arith)) (settings_within s)
 
 -- bytes of another length are no state
-pub decoded_other : (b : List ℕ) → (length b ≡ 640 → ⊥) → decoded (words_in b) ≡ record { ok = false; state = fresh }
-unfolding decoded
-decoded_other b h = rw (not_state (words_in b) (λ e. h (bytes_of_words b 159 e)))
+pub no_state_lent : (b : List ℕ) → (length b ≡ 640 → ⊥) → is_state (words_in b) ≡ false
+no_state_lent b h = not_state (words_in b) (λ e. h (bytes_of_words b 159 e))
 
-pub entry_of : (allowed lengths : Bool) (settings state : List ℕ) (d : DecodedState) → d ≡ decoded (words_in state)
+-- whether bytes are a state, and the state or else the fresh one
+given_ok : (b : Bool) (x : State) → is_some (some_if b x) ≡ b
+unfolding some_if
+given_ok b x = ⊎_elim (λ e. rw e) (λ e. rw e) (either b)
+
+given_state : (b : List ℕ) → unwrap_or (some_if (is_state (words_in b)) (state_lent b)) fresh ≡ (decoded (words_in b)).state
+unfolding some_if state_lent decoded
+given_state b = ⊎_elim (λ e. rw e) (λ e. rw e) (either (is_state (words_in b)))
+
+pub entry_of : (allowed lengths : Bool) (settings state : List ℕ) (d : Option State) → d ≡ some_if (is_state (words_in state)) (state_lent state)
+    → (x : State) → x ≡ fresh
     → (table : List ℕ) (n : ℕ) → HoldsSettings table n settings
     → (right : Bool) → right ≡ settings_ok (take (n - 0) (drop 0 table))
-    → (r : Refusal) → r ≡ unless lengths 1 (unless right 2 (unless allowed 15 (unless d.ok 3 none)))
-    → ◌≡◌ {A = CallFinds} (record { refusal = r; state = d.state; settings = table; words = n }) (entry allowed lengths settings state)
+    → (r : Refusal) → r ≡ unless lengths 1 (unless right 2 (unless allowed 15 (unless (is_some d) 3 none)))
+    → ◌≡◌ {A = CallFinds} (record { refusal = r; state = unwrap_or d x; settings = table; words = n }) (entry allowed lengths settings state)
 unfolding entry entry_refused
-entry_of allowed lengths settings state d e table n h right q r f =
+entry_of allowed lengths settings state d e x i table n h right q r f =
     let checked : right ≡ settings_ok (words_in settings) = q ∙ ap settings_ok h.front ∙ settings_same settings in
     let held = h.whole in
     let counted = h.count in
-    rw (f, checked, e, decoded_ok (words_in state), held, counted)
+    rw (f, checked, e, i, given_ok (is_state (words_in state)) (state_lent state), given_state state, held, counted)
 
 module _ (allowed lengths : Bool) (settings state : List ℕ) where
   -- what an entry that does not refuse gives

@@ -5,14 +5,13 @@ ghost use Rattle.std.specs.Prelude.{◌&&◌, ◌≡◌, eqb, length};
 ghost use Rattle.base_bytes.specs.Definitions.{bytes_of};
 ghost use Rattle.base_lent.specs.Definitions.{words_in};
 ghost use Rattle.base_lent.specs.Answers.{Told};
-ghost use Rattle.c_state_words.specs.Definitions.{state_words};
-ghost use Rattle.c_state_words.specs.StateWords.{decoded};
+ghost use Rattle.base_laws.specs.Definitions.{some_if};
+ghost use Rattle.c_state_words.specs.Definitions.{state_words, is_state};
 ghost use Rattle.base_ids.specs.Definitions.{none, unless};
-ghost use Rattle.c_state.specs.Definitions.{by_planner, refusal_of};
+ghost use Rattle.c_state.specs.Definitions.{by_planner, refusal_of, state_lent};
 ghost use Rattle.c_state.specs.Calls.{entry};
 
 use base_ids::Refusal;
-use c_state_words::DecodedState;
 use state_planner::{Answer, Outcome, State};
 
 // What a call finds before its event: a refusal, the state, and the settings' words, which are the first of the table.
@@ -35,14 +34,11 @@ pub fn lengths_ok(desk: usize, buffer: usize) -> bool
 }
 
 // The state that lent bytes say.
-fn decode_state(bytes: &[u8]) -> DecodedState
-    ensures { result ≡ decoded (words_in bytes.now) }
+fn decode_state(bytes: &[u8]) -> Option<State>
+    ensures { result ≡ some_if (is_state (words_in bytes.now)) (state_lent bytes.now) }
 {
     if bytes.len() != 640 {
-        return DecodedState {
-            ok: false,
-            state: State::fresh(),
-        };
+        return None;
     }
     let mut words = [0u32; 160];
     base_bytes::decode(bytes, &mut words);
@@ -77,11 +73,10 @@ pub fn enter(allowed: bool, lengths: bool, settings: &[u8], state: &[u8]) -> Cal
     let table = own.table;
     let right = settings_check::check(&table[0..words]);
     let lent = decode_state(state);
-    let refusal = entry_refusal(lengths, right, allowed, lent.ok);
-    let x = lent.state;
+    let refusal = entry_refusal(lengths, right, allowed, lent.is_some());
     CallFinds {
         refusal,
-        state: x,
+        state: lent.unwrap_or(State::fresh()),
         settings: table,
         words,
     }

@@ -1,18 +1,10 @@
--- Laws that the code uses: the last turn of a loop that stores words, and what words that are a state give.
-use Rattle.std.specs.Prelude.{◌≡◌, refl, true, ◌&&◌, List, ℕ, ◌+◌, ◌≤◌, ◌<◌, eqb, leb, length, get_or}
-use Rattle.std.proofs.Common.{ap, ◌∙◌, eqb-true, leb-true}
+-- What words that are a state give.
+use Rattle.std.specs.Prelude.{◌≡◌, true, ◌&&◌, List, ℕ, ◌+◌, ◌≤◌, ◌<◌, eqb, leb, length, get_or}
+use Rattle.std.proofs.Common.{eqb-true, leb-true}
 use Rattle.base_laws.specs.Bools.{and_left, and_right}
 use Rattle.base_laws.specs.Below.{all_at}
-use Rattle.base_laws.specs.Tables.{filled, filled_all}
-use Rattle.c_state_words.specs.Definitions.{span, rest_zero, is_state}
+use Rattle.c_state_words.specs.Definitions.{rest_zero, is_state}
 
-pub span_filled : (w : List ℕ) (at : ℕ) (l : List ℕ) (k : ℕ) → k ≡ length l
-    → filled k (λ i. get_or w (at + i) 0) l ≡ span w at (length l)
-unfolding span
-span_filled w at l k e =
-    ap (λ (n : ℕ). filled n (λ i. get_or w (at + i) 0) l) e ∙ filled_all (length l) (λ i. get_or w (at + i) 0) l refl
-
--- what words that are a state give
 pub record Stated (w : List ℕ) : Type 0 where
   pub long : length w ≡ 160
   pub phase : get_or w 0 0 ≤ 3

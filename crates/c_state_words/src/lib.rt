@@ -4,10 +4,10 @@
 pub mod page;
 
 ghost use Rattle.std.specs.Prelude.{◌≡◌, ◌+◌, ◌≤◌, length, get_or, set};
+ghost use Rattle.base_laws.specs.Definitions.{some_if};
 ghost use Rattle.base_laws.specs.Loops.{turns};
 ghost use Rattle.report_views.specs.Definitions.{start, node_at};
 ghost use Rattle.c_state_words.specs.Definitions as Definitions;
-ghost use Rattle.c_state_words.specs.StateWords as StateWords;
 ghost use Rattle.c_state_words.specs.Stores as Stores;
 
 use base_ids::{Node, Position, View};
@@ -15,7 +15,7 @@ use report_rows::latest::Latest;
 use report_views::{Layout, Phase, Plan, Termination};
 use state_planner::State;
 
-// What words say: whether they are a state, and the state; the fresh state where they are none.
+// What words say, as definitions have it: whether they are a state, and the state; the fresh state where they are none.
 #[derive(Clone, Copy)]
 pub struct DecodedState {
     pub ok: bool,
@@ -151,23 +151,13 @@ fn phase_of(n: u32) -> Phase
     Phase::Committed
 }
 
-// Stores the words from a place on.
-fn copy_from(words: &[u32], at: usize, out: &mut [u32])
-    requires { at + length out.old ≤ length words.now }
-    ensures { out.new ≡ Definitions.span words.now at (length out.old) }
-{
-    for k in 0..out.len() {
-        out[k] = words[at + k];
-    }
-}
-
 // The 16 words from a place on.
 fn sixteen(words: &[u32], at: usize) -> [u32; 16]
     requires { at + 16 ≤ length words.now }
     ensures { result ≡ Definitions.span words.now at 16 }
 {
     let mut out = [0u32; 16];
-    copy_from(words, at, &mut out);
+    out.copy_from_slice(&words[at..at + 16]);
     out
 }
 
@@ -282,17 +272,11 @@ fn is_state(words: &[u32]) -> bool
 }
 
 // The state that words say, where they are a state.
-pub fn decode(words: &[u32]) -> DecodedState
-    ensures { result ≡ StateWords.decoded words.now }
+pub fn decode(words: &[u32]) -> Option<State>
+    ensures { result ≡ some_if (Definitions.is_state words.now) (Definitions.state_in words.now) }
 {
     if !is_state(words) {
-        return DecodedState {
-            ok: false,
-            state: State::fresh(),
-        };
+        return None;
     }
-    DecodedState {
-        ok: true,
-        state: state_in(words),
-    }
+    Some(state_in(words))
 }
