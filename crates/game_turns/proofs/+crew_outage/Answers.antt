@@ -34,7 +34,7 @@ crew-returns-then-not-some_absent t c =
 pub crew-loop-b-init : goal.crew-loop-b-init
 crew-loop-b-init t c =
     let a = c.args in
-    (omega arith, any_none (saves a.nodes (plan_at a.table.now) (a.left - 1) a.held a.taken))
+    any_none (saves a.nodes (plan_at a.table.now) (a.left - 1) a.held a.taken)
 
 pub crew-has_plan-requires-then-is_absent : goal.crew-has_plan-requires-then-is_absent
 crew-has_plan-requires-then-is_absent t c =
@@ -59,24 +59,22 @@ pub crew-loop-b-preserved : goal.crew-loop-b-preserved
 crew-loop-b-preserved t c =
     let a = c.args in
     let l = c.loop-b in
-    let e = c.is_absent in (
-      omega arith,
-      any_more l.b (saves a.nodes (plan_at a.table.now) (a.left - 1) a.held a.taken) l.invariant.1
-          (elim c.if-is_absent.branch [
-            | crew-then-is_absent+then-has_plan+else-outage w ↦ and_fails_right (absent a.held a.taken l.b) (and_fails_right (plan_at a.table.now (with a.held l.b))
-                (ap (outage_turn a.nodes (plan_at a.table.now) (a.left - 1)) (sym w.with-back.ensures) ∙ sym w.if-outage.ensures))
-            | crew-then-is_absent+else-has_plan w ↦ and_fails_right (absent a.held a.taken l.b) (and_fails_left (outage_turn a.nodes (plan_at a.table.now) (a.left - 1) (with a.held l.b))
-                (ap (plan_at a.table.now) (sym w.with-back.ensures) ∙ sym w.if-has_plan.ensures))
-            | crew-else-is_absent w ↦ and_fails_left (plan_at a.table.now (with a.held l.b) && outage_turn a.nodes (plan_at a.table.now) (a.left - 1) (with a.held l.b)) (sym w.if-is_absent.ensures)
-          ]),
-    )
+    let e = c.is_absent in
+    any_more l.b (saves a.nodes (plan_at a.table.now) (a.left - 1) a.held a.taken) l.invariant
+    (elim c.if-is_absent.branch [
+      | crew-then-is_absent+then-has_plan+else-outage w ↦ and_fails_right (absent a.held a.taken l.b) (and_fails_right (plan_at a.table.now (with a.held l.b))
+          (ap (outage_turn a.nodes (plan_at a.table.now) (a.left - 1)) (sym w.with-back.ensures) ∙ sym w.if-outage.ensures))
+      | crew-then-is_absent+else-has_plan w ↦ and_fails_right (absent a.held a.taken l.b) (and_fails_left (outage_turn a.nodes (plan_at a.table.now) (a.left - 1) (with a.held l.b))
+          (ap (plan_at a.table.now) (sym w.with-back.ensures) ∙ sym w.if-has_plan.ensures))
+      | crew-else-is_absent w ↦ and_fails_left (plan_at a.table.now (with a.held l.b) && outage_turn a.nodes (plan_at a.table.now) (a.left - 1) (with a.held l.b)) (sym w.if-is_absent.ensures)
+    ])
 
 pub crew-returns : goal.crew-returns
 crew-returns t c =
     let a = c.args in
     let l = c.loop-b in
     let e : l.b ≡ a.nodes = omega arith in
-    crew_lost a.nodes a.table.now a.left a.held a.taken c.if-left-eq0.false (sym c.if-not-some_absent.ensures) (rw e at l.invariant.1)
+    crew_lost a.nodes a.table.now a.left a.held a.taken c.if-left-eq0.false (sym c.if-not-some_absent.ensures) (rw e at l.invariant)
 
 pub outage-returns-then-left-eq0 : goal.outage-returns-then-left-eq0
 outage-returns-then-left-eq0 t c =
@@ -91,7 +89,7 @@ outage-returns-then-held-eq0 t c =
 pub outage-loop-o-init : goal.outage-loop-o-init
 outage-loop-o-init t c =
     let a = c.args in
-    (omega arith, all_none (survives a.nodes (plan_at a.table.now) (a.left - 1) a.held))
+    all_none (survives a.nodes (plan_at a.table.now) (a.left - 1) a.held)
 
 pub outage-returns-then-not-crew : goal.outage-returns-then-not-crew
 outage-returns-then-not-crew t c =
@@ -104,19 +102,17 @@ outage-returns-then-not-crew t c =
 pub outage-loop-o-preserved : goal.outage-loop-o-preserved
 outage-loop-o-preserved t c =
     let a = c.args in
-    let l = c.loop-o in (
-      omega arith,
-      all_more l.o (survives a.nodes (plan_at a.table.now) (a.left - 1) a.held) l.invariant.1
-          (elim c.if-has.branch [
-            | outage-then-has+else-not-crew w ↦ or_right (not (has a.held l.o))
-                (ap (λ (x : ℕ). crew_turn a.nodes (plan_at a.table.now) (a.left - 1) x l.o) (sym w.without.ensures) ∙ sym w.if-not-crew.ensures)
-            | outage-else-has w ↦ or_left (crew_turn a.nodes (plan_at a.table.now) (a.left - 1) (without a.held l.o) l.o) (not_of_false (sym w.if-has.ensures))
-          ]),
-    )
+    let l = c.loop-o in
+    all_more l.o (survives a.nodes (plan_at a.table.now) (a.left - 1) a.held) l.invariant
+    (elim c.if-has.branch [
+      | outage-then-has+else-not-crew w ↦ or_right (not (has a.held l.o))
+          (ap (λ (x : ℕ). crew_turn a.nodes (plan_at a.table.now) (a.left - 1) x l.o) (sym w.without.ensures) ∙ sym w.if-not-crew.ensures)
+      | outage-else-has w ↦ or_left (crew_turn a.nodes (plan_at a.table.now) (a.left - 1) (without a.held l.o) l.o) (not_of_false (sym w.if-has.ensures))
+    ])
 
 pub outage-returns : goal.outage-returns
 outage-returns t c =
     let a = c.args in
     let l = c.loop-o in
     let e : l.o ≡ a.nodes = omega arith in
-    outage_kept a.nodes a.table.now a.left a.held c.if-left-eq0.false c.if-held-eq0.false (rw e at l.invariant.1)
+    outage_kept a.nodes a.table.now a.left a.held c.if-left-eq0.false c.if-held-eq0.false (rw e at l.invariant)

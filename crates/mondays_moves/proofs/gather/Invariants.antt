@@ -1,5 +1,3 @@
-use Prim.Native.Nat.{◌-◌, ◌/◌}
-use lib.ListN.{length}
 use Rattle.program_text.specs.Definitions.{Puts}
 use Rattle.mondays_moves.specs.Walking.{Walks, moves_below}
 use Rattle.mondays_moves.proofs.gather.Given as goal

@@ -1,5 +1,4 @@
 -- `mondays_windows::greatest_of` meets its contract. The loop's invariant: the greatest of the first i moves. Assumes nothing.
-use Prim.Native.Nat.{◌-◌}
 use mathlib.Core.Path.{ap, ◌∙◌}
 use native.Mathlib.Omega.{arith}
 use lib.Seq.{take_all}

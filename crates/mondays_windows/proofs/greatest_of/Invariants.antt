@@ -1,6 +1,5 @@
-use Prim.Native.Nat.{◌≤◌, ◌-◌}
 use mathlib.Core.Path.{◌≡◌}
-use lib.ListN.{length, take}
+use lib.ListN.{take}
 use Rattle.mondays_windows.specs.Definitions.{greatest_of}
 use Rattle.mondays_windows.proofs.greatest_of.Given as goal
 

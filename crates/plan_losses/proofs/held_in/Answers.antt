@@ -21,4 +21,4 @@ loop-n-preserved c = let l = c.loop-n in (omega (arith, c.counted-total.ensures.
 pub returns : goal.returns
 unfolding held_in
 returns c = let l = c.loop-n in
-    count_done l.auto.n-end (omega (arith, c.nodes-count.ensures, c.loop-n-test.false)) _ _ l.invariant.1
+    count_done (omega (arith, c.nodes-count.ensures, l.auto.n-end)) (omega (arith, c.nodes-count.ensures, c.loop-n-test.false)) _ _ l.invariant.1

@@ -21,4 +21,4 @@ loop-s-preserved c = let l = c.loop-s in (omega (arith, c.counted-total.ensures.
 pub returns : goal.returns
 unfolding needy_shards
 returns c = let l = c.loop-s in
-    (count_done l.auto.s-end (omega (arith, c.shards-count.ensures, c.loop-s-test.false)) _ _ l.invariant.1, omega (arith, l.auto.s-end, l.invariant.0, c.requires.sizes.shards_to))
+    (count_done (omega (arith, c.shards-count.ensures, l.auto.s-end)) (omega (arith, c.shards-count.ensures, c.loop-s-test.false)) _ _ l.invariant.1, omega (arith, l.auto.s-end, l.invariant.0, c.requires.sizes.shards_to))

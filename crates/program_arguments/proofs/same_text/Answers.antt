@@ -5,7 +5,6 @@ use Rattle.base_laws.specs.Below.{all_none}
 use Rattle.base_laws.proofs.Below.{all_more}
 use Rattle.program_arguments.specs.Definitions.{alike_at}
 use Rattle.program_arguments.specs.Arguments.{lengths_differ, bytes_differ, bytes_alike}
-use borrow.Author.Rules.{rules}
 use Rattle.program_arguments.proofs.same_text.Goals as goal
 
 pub returns-then-a-b : goal.returns-then-a-b

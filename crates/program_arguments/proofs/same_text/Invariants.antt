@@ -1,7 +1,5 @@
-use Prim.Native.Nat.{◌≤◌, ◌-◌}
 use mathlib.Core.Bool.{true}
 use mathlib.Core.Path.{◌≡◌}
-use lib.ListN.{length}
 use Rattle.base_laws.specs.Definitions.{all_below}
 use Rattle.program_arguments.specs.Definitions.{alike_at}
 use Rattle.program_arguments.proofs.same_text.Given as goal

@@ -1,11 +1,10 @@
 -- `program_lines::put_members` meets its contract. The loop's invariant: the nodes below n are put. Assumes nothing.
-use Prim.Native.Nat.{ℕ, ◌-◌}
+use Prim.Native.Nat.{ℕ}
 use mathlib.Core.Path.{ap}
 use native.Mathlib.Omega.{arith}
 use Rattle.program_text.specs.Puts.{puts_as, puts_none, then-puts}
 use Rattle.program_lines.specs.Definitions.{members_below}
 use Rattle.program_lines.specs.Members.{members_step}
-use borrow.Author.Rules.{rules}
 use Rattle.program_lines.proofs.put_members.Goals as goal
 
 pub loop-n-init : goal.loop-n-init

@@ -1,4 +1,3 @@
-use Prim.Native.Nat.{◌≤◌, ◌-◌}
 use Rattle.program_text.specs.Definitions.{Puts}
 use Rattle.program_lines.specs.Definitions.{members_below}
 use Rattle.program_lines.proofs.put_members.Given as goal

@@ -1,11 +1,9 @@
 -- `program_lines::put_shards` meets its contract. The loop's invariant: the lines of the shards below s are put. Assumes nothing.
-use Prim.Native.Nat.{◌-◌}
 use mathlib.Core.Path.{ap}
 use native.Mathlib.Omega.{arith}
 use Rattle.program_text.specs.Puts.{puts_as, puts_none, then-puts}
 use Rattle.program_lines.specs.Definitions.{shard_lines}
 use Rattle.program_lines.specs.Lines.{shards_step}
-use borrow.Author.Rules.{rules}
 use Rattle.program_lines.proofs.put_shards.Goals as goal
 
 pub loop-s-init : goal.loop-s-init

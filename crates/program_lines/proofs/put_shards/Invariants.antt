@@ -1,4 +1,3 @@
-use Prim.Native.Nat.{◌≤◌, ◌-◌}
 use Rattle.program_text.specs.Definitions.{Puts}
 use Rattle.program_lines.specs.Definitions.{shard_lines}
 use Rattle.program_lines.proofs.put_shards.Given as goal

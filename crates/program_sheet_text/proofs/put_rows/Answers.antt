@@ -1,5 +1,5 @@
 -- `program_sheet_text::put_rows` meets its contract. The loop's invariant: the lines of the masks below `mask` are put. Assumes nothing.
-use Prim.Native.Nat.{ℕ, ◌-◌, zero-le}
+use Prim.Native.Nat.{ℕ, zero-le}
 use mathlib.Core.Path.{sym, ap}
 use native.Mathlib.Omega.{arith}
 use lib.ListN.{get_or}

@@ -1,4 +1,3 @@
-use Prim.Native.Nat.{◌≤◌, ◌-◌}
 use Rattle.program_text.specs.Definitions.{Puts}
 use Rattle.program_sheet_text.specs.Sheets.{lines_below}
 use Rattle.program_sheet_text.proofs.put_rows.Given as goal

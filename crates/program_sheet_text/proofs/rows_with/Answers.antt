@@ -1,5 +1,5 @@
 -- `program_sheet_text::rows_with` meets its contract. The loop's invariant: the rows below `mask` are counted. Assumes nothing.
-use Prim.Native.Nat.{ℕ, ◌-◌}
+use Prim.Native.Nat.{ℕ}
 use mathlib.Core.Path.{ap, ◌∙◌}
 use native.Mathlib.Omega.{arith}
 use Rattle.program_sheet_text.specs.Definitions.{rows_with}

@@ -1,4 +1,3 @@
-use Prim.Native.Nat.{◌≤◌, ◌-◌}
 use mathlib.Core.Path.{◌≡◌}
 use Rattle.program_sheet_text.specs.Definitions.{rows_with}
 use Rattle.program_sheet_text.proofs.rows_with.Given as goal

@@ -1,5 +1,4 @@
 -- `program_sums::sum_of_few` meets its contract. The loop's invariant: the sum of the first i bytes, each below 256. Assumes nothing.
-use Prim.Native.Nat.{◌-◌}
 use mathlib.Core.Path.{ap, ◌∙◌}
 use native.Mathlib.Omega.{arith}
 use lib.Seq.{take_all}

@@ -1,6 +1,6 @@
-use Prim.Native.Nat.{◌≤◌, ◌*◌, ◌-◌}
+use Prim.Native.Nat.{◌≤◌, ◌*◌}
 use mathlib.Core.Path.{◌≡◌}
-use lib.ListN.{length, take}
+use lib.ListN.{take}
 use Rattle.program_sums.specs.Definitions.{sum_of}
 use Rattle.program_sums.proofs.sum_of_few.Given as goal
 

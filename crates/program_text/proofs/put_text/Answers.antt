@@ -1,7 +1,5 @@
 -- `program_text::put_text` meets its contract. The loop's invariant: the first i bytes of the text are put. Assumes nothing.
-use Prim.Native.Nat.{◌-◌}
 use Rattle.program_text.specs.Puts.{puts_none, puts_more, puts_all}
-use borrow.Author.Rules.{rules}
 use Rattle.program_text.proofs.put_text.Goals as goal
 
 pub loop-i-init : goal.loop-i-init

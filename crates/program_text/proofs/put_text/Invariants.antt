@@ -1,5 +1,4 @@
-use Prim.Native.Nat.{◌≤◌, ◌-◌}
-use lib.ListN.{length, take}
+use lib.ListN.{take}
 use Rattle.program_text.specs.Definitions.{Puts}
 use Rattle.program_text.proofs.put_text.Given as goal
 

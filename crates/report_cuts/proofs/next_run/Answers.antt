@@ -11,7 +11,7 @@ loop-j-init c = (omega arith, refl)
 
 pub returns-then-is_run : goal.returns-then-is_run
 returns-then-is_run c = let l = c.loop-j in
-    record { from = l.invariant.0; within = l.auto.j-end; is-run = λ h. sym c.is_run.ensures ∙ c.if-is_run.true; rest = l.invariant.1 }
+    record { from = l.invariant.0; within = omega (arith, c.loop-j-test.true); is-run = λ h. sym c.is_run.ensures ∙ c.if-is_run.true; rest = l.invariant.1 }
 
 pub loop-j-preserved : goal.loop-j-preserved
 loop-j-preserved c = let a = c.args in
@@ -19,7 +19,7 @@ loop-j-preserved c = let a = c.args in
 
 pub returns : goal.returns
 returns c = let l = c.loop-j in
-    let e : l.j ≡ c.args.len = omega (arith, l.auto.j-end, c.loop-j-test.false) in
+    let e : l.j ≡ c.args.len = omega (arith, l.auto.j-end (omega arith), c.loop-j-test.false) in
     let a = c.args in
     record {
       from = omega (arith, l.invariant.0);

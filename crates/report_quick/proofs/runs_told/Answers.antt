@@ -14,7 +14,7 @@ loop-i-init c = (search rules, search rules, search rules, λ j k l. absurd (ome
 
 pub returns-then-w-i-eq0 : goal.returns-then-w-i-eq0
 returns-then-w-i-eq0 c =
-    λ h. record { from = c.loop-i.invariant.0; few = c.loop-i.auto.i-end; each = c.loop-i.invariant.3; end = c.if-w-i-eq0.true }
+    λ h. record { from = c.loop-i.invariant.0; few = omega (arith, c.loop-i-test.true); each = c.loop-i.invariant.3; end = c.if-w-i-eq0.true }
 
 pub returns-then-w-i : goal.returns-then-w-i
 returns-then-w-i c =
@@ -41,7 +41,7 @@ loop-i-preserved c = (
 
 pub returns-then-w-eq0 : goal.returns-then-w-eq0
 returns-then-w-eq0 c =
-    λ h. record { from = omega (arith, c.loop-i.invariant.0, c.loop-i.auto.i-end); few = search rules; each = λ j k l. c.loop-i.invariant.3 j k (omega (arith, c.loop-i.auto.i-end)); end = c.if-w-eq0.true }
+    λ h. record { from = omega (arith, c.loop-i.invariant.0, c.loop-i.auto.i-end (search rules)); few = search rules; each = λ j k l. c.loop-i.invariant.3 j k (omega (arith, c.loop-i-test.false)); end = c.if-w-eq0.true }
 
 pub returns-else-w-eq0 : goal.returns-else-w-eq0
 returns-else-w-eq0 c =

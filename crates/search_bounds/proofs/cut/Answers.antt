@@ -52,4 +52,4 @@ returns c = λ e.
     (sym a.ensures ∙ c.if-not-all_steady.false)
     (ap (λ (x : ℕ). s.args.k + x) h.ensures.0) g.ensures.0 c.floor.ensures c.unowned-free.ensures c.must.ensures
     (subst (λ (x : ℕ). RowsPassed (case_of s.args.sets.now s.args.needs.now s.args.caps.now s.args.costs.now s.args.idle) (weights_of s.args.wants.now s.args.rooms.now s.args.nodes.now s.args.pairs.now)
-    c.unowned-free.result s.args.t (s.args.k + h.result) g.result x s.args.rows.now l.rows) (le_antisymm l.auto.i-end c.loop-i-test.false) l.invariant.1)
+    c.unowned-free.result s.args.t (s.args.k + h.result) g.result x s.args.rows.now l.rows) (le_antisymm (l.auto.i-end (omega arith)) c.loop-i-test.false) l.invariant.1)

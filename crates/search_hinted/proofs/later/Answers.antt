@@ -15,4 +15,4 @@ loop-j-preserved c = later_more c.loop-j.invariant
 pub returns : goal.returns
 returns c = let l = c.loop-j in
     let a = c.args in
-    subst (λ (j : ℕ). Later a.rows.now a.i j l.m) (le_antisymm l.auto.j-end c.loop-j-test.false) l.invariant
+    subst (λ (j : ℕ). Later a.rows.now a.i j l.m) (le_antisymm (l.auto.j-end (omega arith)) c.loop-j-test.false) l.invariant

@@ -1,11 +1,10 @@
 -- `program_blocks::intake::padded` meets its contract. The loop's invariant: the first i words are stored. Assumes nothing.
-use Prim.Native.Nat.{ℕ, ◌-◌}
+use Prim.Native.Nat.{ℕ}
 use mathlib.Core.Path.{refl, sym}
 use native.Mathlib.Omega.{arith}
 use lib.ListN.{get_or, replicate, length-replicate}
 use Rattle.base_laws.specs.Tables.{filled_none}
 use Rattle.base_laws.proofs.Tables.{filled_turn, padded_stored}
-use borrow.Author.Rules.{rules}
 use Rattle.program_blocks.proofs.intake.padded.Goals as goal
 
 pub loop-i-init : goal.loop-i-init
