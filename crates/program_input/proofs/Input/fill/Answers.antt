@@ -2,7 +2,6 @@
 -- block. Assumes nothing.
 use mathlib.Core.Path.{refl, sym, ◌∙◌}
 use native.Mathlib.Omega.{arith}
-use lib.ListN.{length}
 use Rattle.program_input.specs.Inputs.{reads_fall}
 use Rattle.program_input.specs.Filling.{length_lent, filling_none, filling_turn, lent_length, fills_full, fills_short}
 use borrow.Author.Rules.{rules}
