@@ -1,12 +1,12 @@
 -- Laws of lists made element by element. A loop that stores f i at i turns l into `filled n f l`.
-use Rattle.std.specs.Prelude.{◌≡◌, cond, ltb, take, replicate}
+use Rattle.std.specs.Prelude.{◌≡◌, cond, ltb, take, drop, replicate}
 use Rattle.std.proofs.Math.Path.{sym, ap, ap₂}
 use Rattle.std.proofs.Common.{◌∙◌, ⊎_elim, le_antisymm, ext_get_or, take_at, lt-ltb, le-ltb}
 use mathlib.Core.List.{List, ◌++◌}
 use Prim.Native.Nat.{ℕ, ◌+◌, ◌-◌, ◌≤◌, ◌<◌}
 use native.Mathlib.Omega.{arith}
 use Rattle.std.proofs.Math.ListN.{length, get_or, set, length-append, get_or-eq_default, get_or-append}
-use Rattle.std.proofs.lemmas.List.{length-replicate, get_or-replicate}
+use Rattle.std.proofs.lemmas.List.{length-replicate, get_or-replicate, drop-replicate}
 use Rattle.base_laws.specs.Bools.{lt_or_le}
 use Rattle.base_laws.specs.Definitions.{tabulate, padded}
 use Rattle.base_laws.specs.Tables.{filled, get_or_append_past, get_or_tabulate_past, tabulate_ext, filled_none, filled_more, filled_all, length_filled, get_or_filled, get_or_filled_rest, get_or_padded, padded_ext, zeros}
@@ -61,6 +61,10 @@ padded_append n ws h =
         get_or_append_past ws (replicate (n - length ws) 0) k 0 j
         ∙ get_or-replicate (n - length ws) (k - length ws) 0 0 (omega arith)
         ∙ sym (get_or-eq_default ws 0 j)
+
+-- the words copied over the first of the zeros
+pub padded_copied : (n : ℕ) (ws front : List ℕ) → length ws ≤ n → front ≡ ws → front ++ drop (length ws) (replicate n 0) ≡ padded n ws
+padded_copied n ws front h e = ap₂ ◌++◌ e (drop-replicate (length ws) n 0) ∙ padded_append n ws h
 
 -- a loop that stores the words before zeros
 pub padded_stored : (n : ℕ) (ws : List ℕ) (i : ℕ) (l : List ℕ) → length ws ≤ n → i ≤ length ws → length ws ≤ i

@@ -35,13 +35,10 @@ fn is_going_on(tallied: Tallied) -> bool
     if !tallied.written {
         return false;
     }
-    let tally = tallied.tally;
-    let refusal = tally.refusal;
-    if refusal.code != 0 {
+    if tallied.tally.refusal.code != 0 {
         return false;
     }
-    let input = tallied.input;
-    input.is_open()
+    tallied.input.is_open()
 }
 
 // Takes the first len bytes of a block and prints what they add.
@@ -56,13 +53,10 @@ fn print_block<W: Write>(
     ensures { PrintedBlock tally (take len block.now) result.tally out.new result.len }
 {
     let taken = tally.take(block, len, out);
-    let n = taken.len;
-    let whole = &out[..];
-    let written = output.write_all(&whole[0..n]);
-    let after = taken.tally;
+    let written = output.write_all(&out[..taken.len]);
     ShownText {
-        tally: after,
-        len: n,
+        tally: taken.tally,
+        len: taken.len,
         written,
     }
 }
@@ -77,22 +71,18 @@ fn turn<W: Write>(
 ) -> Tallied
     ensures { TakesTurn tallied block.new out.new result }
 {
-    let input = tallied.input;
-    let filled = input.fill(stream, block);
-    let next = filled.input;
-    let tally = tallied.tally;
-    if next.is_cut() {
+    let filled = tallied.input.fill(stream, block);
+    if filled.input.is_cut() {
         return Tallied {
-            tally,
-            input: next,
+            tally: tallied.tally,
+            input: filled.input,
             written: true,
         };
     }
-    let shown = print_block(output, tally, block, filled.len, out);
-    let after = shown.tally;
+    let shown = print_block(output, tallied.tally, block, filled.len, out);
     Tallied {
-        tally: after,
-        input: next,
+        tally: shown.tally,
+        input: filled.input,
         written: shown.written,
     }
 }
@@ -144,13 +134,11 @@ fn main(rt: HostRuntime) {
     let mut block = [0u8; 32768];
     let mut out = [0u8; 98304];
     let tallied = print_all(&mut stream, &mut output, &mut block, &mut out);
-    let input = tallied.input;
-    if input.is_cut() {
+    if tallied.input.is_cut() {
         program_arguments::fail(&mut told, b"mondays: standard input", stream.error());
         return;
     }
-    let written = tallied.written;
-    if !written {
+    if !tallied.written {
         program_arguments::fail(&mut told, b"mondays: standard output", output.error());
     }
 }

@@ -36,30 +36,11 @@ struct LinesGathered {
     refusal: Refusal,
 }
 
-fn long(x: u32) -> u64
-    ensures { result ≡ x }
-{
-    x as u64
-}
-
-fn narrow(x: u32) -> u8
-    requires { x < 256 }
-    ensures { result ≡ x }
-{
-    x as u8
-}
-
-fn smaller(a: usize, b: usize) -> usize
-    ensures { result ≡ min a b }
-{
-    if a < b { a } else { b }
-}
-
 // The refusal of a line: 24 out of sequence, then 25 for more than 128 moves.
 fn line_refusal(least: u64, number: u32, moves: u32) -> Refusal
     ensures { result ≡ line_refusal least (record { number = number; moves = moves }) }
 {
-    if long(number) < least {
+    if u64::from(number) < least {
         return Refusal { code: 24 };
     }
     if moves > 128 {
@@ -87,8 +68,8 @@ fn gather(bytes: &[u8], least: u64, moves: &mut [u8], at: usize) -> LinesGathere
                 refusal,
             };
         }
-        place = program_text::put_byte(moves, place, narrow(many));
-        next = long(number) + 1;
+        place = program_text::put_byte(moves, place, many as u8);
+        next = u64::from(number) + 1;
     }
     LinesGathered {
         place,
@@ -125,7 +106,7 @@ fn put_refusal(out: &mut [u8], at: usize, refusal: Refusal) -> usize
 fn put_kept(out: &mut [u8], kept: &[u8], count: usize) -> usize
     ensures { Puts out.old 0 (take count kept.now) out.new result }
 {
-    let end = smaller(count, kept.len());
+    let end = count.min(kept.len());
     program_text::put_text(out, 0, &kept[0..end])
 }
 
@@ -135,9 +116,7 @@ fn table_of(moves: &[u8]) -> [u8; 63]
     ensures { result ≡ padded 63 moves.now }
 {
     let mut table = [0u8; 63];
-    for i in 0..moves.len() {
-        table[i] = moves[i];
-    }
+    table[..moves.len()].copy_from_slice(moves);
     table
 }
 
@@ -145,7 +124,7 @@ fn table_of(moves: &[u8]) -> [u8; 63]
 fn tally_of(moves: &[u8], least: u64, refusal: Refusal) -> Tally
     ensures { result ≡ tally_of moves.now least refusal }
 {
-    let count = smaller(moves.len(), 63);
+    let count = moves.len().min(63);
     let first = moves.len() - count;
     let kept = table_of(&moves[first..]);
     Tally {
@@ -198,7 +177,7 @@ impl Tally {
             };
         }
         let whole = &block[..];
-        let end = smaller(len, 32768);
+        let end = len.min(32768);
         take_bytes(self, &whole[0..end], out)
     }
 }

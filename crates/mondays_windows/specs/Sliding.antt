@@ -6,6 +6,9 @@ use Rattle.std.proofs.Common.{ap₂, ◌∙◌, ⊎_elim, add-one, arith, length
 use Rattle.std.proofs.Math.ListN.{length, take, drop, get_or}
 use Rattle.std.proofs.Math.Seq.{take-suc}
 use Rattle.std.proofs.lemmas.List.{take-append-le, drop-append-le}
+use Rattle.std.specs.Ordering.{nat_cmp, ord_max}
+use Rattle.std.specs.Cmp.{nat_cmp_is}
+use Rattle.std.proofs.lemmas.Grind.{common_steps}
 use Rattle.base_laws.specs.Bools.{lt_or_le}
 use Rattle.program_text.specs.Definitions.{decimal, line}
 use Rattle.program_text.specs.Text.{decimal_length, line_length}
@@ -25,9 +28,14 @@ greatest_one : (m : ℕ) → greatest_of (m ∷ []) ≡ m
 unfolding greatest_of
 greatest_one m = omega arith
 
+max_is : (a b : ℕ) → ord_max nat_cmp a b ≡ max a b
+max_is a b = grind (arith, common_steps, nat_cmp_is)
+
 -- a loop that takes the greatest: a turn
-pub greatest_turn : (l : List ℕ) (i g v : ℕ) → i < length l → g ≡ greatest_of (take i l) → v ≡ max g (get_or l i 0) → v ≡ greatest_of (take (i + 1) l)
+pub greatest_turn : (l : List ℕ) (i g v : ℕ) → i < length l → g ≡ greatest_of (take i l) → v ≡ ord_max nat_cmp g (get_or l i 0)
+    → v ≡ greatest_of (take (i + 1) l)
 greatest_turn l i g v h e d =
+    let m : ord_max nat_cmp g (get_or l i 0) ≡ max g (get_or l i 0) = max_is g (get_or l i 0) in
     let t : greatest_of (take (i + 1) l) ≡ greatest_of (take i l ++ (get_or l i 0 ∷ [])) =
     ap (λ (n : ℕ). greatest_of (take n l)) (add-one i) ∙ ap greatest_of (take-suc l i 0 h) in
     omega (arith, greatest_append (take i l) (get_or l i 0 ∷ []), greatest_one (get_or l i 0))
@@ -109,18 +117,32 @@ pub windows_all : (ms : List ℕ) (i : ℕ) → i + 64 ≡ length ms → all_win
 unfolding all_windows
 windows_all ms i h = let e : length ms - 63 ≡ i + 1 = omega arith in ap (window_lines ms) e
 
--- 65 moves from place i on: the window before and the next one
-pub part_before : (ms : List ℕ) (i : ℕ) → take 64 (take (i + 65 - i) (drop i ms)) ≡ take 64 (drop i ms)
-part_before ms i = take-take 64 (i + 65 - i) (drop i ms) (omega arith)
+-- the moves that are left, from a place on: how many are before them, and the moves left after one more
+module _ (ms rest : List ℕ) (e : rest ≡ drop (length ms - length rest) ms) where
+  pub left_within : length rest ≤ length ms
+  left_within = omega (arith, ap length e, length-drop (length ms - length rest) ms)
 
-pub part_next : (ms : List ℕ) (i : ℕ) → drop 1 (take (i + 65 - i) (drop i ms)) ≡ take 64 (drop (i + 1) ms)
-part_next ms i =
-    let e : i + 65 - i ≡ 65 = omega arith in
-    ap (λ (n : ℕ). drop 1 (take n (drop i ms))) e ∙ rest_of (drop i ms) ∙ ap (take 64) (drop-drop 1 i ms)
-  where
-    rest_of : (l : List ℕ) → drop 1 (take 65 l) ≡ take 64 (drop 1 l)
-    rest_of [] = refl
-    rest_of (m ∷ l) = refl
+  pub left_next : (next : List ℕ) → 0 < length rest → next ≡ drop 1 rest
+      → (length ms - length next ≡ length ms - length rest + 1) × (next ≡ drop (length ms - length next) ms)
+  left_next next h f =
+      let n : length ms - length next ≡ length ms - length rest + 1 = omega (arith, left_within, ap length f, length-drop 1 rest) in
+      (n, f ∙ ap (drop 1) e ∙ drop-drop 1 (length ms - length rest) ms ∙ ap (λ (k : ℕ). drop k ms) (sym n))
+
+  -- .. and the window at hand
+  pub left_window : (w : Window) → w ≡ window_of (take 64 rest) → window_line (window_of (take 64 (drop (length ms - length rest) ms))) ≡ window_line w
+  left_window w h = ap window_line (sym (h ∙ ap (λ (l : List ℕ). window_of (take 64 l)) e))
+
+-- the first 65 of moves: the window before and the next one
+module _ (rest part : List ℕ) (n : ℕ) (e : n ≡ 65) (p : part ≡ take n rest) where
+  pub part_before : take 64 rest ≡ take 64 part
+  part_before = sym (ap (take 64) p ∙ take-take 64 n rest (omega arith))
+
+  pub part_next : (next : List ℕ) → next ≡ drop 1 rest → drop 1 part ≡ take 64 next
+  part_next next f = ap (drop 1) (p ∙ ap (λ (k : ℕ). take k rest) e) ∙ rest_of rest ∙ ap (take 64) (sym f)
+    where
+      rest_of : (l : List ℕ) → drop 1 (take 65 l) ≡ take 64 (drop 1 l)
+      rest_of [] = refl
+      rest_of (m ∷ l) = refl
 
 -- ---- moves that came in two parts
 

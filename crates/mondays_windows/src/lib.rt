@@ -2,7 +2,7 @@
 // its first move and with one more.
 #![tactic(auto)]
 
-ghost use Rattle.std.specs.Prelude.{◌≡◌, ◌≤◌, max, length, take, drop};
+ghost use Rattle.std.specs.Prelude.{◌≡◌, ◌≤◌, length, take, drop};
 ghost use Rattle.program_text.specs.Definitions.{Puts};
 ghost use Rattle.mondays_windows.specs.Definitions as Definitions;
 
@@ -13,25 +13,13 @@ pub struct Window {
     pub greatest: u8,
 }
 
-fn word(x: u8) -> u32
-    ensures { result ≡ x }
-{
-    x as u32
-}
-
-fn larger(a: u8, b: u8) -> u8
-    ensures { result ≡ max a b }
-{
-    if a < b { b } else { a }
-}
-
 // The greatest of moves; 0 of none.
 fn greatest_of(moves: &[u8]) -> u8
     ensures { result ≡ Definitions.greatest_of moves.now }
 {
     let mut greatest = 0;
-    for i in 0..moves.len() {
-        greatest = larger(greatest, moves[i]);
+    for x in moves {
+        greatest = greatest.max(*x);
     }
     greatest
 }
@@ -55,7 +43,7 @@ fn slide(window: Window, moves: &[u8]) -> Window
 {
     let old = moves[0];
     let new = moves[64];
-    let sum = window.sum + word(new) - word(old);
+    let sum = window.sum + u32::from(new) - u32::from(old);
     if window.greatest <= new {
         return Window { sum, greatest: new };
     }
@@ -77,7 +65,7 @@ fn put_window(out: &mut [u8], at: usize, window: Window) -> usize
     ensures { Puts out.old at (Definitions.window_line window) out.new result }
 {
     let next = program_text::put_decimal(out, at, window.sum);
-    program_text::put_line(out, next, b" ", word(window.greatest))
+    program_text::put_line(out, next, b" ", u32::from(window.greatest))
 }
 
 // Puts the lines of all windows of the moves.
@@ -89,11 +77,9 @@ pub fn put_windows(out: &mut [u8], moves: &[u8]) -> usize
     }
     let mut window = fresh(&moves[0..64]);
     let mut next = 0;
-    let mut i = 0;
-    while i + 64 < moves.len() {
+    for part in moves.windows(65) {
         next = put_window(out, next, window);
-        window = slide(window, &moves[i..i + 65]);
-        i += 1;
+        window = slide(window, part);
     }
     put_window(out, next, window)
 }

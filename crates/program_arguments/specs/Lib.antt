@@ -1,4 +1,5 @@
 -- What an argument asks for, and the text that answers it.
 pub mod Definitions
 pub mod Arguments
+pub mod Answered
 pub mod Words

@@ -6,18 +6,12 @@ ghost use Rattle.std.specs.Prelude.{◌≡◌, ◌≤◌, length, None};
 ghost use Rattle.std.specs.Bool.{OnTrue};
 ghost use Rattle.std.specs.Io.KnownBytes.{Appends};
 ghost use Rattle.program_text.specs.Definitions.{Puts};
-ghost use Rattle.program_arguments.specs.Definitions.{same_text, told_line, is_known, answer_text};
+ghost use Rattle.program_arguments.specs.Definitions.{told_line, answer_text};
+ghost use Rattle.program_arguments.specs.Answered.{Answered};
 
 use std::env::{Env, FillError};
 use std::io::{Error, Write};
 use std::write;
-
-// The answer to a word: the length of its text, and whether the word is one that a program knows.
-#[derive(Clone, Copy)]
-struct WordAnswer {
-    len: usize,
-    known: bool,
-}
 
 // What is written to, and why the last write to it that failed did.
 #[derive(Drop)]
@@ -68,21 +62,6 @@ impl<W: Write> Output<W> {
     }
 }
 
-// Whether two texts are the same.
-fn same_text(a: &[u8], b: &[u8]) -> bool
-    ensures { result ≡ same_text a.now b.now }
-{
-    if a.len() != b.len() {
-        return false;
-    }
-    for i in 0..a.len() {
-        if a[i] != b[i] {
-            return false;
-        }
-    }
-    true
-}
-
 // A line in lent bytes: the program's name, a label and a text.
 fn put_told(out: &mut [u8], name: &[u8], label: &[u8], text: &[u8]) -> usize
     ensures { Puts out.old 0 (told_line name.now label.now text.now) out.new result }
@@ -93,21 +72,23 @@ fn put_told(out: &mut [u8], name: &[u8], label: &[u8], text: &[u8]) -> usize
     program_text::put_byte(out, third, b'\n')
 }
 
-// The answer to a word, in lent bytes.
-fn answer(out: &mut [u8], word: &[u8], name: &[u8], version: &[u8], help: &[u8]) -> WordAnswer
-    ensures puts { Puts out.old 0 (answer_text word.now name.now version.now help.now) out.new result.len }
-    ensures known_value { result.known ≡ is_known word.now }
+// The answer to a word, in lent bytes: the length of its text, of a word that no program knows as an error.
+fn answer(
+    out: &mut [u8],
+    word: &[u8],
+    name: &[u8],
+    version: &[u8],
+    help: &[u8],
+) -> Result<usize, usize>
+    ensures { Answered word.now (Puts out.old 0 (answer_text word.now name.now version.now help.now) out.new) result }
 {
-    if same_text(word, b"--version") {
-        let len = put_told(out, name, b" ", version);
-        return WordAnswer { len, known: true };
+    if word == b"--version".as_slice() {
+        return Ok(put_told(out, name, b" ", version));
     }
-    if same_text(word, b"--help") {
-        let len = program_text::put_text(out, 0, help);
-        return WordAnswer { len, known: true };
+    if word == b"--help".as_slice() {
+        return Ok(program_text::put_text(out, 0, help));
     }
-    let len = put_told(out, name, b": unknown argument, see --help: ", word);
-    WordAnswer { len, known: false }
+    Err(put_told(out, name, b": unknown argument, see --help: ", word))
 }
 
 // Where the number of an error of the system begins in its text: it is not told.
@@ -115,11 +96,9 @@ fn reason_len(text: &[u8]) -> usize
     ensures { result ≤ length text.now }
 {
     let mark = b" (os error ";
-    let mut i = 0;
-    while i < text.len() && !text[i..].starts_with(mark) {
-        i += 1;
-    }
-    i
+    text.windows(mark.len())
+        .position(|part| part == mark.as_slice())
+        .unwrap_or(text.len())
 }
 
 // The text of an error in lent bytes, as the system tells it.
@@ -182,13 +161,14 @@ pub fn tell<E: Env, O: Write, T: Write>(
     let mut word = [0u8; 256];
     let n = first_argument(env, &mut word);
     let mut out = [0u8; 2048];
-    let said = answer(&mut out, &word[0..n], name, b"0.6.0", help);
-    let len = said.len;
-    if said.known {
-        if !output.write_all(&out[0..len]) {
-            fail_output(told, name, output.error());
+    match answer(&mut out, &word[0..n], name, b"0.6.0", help) {
+        Ok(len) => {
+            if !output.write_all(&out[0..len]) {
+                fail_output(told, name, output.error());
+            }
         }
-        return;
+        Err(len) => {
+            told.write_all(&out[0..len]);
+        }
     }
-    told.write_all(&out[0..len]);
 }

@@ -1,5 +1,5 @@
 // The bytes of a block as they come in, and the words of a block that has come.
-ghost use Rattle.std.specs.Prelude.{◌≡◌, ◌≤◌, ◌-◌, min, length, take, drop};
+ghost use Rattle.std.specs.Prelude.{◌≡◌, ◌≤◌, ◌-◌, length, take, drop};
 ghost use Rattle.base_laws.specs.Definitions as Definitions;
 ghost use Rattle.program_blocks.specs.Held.{held};
 ghost use Rattle.program_blocks.specs.Intake.{Lacks, BytesCome};
@@ -12,16 +12,8 @@ pub fn padded(words: &[u32]) -> [u32; 52]
     ensures { result ≡ Definitions.padded 52 words.now }
 {
     let mut table = [0u32; 52];
-    for i in 0..words.len() {
-        table[i] = words[i];
-    }
+    table[..words.len()].copy_from_slice(words);
     table
-}
-
-fn least(a: usize, b: usize) -> usize
-    ensures { result ≡ min a b }
-{
-    if a < b { a } else { b }
 }
 
 // Stores, after the first `at` bytes of a block, what it lacks as far as is known, or all that was fed from place `from` on. Answers how many
@@ -31,7 +23,7 @@ pub fn gather(bytes: &mut [u8], at: usize, fed: &[u8], from: usize) -> usize
     ensures { BytesCome bytes.old at fed.now from bytes.new result }
 {
     let whole = crate::needed(&bytes[0..at]);
-    let n = least(whole - at, fed.len() - from);
+    let n = (whole - at).min(fed.len() - from);
     let end = at + n;
     let to = from + n;
     bytes[at..end].copy_from_slice(&fed[from..to]);

@@ -2,7 +2,7 @@
 // `fill` make one, so whoever holds an Input that is at its end, or that failed, has read.
 #![tactic(auto)]
 
-ghost use Rattle.std.specs.Prelude.{◌≡◌, ◌≤◌, ◌<◌, max, length, take, None};
+ghost use Rattle.std.specs.Prelude.{◌≡◌, ◌≤◌, ◌<◌, length, take, None};
 ghost use Rattle.program_input.specs.Definitions.{unread, after_bytes, after_failure, may_come, is_cut, read_to, most, most_counted, ReadsOn, Fills};
 
 use std::io::{Error, ErrorKind, Read, Stdin};
@@ -87,24 +87,12 @@ fn after_failure(interrupted: bool) -> Source
     Source::Failed
 }
 
-fn long(x: u32) -> u64
-    ensures { result ≡ x }
-{
-    x as u64
-}
-
-fn greater(a: u64, b: u64) -> u64
-    ensures { result ≡ max a b }
-{
-    if a < b { b } else { a }
-}
-
 // The input after one read more, which gave these bytes.
 fn read_to(x: Input, bytes: &[u8], source: Source) -> Input
     requires { (most_counted x ≤ most) × (length bytes.now ≤ 32768) }
     ensures { result ≡ read_to x bytes.now source }
 {
-    let sum = long(program_sums::sum_of(bytes));
+    let sum = u64::from(program_sums::sum_of(bytes));
     Input {
         total: x.total + bytes.len() as u64,
         sum: x.sum + sum,
@@ -132,26 +120,14 @@ impl Input {
     pub fn is_open(self) -> bool
         ensures { result ≡ may_come self.source }
     {
-        let source = self.source;
-        match source {
-            Source::Open => true,
-            Source::Over => false,
-            Source::Failed => false,
-            Source::Endless => false,
-        }
+        matches!(self.source, Source::Open)
     }
 
     // Whether reading ended before the input did.
     pub fn is_cut(self) -> bool
         ensures { result ≡ is_cut self.source }
     {
-        let source = self.source;
-        match source {
-            Source::Open => false,
-            Source::Over => false,
-            Source::Failed => true,
-            Source::Endless => true,
-        }
+        matches!(self.source, Source::Failed | Source::Endless)
     }
 
     // How many bytes the last read put at the start of its buffer.
@@ -167,7 +143,7 @@ impl Input {
         ensures got_in_bounds { result.got ≤ length buffer.new }
         ensures reads_on { ReadsOn self (take result.got buffer.new) result }
     {
-        if MOST < greater(self.total, greater(self.sum, self.reads)) {
+        if MOST < self.total.max(self.sum.max(self.reads)) {
             return Input {
                 source: Source::Endless,
                 got: 0,

@@ -153,12 +153,7 @@ impl Run {
     pub fn is_closed(self) -> bool
         ensures { result ≡ Definitions.closed_at self.stage }
     {
-        let stage = self.stage;
-        match stage {
-            Stage::Opening => false,
-            Stage::Open => false,
-            Stage::Closed(_) => true,
-        }
+        matches!(self.stage, Stage::Closed(_))
     }
 
     // Bytes of the input.

@@ -1,11 +1,11 @@
 -- The sheet goes through all masks, ascending, each one time; the code's lines are its lines; the five counts add up to the number of masks,
 -- and each is the number of the lines that have its number.
-use Rattle.std.specs.Prelude.{ℕ, zero, suc, ◌+◌, ◌^◌, ◌<◌, ◌≤◌, Bool, cond, ◌⊎◌, ◌≡◌, refl, eqb, get_or}
+use Rattle.std.specs.Prelude.{ℕ, zero, suc, ◌+◌, ◌^◌, ◌<◌, ◌≤◌, cond, ◌⊎◌, ◌≡◌, refl, eqb, get_or}
 use mathlib.Core.List.{List, [], ◌∷◌, ◌++◌}
 use Rattle.std.proofs.Common.{inl, inr, ⊎_elim, sym, ap, ap₂, ◌∙◌, add-one, arith, pow-suc, pow_mono}
 use Rattle.base_laws.specs.Definitions.{count_below, tabulate}
-use Rattle.base_laws.specs.Below.{count_hit, count_miss, count_le, count_zero}
-use Rattle.base_laws.specs.Bools.{either, eq_or_ne}
+use Rattle.base_laws.specs.Below.{count_step, count_le, count_zero}
+use Rattle.base_laws.specs.Bools.{eq_or_ne}
 use Rattle.base_laws.specs.Tables.{tabulate_add, tabulate_cong}
 use Rattle.program_sheet_text.specs.Definitions.{sheet, row_line, rows_with}
 use Rattle.program_sheet_text.specs.Sheets.{lines_below}
@@ -50,16 +50,10 @@ counts_add_up l (suc m) h =
     (counts_add_up l m (λ k i. h k (omega arith))) (one_of_five (get_or l m 0) (h m (omega arith)))
 
 -- a row more, for the loop that counts
-rows_step : (l : List ℕ) (m k : ℕ) → rows_with l (m + 1) k ≡ cond (eqb (get_or l m 0) k) (rows_with l m k + 1) (rows_with l m k)
+pub rows_turn : (l : List ℕ) (m k i found v : ℕ) → found ≡ rows_with l m k → i ≡ m → v ≡ cond (eqb (get_or l i 0) k) 1 0 → found + v ≡ rows_with l (m + 1) k
 unfolding rows_with
-rows_step l m k =
-    ⊎_elim (λ e. count_hit m (λ h. eqb (get_or l h 0) k) e ∙ sym (ap (λ (b : Bool). cond b (rows_with l m k + 1) (rows_with l m k)) e))
-    (λ e. count_miss m (λ h. eqb (get_or l h 0) k) e ∙ sym (ap (λ (b : Bool). cond b (rows_with l m k + 1) (rows_with l m k)) e)) (either (eqb (get_or l m 0) k))
-
-pub rows_turn : (l : List ℕ) (m k i found : ℕ) {r : ℕ} → found ≡ rows_with l m k → i ≡ m → r ≡ cond (eqb (get_or l i 0) k) (found + 1) found
-    → r ≡ rows_with l (m + 1) k
-rows_turn l m k i found e f g =
-    g ∙ ap (λ (j : ℕ). cond (eqb (get_or l j 0) k) (found + 1) found) f ∙ ap (λ (x : ℕ). cond (eqb (get_or l m 0) k) (x + 1) x) e ∙ sym (rows_step l m k)
+rows_turn l m k i found v e f g =
+    ap₂ ◌+◌ e (g ∙ ap (λ (j : ℕ). cond {A = ℕ} (eqb (get_or l j 0) k) 1 0) f) ∙ sym (count_step m (λ h. eqb (get_or l h 0) k))
 
 pub rows_none : (l : List ℕ) (k : ℕ) → 0 ≡ rows_with l 0 k
 unfolding rows_with

@@ -2,7 +2,7 @@
 // bytes is left out.
 #![tactic(auto)]
 
-ghost use Rattle.std.specs.Prelude.{◌+◌, ◌^◌, ◌≤◌, ◌<◌, cond, ◌≡◌, eqb, length};
+ghost use Rattle.std.specs.Prelude.{◌^◌, ◌≤◌, ◌≡◌, length};
 ghost use Rattle.program_text.specs.Definitions.{field, space, Puts};
 ghost use Rattle.program_sheet_text.specs.Definitions as Definitions;
 ghost use Rattle.program_sheet_text.specs.Sheets as Sheets;
@@ -13,7 +13,7 @@ fn put_row(out: &mut [u8], at: usize, mask: u32, number: u8) -> usize
     ensures { Puts out.old at (Definitions.mask_line mask number) out.new result }
 {
     let next = program_text::put_decimal(out, at, mask);
-    program_text::put_line(out, next, b" ", number as u32)
+    program_text::put_line(out, next, b" ", u32::from(number))
 }
 
 // The lines of the first count masks, from the start of the lent bytes on.
@@ -28,17 +28,6 @@ fn put_rows(out: &mut [u8], rows: &[u8; 1024], count: u32) -> usize
     next
 }
 
-// One row more is counted if it has the number.
-fn counted(found: u32, row: u8, number: u8) -> u32
-    requires { found < 1024 }
-    ensures { result ≡ cond (eqb row number) (found + 1) found }
-{
-    if row == number {
-        return found + 1;
-    }
-    found
-}
-
 // How many of the first count rows have a number.
 fn rows_with(rows: &[u8; 1024], count: u32, number: u8) -> u32
     requires { count ≤ 1024 }
@@ -46,7 +35,7 @@ fn rows_with(rows: &[u8; 1024], count: u32, number: u8) -> u32
 {
     let mut found: u32 = 0;
     for mask in 0..count {
-        found = counted(found, rows[base_ids::wide(mask)], number);
+        found += u32::from(rows[base_ids::wide(mask)] == number);
     }
     found
 }

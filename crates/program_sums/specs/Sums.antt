@@ -1,6 +1,6 @@
--- Laws of the sum of numbers: of two lists one after the other, a turn of a loop that adds up, and the sum of bytes is bounded.
-use Rattle.std.specs.Prelude.{ℕ, zero, suc, ◌+◌, ◌*◌, ◌-◌, ◌≤◌, ◌<◌, List, [], ◌∷◌, ◌++◌, ◌≡◌, length, take, drop, get_or}
-use Rattle.std.proofs.Common.{sym, ap, ◌∙◌, add-one, arith, take-suc, take-add}
+-- Laws of the sum of numbers: of two lists one after the other, a turn of a loop that adds up, and that the sum of bytes is bounded.
+use Rattle.std.specs.Prelude.{ℕ, zero, suc, ◌+◌, ◌*◌, ◌≤◌, ◌<◌, List, [], ◌∷◌, ◌++◌, ◌≡◌, length, take, get_or}
+use Rattle.std.proofs.Common.{refl, sym, ap, ◌∙◌, add-one, arith, take-suc}
 use Rattle.program_sums.specs.Definitions.{sum_of}
 
 -- ---- laws
@@ -9,6 +9,10 @@ pub sum_append : (a b : List ℕ) → sum_of (a ++ b) ≡ sum_of a + sum_of b
 unfolding sum_of
 sum_append [] b = omega arith
 sum_append (m ∷ a) b = omega (arith, sum_append a b)
+
+pub sum_none : sum_of [] ≡ 0
+unfolding sum_of
+sum_none = refl
 
 pub sum_one : (m : ℕ) → sum_of (m ∷ []) ≡ m
 unfolding sum_of
@@ -19,13 +23,6 @@ pub sum_turn : (l : List ℕ) (i s v : ℕ) → i < length l → s ≡ sum_of (t
 sum_turn l i s v h e d =
     let t : sum_of (take (i + 1) l) ≡ sum_of (take i l ++ (get_or l i 0 ∷ [])) = ap (λ (n : ℕ). sum_of (take n l)) (add-one i) ∙ ap sum_of (take-suc l i 0 h) in
     omega (arith, sum_append (take i l) (get_or l i 0 ∷ []), sum_one (get_or l i 0))
-
--- a turn that adds up a part
-pub sum_part : (l : List ℕ) (i to s v : ℕ) → i ≤ to → s ≡ sum_of (take i l) → v ≡ sum_of (take (to - i) (drop i l)) → s + v ≡ sum_of (take to l)
-sum_part l i to s v h e d =
-    let z : i + (to - i) ≡ to = omega arith in
-    let t : sum_of (take to l) ≡ sum_of (take i l ++ take (to - i) (drop i l)) = ap (λ (n : ℕ). sum_of (take n l)) (sym z) ∙ ap sum_of (take-add i (to - i) l) in
-    omega (arith, sum_append (take i l) (take (to - i) (drop i l)))
 
 -- each is below 256
 pub sum_bound : (l : List ℕ) (n : ℕ) → ((k : ℕ) → get_or l k 0 < 256) → sum_of (take n l) ≤ 255 * n

@@ -20,16 +20,14 @@ pub fn put_byte(out: &mut [u8], at: usize, byte: u8) -> usize
     at
 }
 
-// Bytes, one after another.
+// Bytes, as many of them as there is room for.
 pub fn put_text(out: &mut [u8], at: usize, text: &[u8]) -> usize
     requires { at ≤ length out.old }
     ensures { Puts out.old at text.now out.new result }
 {
-    let mut next = at;
-    for i in 0..text.len() {
-        next = put_byte(out, next, text[i]);
-    }
-    next
+    let end = at + text.len().min(out.len() - at);
+    out[at..end].copy_from_slice(&text[..end - at]);
+    end
 }
 
 // A digit as text.
@@ -37,7 +35,7 @@ fn digit(n: u32) -> u8
     requires { n < 10 }
     ensures { result ≡ 48 + n }
 {
-    48 + n as u8
+    b'0' + n as u8
 }
 
 // The digits are stored from the last one on, then put.
@@ -76,19 +74,11 @@ pub fn put_line(out: &mut [u8], at: usize, label: &[u8], n: u32) -> usize
 }
 
 // A refusal's number tells the index of a record.
+#[tactic(auto, unfolding(base_ids::specs::Definitions::located))]
 fn tells_record(number: u32) -> bool
     ensures { result ≡ located number }
 {
-    if number == 8 {
-        return true;
-    }
-    if number == 9 {
-        return true;
-    }
-    if number == 16 {
-        return true;
-    }
-    number == 17
+    matches!(number, 8 | 9 | 16 | 17)
 }
 
 // The line of a refusal: its number, then the index of the record that it tells, if it tells one.

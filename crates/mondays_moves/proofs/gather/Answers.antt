@@ -26,9 +26,9 @@ returns-then-refusal-ne0 c =
     gathers_bad _ _ s.loop-i.i s.loop-i.next _ _ _ _ s.loop-i.invariant.0 s.loop-i.invariant.1 c.line_refusal-refusal.result c.loop-i-test.true
     (line_told _ _ s.loop-i.i _ _ _ c.word_at-number.ensures c.word_at-many.ensures c.line_refusal-refusal.ensures) c.if-refusal-ne0.true
 
-pub narrow-requires : goal.narrow-requires
-narrow-requires c =
-    few_told c.loop-i.next (record { number = c.word_at-number.result; moves = c.word_at-many.result }) c.line_refusal-refusal.result c.line_refusal-refusal.ensures c.if-refusal-ne0.false
+pub overflow_cast-many : goal.overflow_cast-many
+overflow_cast-many c =
+    omega (arith, few_told c.loop-i.next (record { number = c.word_at-number.result; moves = c.word_at-many.result }) c.line_refusal-refusal.result c.line_refusal-refusal.ensures c.if-refusal-ne0.false)
 
 pub put_byte-place-requires : goal.put_byte-place-requires
 put_byte-place-requires c = c.loop-i.invariant.1.within
@@ -37,11 +37,11 @@ pub loop-i-preserved : goal.loop-i-preserved
 loop-i-preserved c =
     let s = c in
     let bytes = c.args.bytes.now in (
-      walks_next bytes _ s.loop-i.i s.loop-i.next c.long-next.result c.line_refusal-refusal.result c.loop-i-test.true s.loop-i.invariant.0
+      walks_next bytes _ s.loop-i.i s.loop-i.next _ c.line_refusal-refusal.result c.loop-i-test.true s.loop-i.invariant.0
           (line_told _ _ s.loop-i.i _ _ _ c.word_at-number.ensures c.word_at-many.ensures c.line_refusal-refusal.ensures)
-          c.if-refusal-ne0.false (c.long-next.ensures ∙ c.word_at-number.ensures),
+          c.if-refusal-ne0.false (c.from-next.ensures ∙ c.word_at-number.ensures),
       puts_as (moves_step bytes s.loop-i.i)
-          (then-puts c.requires s.loop-i.invariant.1 (puts_as (ap (λ (x : ℕ). x ∷ []) (sym (c.narrow.ensures ∙ c.word_at-many.ensures))) c.put_byte-place.ensures)),
+          (then-puts c.requires s.loop-i.invariant.1 (puts_as (ap (λ (x : ℕ). x ∷ []) (sym c.word_at-many.ensures)) c.put_byte-place.ensures)),
     )
 
 pub shape_of-moves : goal.shape_of-moves

@@ -5,4 +5,4 @@ use Rattle.mondays_moves.specs.Walking.{take_front}
 use Rattle.mondays_moves.proofs.put_kept.Goals as goal
 
 pub returns : goal.returns
-returns c = puts_as (sym (take_front c.args.count c.smaller-end.result c.args.kept.now _ refl c.smaller-end.ensures)) c.put_text.ensures
+returns c = puts_as (sym (take_front c.args.count c.min-end.result c.args.kept.now _ refl c.min-end.ensures)) c.put_text.ensures

@@ -1,17 +1,6 @@
--- `mondays_moves::table_of` meets its contract. The loop's invariant: the first i moves are stored. Assumes nothing.
-use Prim.Native.Nat.{ℕ}
-use mathlib.Core.Path.{refl, sym}
-use native.Mathlib.Omega.{arith}
-use lib.ListN.{get_or, replicate, length-replicate}
-use Rattle.base_laws.specs.Tables.{filled_none}
-use Rattle.base_laws.proofs.Tables.{filled_turn, padded_stored}
+-- `mondays_moves::table_of` meets its contract: the moves stand over the first of the zeros. Assumes nothing.
+use Rattle.base_laws.proofs.Tables.{padded_copied}
 use Rattle.mondays_moves.proofs.table_of.Goals as goal
 
-pub loop-i-init : goal.loop-i-init
-loop-i-init c = sym (filled_none (λ k. get_or c.args.moves.now k 0) (replicate 63 0))
-
-pub loop-i-preserved : goal.loop-i-preserved
-loop-i-preserved c = filled_turn _ (λ k. get_or c.args.moves.now k 0) (replicate 63 0) _ _ (omega (arith, length-replicate {A = ℕ} 63 0)) c.loop-i.invariant refl
-
 pub returns : goal.returns
-returns c = padded_stored 63 c.args.moves.now c.loop-i.i c.loop-i.table c.requires c.loop-i.auto.i-end c.loop-i-test.false c.loop-i.invariant
+returns c = padded_copied 63 c.args.moves.now _ c.requires c.copy_from_slice.ensures.after

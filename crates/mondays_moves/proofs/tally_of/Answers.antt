@@ -3,4 +3,4 @@ use Rattle.mondays_moves.specs.Walking.{tally_told}
 use Rattle.mondays_moves.proofs.tally_of.Goals as goal
 
 pub returns : goal.returns
-returns c = tally_told c.args.moves.now c.args.least c.args.refusal c.smaller-count.result c.table_of-kept.result c.smaller-count.ensures c.table_of-kept.ensures
+returns c = tally_told c.args.moves.now c.args.least c.args.refusal c.min-count.result c.table_of-kept.result c.min-count.ensures c.table_of-kept.ensures

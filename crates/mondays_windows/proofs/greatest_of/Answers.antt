@@ -7,14 +7,14 @@ use Rattle.mondays_windows.specs.Sliding.{greatest_turn}
 use borrow.Author.Rules.{rules}
 use Rattle.mondays_windows.proofs.greatest_of.Goals as goal
 
-pub loop-i-init : goal.loop-i-init
+pub loop-x-init : goal.loop-x-init
 unfolding greatest_of
-loop-i-init c = search rules
+loop-x-init c = search rules
 
-pub loop-i-preserved : goal.loop-i-preserved
-loop-i-preserved c =
+pub loop-x-preserved : goal.loop-x-preserved
+loop-x-preserved c =
     let l = c.args.moves.now in
-    let i = c.loop-i.i in greatest_turn l i c.loop-i.greatest c.larger-greatest.result (omega arith) c.loop-i.invariant c.larger-greatest.ensures
+    let i = c.loop-x.x-index in greatest_turn l i c.loop-x.greatest c.max-greatest.result (omega arith) c.loop-x.invariant c.max-greatest.ensures
 
 pub returns : goal.returns
-returns c = c.loop-i.invariant ∙ ap greatest_of (take_all c.loop-i.i c.args.moves.now c.loop-i-test.false)
+returns c = c.loop-x.invariant ∙ ap greatest_of (take_all c.loop-x.x-index c.args.moves.now c.loop-x-test.false)

@@ -10,4 +10,4 @@ pub returns : goal.returns
 unfolding window_line
 returns c =
     then-puts c.requires c.put_decimal-next.ensures
-    (puts_as (ap (line (32 ∷ [])) (sym c.word.ensures)) c.put_line.ensures)
+    (puts_as (ap (line (32 ∷ [])) (sym c.from.ensures)) c.put_line.ensures)

@@ -1,23 +1,24 @@
 -- `program_arguments::answer` meets its contract, word by word. Assumes nothing.
-use mathlib.Core.Path.{sym, ◌∙◌}
 use Rattle.program_text.specs.Puts.{puts_as}
-use Rattle.program_arguments.specs.Arguments.{asks_version, asks_help, asks_neither}
+use Rattle.program_arguments.specs.Arguments.{told_same, asks_version, asks_help, asks_neither}
 use Rattle.program_arguments.proofs.answer.Goals as goal
 
-pub returns-then-same_text : goal.returns-then-same_text
-returns-then-same_text c =
+pub returns-then-eq : goal.returns-then-eq
+returns-then-eq c =
     let x = c.args in
-    let a = asks_version x.word.now x.name.now x.version.now x.help.now (sym c.same_text.ensures ∙ c.if-same_text.true) in
-    record { puts = puts_as a.0 c.put_told-len.ensures; known_value = sym a.1 }
+    let version = told_same _ _ c.as_slice.ensures c.eq.ensures c.if-eq.true in
+    let a = asks_version x.word.now x.name.now x.version.now x.help.now version in (a.0, puts_as a.1 c.put_told.ensures)
 
-pub returns-then-same_text-2 : goal.returns-then-same_text-2
-returns-then-same_text-2 c =
+pub returns-then-eq-2 : goal.returns-then-eq-2
+returns-then-eq-2 c =
     let x = c.args in
-    let a = asks_help x.word.now x.name.now x.version.now x.help.now (sym c.same_text.ensures ∙ c.if-same_text.false) (sym c.same_text-2.ensures ∙ c.if-same_text-2.true) in
-    record { puts = puts_as a.0 c.put_text-len.ensures; known_value = sym a.1 }
+    let version = told_same _ _ c.as_slice.ensures c.eq.ensures c.if-eq.false in
+    let help = told_same _ _ c.as_slice-2.ensures c.eq-2.ensures c.if-eq-2.true in
+    let a = asks_help x.word.now x.name.now x.version.now x.help.now version help in (a.0, puts_as a.1 c.put_text.ensures)
 
 pub returns : goal.returns
 returns c =
     let x = c.args in
-    let a = asks_neither x.word.now x.name.now x.version.now x.help.now (sym c.same_text.ensures ∙ c.if-same_text.false) (sym c.same_text-2.ensures ∙ c.if-same_text-2.false) in
-    record { puts = puts_as a.0 c.put_told-len-2.ensures; known_value = sym a.1 }
+    let version = told_same _ _ c.as_slice.ensures c.eq.ensures c.if-eq.false in
+    let help = told_same _ _ c.as_slice-2.ensures c.eq-2.ensures c.if-eq-2.false in
+    let a = asks_neither x.word.now x.name.now x.version.now x.help.now version help in (a.0, puts_as a.1 c.put_told-2.ensures)

@@ -10,4 +10,4 @@ returns c =
     let x = s.args.x in
     let bytes = s.args.bytes.now in
     ap (λ (k : ℕ). record { total = x.total + length bytes; sum = x.sum + k; reads = x.reads + 1; got = length bytes; source = s.args.source })
-    (c.long-sum.ensures ∙ c.sum_of.ensures)
+    (c.from-sum.ensures ∙ c.sum_of.ensures)

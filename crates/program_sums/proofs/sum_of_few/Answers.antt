@@ -7,17 +7,17 @@ use Rattle.program_sums.specs.Sums.{sum_turn}
 use borrow.Author.Rules.{rules}
 use Rattle.program_sums.proofs.sum_of_few.Goals as goal
 
-pub loop-i-init : goal.loop-i-init
+pub loop-x-init : goal.loop-x-init
 unfolding sum_of
-loop-i-init c = search rules
+loop-x-init c = search rules
 
 pub overflow_add-sum : goal.overflow_add-sum
-overflow_add-sum c = omega (arith, c.type_inv.bytes c.loop-i.i)
+overflow_add-sum c = omega (arith, c.type_inv.bytes c.loop-x.x-index)
 
-pub loop-i-preserved : goal.loop-i-preserved
-loop-i-preserved c =
+pub loop-x-preserved : goal.loop-x-preserved
+loop-x-preserved c =
     let l = c.args.bytes.now in
-    let i = c.loop-i.i in (omega (arith, c.type_inv.bytes i), sum_turn l i c.loop-i.sum c.half-sum.result (omega arith) c.loop-i.invariant.1 c.half-sum.ensures)
+    let i = c.loop-x.x-index in (omega (arith, c.type_inv.bytes i), sum_turn l i c.loop-x.sum _ (omega arith) c.loop-x.invariant.1 (search rules))
 
 pub returns : goal.returns
-returns c = c.loop-i.invariant.1 ∙ ap sum_of (take_all c.loop-i.i c.args.bytes.now c.loop-i-test.false)
+returns c = c.loop-x.invariant.1 ∙ ap sum_of (take_all c.loop-x.x-index c.args.bytes.now c.loop-x-test.false)

@@ -4,5 +4,5 @@ use lib.ListN.{take}
 use Rattle.program_sums.specs.Definitions.{sum_of}
 use Rattle.program_sums.proofs.sum_of_few.Given as goal
 
-abbrev pub invariant-loop-i : goal.invariant-loop-i
-invariant-loop-i l = (l.sum ≤ 255 * l.i) × (l.sum ≡ sum_of (take l.i l.bytes))
+abbrev pub invariant-loop-x : goal.invariant-loop-x
+invariant-loop-x l = (l.sum ≤ 255 * l.x-index) × (l.sum ≡ sum_of (take l.x-index l.bytes))

@@ -7,4 +7,4 @@ pub returns-then-refusal-ne0 : goal.returns-then-refusal-ne0
 returns-then-refusal-ne0 c = taken_closed c.args.self _ _ c.if-refusal-ne0.true
 
 pub returns : goal.returns
-returns c = takes_as (take_front c.args.len c.smaller-end.result c.args.block.now 32768 (search rules) c.smaller-end.ensures) c.take_bytes.ensures
+returns c = takes_as (take_front c.args.len c.min-end.result c.args.block.now 32768 (search rules) c.min-end.ensures) c.take_bytes.ensures

@@ -11,7 +11,7 @@ pub overflow_sub-whole : goal.overflow_sub-whole
 overflow_sub-whole c = lacks_from _ _ _ c.requires.0 c.needed-whole.ensures
 
 pub slice_bounds-copy_from_slice-end : goal.slice_bounds-copy_from_slice-end
-slice_bounds-copy_from_slice-end c = gathers_fit _ _ _ c.requires.0 c.needed-whole.ensures c.args.fed.now _ _ c.requires.1 c.least-n.ensures
+slice_bounds-copy_from_slice-end c = gathers_fit _ _ _ c.requires.0 c.needed-whole.ensures c.args.fed.now _ _ c.requires.1 c.min-n.ensures
 
 pub returns : goal.returns
-returns c = gathers_copied _ _ _ c.requires.0 c.needed-whole.ensures _ _ _ c.requires.1 c.least-n.ensures _ _ refl c.copy_from_slice.ensures.after
+returns c = gathers_copied _ _ _ c.requires.0 c.needed-whole.ensures _ _ _ c.requires.1 c.min-n.ensures _ _ refl c.copy_from_slice.ensures.after
