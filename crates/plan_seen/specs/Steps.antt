@@ -154,7 +154,7 @@ module _ (σ : List ℕ) (v : Layout) (t : Termination) (d : List ℕ) (n : ℕ)
       → Stepped σ v t d n false hs ts hs ts
   unfolding reading_under or_refusal
   stepped_refused r read h =
-      let bad : accepted (message_refusal Report σ w) ≡ false = no_true _ (λ g. h _ (read ∙ rw g)) in
+      let bad : accepted (message_refusal Report σ w) ≡ false = no_true _ (λ g. h (contents_of w) (read ∙ rw g)) in
       record { sound = slot_refused σ v t d n (rw words_are at bad); renewed = λ q. clash q refl }
 
   module _ (c : Contents) (read : Ok c ≡ as_read (reading_under Report σ w)) where

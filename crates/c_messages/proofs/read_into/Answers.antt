@@ -10,11 +10,11 @@ returns-then-contents-ne2048 c =
     let t = read_not_2048 c.args.form c.args.settings.now c.args.message.now c.args.contents.now c.if-contents-ne2048.true in
     record { answer = t.0; bytes = t.1 }
 
-pub overflow_mul-result : goal.overflow_mul-result
-overflow_mul-result c = omega (arith, read_few _ _ _ c.args.contents.now c.if-contents-ne2048.false _ c.in-Ok.ensures)
+pub overflow_mul-c : goal.overflow_mul-c
+overflow_mul-c c = omega (arith, read_few _ _ _ c.args.contents.now c.if-contents-ne2048.false _ c.in-Ok.ensures)
 
-pub overflow_add-result : goal.overflow_add-result
-overflow_add-result c = omega (arith, read_few _ _ _ c.args.contents.now c.if-contents-ne2048.false _ c.in-Ok.ensures)
+pub overflow_add-c : goal.overflow_add-c
+overflow_add-c c = omega (arith, read_few _ _ _ c.args.contents.now c.if-contents-ne2048.false _ c.in-Ok.ensures)
 
 pub give-requires : goal.give-requires
 give-requires c =
