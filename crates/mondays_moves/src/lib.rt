@@ -1,7 +1,7 @@
 // The moves file in blocks. A tally is what is known of the lines taken so far; a block puts what its lines print and gives the next one.
 #![tactic(auto)]
 
-ghost use Rattle.std.specs.Prelude.{◌≡◌, ◌≤◌, ◌<◌, min, length, take};
+ghost use Rattle.std.specs.Prelude.{◌≡◌, ◌≤◌, length, take};
 ghost use Rattle.base_ids.specs.Definitions.{first_of};
 ghost use Rattle.base_laws.specs.Definitions.{padded};
 ghost use Rattle.program_text.specs.Definitions.{Puts};

@@ -28,12 +28,10 @@ pub struct Reply {
 fn is_going_on(intake: Intake) -> bool
     ensures { result ≡ goes_on intake.input.source intake.run.stage }
 {
-    let run = intake.run;
-    if run.is_closed() {
+    if intake.run.is_closed() {
         return false;
     }
-    let input = intake.input;
-    input.is_open()
+    intake.input.is_open()
 }
 
 // The run, fed with the first n bytes of a buffer.

@@ -1,6 +1,6 @@
 -- Laws of the sum of numbers: of two lists one after the other, a turn of a loop that adds up, and that the sum of bytes is bounded.
 use Rattle.std.specs.Prelude.{ℕ, zero, suc, ◌+◌, ◌*◌, ◌≤◌, ◌<◌, List, [], ◌∷◌, ◌++◌, ◌≡◌, length, take, get_or}
-use Rattle.std.proofs.Common.{refl, sym, ap, ◌∙◌, add-one, arith, take-suc}
+use Rattle.std.proofs.Common.{refl, ap, ◌∙◌, add-one, arith, take-suc}
 use Rattle.program_sums.specs.Definitions.{sum_of}
 
 -- ---- laws
