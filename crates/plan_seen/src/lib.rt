@@ -399,10 +399,9 @@ fn quick_step(
     ensures quick_step { QuickStep frame masks.now records.now positions.now b.now node.0 result holders.old tops.old holders.new tops.new }
 {
     let mut told = [0usize; 16];
-    let last = report_walk::told(frame, records, positions, b, node, &mut told);
-    if 127 < last {
+    let Some(last) = report_walk::told(frame, records, positions, b, node, &mut told) else {
         return false;
-    }
+    };
     let ends = member_ends(masks, frame.count, b, node, &told);
     let turn = Turn {
         node,

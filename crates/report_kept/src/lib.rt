@@ -224,8 +224,10 @@ fn of_kept(tables: Tables, message: &[u32]) -> bool
     let mut last = [0usize; 16];
     let masks = tables.masks;
     let positions = tables.positions;
-    let n = report_walk::told(tables.frame, &masks, &positions, &b, node, &mut last);
-    n < message.len() / 4
+    match report_walk::told(tables.frame, &masks, &positions, &b, node, &mut last) {
+        Some(n) => n < message.len() / 4,
+        None => false,
+    }
 }
 
 // A report of the kept view that is taken and changes nothing that is kept. Of other reports nothing is said.

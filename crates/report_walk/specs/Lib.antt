@@ -5,3 +5,4 @@ pub mod Sound
 pub mod Updates
 pub mod Ends
 pub mod Kept
+pub mod Told

@@ -3,7 +3,7 @@
 // with is made once of the kept view and its termination.
 #![tactic(auto)]
 
-ghost use Rattle.std.specs.Prelude.{◌≡◌, ℕ, ◌+◌, ◌-◌, ◌*◌, ◌/◌, ◌%◌, ◌<◌, ◌≤◌, true, length, slice_index};
+ghost use Rattle.std.specs.Prelude.{◌≡◌, ℕ, ◌+◌, ◌-◌, ◌*◌, ◌/◌, ◌%◌, ◌<◌, ◌≤◌, true, IfSome, length, slice_index};
 ghost use Rattle.settings_values.specs.Definitions.{Settings};
 ghost use Rattle.base_laws.specs.Definitions.{all_below};
 ghost use Rattle.report_views.specs.Definitions.{position_at, position_sound};
@@ -113,17 +113,15 @@ fn runs_on(b: &[u64; 256], first: usize, view: u32, last: &mut [usize; 16]) -> u
     ensures last_after { last.new ≡ runs_noted b.now last.old first (result - first) }
 {
     let mut since: u64 = 3298534883328;
-    let mut i = first;
-    while i < 127 {
+    for i in first..127 {
         let front = b[2 * i];
         if !goes_on(since, front, b[2 * i + 1], i, view) {
             return i;
         }
         last[(front % 16) as usize] = i;
         since = key_of(front);
-        i += 1;
     }
-    i
+    127
 }
 
 // The key before record i of the runs.
@@ -159,19 +157,25 @@ fn run_ends(since: u64, front: u64, back: u64, count: u32, view: u32) -> bool
     low(front) < 768 + count
 }
 
-// The runs, from record `first` on: the index of the last record. 128: it is not told.
-fn runs_told(b: &[u64; 256], first: usize, count: u32, view: u32, last: &mut [usize; 16]) -> usize
+// The runs, from record `first` on: the index of the last record, where it is told.
+fn runs_told(
+    b: &[u64; 256],
+    first: usize,
+    count: u32,
+    view: u32,
+    last: &mut [usize; 16],
+) -> Option<usize>
     requires { (1 ≤ first) × (first ≤ 127) × (count ≤ 16) }
-    ensures { result ≤ 127 → RunsSeen b.now first count view last.old last.new result }
+    ensures { IfSome result (λ i. (i ≤ 127) × RunsSeen b.now first count view last.old last.new i) }
 {
     let i = runs_on(b, first, view, last);
     let since = before_at(b, first, i);
     let front = b[2 * i];
     if !run_ends(since, front, b[2 * i + 1], count, view) {
-        return 128;
+        return None;
     }
     last[(front % 16) as usize] = i;
-    i
+    Some(i)
 }
 
 // The first n pairs of record `from` and those after it are these.
@@ -187,17 +191,23 @@ fn same_records(b: &[u64; 256], from: usize, given: &[u64; 32], n: usize) -> boo
     true
 }
 
-// Record `at` ends the chain, or the runs stand after it: the index of the last record. 128: it is not told.
-fn runs_after(b: &[u64; 256], at: usize, count: u32, view: u32, last: &mut [usize; 16]) -> usize
+// Record `at` ends the chain, or the runs stand after it: the index of the last record, where it is told.
+fn runs_after(
+    b: &[u64; 256],
+    at: usize,
+    count: u32,
+    view: u32,
+    last: &mut [usize; 16],
+) -> Option<usize>
     requires { (1 ≤ at) × (at ≤ 32) × (count ≤ 16) }
-    ensures { result ≤ 127 → RunsAfter b.now at count view last.old last.new result }
+    ensures { IfSome result (λ i. (i ≤ 127) × RunsAfter b.now at count view last.old last.new i) }
 {
     let next = high(b[2 * at + 1]);
     if next < 1 {
-        return at;
+        return Some(at);
     }
     if next != at as u32 + 1 {
-        return 128;
+        return None;
     }
     runs_told(b, at + 1, count, view, last)
 }
@@ -219,7 +229,7 @@ fn positions_told(b: &[u64; 256], made: bool, positions: &[u64; 32], count: usiz
     low(b[4 * count + 1]) == low(positions[2 * count - 1])
 }
 
-// What follows the records of members: the kept positions or none, and the runs or none.
+// What follows the records of members: the kept positions or none, and the runs or none. The index of the last record, where it is told.
 fn rest_told(
     b: &[u64; 256],
     made: bool,
@@ -227,9 +237,9 @@ fn rest_told(
     count: usize,
     view: u32,
     last: &mut [usize; 16],
-) -> usize
+) -> Option<usize>
     requires { (1 ≤ count) × (count ≤ 16) }
-    ensures { result ≤ 127 → RestSeen b.now made positions.now count view last.old last.new result }
+    ensures { IfSome result (λ i. (i ≤ 127) × RestSeen b.now made positions.now count view last.old last.new i) }
 {
     if positions_told(b, made, positions, count) {
         return runs_after(b, count + count, count as u32, view, last);
@@ -264,7 +274,7 @@ fn front_told(
     low(b[2 * count + 1]) == 0
 }
 
-// A report of the kept view by this node whose records stand one after another: the index of its last record. 128: it is not told.
+// A report of the kept view by this node whose records stand one after another: the index of its last record, where it is told.
 // last: where each shard's last run stands; it stays 0 for one without runs.
 pub fn told(
     frame: Frame,
@@ -273,16 +283,17 @@ pub fn told(
     b: &[u64; 256],
     node: Node,
     last: &mut [usize; 16],
-) -> usize
+) -> Option<usize>
     requires { (1 ≤ frame.count) × (frame.count ≤ 16) }
-    ensures { result ≤ 127 → (frame.ready ≡ true) × SlotTold frame.number.0 frame.members masks.now frame.made positions.now frame.count b.now node.0 last.old last.new result }
+    ensures { IfSome result (λ i. (i ≤ 127) × (frame.ready ≡ true)
+        × SlotTold frame.number.0 frame.members masks.now frame.made positions.now frame.count b.now node.0 last.old last.new i) }
 {
     if !frame.ready {
-        return 128;
+        return None;
     }
     let number = frame.number;
     if !front_told(number.0, frame.members, masks, frame.count, b, node.0) {
-        return 128;
+        return None;
     }
     rest_told(b, frame.made, positions, frame.count, number.0, last)
 }

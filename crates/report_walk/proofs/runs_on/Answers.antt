@@ -1,7 +1,7 @@
 -- `report_walk::runs_on` meets its contract. The invariant: the records below i are runs that go on, and noted.
 use Rattle.std.proofs.Common.{◌≡◌, ℕ, suc, ◌+◌, ◌-◌, ◌*◌, ◌%◌, List, get_or, set, sym, ap, ◌∙◌, subst, ⊎_elim, arith}
 use Rattle.base_laws.specs.Bools.{eq_or_ne}
-use Rattle.report_walk.specs.Seen.{before_at, runs_noted, Goes, before_first, before_next, noted_next, noted_none}
+use Rattle.report_walk.specs.Seen.{before_at, runs_noted, Goes, RunsOn, before_first, before_next, noted_next, noted_none}
 use Rattle.report_walk.proofs.runs_on.Goals as goal
 
 pub loop-i-init : goal.loop-i-init
@@ -36,4 +36,11 @@ loop-i-preserved c =
     )
 
 pub returns : goal.returns
-returns c = (record { runs_on = c.loop-i.invariant.0; last_after = c.loop-i.invariant.2 })
+returns c =
+    let a = c.args in
+    let l = c.loop-i in
+    let e : l.i ≡ 127 = omega (arith, l.auto.i-end, c.loop-i-test.false) in
+    record {
+      runs_on = subst (λ (x : ℕ). RunsOn a.b.now a.first a.view x) e l.invariant.0;
+      last_after = l.invariant.2 ∙ ap (λ (x : ℕ). runs_noted a.b.now a.last.now a.first (x - a.first)) e;
+    }

@@ -5,6 +5,3 @@ use Rattle.report_walk.proofs.runs_on.Given as goal
 abbrev pub invariant-loop-i : goal.invariant-loop-i
 invariant-loop-i l =
     RunsOn l.b l.first l.view l.i × (l.since ≡ before_at l.b l.first l.i) × (l.last ≡ runs_noted l.b l.initial.last l.first (l.i - l.first))
-
-abbrev pub decreases-loop-i : goal.decreases-loop-i
-decreases-loop-i l = 127 - l.i
