@@ -1,5 +1,5 @@
 -- Laws of a value that is there or not, for the ways out of a function and for the arms of its callers.
-use Rattle.std.specs.Prelude.{Bool, true, false, cond, ◌≡◌, refl, Option, Some, None}
+use Rattle.std.specs.Prelude.{Bool, true, false, ◌≡◌, refl, Some, None}
 use Rattle.base_laws.specs.Definitions.{some_if}
 
 module _ {A : Type 0} where

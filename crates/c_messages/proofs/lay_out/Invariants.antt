@@ -1,4 +1,3 @@
-use Prim.Native.Nat.{◌-◌}
 use mathlib.Core.Path.{◌≡◌}
 use Rattle.c_messages.specs.Layout.{laid_out}
 use Rattle.c_messages.proofs.lay_out.Given as goal

@@ -1,6 +1,5 @@
 -- The walk: at the loop's head the chain so far is linked and has not ended. The index rises and stays inside the message.
 -- A next index that is wrong is the first on the chain that is.
-use Prim.Native.Nat.{◌-◌}
 use mathlib.Core.Path.{refl, sym, ap}
 use mathlib.Core.Logic.{inl, inr}
 use native.Mathlib.Omega.{arith}

@@ -1,5 +1,5 @@
 -- `report_quick::runs_told` meets its contract. The invariant: runs stand up to record i, and tag and word are its words.
-use Prim.Native.Nat.{ℕ, ◌+◌, ◌*◌, ◌-◌}
+use Prim.Native.Nat.{ℕ, ◌+◌, ◌*◌}
 use mathlib.Core.Bool.{false≢true}
 use mathlib.Core.Logic.{⊎_elim}
 use mathlib.Core.Path.{sym, ap, subst}

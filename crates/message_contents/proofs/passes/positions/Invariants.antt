@@ -1,6 +1,5 @@
 use mathlib.Core.Path.{◌≡◌}
 use mathlib.Core.Bool.{true}
-use Prim.Native.Nat.{◌-◌}
 use Rattle.base_laws.specs.Definitions.{all_below}
 use Rattle.message_format.specs.Definitions.{row11_at}
 use Rattle.message_contents.proofs.passes.positions.Given as goal

@@ -1,6 +1,5 @@
 use mathlib.Core.Path.{◌≡◌}
 use mathlib.Core.Bool.{true}
-use Prim.Native.Nat.{◌-◌}
 use Rattle.base_laws.specs.Definitions.{all_below}
 use Rattle.message_format.specs.Definitions.{carried_by, sequence_at}
 use Rattle.message_contents.proofs.passes.sequence.Given as goal

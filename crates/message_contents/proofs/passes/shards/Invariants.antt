@@ -1,9 +1,7 @@
 use mathlib.Core.Path.{◌≡◌}
 use mathlib.Core.Bool.{true}
-use Prim.Native.Nat.{◌-◌}
 use Rattle.base_laws.specs.Definitions.{all_below}
 use Rattle.message_format.specs.Definitions.{shard_at}
-use Rattle.settings_values.specs.Definitions as Definitions
 use Rattle.message_contents.proofs.passes.shards.Given as goal
 
 abbrev pub invariant-loop-j : goal.invariant-loop-j

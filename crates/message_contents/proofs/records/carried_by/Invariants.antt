@@ -1,5 +1,4 @@
 use mathlib.Core.Path.{◌≡◌}
-use Prim.Native.Nat.{◌-◌}
 use Rattle.message_format.specs.Definitions.{carried_by}
 use Rattle.message_contents.proofs.records.carried_by.Given as goal
 

@@ -1,5 +1,4 @@
 use mathlib.Core.Path.{◌≡◌}
-use Prim.Native.Nat.{◌-◌}
 use lib.ListN.{replicate}
 use Rattle.base_laws.specs.Tables.{filled}
 use Rattle.message_format.specs.Definitions.{members_of}

@@ -1,5 +1,4 @@
 use mathlib.Core.Path.{◌≡◌}
-use Prim.Native.Nat.{◌-◌}
 use Rattle.message_format.specs.Definitions.{shards_of}
 use Rattle.message_contents.proofs.records.shards_of.Given as goal
 
