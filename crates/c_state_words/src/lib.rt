@@ -136,19 +136,16 @@ pub fn encode(x: State) -> [u32; 160]
     words
 }
 
+// The phase with a number.
 fn phase_of(n: u32) -> Phase
     ensures { result ≡ Definitions.phase_of n }
 {
-    if n == 0 {
-        return Phase::Gathering;
+    match n {
+        0 => Phase::Gathering,
+        1 => Phase::Ordered,
+        2 => Phase::Preparing,
+        _ => Phase::Committed,
     }
-    if n == 1 {
-        return Phase::Ordered;
-    }
-    if n == 2 {
-        return Phase::Preparing;
-    }
-    Phase::Committed
 }
 
 // The 16 words from a place on.
