@@ -42,7 +42,6 @@ GIVEN = {
     "a word, or words": "settings_values::shard_word message_rows::fields::tag message_rows::fields::word1 message_rows::fields::word2 report_desk::slot_words",
     "a kind of record": "message_rows::fields::kind",
     "the number of a wait, or 0, and those of all masks": "plan_masks::number plan_masks::rows::rows_of",
-    "the index of a record": "message_contents::passes::kinds message_contents::passes::shards message_contents::passes::sequence message_contents::passes::positions report_walk::told",
     "two words as one number": "report_walk::pairs",
     "positions as numbers or words": "report_desk::ends::ends_of report_walk::end_at report_walk::goal_at",
     "a mask, or one for each shard": "place_groups::sets_of message_contents::records::carried_more message_contents::records::masks_of state_rows::mark place_layout::masks_with plan_losses::losses",

@@ -1,5 +1,5 @@
 -- What contracts cite, each definition after those that it builds on. Laws stand in the files beside this one.
-use Rattle.std.specs.Prelude.{Bool, true, false, cond, ◌&&◌, ◌||◌, ℕ, zero, suc, ◌+◌, ◌-◌, ◌/◌, ◌%◌, ◌^◌, eqb, ltb, leb, List, [], ◌∷◌, ◌++◌, length, get_or, take, drop, Option, Some, None}
+use Rattle.std.specs.Prelude.{Bool, true, false, cond, ◌&&◌, ◌||◌, ℕ, zero, suc, ◌+◌, ◌-◌, ◌/◌, ◌%◌, ◌^◌, eqb, ltb, leb, List, [], ◌∷◌, ◌++◌, length, get_or, take, drop}
 use Rattle.std.specs.Int.Bits.{bit_and, bit_or}
 use Rattle.std.specs.Int.Count.{ones}
 
@@ -84,9 +84,3 @@ replaced a ys l = take a l ++ (ys ++ drop (a + length ys) l)
 -- position v k is position u j, or comes before it
 unfoldable pub pair_not_after : ℕ → ℕ → ℕ → ℕ → Bool
 pair_not_after v k u j = ltb v u || (eqb v u && leb k j)
-
--- ---- What a search or a test gives: a value, or nothing.
-
--- a where b holds, and else nothing
-unfoldable pub some_if : {A : Type 0} → Bool → A → Option A
-some_if b a = cond b (Some a) None

@@ -1,6 +1,9 @@
--- Laws of a value that is there or not, for the ways out of a function and for the arms of its callers.
-use Rattle.std.specs.Prelude.{Bool, true, false, ◌≡◌, refl, Some, None}
-use Rattle.base_laws.specs.Definitions.{some_if}
+-- A value that is there or not: what a search or a test gives, and its laws for the ways out of a function and for the arms of its callers.
+use Rattle.std.specs.Prelude.{Bool, true, false, cond, ◌≡◌, refl, Option, Some, None}
+
+-- a where b holds, and else nothing
+unfoldable pub some_if : {A : Type 0} → Bool → A → Option A
+some_if b a = cond b (Some a) None
 
 module _ {A : Type 0} where
   -- a way out with a value, and one without

@@ -4,7 +4,7 @@
 pub mod page;
 
 ghost use Rattle.std.specs.Prelude.{◌≡◌, ◌+◌, ◌≤◌, length, get_or, set};
-ghost use Rattle.base_laws.specs.Definitions.{some_if};
+ghost use Rattle.base_laws.specs.Options.{some_if};
 ghost use Rattle.base_laws.specs.Loops.{turns};
 ghost use Rattle.report_views.specs.Definitions.{start, node_at};
 ghost use Rattle.c_state_words.specs.Definitions as Definitions;

@@ -2,9 +2,9 @@
 use Rattle.std.specs.Prelude.{ℕ, ◌<◌, Bool, true, false, not, ◌≡◌, Option, Some, None}
 use Rattle.std.proofs.Common.{ap, sym, ◌∙◌, ⊎_elim}
 use Rattle.base_laws.specs.Bools.{clash, lt_or_le, not_of_true, not_of_false, of_not_true, of_not_false}
-use Rattle.base_laws.specs.Definitions.{all_below, some_if}
+use Rattle.base_laws.specs.Definitions.{all_below}
+use Rattle.base_laws.specs.Options.{some_if, some_is, none_is, some_holds, some_value, none_fails}
 use Rattle.base_laws.specs.Loops.{first_bad}
-use Rattle.base_laws.specs.Options.{some_is, none_is, some_holds, some_value, none_fails}
 use Rattle.base_laws.proofs.Below.{all_fails}
 use Rattle.base_laws.proofs.Loops.{bad_at, bad-holds}
 

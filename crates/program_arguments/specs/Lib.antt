@@ -1,5 +1,4 @@
 -- What an argument asks for, and the text that answers it.
 pub mod Definitions
 pub mod Arguments
-pub mod Answered
 pub mod Words

@@ -2,12 +2,11 @@
 // argument decides, and no other is looked at. And how a program writes: all that it has, or it tells why not.
 #![tactic(auto)]
 
-ghost use Rattle.std.specs.Prelude.{◌≡◌, ◌≤◌, length, None};
+ghost use Rattle.std.specs.Prelude.{◌≡◌, ◌≤◌, true, false, length, None, MatchResult};
 ghost use Rattle.std.specs.Bool.{OnTrue};
 ghost use Rattle.std.specs.Io.KnownBytes.{Appends};
 ghost use Rattle.program_text.specs.Definitions.{Puts};
-ghost use Rattle.program_arguments.specs.Definitions.{told_line, answer_text};
-ghost use Rattle.program_arguments.specs.Answered.{Answered};
+ghost use Rattle.program_arguments.specs.Definitions.{told_line, is_known, answer_text};
 
 use std::env::{Env, FillError};
 use std::io::{Error, Write};
@@ -80,7 +79,11 @@ fn answer(
     version: &[u8],
     help: &[u8],
 ) -> Result<usize, usize>
-    ensures { Answered word.now (Puts out.old 0 (answer_text word.now name.now version.now help.now) out.new) result }
+    ensures {
+        MatchResult result
+            (λ len. (is_known word.now ≡ true) × Puts out.old 0 (answer_text word.now name.now version.now help.now) out.new len)
+            (λ len. (is_known word.now ≡ false) × Puts out.old 0 (answer_text word.now name.now version.now help.now) out.new len)
+    }
 {
     if word == b"--version".as_slice() {
         return Ok(put_told(out, name, b" ", version));

@@ -2,9 +2,8 @@
 #![tactic(auto)]
 
 ghost use Rattle.std.specs.Prelude.{◌≡◌, length};
-ghost use Rattle.base_ids.specs.Definitions.{or_refusal};
 ghost use Rattle.base_lent.specs.Definitions.{words_in};
-ghost use Rattle.message_format.specs.Messages.{as_written};
+ghost use Rattle.base_ids.specs.Definitions.{or_refusal};
 ghost use Rattle.settings_values.specs.Definitions.{Settings};
 ghost use Rattle.state_order.specs.Definitions.{ordered, order_buffer};
 ghost use Rattle.state_order.specs.Orders.{call_refuses};
@@ -24,7 +23,7 @@ pub fn order_under(
     requires settings { Settings settings.now }
     requires desk_len { length desk.now ≡ 65536 }
     requires buffer_len { length buffer.old ≡ 512 }
-    ensures answer { result ≡ as_written (ordered settings.now x (words_in desk.now) node.0 buffer.old) }
+    ensures answer { result ≡ or_refusal (ordered settings.now x (words_in desk.now) node.0 buffer.old).refusal (ordered settings.now x (words_in desk.now) node.0 buffer.old).length }
     ensures words { buffer.new ≡ order_buffer settings.now x (words_in desk.now) node.0 buffer.old }
 {
     let phase = x.phase;
@@ -62,7 +61,7 @@ pub fn order(
     node: Node,
     buffer: &mut [u32],
 ) -> Result<usize, Refusal>
-    ensures answer { result ≡ as_written (ordered settings.now x (words_in desk.now) node.0 buffer.old) }
+    ensures answer { result ≡ or_refusal (ordered settings.now x (words_in desk.now) node.0 buffer.old).refusal (ordered settings.now x (words_in desk.now) node.0 buffer.old).length }
     ensures words { buffer.new ≡ order_buffer settings.now x (words_in desk.now) node.0 buffer.old }
 {
     call_refusal(settings, desk, buffer)?;

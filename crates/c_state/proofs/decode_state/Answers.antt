@@ -2,8 +2,7 @@
 use mathlib.Core.Path.{ap, ◌∙◌}
 use mathlib.Core.List.{List}
 use Prim.Native.Nat.{ℕ}
-use Rattle.base_laws.specs.Definitions.{some_if}
-use Rattle.base_laws.specs.Options.{none_is}
+use Rattle.base_laws.specs.Options.{some_if, none_is}
 use Rattle.base_lent.specs.Lent.{all_words}
 use Rattle.c_state_words.specs.Definitions.{is_state, state_in}
 use Rattle.c_state.specs.Definitions.{state_lent}
