@@ -114,6 +114,17 @@ def definitions():
 
 # Of one name with another, and why they may be.
 ALIKE = {("not_after", "crates/history_cases/specs/Caps.antt"): "a test of three shards' nodes, for the rows there and their laws alone"}
+VALUES = "the same in both: laws over Results and laws over values are stated with it"
+for crate, name in (
+    ("message_contents", "head_part"),
+    ("message_contents", "rest_of"),
+    ("message_contents", "masks_pass"),
+    ("message_contents", "positions_pass"),
+    ("c_messages", "ToldRead"),
+    ("c_messages", "ToldWrite"),
+    ("c_events", "ToldOrder"),
+):
+    ALIKE[name, "crates/%s/proofs/Values.antt" % crate] = VALUES
 
 
 def homonyms(_):

@@ -1,6 +1,6 @@
 -- Laws of words as bytes: lengths, bounds, one element of each list, and that the two ways are inverse.
 use Rattle.std.specs.Prelude.{◌≡◌, refl, List, ℕ, zero, suc, ◌+◌, ◌*◌, ◌/◌, ◌%◌, ◌^◌, ◌≤◌, ◌<◌, length, get_or, set}
-use Rattle.std.proofs.Common.{sym, ap, ◌∙◌, subst, add-zero, mod-lt, zero-lt-suc, arith}
+use Rattle.std.proofs.Common.{sym, ap, ◌∙◌, subst, add-zero, mod-lt, zero-lt-suc, arith, length-set}
 use Rattle.std.proofs.Math.Nat.{div-div-eq-div-mul}
 use Rattle.base_laws.specs.Tables.{filled, length_tabulate, get_d_tabulate, tabulate_ext, filled_more, filled_all}
 use Rattle.base_bytes.specs.Definitions.{word_at, words_of, byte_at, bytes_of}
@@ -103,6 +103,9 @@ stored_more words l i h =
 pub stored_turn : (words l m : List ℕ) (i : ℕ) → 4 * i + 4 ≤ length l → m ≡ filled (4 * i) (byte_at words) l
     → stored m (4 * i) (get_or words i 0) ≡ filled (4 * (i + 1)) (byte_at words) l
 stored_turn words l m i h e = ap (λ (r : List ℕ). stored r (4 * i) (get_or words i 0)) e ∙ stored_more words l i h
+
+pub length_stored : (bytes : List ℕ) (at w : ℕ) → length (stored bytes at w) ≡ length bytes
+length_stored bytes at w = simp length-set
 
 -- ---- the two ways are inverse
 

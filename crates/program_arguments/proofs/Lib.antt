@@ -1,2 +1,3 @@
 -- Lemmas of this crate.
 mod Written
+pub mod Values

@@ -1,0 +1,2 @@
+-- Contents by their parts.
+pub mod Parts

@@ -1,0 +1,2 @@
+-- Laws over the values that definitions have.
+pub mod Values
