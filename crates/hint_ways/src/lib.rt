@@ -246,25 +246,25 @@ fn place_distance(mem: &[u32; 1024]) -> u32
 
 // What a step of the search came to.
 #[derive(Clone, Copy)]
-enum Progress {
+enum Passage {
     On,
     Ended,
     NoWay,
 }
 
 // On to the next distance.
-fn advance(mem: &mut [u32; 1024]) -> Progress {
+fn advance(mem: &mut [u32; 1024]) -> Passage {
     let m = hint_memory::nodes(mem, hint_memory::LATER, 0)
         & !hint_memory::nodes(mem, hint_memory::DONE, 0);
     let d = least_distance(mem, m, place_distance(mem));
     if d == 65535 {
-        return Progress::NoWay;
+        return Passage::NoWay;
     }
     let at = at_distance(mem, m, d);
     hint_memory::set(mem, hint_memory::NOW, 0, d);
     hint_memory::set(mem, hint_memory::FRONT, 0, at);
     hint_memory::set(mem, hint_memory::LATER, 0, m & !at);
-    Progress::On
+    Passage::On
 }
 
 // One of some nodes, of the goal where there is one.
@@ -277,14 +277,14 @@ fn goal_first(mem: &[u32; 1024], nodes: u32) -> u32 {
 }
 
 // One vertex more.
-fn step(mem: &mut [u32; 1024]) -> Progress {
+fn step(mem: &mut [u32; 1024]) -> Passage {
     let d = hint_memory::number(mem, hint_memory::NOW, 0);
     if hint_memory::number(mem, hint_memory::DISTANCE, hint_memory::END) == d {
-        return Progress::Ended;
+        return Passage::Ended;
     }
     if place_distance(mem) == d {
         leave_nowhere(mem);
-        return Progress::On;
+        return Passage::On;
     }
     let m = hint_memory::nodes(mem, hint_memory::FRONT, 0)
         & !hint_memory::nodes(mem, hint_memory::DONE, 0);
@@ -294,7 +294,7 @@ fn step(mem: &mut [u32; 1024]) -> Progress {
     let x = goal_first(mem, m);
     hint_memory::set(mem, hint_memory::FRONT, 0, m & !hint_memory::bit(x));
     leave_node(mem, x);
-    Progress::On
+    Passage::On
 }
 
 // Raises vertex v, where it is nearer than `by`, by the difference.
@@ -318,12 +318,12 @@ fn raise(mem: &mut [u32; 1024], by: u32) {
 fn search(mem: &mut [u32; 1024]) -> u32 {
     for round in 0u32..128 {
         match step(mem) {
-            Progress::On => {}
-            Progress::Ended => {
+            Passage::On => {}
+            Passage::Ended => {
                 raise(mem, hint_memory::number(mem, hint_memory::NOW, 0));
                 return hint_memory::number(mem, hint_memory::FROM, hint_memory::END);
             }
-            Progress::NoWay => {
+            Passage::NoWay => {
                 raise(mem, hint_memory::number(mem, hint_memory::LIMIT, 0) + 1);
                 return hint_memory::NO_VERTEX;
             }
