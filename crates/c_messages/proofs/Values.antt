@@ -253,9 +253,9 @@ module _ (form : Form) (s m b : List ℕ) where
     unfolding read_refused reading_of
     refusal_is = unless_true (eqb (length b) 2048) 1 _ (eq-eqb (length b) 2048 whole) ∙ sym (ap (λ (x : Reading). x.refusal) e)
 
-    contents_are : r.refusal.code ≡ 0 → r.contents ≡ contents_of (words_in m)
+    read_is : r.refusal.code ≡ 0 → r.contents ≡ contents_of (words_in m)
     unfolding reading_of
-    contents_are h =
+    read_is h =
         let ok : accepted (read_refusal form (words_in s) (words_in m)) ≡ true =
         eq-eqb (read_refusal form (words_in s) (words_in m)).code 0 (sym (ap (λ (x : Reading). x.refusal.code) e) ∙ h) in
         ap (λ (x : Reading). x.contents) e ∙ rw ok
@@ -264,12 +264,12 @@ module _ (form : Form) (s m b : List ℕ) where
     read-refused h = told (told_refused r.refusal _ refusal_is _ _ b (ne_eqb r.refusal.code 0 h))
 
     pub read_taken : r.refusal.code ≡ 0 → ToldRead (with_length (contents_length r.contents)) (bytes_of (contents_words r.contents))
-    read_taken h = rw (contents_are h) (told (told_accepted r.refusal _ refusal_is _ _ b (eq-eqb r.refusal.code 0 h)))
+    read_taken h = rw (read_is h) (told (told_accepted r.refusal _ refusal_is _ _ b (eq-eqb r.refusal.code 0 h)))
 
     pub read_few : r.refusal.code ≡ 0 → r.contents.len ≤ 127
     unfolding contents_of following
     read_few h =
-        let len : r.contents.len ≡ following (words_in m) = ap (λ (c : Contents). c.len) (contents_are h) in
+        let len : r.contents.len ≡ following (words_in m) = ap (λ (c : Contents). c.len) (read_is h) in
         omega (arith, lowest_le 127 (λ j. ends (words_in m) (place (words_in m) j)))
 
 -- more than 384 words are more than 127 records
@@ -307,11 +307,11 @@ module _ (form : Form) (s k b : List ℕ) where
   abbrev ToldWrite : ℕ → List ℕ → Type 0
   ToldWrite answer left = (answer ≡ write_answer form s k b) × (left ≡ write_leaves form s k b)
 
-  told : {answer : ℕ} {left : List ℕ}
+  write_told : {answer : ℕ} {left : List ℕ}
       → Told (write_refused form s k b) (with_length (message_length (contents_lent k))) (bytes_of (message_of (contents_lent k) 512)) b answer left
       → ToldWrite answer left
   unfolding write_answer write_leaves
-  told t = (t.answers, t.leaves)
+  write_told t = (t.answers, t.leaves)
 
   -- the message of c was written into 512 words z
   module _ (whole : length b ≡ 2048) (z : List ℕ) (long : length z ≡ 512) (c : Contents) (q : c ≡ contents_within k) (w : Writing)
@@ -319,30 +319,30 @@ module _ (form : Form) (s k b : List ℕ) where
     e : w ≡ writing_of form (words_in s) (contents_within k) z
     e = f ∙ ap (λ (x : Contents). writing_of form (words_in s) x z) q
 
-    refusal_is : write_refused form s k b ≡ w.refusal
+    write_refusal_is : write_refused form s k b ≡ w.refusal
     unfolding write_refused writing_of write_refusal
-    refusal_is =
+    write_refusal_is =
         unless_true (eqb (length b) 2048) 1 _ (eq-eqb (length b) 2048 whole)
         ∙ ap (unless (settings_ok (words_in s)) 2) (sym (refusal_within form (words_in s) k))
         ∙ sym (unless_true (eqb (length z) 512) 1 _ (eq-eqb (length z) 512 long))
         ∙ sym (ap (λ (x : Writing). x.refusal) e)
 
     pub write-refused : (w.refusal.code ≡ 0 → ⊥) → ToldWrite w.refusal.code b
-    write-refused h = told (told_refused w.refusal _ refusal_is _ _ b (ne_eqb w.refusal.code 0 h))
+    write-refused h = write_told (told_refused w.refusal _ write_refusal_is _ _ b (ne_eqb w.refusal.code 0 h))
 
     module _ (h : w.refusal.code ≡ 0) where
       written : write_refusal form (words_in s) (contents_within k) z ≡ none
       unfolding writing_of
       written = sym (ap (λ (x : Writing). x.refusal) e) ∙ ap refused h
 
-      taken : contents_refusal form (words_in s) (contents_within k) ≡ none
+      write_is_taken : contents_refusal form (words_in s) (contents_within k) ≡ none
       unfolding write_refusal
-      taken = unless_rest (settings_ok (words_in s)) 1 _ (unless_rest (eqb (length z) 512) 0 _ written)
+      write_is_taken = unless_rest (settings_ok (words_in s)) 1 _ (unless_rest (eqb (length z) 512) 0 _ written)
 
       same_contents : contents_within k ≡ contents_lent k
       same_contents =
           ⊎_elim (λ p. p)
-          (λ l. absurd (let five : 5 ≡ 0 = ap (λ (r : Refusal). r.code) (sym (too_many form (words_in s) (contents_within k) l.0) ∙ taken) in omega arith))
+          (λ l. absurd (let five : 5 ≡ 0 = ap (λ (r : Refusal). r.code) (sym (too_many form (words_in s) (contents_within k) l.0) ∙ write_is_taken) in omega arith))
           (contents-within k)
 
       length_is : w.length ≡ message_length (contents_within k)
@@ -352,7 +352,7 @@ module _ (form : Form) (s k b : List ℕ) where
       pub write_few : w.length ≤ 512
       unfolding contents_refusal
       write_few =
-          let few = leb-true (contents_within k).len 127 (unless_ok (leb (contents_within k).len 127) 4 _ taken) in
+          let few = leb-true (contents_within k).len 127 (unless_ok (leb (contents_within k).len 127) 4 _ write_is_taken) in
           omega (arith, length_is)
 
       pub write_taken : (out : List ℕ) → out ≡ buffer_after form (words_in s) c z → ToldWrite (with_length w.length) (bytes_of out)
@@ -360,4 +360,4 @@ module _ (form : Form) (s k b : List ℕ) where
       write_taken out g =
           let made : out ≡ message_of (contents_lent k) 512 = g ∙ rw (q, written, same_contents) in
           let counted : w.length ≡ message_length (contents_lent k) = length_is ∙ ap message_length same_contents in
-          rw (made, counted) (told (told_accepted w.refusal _ refusal_is _ _ b (eq-eqb w.refusal.code 0 h)))
+          rw (made, counted) (write_told (told_accepted w.refusal _ write_refusal_is _ _ b (eq-eqb w.refusal.code 0 h)))
