@@ -3,7 +3,7 @@
 // Pairs that are open: masks of nodes by shard; after them the mask of the nodes that must be placed.
 #![tactic(auto)]
 
-ghost use Rattle.std.specs.Prelude.{◌≡◌, true, false, cond, [], ◌+◌, ◌*◌, ◌-◌, ◌/◌, ◌^◌, ◌≤◌, ◌<◌, min, length, get_or, leb, ltb};
+ghost use Rattle.std.specs.Prelude.{◌≡◌, true, cond, [], IfSome, ◌+◌, ◌*◌, ◌-◌, ◌/◌, ◌^◌, ◌≤◌, ◌<◌, min, length, get_or, leb, ltb};
 ghost use Rattle.base_laws.specs.Definitions.{all_below, has, with, without};
 ghost use Rattle.base_sum_laws.specs.Definitions.{mask_below, sum_below};
 ghost use Rattle.search_laws.specs.Tables.{case_of, owners_of};
@@ -260,14 +260,7 @@ fn lowest(m: u32) -> usize
     u32::trailing_zeros(m) as usize
 }
 
-// A row of open pairs, and whether its inequalities hold.
-#[derive(Clone, Copy)]
-struct OpenRow {
-    good: bool,
-    row: u32,
-}
-
-// The row of shard i without the nodes of `from` that ask more than `most`. Not good: one of them asks less than `least`.
+// The row of shard i without the nodes of `from` that ask more than `most`; none where one of them asks less than `least`.
 fn sift(
     sets: &[u8; 32],
     costs: &[u8; 512],
@@ -279,10 +272,10 @@ fn sift(
     from: u32,
     least: usize,
     most: usize,
-) -> OpenRow
+) -> Option<u32>
     requires i_bound { i < 16 }
     requires small { Small sets.now }
-    ensures { result.good ≡ true → Sifted (λ n. get_or costs.now (i * 32 + n) 0 + min want (get_or pairs.now (i * 16 + get_or sets.now n 0) 0) + get_or nodes.now n 0) row from least most result.row }
+    ensures { IfSome result (λ kept. Sifted (λ n. get_or costs.now (i * 32 + n) 0 + min want (get_or pairs.now (i * 16 + get_or sets.now n 0) 0) + get_or nodes.now n 0) row from least most kept) }
 {
     let mut m = row & from;
     let mut kept = row;
@@ -290,18 +283,12 @@ fn sift(
         let n = lowest(m);
         let x = asks(sets, want, nodes, pairs, costs[i * 32 + n], i, n);
         if x < least {
-            return OpenRow {
-                good: false,
-                row: 0,
-            };
+            return None;
         }
         kept = dropped(kept, n, x > most);
         m = base_masks::without(m, n);
     }
-    OpenRow {
-        good: true,
-        row: kept,
-    }
+    Some(kept)
 }
 
 // a - b, or 0 where b is the larger.
@@ -334,7 +321,7 @@ fn cut_row(
     let want = wants[i];
     let u = based(want);
     let h = large(rooms[i]);
-    let v = sift(
+    match sift(
         sets,
         costs,
         want,
@@ -345,30 +332,17 @@ fn cut_row(
         onward(free, t, i),
         floor(u, h),
         floor(low + u, high + h),
-    );
-    rows[i] = v.row;
-    v.good
-}
-
-// Whether the weights are good, and the floor that they prove.
-#[derive(Clone, Copy)]
-pub struct Bound {
-    pub good: bool,
-    pub floor: usize,
-}
-
-// Weights that prove nothing.
-fn bad() -> Bound
-    ensures { result.good ≡ false }
-{
-    Bound {
-        good: false,
-        floor: 0,
+    ) {
+        Some(kept) => {
+            rows[i] = kept;
+            true
+        }
+        None => false,
     }
 }
 
 // Cuts: excludes pairs from t on that no valid placement takes which agrees with the owners before t, takes open pairs only and weighs at
-// most k, and marks nodes without an owner that each of those places.
+// most k, and marks nodes without an owner that each of those places. Gives the floor that the weights prove; none where an inequality fails.
 pub fn cut(
     sets: &[u8; 32],
     needs: &[u8; 16],
@@ -383,15 +357,15 @@ pub fn cut(
     idle: u8,
     t: usize,
     k: usize,
-) -> Bound
+) -> Option<usize>
     requires t_bound { (t ≤ 512) × (k ≤ 8192) }
     requires small { Small sets.now }
     requires rows_len { length rows.old ≡ 17 }
     requires begun { Begun (owners_of owner.now) t }
-    ensures { result.good ≡ true → SoundBound (case_of sets.now needs.now caps.now costs.now idle) k result.floor (owners_of owner.now) t rows.old rows.new }
+    ensures { IfSome result (λ least. SoundBound (case_of sets.now needs.now caps.now costs.now idle) k least (owners_of owner.now) t rows.old rows.new) }
 {
     if !all_steady(sets, costs, owner, wants, rooms, nodes, pairs, idle) {
-        return bad();
+        return None;
     }
     let low = k + takes(caps, wants, rooms, nodes, pairs);
     let high = grants(needs, wants);
@@ -400,12 +374,9 @@ pub fn cut(
         if !cut_row(
             sets, costs, rows, wants, rooms, nodes, pairs, free, t, i, low, high,
         ) {
-            return bad();
+            return None;
         }
     }
     rows[16] = rows[16] | (must(nodes, idle, low, high) & free);
-    Bound {
-        good: true,
-        floor: floor(high, low - k),
-    }
+    Some(floor(high, low - k))
 }

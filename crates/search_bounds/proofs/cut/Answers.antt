@@ -4,7 +4,6 @@ use mathlib.Core.Path.{refl, sym, ◌∙◌, ap, subst}
 use native.Mathlib.Nat.{le_antisymm}
 use native.Mathlib.Omega.{arith}
 use borrow.Author.Tests.{not-false}
-use Rattle.base_laws.specs.Bools.{clash}
 use Rattle.search_laws.specs.Tables.{case_of, owners_of}
 use Rattle.search_laws.specs.Duality.{gain, toll}
 use Rattle.search_bounds.specs.Post.{weights_of}
@@ -14,9 +13,6 @@ use Rattle.search_bounds.proofs.cut.Goals as goal
 pub all_steady-requires : goal.all_steady-requires
 all_steady-requires c = c.requires.small
 
-pub returns-then-not-all_steady : goal.returns-then-not-all_steady
-returns-then-not-all_steady c = λ e. clash e c.bad.ensures
-
 pub loop-i-init : goal.loop-i-init
 loop-i-init c = let s = c in (omega arith, rows_none (s.args.t / 32) refl s.requires.rows_len)
 
@@ -24,9 +20,6 @@ pub cut_row-requires : goal.cut_row-requires
 cut_row-requires c = let s = c in
     let l = c.loop-i in
     record { t_bound = (l.invariant.0, c.loop-i-test.true); low_bound = (omega (arith, c.takes.ensures.1, s.requires.t_bound.1), omega (arith, c.grants-high.ensures.1)); small = s.requires.small }
-
-pub returns-then-not-cut_row : goal.returns-then-not-cut_row
-returns-then-not-cut_row c = λ e. clash e c.bad-then-not-cut_row.ensures
 
 pub loop-i-preserved : goal.loop-i-preserved
 loop-i-preserved c = let l = c.loop-i in
@@ -38,7 +31,7 @@ must-requires c = let s = c in
 
 pub returns : goal.returns
 unfolding gain toll
-returns c = λ e.
+returns c =
     let s = c in
     let l = c.loop-i in
     let g = c.grants-high in
@@ -52,4 +45,4 @@ returns c = λ e.
     (sym a.ensures ∙ c.if-not-all_steady.false)
     (ap (λ (x : ℕ). s.args.k + x) h.ensures.0) g.ensures.0 c.floor.ensures c.unowned-free.ensures c.must.ensures
     (subst (λ (x : ℕ). RowsPassed (case_of s.args.sets.now s.args.needs.now s.args.caps.now s.args.costs.now s.args.idle) (weights_of s.args.wants.now s.args.rooms.now s.args.nodes.now s.args.pairs.now)
-    c.unowned-free.result s.args.t (s.args.k + h.result) g.result x s.args.rows.now l.rows) (le_antisymm l.auto.i-end c.loop-i-test.false) l.invariant.1)
+    c.unowned-free.result s.args.t (s.args.k + h.result) g.result x s.args.rows.now l.rows) (le_antisymm (l.auto.i-end (omega (arith, s.requires.t_bound.0))) c.loop-i-test.false) l.invariant.1)

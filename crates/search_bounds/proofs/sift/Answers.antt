@@ -1,7 +1,6 @@
 -- The loop's invariant: of the nodes that are not to be looked at any more, none asks too little, and those that were dropped ask too much. Assumes nothing.
 use Prim.Native.Nat.{ℕ, ◌+◌, ◌*◌, ◌<◌, min}
 use mathlib.Core.Path.{sym, subst, subst₂}
-use mathlib.Core.Bool.{false≢true}
 use mathlib.Core.List.{List}
 use native.Mathlib.Omega.{arith}
 use borrow.Author.Tests.{ltb-true}
@@ -17,9 +16,6 @@ ask sets costs want nodes pairs i n = get_or costs (i * 32 + n) 0 + min want (ge
 
 pub loop-m-init : goal.loop-m-init
 loop-m-init c = sift_start _ _ _ _ _
-
-pub returns-then-x-least : goal.returns-then-x-least
-returns-then-x-least c = λ e. absurd (false≢true e)
 
 pub loop-m-smaller : goal.loop-m-smaller
 loop-m-smaller c = let l = c.loop-m in
@@ -37,4 +33,4 @@ loop-m-preserved c = let s = c in
     n.result x.result _ n.ensures.0 x.ensures.0 c.if-x-least.false (λ e. ltb-true _ _ e) l.invariant)
 
 pub returns : goal.returns
-returns c = λ e. sift_end _ _ _ _ _ (omega (arith, c.loop-m-test.false)) c.loop-m.invariant
+returns c = sift_end _ _ _ _ _ (omega (arith, c.loop-m-test.false)) c.loop-m.invariant

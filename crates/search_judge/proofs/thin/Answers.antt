@@ -30,4 +30,4 @@ loop-i-preserved c = (
 pub returns : goal.returns
 returns c =
     let v = c.loop-i.invariant in
-    sym (any_done (omega (arith, v.0, v.1)) (omega (arith, v.0, c.loop-i-test.false)) false _ v.2)
+    sym (any_done (omega (arith, v.0, c.loop-i.auto.i-end)) (omega (arith, v.0, c.loop-i-test.false)) false _ v.1)
