@@ -1,13 +1,7 @@
 // What is decided for good: a pair that is taken, a list that is ended. Each is tried by a search for a way that the weight allows.
 ghost use Rattle.std.specs.Prelude.{◌≤◌};
 
-const GRANTED: u32 = 0;
-
-const BARRED: u32 = 1;
-
-const EXCLUDED: u32 = 2;
-
-const GIVEN_UP: u32 = 3;
+use crate::{BARRED, EXCLUDED, GIVEN_UP, GRANTED};
 
 // Copies the first half's lower part to the second half.
 fn save(mem: &mut [u32; 1024]) {
