@@ -192,10 +192,8 @@ pub fn claim(mem: &mut [u32; 1024], i: u32, n: u32, most: u32) -> u32
 
 // Takes some nodes from their owners.
 fn release_all(mem: &mut [u32; 1024], nodes: u32) {
-    let mut m = nodes;
-    while m != 0 {
-        hint_memory::owners::release(mem, hint_memory::lowest(m));
-        m = hint_memory::without_lowest(m);
+    for n in hint_memory::Bits(nodes) {
+        hint_memory::owners::release(mem, n);
     }
 }
 

@@ -245,25 +245,26 @@ fn place_distance(mem: &[u32; 1024]) -> u32
 }
 
 // What a step of the search came to.
-const ON: u32 = 0;
-
-const ENDED: u32 = 1;
-
-const NO_WAY: u32 = 2;
+#[derive(Clone, Copy)]
+enum Progress {
+    On,
+    Ended,
+    NoWay,
+}
 
 // On to the next distance.
-fn advance(mem: &mut [u32; 1024]) -> u32 {
+fn advance(mem: &mut [u32; 1024]) -> Progress {
     let m = hint_memory::nodes(mem, hint_memory::LATER, 0)
         & !hint_memory::nodes(mem, hint_memory::DONE, 0);
     let d = least_distance(mem, m, place_distance(mem));
     if d == 65535 {
-        return NO_WAY;
+        return Progress::NoWay;
     }
     let at = at_distance(mem, m, d);
     hint_memory::set(mem, hint_memory::NOW, 0, d);
     hint_memory::set(mem, hint_memory::FRONT, 0, at);
     hint_memory::set(mem, hint_memory::LATER, 0, m & !at);
-    ON
+    Progress::On
 }
 
 // One of some nodes, of the goal where there is one.
@@ -276,14 +277,14 @@ fn goal_first(mem: &[u32; 1024], nodes: u32) -> u32 {
 }
 
 // One vertex more.
-fn step(mem: &mut [u32; 1024]) -> u32 {
+fn step(mem: &mut [u32; 1024]) -> Progress {
     let d = hint_memory::number(mem, hint_memory::NOW, 0);
     if hint_memory::number(mem, hint_memory::DISTANCE, hint_memory::END) == d {
-        return ENDED;
+        return Progress::Ended;
     }
     if place_distance(mem) == d {
         leave_nowhere(mem);
-        return ON;
+        return Progress::On;
     }
     let m = hint_memory::nodes(mem, hint_memory::FRONT, 0)
         & !hint_memory::nodes(mem, hint_memory::DONE, 0);
@@ -293,7 +294,7 @@ fn step(mem: &mut [u32; 1024]) -> u32 {
     let x = goal_first(mem, m);
     hint_memory::set(mem, hint_memory::FRONT, 0, m & !hint_memory::bit(x));
     leave_node(mem, x);
-    ON
+    Progress::On
 }
 
 // Raises vertex v, where it is nearer than `by`, by the difference.
@@ -316,14 +317,16 @@ fn raise(mem: &mut [u32; 1024], by: u32) {
 // Searches on: the last vertex before the end, or none. The levels are raised so that the way costs nothing, or shows to be too long.
 fn search(mem: &mut [u32; 1024]) -> u32 {
     for round in 0u32..128 {
-        let s = step(mem);
-        if s == ENDED {
-            raise(mem, hint_memory::number(mem, hint_memory::NOW, 0));
-            return hint_memory::number(mem, hint_memory::FROM, hint_memory::END);
-        }
-        if s == NO_WAY {
-            raise(mem, hint_memory::number(mem, hint_memory::LIMIT, 0) + 1);
-            return hint_memory::NO_VERTEX;
+        match step(mem) {
+            Progress::On => {}
+            Progress::Ended => {
+                raise(mem, hint_memory::number(mem, hint_memory::NOW, 0));
+                return hint_memory::number(mem, hint_memory::FROM, hint_memory::END);
+            }
+            Progress::NoWay => {
+                raise(mem, hint_memory::number(mem, hint_memory::LIMIT, 0) + 1);
+                return hint_memory::NO_VERTEX;
+            }
         }
     }
     hint_memory::NO_VERTEX
@@ -348,8 +351,7 @@ fn give_way(mem: &mut [u32; 1024], v: u32) -> u32
     ensures { result ≤ 34 }
 {
     let mut y = v;
-    let mut round: u32 = 0;
-    while round < 34 {
+    for round in 0u32..34 {
         if hint_memory::NOWHERE < y {
             return round;
         }
@@ -357,9 +359,8 @@ fn give_way(mem: &mut [u32; 1024], v: u32) -> u32
             hint_memory::owners::give(mem, y, hint_memory::number(mem, hint_memory::TAKER, y));
         }
         y = hint_memory::number(mem, hint_memory::FROM, y);
-        round += 1;
     }
-    round
+    34
 }
 
 // Changes the owners along the way to v, if there is one. Answers how many vertices it has.
@@ -430,15 +431,13 @@ fn place_idle(mem: &mut [u32; 1024], nodes: u32) {
 pub fn settle(mem: &mut [u32; 1024]) -> u32
     ensures { result ≤ 33 }
 {
-    let mut ways: u32 = 0;
-    while ways < 33 {
+    for ways in 0u32..33 {
         place_idle(mem, hint_memory::nodes(mem, hint_memory::LOOSE, 0));
         let m = hint_memory::nodes(mem, hint_memory::LOOSE, 0);
         if m == 0 {
             return ways;
         }
         from_nowhere(mem, m);
-        ways += 1;
     }
-    ways
+    33
 }

@@ -12,7 +12,7 @@ ghost use Rattle.search_laws.specs.Order.{Begun, HasNone, From, shard_end};
 ghost use Rattle.search_laws.specs.Floor.{SheetFor};
 ghost use Rattle.search_bounds.specs.Post.{Small, SoundBound};
 ghost use Rattle.search_total.specs.Post.{WithinAnswer, LeastAnswer, no_owners, solution};
-ghost use Rattle.search_hinted.specs.declared.ListEnd as Ends;
+ghost use Rattle.search_hinted.specs.declared.ListEnd.TheVariants as Ends;
 ghost use Rattle.search_hinted.specs.Stage.{Narrowed, Advanced, Exceeded, Later, OnlyHere, AllowedRow, OpenBelow, At, Moved};
 ghost use Rattle.search_hinted.specs.Post.{Found};
 

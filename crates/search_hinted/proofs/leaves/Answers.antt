@@ -6,8 +6,8 @@ use Rattle.search_judge.specs.Post.{barred_never}
 use Rattle.search_hinted.specs.Stage.{stage_cut, stage_shut, advance_leave}
 use Rattle.search_hinted.proofs.leaves.Goals as goal
 
-pub returns-then-hint-barred : goal.returns-then-hint-barred
-returns-then-hint-barred c = λ e. advance_leave c.requires.narrowed c.requires.t_bound.0 (λ y f d. barred_never _ _ _ c.barred.ensures e c.requires.t_bound.0 c.requires.narrowed.ready.begun y f.has.valid f.agree d)
+pub returns-then-hint-eq-BARRED : goal.returns-then-hint-eq-BARRED
+returns-then-hint-eq-BARRED c = λ e. advance_leave c.requires.narrowed c.requires.t_bound.0 (λ y f d. barred_never _ _ _ c.barred.ensures e c.requires.t_bound.0 c.requires.narrowed.ready.begun y f.has.valid f.agree d)
 
 pub prune-requires : goal.prune-requires
 prune-requires c = let s = c in record { t_bound = (omega (arith, s.requires.t_bound.0), s.requires.t_bound.1); small = s.requires.small; rows_len = s.requires.narrowed.long; begun = s.requires.narrowed.ready.begun }
