@@ -1,12 +1,22 @@
 // Improving rounds in one subgroup: from a placement, each round goes to the first valid placement of less weight.
 #![tactic(auto)]
 
+ghost use Rattle.std.specs.Prelude.{Some};
 ghost use Rattle.search_laws.specs.Tables.{case_of};
-ghost use Rattle.search_rounds.specs.Post.{Low, Weighed, Improved};
+ghost use Rattle.search_total.specs.Post.{solution};
+ghost use Rattle.search_rounds.specs.Post.{Low, Weighed, Improved, improvement};
 
-use search_total::Solution;
+use search_total::{Placement, Solution};
 
 // The placement reached, the rounds that are left, and whether none is better.
+#[derive(Clone, Copy)]
+pub struct Reached {
+    pub placement: Placement,
+    pub left: usize,
+    pub stuck: bool,
+}
+
+// The same, as definitions have it.
 #[derive(Clone, Copy)]
 pub struct Improvement {
     pub answer: Solution,
@@ -22,37 +32,37 @@ pub fn better(
     costs: &[u8; 512],
     idle: u8,
     floor: usize,
-    first: Solution,
+    first: Placement,
     rounds: usize,
-) -> Improvement
+) -> Reached
     requires low { Low (case_of sets.now needs.now caps.now costs.now idle) floor }
-    requires weighed { Weighed (case_of sets.now needs.now caps.now costs.now idle) first }
-    ensures { Improved (case_of sets.now needs.now caps.now costs.now idle) rounds first result }
+    requires weighed { Weighed (case_of sets.now needs.now caps.now costs.now idle) (solution (Some first)) }
+    ensures { Improved (case_of sets.now needs.now caps.now costs.now idle) rounds (solution (Some first)) (improvement result) }
 {
     let mut best = first;
-    let mut left = rounds;
-    while left > 0 {
+    for used in 0..rounds {
+        let left = rounds - used;
         let weight = best.weight;
         if weight <= floor {
-            return Improvement {
-                answer: best,
+            return Reached {
+                placement: best,
                 left,
                 stuck: true,
             };
         }
-        let next = search_hinted::first_within(sets, needs, caps, costs, idle, weight - 1);
-        if !next.exists {
-            return Improvement {
-                answer: best,
-                left,
-                stuck: true,
-            };
+        match search_hinted::first_within(sets, needs, caps, costs, idle, weight - 1) {
+            Some(next) => best = next,
+            None => {
+                return Reached {
+                    placement: best,
+                    left,
+                    stuck: true,
+                };
+            }
         }
-        best = next;
-        left -= 1;
     }
-    Improvement {
-        answer: best,
+    Reached {
+        placement: best,
         left: 0,
         stuck: false,
     }
