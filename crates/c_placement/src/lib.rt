@@ -4,19 +4,19 @@
 ghost use Rattle.std.specs.Prelude.{◌≡◌, true, ◌&&◌, ◌<◌, ◌≤◌, min, eqb, length};
 ghost use Rattle.search_laws.specs.Tables.{case_of};
 ghost use Rattle.search_laws.specs.Floor.{SheetFor};
-ghost use Rattle.search_total.specs.Post.{solution};
+ghost use Rattle.search_total.specs.Post.{as_solution};
 ghost use Rattle.c_placement.specs.Number.{Number, GivesLeast, GivesWithin};
 ghost use Rattle.c_placement.specs.Rows.{entry_for, RowBelow};
 
-use search_total::Placement;
+use search_total::Assignment;
 
 // The number of a call with a wrong length.
 const WRONG_LENGTH: u32 = 10001;
 
 // An answer's number: its weight, or 10000 where there is none.
-fn number(a: Option<Placement>) -> u32
-    requires { (solution a).exists ≡ true → (solution a).weight ≤ 8192 }
-    ensures { Number (solution a) result }
+fn number(a: Option<Assignment>) -> u32
+    requires { (as_solution a).exists ≡ true → (as_solution a).weight ≤ 8192 }
+    ensures { Number (as_solution a) result }
 {
     match a {
         Some(p) => p.weight as u32,
@@ -25,8 +25,8 @@ fn number(a: Option<Placement>) -> u32
 }
 
 // An answer's owners, none where there is no placement.
-fn owners_in(a: Option<Placement>) -> [u8; 32]
-    ensures { result ≡ (solution a).owners }
+fn owners_in(a: Option<Assignment>) -> [u8; 32]
+    ensures { result ≡ (as_solution a).owners }
 {
     match a {
         Some(p) => {

@@ -11,7 +11,7 @@ ghost use Rattle.place_groups.specs.Sheet.{sheet_of};
 ghost use Rattle.place_groups.specs.Definitions.{of_group};
 ghost use Rattle.place_laws.specs.Tables.{group_case};
 ghost use Rattle.place_laws.specs.Adding.{owned_by, mask_with, masks_with};
-ghost use Rattle.search_total.specs.Post.{LeastAnswer, solution};
+ghost use Rattle.search_total.specs.Post.{LeastAnswer, as_solution};
 ghost use Rattle.place_layout.specs.Definitions.{PlacedAlone};
 ghost use Rattle.place_layout.specs.Post.{LaidSoFar, OneMore, Placement};
 
@@ -55,9 +55,9 @@ fn least(
     caps: &[u8; 16],
     costs: &[u8; 512],
     sheet: &[[u8; 16]; 16],
-) -> Option<search_total::Placement>
+) -> Option<search_total::Assignment>
     requires { SheetFor (case_of sets.now needs.now caps.now costs.now 1) sheet.now }
-    ensures { LeastAnswer (case_of sets.now needs.now caps.now costs.now 1) (solution result) }
+    ensures { LeastAnswer (case_of sets.now needs.now caps.now costs.now 1) (as_solution result) }
 {
     search_hinted::least(sets, needs, caps, costs, 1, sheet)
 }
@@ -69,11 +69,11 @@ fn solve(
     old: &[u32; 16],
     sheet: &[[u8; 16]; 16],
     g: u32,
-) -> Option<search_total::Placement>
+) -> Option<search_total::Assignment>
     requires settings { Settings settings.now }
     requires held_bound { held < 2 ^ nodes settings.now }
     requires sheet_value { sheet.now ≡ sheet_of settings.now held (λ s. get_or old.now s 0) }
-    ensures { LeastAnswer (group_case settings.now held (λ s. get_or old.now s 0) g) (solution result) }
+    ensures { LeastAnswer (group_case settings.now held (λ s. get_or old.now s 0) g) (as_solution result) }
 {
     let sets = place_tables::sets(settings);
     let needs = place_tables::needs(settings, g);

@@ -5,8 +5,8 @@
 ghost use Rattle.std.specs.Prelude.{◌≡◌, ◌<◌, ◌^◌, min, get_or, replicate, Some};
 ghost use Rattle.settings_values.specs.Definitions.{Settings, nodes};
 ghost use Rattle.search_laws.specs.Tables.{case_of};
-ghost use Rattle.search_total.specs.Post.{WithinAnswer, solution};
-ghost use Rattle.search_rounds.specs.Post.{Low, Weighed, Improved, improvement};
+ghost use Rattle.search_total.specs.Post.{WithinAnswer, as_solution};
+ghost use Rattle.search_rounds.specs.Post.{Low, Weighed, Improved, as_improvement};
 ghost use Rattle.place_groups.specs.Definitions.{group_moves};
 ghost use Rattle.place_groups.specs.Sheet.{sheet_of};
 ghost use Rattle.place_laws.specs.Definitions.{masks_of};
@@ -15,7 +15,7 @@ ghost use Rattle.place_rounds.specs.Tables as Tables;
 ghost use Rattle.place_rounds.specs.Post as Post;
 
 use place_layout::Placed;
-use search_rounds::Reached;
+use search_rounds::BestSoFar;
 
 // Where every subgroup has a valid placement: the one that the rounds reach, and its gap, by which no valid placement has fewer moves.
 // Else the lowest subgroup without one, nothing placed, and no gap.
@@ -65,8 +65,8 @@ fn start(
     needs: &[u8; 16],
     caps: &[u8; 16],
     costs: &[u8; 512],
-) -> Option<search_total::Placement>
-    ensures { WithinAnswer (case_of sets.now needs.now caps.now (Tables.repriced_table 0 costs.now) 0) 0 (solution result) }
+) -> Option<search_total::Assignment>
+    ensures { WithinAnswer (case_of sets.now needs.now caps.now (Tables.repriced_table 0 costs.now) 0) 0 (as_solution result) }
 {
     let free = repriced_table(costs, 0);
     search_hinted::first_within(sets, needs, caps, &free, 0, 0)
@@ -79,15 +79,15 @@ fn onward(
     caps: &[u8; 16],
     costs: &[u8; 512],
     floor: usize,
-    first: search_total::Placement,
+    first: search_total::Assignment,
     rounds: usize,
-) -> Reached
+) -> BestSoFar
     requires low { Low (case_of sets.now needs.now caps.now (Tables.repriced_table 1 costs.now) 0) floor }
-    requires weighed { Weighed (case_of sets.now needs.now caps.now (Tables.repriced_table 1 costs.now) 0) (solution (Some first)) }
-    ensures { Improved (case_of sets.now needs.now caps.now (Tables.repriced_table 1 costs.now) 0) rounds (solution (Some first)) (improvement result) }
+    requires weighed { Weighed (case_of sets.now needs.now caps.now (Tables.repriced_table 1 costs.now) 0) (as_solution (Some first)) }
+    ensures { Improved (case_of sets.now needs.now caps.now (Tables.repriced_table 1 costs.now) 0) rounds (as_solution (Some first)) (as_improvement result) }
 {
     if first.weight <= floor {
-        return Reached {
+        return BestSoFar {
             placement: first,
             left: rounds,
             stuck: true,
@@ -152,7 +152,7 @@ fn reach(
                 };
             }
             let weight = moves_of(settings, old, g, &owners);
-            let from = search_total::Placement { weight, owners };
+            let from = search_total::Assignment { weight, owners };
             let best = onward(&sets, &needs, &caps, &costs, floor, from, rounds);
             let reached = best.placement;
             let owners = reached.owners;

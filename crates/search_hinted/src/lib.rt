@@ -11,12 +11,12 @@ ghost use Rattle.search_laws.specs.Tables.{case_of, owners_of};
 ghost use Rattle.search_laws.specs.Order.{Begun, HasNone, From, shard_end};
 ghost use Rattle.search_laws.specs.Floor.{SheetFor};
 ghost use Rattle.search_bounds.specs.Post.{Small, SoundBound};
-ghost use Rattle.search_total.specs.Post.{WithinAnswer, LeastAnswer, no_owners, solution};
+ghost use Rattle.search_total.specs.Post.{WithinAnswer, LeastAnswer, no_owners, as_solution};
 ghost use Rattle.search_hinted.specs.declared.ListEnd.TheVariants as Ends;
 ghost use Rattle.search_hinted.specs.Stage.{Narrowed, Advanced, Exceeded, Later, OnlyHere, AllowedRow, OpenBelow, At, Moved};
 ghost use Rattle.search_hinted.specs.Post.{Found};
 
-use search_total::Placement;
+use search_total::Assignment;
 
 // The pairs of shard i that are allowed.
 fn allowed(prices: &[u8; 512], i: usize) -> u32
@@ -381,11 +381,11 @@ fn follow(
     mem: &mut [u32; 1024],
     idle: u8,
     k: usize,
-) -> Option<Placement>
+) -> Option<Assignment>
     requires k_bound { k ≤ 8192 }
     requires small { Small sets.now }
     requires narrowed { Narrowed (case_of sets.now needs.now caps.now prices.now idle) k no_owners 0 rows.old }
-    ensures { IfSome result (λ p. Found (case_of sets.now needs.now caps.now prices.now idle) k (solution (Some p))) }
+    ensures { IfSome result (λ p. Found (case_of sets.now needs.now caps.now prices.now idle) k (as_solution (Some p))) }
 {
     let mut owner = [16u8; 32];
     let mut p: usize = 0;
@@ -427,8 +427,8 @@ fn quick_within(
     prices: &[u8; 512],
     idle: u8,
     k: usize,
-) -> Option<Option<Placement>>
-    ensures { IfSome result (λ sure. WithinAnswer (case_of sets.now needs.now caps.now prices.now idle) k (solution sure)) }
+) -> Option<Option<Assignment>>
+    ensures { IfSome result (λ sure. WithinAnswer (case_of sets.now needs.now caps.now prices.now idle) k (as_solution sure)) }
 {
     if !fit(sets) {
         return None;
@@ -455,9 +455,9 @@ fn by_claim(
     caps: &[u8; 16],
     prices: &[u8; 512],
     idle: u8,
-) -> Option<Option<Placement>>
+) -> Option<Option<Assignment>>
     requires { Small sets.now }
-    ensures { IfSome result (λ sure. LeastAnswer (case_of sets.now needs.now caps.now prices.now idle) (solution sure)) }
+    ensures { IfSome result (λ sure. LeastAnswer (case_of sets.now needs.now caps.now prices.now idle) (as_solution sure)) }
 {
     let mut mem = [0u32; 1024];
     let mut rows = all_allowed(caps, prices);
@@ -485,9 +485,9 @@ fn quick_least(
     prices: &[u8; 512],
     idle: u8,
     sheet: &[[u8; 16]; 16],
-) -> Option<Option<Placement>>
+) -> Option<Option<Assignment>>
     requires { SheetFor (case_of sets.now needs.now caps.now prices.now idle) sheet.now }
-    ensures { IfSome result (λ sure. LeastAnswer (case_of sets.now needs.now caps.now prices.now idle) (solution sure)) }
+    ensures { IfSome result (λ sure. LeastAnswer (case_of sets.now needs.now caps.now prices.now idle) (as_solution sure)) }
 {
     if !fit(sets) {
         return None;
@@ -506,8 +506,8 @@ pub fn first_within(
     prices: &[u8; 512],
     idle: u8,
     k: usize,
-) -> Option<Placement>
-    ensures { WithinAnswer (case_of sets.now needs.now caps.now prices.now idle) k (solution result) }
+) -> Option<Assignment>
+    ensures { WithinAnswer (case_of sets.now needs.now caps.now prices.now idle) k (as_solution result) }
 {
     match quick_within(sets, needs, caps, prices, idle, k) {
         Some(sure) => sure,
@@ -524,9 +524,9 @@ pub fn least(
     prices: &[u8; 512],
     idle: u8,
     sheet: &[[u8; 16]; 16],
-) -> Option<Placement>
+) -> Option<Assignment>
     requires { SheetFor (case_of sets.now needs.now caps.now prices.now idle) sheet.now }
-    ensures { LeastAnswer (case_of sets.now needs.now caps.now prices.now idle) (solution result) }
+    ensures { LeastAnswer (case_of sets.now needs.now caps.now prices.now idle) (as_solution result) }
 {
     match quick_least(sets, needs, caps, prices, idle, sheet) {
         Some(sure) => sure,

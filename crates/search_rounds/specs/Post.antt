@@ -5,9 +5,9 @@ use Rattle.search_laws.specs.Case.{Case, Valid, WeighsWithin, weight}
 use Rattle.search_laws.specs.Tables.{owners_of}
 use Rattle.search_laws.specs.Order.{First, HasNone}
 use Rattle.search_total.specs.declared.Solution.{Solution}
-use Rattle.search_total.specs.Post.{WithinAnswer, solution}
+use Rattle.search_total.specs.Post.{WithinAnswer, as_solution}
 use Rattle.search_rounds.specs.declared.Improvement.{Improvement}
-use Rattle.search_rounds.specs.declared.Reached.{Reached}
+use Rattle.search_rounds.specs.declared.BestSoFar.{BestSoFar}
 
 -- valid, of less weight than z
 pub record Fewer (K : Case) (z y : ℕ → ℕ) : Type 0 where
@@ -47,8 +47,8 @@ pub record Improved (K : Case) (n : ℕ) (a : Solution) (r : Improvement) : Type
   pub out : r.stuck ≡ false → r.left ≡ 0
 
 -- what rounds give as an improvement
-abbrev pub improvement : Reached → Improvement
-improvement r = record { answer = solution (Some r.placement); left = r.left; stuck = r.stuck }
+abbrev pub as_improvement : BestSoFar → Improvement
+as_improvement r = record { answer = as_solution (Some r.placement); left = r.left; stuck = r.stuck }
 
 -- on the way
 pub record Way (K : Case) (n : ℕ) (a : Solution) (best : Solution) (left : ℕ) : Type 0 where

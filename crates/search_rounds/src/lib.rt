@@ -3,15 +3,15 @@
 
 ghost use Rattle.std.specs.Prelude.{Some};
 ghost use Rattle.search_laws.specs.Tables.{case_of};
-ghost use Rattle.search_total.specs.Post.{solution};
-ghost use Rattle.search_rounds.specs.Post.{Low, Weighed, Improved, improvement};
+ghost use Rattle.search_total.specs.Post.{as_solution};
+ghost use Rattle.search_rounds.specs.Post.{Low, Weighed, Improved, as_improvement};
 
-use search_total::{Placement, Solution};
+use search_total::{Assignment, Solution};
 
 // The placement reached, the rounds that are left, and whether none is better.
 #[derive(Clone, Copy)]
-pub struct Reached {
-    pub placement: Placement,
+pub struct BestSoFar {
+    pub placement: Assignment,
     pub left: usize,
     pub stuck: bool,
 }
@@ -32,19 +32,19 @@ pub fn better(
     costs: &[u8; 512],
     idle: u8,
     floor: usize,
-    first: Placement,
+    first: Assignment,
     rounds: usize,
-) -> Reached
+) -> BestSoFar
     requires low { Low (case_of sets.now needs.now caps.now costs.now idle) floor }
-    requires weighed { Weighed (case_of sets.now needs.now caps.now costs.now idle) (solution (Some first)) }
-    ensures { Improved (case_of sets.now needs.now caps.now costs.now idle) rounds (solution (Some first)) (improvement result) }
+    requires weighed { Weighed (case_of sets.now needs.now caps.now costs.now idle) (as_solution (Some first)) }
+    ensures { Improved (case_of sets.now needs.now caps.now costs.now idle) rounds (as_solution (Some first)) (as_improvement result) }
 {
     let mut best = first;
     for used in 0..rounds {
         let left = rounds - used;
         let weight = best.weight;
         if weight <= floor {
-            return Reached {
+            return BestSoFar {
                 placement: best,
                 left,
                 stuck: true,
@@ -53,7 +53,7 @@ pub fn better(
         match search_hinted::first_within(sets, needs, caps, costs, idle, weight - 1) {
             Some(next) => best = next,
             None => {
-                return Reached {
+                return BestSoFar {
                     placement: best,
                     left,
                     stuck: true,
@@ -61,7 +61,7 @@ pub fn better(
             }
         }
     }
-    Reached {
+    BestSoFar {
         placement: best,
         left: 0,
         stuck: false,

@@ -6,12 +6,12 @@ ghost use Rattle.std.specs.Prelude.{◌≡◌, true, Some, [], ◌+◌, ◌≤�
 ghost use Rattle.search_laws.specs.Case.{WeighsWithin};
 ghost use Rattle.search_laws.specs.Order.{HasNone, From, shard_end};
 ghost use Rattle.search_laws.specs.Tables.{case_of, owners_of};
-ghost use Rattle.search_total.specs.Post.{ReadyFrom, Sought, WithinAnswer, LeastAnswer, solution};
+ghost use Rattle.search_total.specs.Post.{ReadyFrom, Sought, WithinAnswer, LeastAnswer, as_solution};
 ghost use Rattle.search_total.specs.Answers.{HasOwners};
 
 // A placement: its weight, and the owner of each node, 16 for none.
 #[derive(Clone, Copy)]
-pub struct Placement {
+pub struct Assignment {
     pub weight: usize,
     pub owners: [u8; 32],
 }
@@ -88,11 +88,11 @@ fn seek(
 }
 
 // The placement by its owners.
-pub fn placed(costs: &[u8; 512], owners: [u8; 32], idle: u8) -> Placement
-    ensures { HasOwners (case_of [] [] [] costs.now idle) owners (solution (Some result)) }
+pub fn placed(costs: &[u8; 512], owners: [u8; 32], idle: u8) -> Assignment
+    ensures { HasOwners (case_of [] [] [] costs.now idle) owners (as_solution (Some result)) }
 {
     let weight = search_judge::weight(costs, &owners, idle);
-    Placement { weight, owners }
+    Assignment { weight, owners }
 }
 
 // The first valid placement of a weight of at most k.
@@ -103,8 +103,8 @@ pub fn plain_within(
     costs: &[u8; 512],
     idle: u8,
     k: usize,
-) -> Option<Placement>
-    ensures { WithinAnswer (case_of sets.now needs.now caps.now costs.now idle) k (solution result) }
+) -> Option<Assignment>
+    ensures { WithinAnswer (case_of sets.now needs.now caps.now costs.now idle) k (as_solution result) }
 {
     let mut owner = [16u8; 32];
     if !seek(sets, needs, caps, costs, &mut owner, idle, 0, k, false) {
@@ -120,8 +120,8 @@ pub fn plain_least(
     caps: &[u8; 16],
     costs: &[u8; 512],
     idle: u8,
-) -> Option<Placement>
-    ensures { LeastAnswer (case_of sets.now needs.now caps.now costs.now idle) (solution result) }
+) -> Option<Assignment>
+    ensures { LeastAnswer (case_of sets.now needs.now caps.now costs.now idle) (as_solution result) }
 {
     let start = plain_within(sets, needs, caps, costs, idle, 8192)?;
     let mut k = start.weight;

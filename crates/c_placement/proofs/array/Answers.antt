@@ -2,4 +2,4 @@
 use Rattle.c_placement.proofs.array.Goals as goal
 
 pub returns : goal.returns
-returns c = let w = rw c.unwrap.ensures at c.as_array.ensures.cases in w.same
+returns g c = let w = rw c.unwrap.ensures at c.as_array.ensures.cases in w.same

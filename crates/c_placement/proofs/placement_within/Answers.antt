@@ -14,25 +14,25 @@ pub array-s-requires : goal.array-s-requires
 array-s-requires c =
     let e = c in
     let a = e.args in
-    let ok = lengths_of a.sets.now a.needs.now a.caps.now a.costs.now a.owners.now (sym e.fit.ensures ∙ e.if-not-fit.false) in ok.sets_are
+    let ok = lengths_of a.sets.now a.needs.now a.caps.now a.costs.now a.owners.now (sym e.fit.ensures ∙ e.if-not-fit.false) in (omega arith, ok.sets_are)
 
 pub array-m-requires : goal.array-m-requires
 array-m-requires c =
     let e = c in
     let a = e.args in
-    let ok = lengths_of a.sets.now a.needs.now a.caps.now a.costs.now a.owners.now (sym e.fit.ensures ∙ e.if-not-fit.false) in ok.needs_are
+    let ok = lengths_of a.sets.now a.needs.now a.caps.now a.costs.now a.owners.now (sym e.fit.ensures ∙ e.if-not-fit.false) in (omega arith, ok.needs_are)
 
 pub array-c-requires : goal.array-c-requires
 array-c-requires c =
     let e = c in
     let a = e.args in
-    let ok = lengths_of a.sets.now a.needs.now a.caps.now a.costs.now a.owners.now (sym e.fit.ensures ∙ e.if-not-fit.false) in ok.caps_are
+    let ok = lengths_of a.sets.now a.needs.now a.caps.now a.costs.now a.owners.now (sym e.fit.ensures ∙ e.if-not-fit.false) in (omega arith, ok.caps_are)
 
 pub array-p-requires : goal.array-p-requires
 array-p-requires c =
     let e = c in
     let a = e.args in
-    let ok = lengths_of a.sets.now a.needs.now a.caps.now a.costs.now a.owners.now (sym e.fit.ensures ∙ e.if-not-fit.false) in ok.costs_are
+    let ok = lengths_of a.sets.now a.needs.now a.caps.now a.costs.now a.owners.now (sym e.fit.ensures ∙ e.if-not-fit.false) in (omega arith, ok.costs_are)
 
 pub copy_from_slice-requires : goal.copy_from_slice-requires
 copy_from_slice-requires c =

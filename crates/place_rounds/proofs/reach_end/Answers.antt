@@ -9,7 +9,7 @@ use Rattle.base_laws.specs.Bools.{clash}
 use Rattle.search_laws.specs.Case.{Case}
 use Rattle.search_laws.specs.Tables.{case_of}
 use Rattle.search_laws.specs.Floor.{SheetFor}
-use Rattle.search_total.specs.Post.{LeastAnswer, solution}
+use Rattle.search_total.specs.Post.{LeastAnswer, as_solution}
 use Rattle.place_groups.specs.Sheet.{sheet_of}
 use Rattle.place_rounds.specs.Tables.{floor_told}
 use Rattle.place_rounds.specs.Turns.{round_tables}
@@ -52,10 +52,10 @@ returns-in-None c =
     let y = c.caps-caps in
     let t = c.repriced_table-counted in
     let i = round_tables a.settings.now a.held o a.g 1 x.ensures n.ensures y.ensures c.costs-costs.ensures in
-    let k = subst (λ (K : Case). LeastAnswer K (solution None)) i (subst (λ (q : List ℕ). LeastAnswer (case_of x.result n.result y.result q 0) (solution None)) t.ensures c.in-None.ensures) in
+    let k = subst (λ (K : Case). LeastAnswer K (as_solution None)) i (subst (λ (q : List ℕ). LeastAnswer (case_of x.result n.result y.result q 0) (as_solution None)) t.ensures c.in-None.ensures) in
     record {
       ended = λ e. clash e refl;
-      none = λ e. never_least a.settings.now a.held o a.g p.settings p.held_bound (solution None) k refl;
+      none = λ e. never_least a.settings.now a.held o a.g p.settings p.held_bound (as_solution None) k refl;
     }
 
 pub returns-in-Some : goal.returns-in-Some
@@ -69,11 +69,11 @@ returns-in-Some c =
     let y = c.caps-caps in
     let t = c.repriced_table-counted in
     let i = round_tables a.settings.now a.held o a.g 1 x.ensures n.ensures y.ensures c.costs-costs.ensures in
-    let k = subst (λ (K : Case). LeastAnswer K (solution (Some c.in-Some.best))) i (subst (λ (q : List ℕ). LeastAnswer (case_of x.result n.result y.result q 0) (solution (Some c.in-Some.best))) t.ensures c.in-Some.ensures) in
+    let k = subst (λ (K : Case). LeastAnswer K (as_solution (Some c.in-Some.best))) i (subst (λ (q : List ℕ). LeastAnswer (case_of x.result n.result y.result q 0) (as_solution (Some c.in-Some.best))) t.ensures c.in-Some.ensures) in
     let f = c.floor-floor in
     record {
       ended = λ e.
-          ended_least a.settings.now a.held o a.g p.settings p.held_bound (solution (Some c.in-Some.best)) k refl f.result
+          ended_least a.settings.now a.held o a.g p.settings p.held_bound (as_solution (Some c.in-Some.best)) k refl f.result
           (floor_told a.settings.now a.held o a.g p.settings p.held_bound n.result a.sheet.now f.result n.ensures p.sheet_value f.ensures);
       none = λ e. clash refl e;
     }

@@ -1,9 +1,8 @@
 -- The loop's invariant: every row from that of t to i is passed. At the end the cut is sound. Assumes nothing.
-use Prim.Native.Nat.{ℕ, ◌-◌, ◌+◌, ◌/◌}
+use Prim.Native.Nat.{ℕ, ◌+◌, ◌/◌}
 use mathlib.Core.Path.{refl, sym, ◌∙◌, ap, subst}
 use native.Mathlib.Nat.{le_antisymm}
 use native.Mathlib.Omega.{arith}
-use borrow.Author.Tests.{not-false}
 use Rattle.search_laws.specs.Tables.{case_of, owners_of}
 use Rattle.search_laws.specs.Duality.{gain, toll}
 use Rattle.search_bounds.specs.Post.{weights_of}

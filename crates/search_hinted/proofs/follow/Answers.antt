@@ -1,5 +1,4 @@
 -- The loop's invariant: what is first from p is first of all. At the end the owners are tested. Assumes nothing.
-use Prim.Native.Nat.{◌-◌}
 use mathlib.Core.Path.{refl}
 use native.Mathlib.Omega.{arith}
 use Rattle.search_laws.specs.Case.{weight}
@@ -9,8 +8,8 @@ use Rattle.search_hinted.proofs.follow.Goals as goal
 pub loop-p-init : goal.loop-p-init
 loop-p-init c = (omega arith, sure_start c.requires.narrowed)
 
-pub step-next-requires : goal.step-next-requires
-step-next-requires c = record { p_bound = (c.loop-p-test.true, c.requires.k_bound); small = c.requires.small; «at» = c.loop-p.invariant.1.at }
+pub step-requires : goal.step-requires
+step-requires c = record { p_bound = (c.loop-p-test.true, c.requires.k_bound); small = c.requires.small; «at» = c.loop-p.invariant.1.at }
 
 pub loop-p-smaller : goal.loop-p-smaller
 loop-p-smaller c = omega (arith, c.in_ok-next.ensures.more, c.in_ok-next.ensures.most)

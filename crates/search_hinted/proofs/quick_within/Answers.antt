@@ -6,8 +6,8 @@ use Rattle.search_hinted.specs.Stage.{stage_cut}
 use Rattle.search_hinted.specs.Post.{stage_start, at_least, none_below, within_capped}
 use Rattle.search_hinted.proofs.quick_within.Goals as goal
 
-pub prune-floor-requires : goal.prune-floor-requires
-prune-floor-requires c = record { t_bound = (omega arith, omega (arith, c.capped-most.ensures)); small = c.fit.ensures (c.if-not-fit.false); rows_len = c.all_allowed-rows.ensures.long; begun = ready_blank.begun }
+pub prune-requires : goal.prune-requires
+prune-requires c = record { t_bound = (omega arith, omega (arith, c.capped-most.ensures)); small = c.fit.ensures (c.if-not-fit.false); rows_len = c.all_allowed-rows.ensures.long; begun = ready_blank.begun }
 
 pub returns-then-most-floor : goal.returns-then-most-floor
 returns-then-most-floor c =
@@ -18,8 +18,8 @@ returns-then-most-floor c =
     (at_least a.sets.now a.needs.now a.caps.now a.prices.now a.idle c.capped-most.result _ c.all_allowed-rows.ensures c.in_ok-floor.ensures))
     (record { exists = refl; weight = refl; owners = refl }))
 
-pub follow-found-requires : goal.follow-found-requires
-follow-found-requires c =
+pub follow-requires : goal.follow-requires
+follow-requires c =
     let a = c.args in
     record {
       k_bound = omega (arith, c.capped-most.ensures);

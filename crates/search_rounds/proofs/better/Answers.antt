@@ -2,7 +2,7 @@
 use Rattle.std.proofs.Common.{◌≡◌, ℕ, ◌+◌, ◌-◌, Some, refl, subst, arith}
 use mathlib.Core.Bool.{true≢false, false≢true}
 use Rattle.search_laws.specs.Tables.{case_of}
-use Rattle.search_total.specs.Post.{solution}
+use Rattle.search_total.specs.Post.{as_solution}
 use Rattle.search_rounds.specs.Post.{Way, last, way_start, way_low, way_none, way_more}
 use Rattle.search_rounds.proofs.better.Goals as goal
 
@@ -10,7 +10,7 @@ pub loop-used-init : goal.loop-used-init
 loop-used-init c =
     let a = c.args in
     let e : a.rounds ≡ a.rounds - 0 = omega arith in
-    subst (λ (m : ℕ). Way (case_of a.sets.now a.needs.now a.caps.now a.costs.now a.idle) a.rounds (solution (Some a.first)) (solution (Some a.first)) m) e
+    subst (λ (m : ℕ). Way (case_of a.sets.now a.needs.now a.caps.now a.costs.now a.idle) a.rounds (as_solution (Some a.first)) (as_solution (Some a.first)) m) e
     (way_start c.requires.weighed)
 
 pub returns-then-weight-floor : goal.returns-then-weight-floor
@@ -36,7 +36,7 @@ loop-used-preserved c =
     let a = c.args in
     let u = c.loop-used.used in
     let e : a.rounds - u - 1 ≡ a.rounds - (u + 1) = omega arith in
-    subst (λ (m : ℕ). Way (case_of a.sets.now a.needs.now a.caps.now a.costs.now a.idle) a.rounds (solution (Some a.first)) (solution (Some c.in-Some.next)) m) e
+    subst (λ (m : ℕ). Way (case_of a.sets.now a.needs.now a.caps.now a.costs.now a.idle) a.rounds (as_solution (Some a.first)) (as_solution (Some c.in-Some.next)) m) e
     (way_more c.loop-used.invariant (omega (arith, c.loop-used-test.true)) (omega (arith, c.if-weight-floor.false)) refl c.in-Some.ensures refl)
 
 pub returns : goal.returns

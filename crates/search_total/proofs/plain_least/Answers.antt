@@ -2,7 +2,7 @@
 -- is the first of least weight. Assumes nothing.
 use mathlib.Core.Path.{refl}
 use native.Mathlib.Omega.{arith}
-use Rattle.search_laws.specs.Least.{at_least_zero, at_least_next}
+use Rattle.search_laws.specs.Least.{at_least_zero}
 use Rattle.search_total.specs.Answers.{least_reached, least_missing}
 use Rattle.search_total.proofs.plain_least.Goals as goal
 
