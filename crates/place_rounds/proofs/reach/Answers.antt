@@ -76,8 +76,8 @@ onward-best-requires c =
           (start_weighed a.settings.now a.held o a.g p.settings p.held_bound (as_solution (Some c.in-Some.first)) k refl v.result v.ensures);
     }
 
-pub returns-in-Some : goal.returns-in-Some
-returns-in-Some c =
+pub returns-else-rounds-eq0 : goal.returns-else-rounds-eq0
+returns-else-rounds-eq0 c =
     let m = c in
     let a = m.args in
     let p = m.requires in
