@@ -100,6 +100,9 @@ class File:
     def contract_lines(self):
         clause = None
         for owner, line in parts_of("\n".join(self.texts)):
+            if owner is None and line.strip().startswith("ghost "):
+                # what an impl promises, as an iterator what it gives
+                yield line
             if owner is None or owner[2]:
                 clause = None
             elif line.strip().startswith(("requires", "ensures")) or clause == owner:

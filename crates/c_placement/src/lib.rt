@@ -4,21 +4,37 @@
 ghost use Rattle.std.specs.Prelude.{◌≡◌, true, ◌&&◌, ◌<◌, ◌≤◌, min, eqb, length};
 ghost use Rattle.search_laws.specs.Tables.{case_of};
 ghost use Rattle.search_laws.specs.Floor.{SheetFor};
+ghost use Rattle.search_total.specs.Post.{as_solution};
 ghost use Rattle.c_placement.specs.Number.{Number, GivesLeast, GivesWithin};
 ghost use Rattle.c_placement.specs.Rows.{entry_for, RowBelow};
 
-use search_total::Solution;
+use search_total::Assignment;
 
 // The number of a call with a wrong length.
 const WRONG_LENGTH: u32 = 10001;
 
 // An answer's number: its weight, or 10000 where there is none.
-fn number(a: Solution) -> u32
-    requires { a.exists ≡ true → a.weight ≤ 8192 }
-    ensures { Number a result }
+fn number(a: Option<Assignment>) -> u32
+    requires { (as_solution a).exists ≡ true → (as_solution a).weight ≤ 8192 }
+    ensures { Number (as_solution a) result }
 {
-    let weight = a.weight;
-    if a.exists { weight as u32 } else { 10000 }
+    match a {
+        Some(p) => p.weight as u32,
+        None => 10000,
+    }
+}
+
+// An answer's owners, none where there is no placement.
+fn owners_in(a: Option<Assignment>) -> [u8; 32]
+    ensures { result ≡ (as_solution a).owners }
+{
+    match a {
+        Some(p) => {
+            let owners = p.owners;
+            owners
+        }
+        None => [16u8; 32],
+    }
 }
 
 // The lengths of sets, needs, caps, costs and owners.
@@ -40,48 +56,12 @@ fn fit(sets: usize, needs: usize, caps: usize, costs: usize, owners: usize) -> b
     owners == 32
 }
 
-fn array_16(bytes: &[u8]) -> [u8; 16]
-    requires { length bytes.now ≡ 16 }
-    ensures { result ≡ bytes.now }
+// A slice of N bytes as an array.
+fn array<const N: usize>(bytes: &[u8]) -> &[u8; N]
+    requires { length bytes.now ≡ N }
+    ensures { result.now ≡ bytes.now }
 {
-    let mut r = [0u8; 16];
-    for n in 0..16 {
-        r[n] = bytes[n];
-    }
-    r
-}
-
-fn array_32(bytes: &[u8]) -> [u8; 32]
-    requires { length bytes.now ≡ 32 }
-    ensures { result ≡ bytes.now }
-{
-    let mut r = [0u8; 32];
-    for n in 0..32 {
-        r[n] = bytes[n];
-    }
-    r
-}
-
-fn array_512(bytes: &[u8]) -> [u8; 512]
-    requires { length bytes.now ≡ 512 }
-    ensures { result ≡ bytes.now }
-{
-    let mut r = [0u8; 512];
-    for n in 0..512 {
-        r[n] = bytes[n];
-    }
-    r
-}
-
-// Stores the owners of an answer.
-fn put(owners: &mut [u8], from: &[u8; 32])
-    requires owners_len { length owners.old ≡ 32 }
-    requires from_len { length from.now ≡ 32 }
-    ensures { owners.new ≡ from.now }
-{
-    for n in 0..32 {
-        owners[n] = from[n];
-    }
+    bytes.as_array().unwrap()
 }
 
 // The lesser of two entries.
@@ -156,14 +136,14 @@ pub extern "C" fn placement_least(
     ) {
         return WRONG_LENGTH;
     }
-    let s = array_32(sets);
-    let m = array_16(needs);
-    let c = array_16(caps);
-    let p = array_512(costs);
-    let sheet = sheet_of(&s, &m, &c, &p, idle);
-    let a = search_hinted::least(&s, &m, &c, &p, idle, &sheet);
-    let o = a.owners;
-    put(owners, &o);
+    let s = array::<32>(sets);
+    let m = array::<16>(needs);
+    let c = array::<16>(caps);
+    let p = array::<512>(costs);
+    let sheet = sheet_of(s, m, c, p, idle);
+    let a = search_hinted::least(s, m, c, p, idle, &sheet);
+    let o = owners_in(a);
+    owners.copy_from_slice(&o);
     number(a)
 }
 
@@ -189,12 +169,12 @@ pub extern "C" fn placement_within(
     ) {
         return WRONG_LENGTH;
     }
-    let s = array_32(sets);
-    let m = array_16(needs);
-    let c = array_16(caps);
-    let p = array_512(costs);
-    let w = search_hinted::first_within(&s, &m, &c, &p, idle, k as usize);
-    let o = w.owners;
-    put(owners, &o);
+    let s = array::<32>(sets);
+    let m = array::<16>(needs);
+    let c = array::<16>(caps);
+    let p = array::<512>(costs);
+    let w = search_hinted::first_within(s, m, c, p, idle, k as usize);
+    let o = owners_in(w);
+    owners.copy_from_slice(&o);
     number(w)
 }

@@ -4,7 +4,8 @@
 
 pub mod owners;
 
-ghost use Rattle.std.specs.Prelude.{◌≡◌, ◌+◌, ◌-◌, ◌^◌, ◌%◌, ◌≤◌, ◌<◌, min, max, get_or};
+ghost use Rattle.std.specs.Prelude.{◌≡◌, ◌+◌, ◌-◌, ◌^◌, ◌%◌, ◌≤◌, ◌<◌, min, max, get_or, IfSome};
+ghost use Rattle.std.specs.Iterator.{at_most};
 ghost use Rattle.std.proofs.Math.ListN as Lists;
 ghost use Rattle.std.specs.Int.Bits.{bit_and, bit_or};
 ghost use Rattle.std.specs.Int.Count.{count_trailing_zeros};
@@ -149,6 +150,27 @@ pub fn without_lowest(m: u32) -> u32
     ensures { (result ≡ bit_and m (m - 1)) × (result < max m 1) }
 {
     if m == 0 { 0 } else { m & (m - 1) }
+}
+
+// The nodes of a mask, from the lowest up.
+#[derive(Clone, Copy, Drop)]
+pub struct Bits(pub u32);
+
+impl Iterator for Bits {
+    type Item = u32;
+
+    ghost remaining = { λ s. at_most s.0 };
+
+    ghost next_gives = { λ s r after. IfSome r (λ n. n < 32) };
+
+    fn next(&mut self) -> Option<u32> {
+        if self.0 == 0 {
+            return None;
+        }
+        let n = lowest(self.0);
+        self.0 = without_lowest(self.0);
+        Some(n)
+    }
 }
 
 pub fn nodes(mem: &[u32; 1024], part: u32, i: u32) -> u32

@@ -1,13 +1,7 @@
 // What is decided for good: a pair that is taken, a list that is ended. Each is tried by a search for a way that the weight allows.
 ghost use Rattle.std.specs.Prelude.{◌≤◌};
 
-const GRANTED: u32 = 0;
-
-const BARRED: u32 = 1;
-
-const EXCLUDED: u32 = 2;
-
-const GIVEN_UP: u32 = 3;
+use crate::{BARRED, EXCLUDED, GIVEN_UP, GRANTED};
 
 // Copies the first half's lower part to the second half.
 fn save(mem: &mut [u32; 1024]) {
@@ -198,10 +192,8 @@ pub fn claim(mem: &mut [u32; 1024], i: u32, n: u32, most: u32) -> u32
 
 // Takes some nodes from their owners.
 fn release_all(mem: &mut [u32; 1024], nodes: u32) {
-    let mut m = nodes;
-    while m != 0 {
-        hint_memory::owners::release(mem, hint_memory::lowest(m));
-        m = hint_memory::without_lowest(m);
+    for n in hint_memory::Bits(nodes) {
+        hint_memory::owners::release(mem, n);
     }
 }
 

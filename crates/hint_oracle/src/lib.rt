@@ -9,6 +9,16 @@ mod levels; // levels.rt: the levels as weights
 
 ghost use Rattle.std.specs.Prelude.{◌≡◌, ◌≤◌, length};
 
+// What the oracle claims of a pair, or of the end of a list: it is granted for good, there is no room for it, the weights exclude it, or
+// none of these.
+pub const GRANTED: u32 = 0;
+
+pub const BARRED: u32 = 1;
+
+pub const EXCLUDED: u32 = 2;
+
+pub const GIVEN_UP: u32 = 3;
+
 // A claim of the least weight, or, by 65535, that there is no valid placement.
 pub fn solve(
     mem: &mut [u32; 1024],
@@ -23,14 +33,14 @@ pub fn solve(
     crate::start::start(mem, sets, needs, caps, costs, idle)
 }
 
-// 0: the shard has the node for good. 1: claims that there is no room for it. 2: claims that the weights exclude it. 3: neither.
+// What the oracle claims of the pair. Granted, the shard has the node for good.
 pub fn take(mem: &mut [u32; 1024], shard: u32, node: u32, most: u32) -> u32
     ensures { result ≤ 3 }
 {
     crate::claims::claim(mem, shard % 16, node % 32, most)
 }
 
-// 0: the shard's list is ended for good. 2: claims that the weights exclude that. 3: neither.
+// What it claims of the end of the shard's list. Granted, the list is ended for good.
 pub fn close(mem: &mut [u32; 1024], shard: u32, most: u32) -> u32
     ensures { result ≤ 3 }
 {

@@ -11,12 +11,11 @@ ghost use Rattle.place_groups.specs.Sheet.{sheet_of};
 ghost use Rattle.place_groups.specs.Definitions.{of_group};
 ghost use Rattle.place_laws.specs.Tables.{group_case};
 ghost use Rattle.place_laws.specs.Adding.{owned_by, mask_with, masks_with};
-ghost use Rattle.search_total.specs.Post.{LeastAnswer};
+ghost use Rattle.search_total.specs.Post.{LeastAnswer, as_solution};
 ghost use Rattle.place_layout.specs.Definitions.{PlacedAlone};
 ghost use Rattle.place_layout.specs.Post.{LaidSoFar, OneMore, Placement};
 
 use base_ids::{Node, Shard};
-use search_total::Solution;
 
 // Where every subgroup has a valid placement: a mask for each shard, 0 from S up, and the total of the moves. Else the lowest
 // subgroup without one, and nothing placed.
@@ -56,19 +55,25 @@ fn least(
     caps: &[u8; 16],
     costs: &[u8; 512],
     sheet: &[[u8; 16]; 16],
-) -> Solution
+) -> Option<search_total::Assignment>
     requires { SheetFor (case_of sets.now needs.now caps.now costs.now 1) sheet.now }
-    ensures { LeastAnswer (case_of sets.now needs.now caps.now costs.now 1) result }
+    ensures { LeastAnswer (case_of sets.now needs.now caps.now costs.now 1) (as_solution result) }
 {
     search_hinted::least(sets, needs, caps, costs, 1, sheet)
 }
 
 // The first owners of least weight of subgroup g.
-fn solve(settings: &[u32], held: u32, old: &[u32; 16], sheet: &[[u8; 16]; 16], g: u32) -> Solution
+fn solve(
+    settings: &[u32],
+    held: u32,
+    old: &[u32; 16],
+    sheet: &[[u8; 16]; 16],
+    g: u32,
+) -> Option<search_total::Assignment>
     requires settings { Settings settings.now }
     requires held_bound { held < 2 ^ nodes settings.now }
     requires sheet_value { sheet.now ≡ sheet_of settings.now held (λ s. get_or old.now s 0) }
-    ensures { LeastAnswer (group_case settings.now held (λ s. get_or old.now s 0) g) result }
+    ensures { LeastAnswer (group_case settings.now held (λ s. get_or old.now s 0) g) (as_solution result) }
 {
     let sets = place_tables::sets(settings);
     let needs = place_tables::needs(settings, g);
@@ -147,23 +152,24 @@ fn place_group(
             total: lower.total,
         };
     }
-    let answer = solve(settings, held, old, sheet, g);
-    if !answer.exists {
-        return Placed {
+    match solve(settings, held, old, sheet, g) {
+        None => Placed {
             found: false,
             group: g,
             masks: [0u32; 16],
             total: 0,
-        };
-    }
-    let owners = answer.owners;
-    let masks = masks_with(settings, g, &owners, &was);
-    let moved = place_groups::check::group_moves(settings, old, &masks, g);
-    Placed {
-        found: true,
-        group: 0,
-        masks,
-        total: lower.total + moved,
+        },
+        Some(answer) => {
+            let owners = answer.owners;
+            let masks = masks_with(settings, g, &owners, &was);
+            let moved = place_groups::check::group_moves(settings, old, &masks, g);
+            Placed {
+                found: true,
+                group: 0,
+                masks,
+                total: lower.total + moved,
+            }
+        }
     }
 }
 
@@ -204,20 +210,21 @@ pub fn place_one(settings: &[u32], held: u32, old: &[u32; 16], g: u32) -> Offer
         };
     }
     let sheet = place_groups::sheet::sheet(settings, held, old);
-    let answer = solve(settings, held, old, &sheet, g);
-    if !answer.exists {
-        return Offer {
+    match solve(settings, held, old, &sheet, g) {
+        None => Offer {
             found: false,
             masks: none,
             moves: 0,
-        };
-    }
-    let owners = answer.owners;
-    let masks = masks_with(settings, g, &owners, &none);
-    let moves = place_groups::check::group_moves(settings, old, &masks, g);
-    Offer {
-        found: true,
-        masks,
-        moves,
+        },
+        Some(answer) => {
+            let owners = answer.owners;
+            let masks = masks_with(settings, g, &owners, &none);
+            let moves = place_groups::check::group_moves(settings, old, &masks, g);
+            Offer {
+                found: true,
+                masks,
+                moves,
+            }
+        }
     }
 }

@@ -2,11 +2,11 @@
 // lowest subgroup that has a valid placement of fewer moves, to the first such.
 #![tactic(auto)]
 
-ghost use Rattle.std.specs.Prelude.{◌≡◌, ◌<◌, ◌^◌, min, get_or, replicate};
+ghost use Rattle.std.specs.Prelude.{◌≡◌, ◌<◌, ◌^◌, min, get_or, replicate, Some};
 ghost use Rattle.settings_values.specs.Definitions.{Settings, nodes};
 ghost use Rattle.search_laws.specs.Tables.{case_of};
-ghost use Rattle.search_total.specs.Post.{WithinAnswer};
-ghost use Rattle.search_rounds.specs.Post.{Low, Weighed, Improved};
+ghost use Rattle.search_total.specs.Post.{WithinAnswer, as_solution};
+ghost use Rattle.search_rounds.specs.Post.{Low, Weighed, Improved, as_improvement};
 ghost use Rattle.place_groups.specs.Definitions.{group_moves};
 ghost use Rattle.place_groups.specs.Sheet.{sheet_of};
 ghost use Rattle.place_laws.specs.Definitions.{masks_of};
@@ -15,8 +15,7 @@ ghost use Rattle.place_rounds.specs.Tables as Tables;
 ghost use Rattle.place_rounds.specs.Post as Post;
 
 use place_layout::Placed;
-use search_rounds::Improvement;
-use search_total::Solution;
+use search_rounds::BestSoFar;
 
 // Where every subgroup has a valid placement: the one that the rounds reach, and its gap, by which no valid placement has fewer moves.
 // Else the lowest subgroup without one, nothing placed, and no gap.
@@ -61,8 +60,13 @@ fn repriced_table(costs: &[u8; 512], w: u8) -> [u8; 512]
 }
 
 // The first valid placement, whatever its moves: where nothing costs anything every one weighs 0.
-fn start(sets: &[u8; 32], needs: &[u8; 16], caps: &[u8; 16], costs: &[u8; 512]) -> Solution
-    ensures { WithinAnswer (case_of sets.now needs.now caps.now (Tables.repriced_table 0 costs.now) 0) 0 result }
+fn start(
+    sets: &[u8; 32],
+    needs: &[u8; 16],
+    caps: &[u8; 16],
+    costs: &[u8; 512],
+) -> Option<search_total::Assignment>
+    ensures { WithinAnswer (case_of sets.now needs.now caps.now (Tables.repriced_table 0 costs.now) 0) 0 (as_solution result) }
 {
     let free = repriced_table(costs, 0);
     search_hinted::first_within(sets, needs, caps, &free, 0, 0)
@@ -75,16 +79,16 @@ fn onward(
     caps: &[u8; 16],
     costs: &[u8; 512],
     floor: usize,
-    first: Solution,
+    first: search_total::Assignment,
     rounds: usize,
-) -> Improvement
+) -> BestSoFar
     requires low { Low (case_of sets.now needs.now caps.now (Tables.repriced_table 1 costs.now) 0) floor }
-    requires weighed { Weighed (case_of sets.now needs.now caps.now (Tables.repriced_table 1 costs.now) 0) first }
-    ensures { Improved (case_of sets.now needs.now caps.now (Tables.repriced_table 1 costs.now) 0) rounds first result }
+    requires weighed { Weighed (case_of sets.now needs.now caps.now (Tables.repriced_table 1 costs.now) 0) (as_solution (Some first)) }
+    ensures { Improved (case_of sets.now needs.now caps.now (Tables.repriced_table 1 costs.now) 0) rounds (as_solution (Some first)) (as_improvement result) }
 {
     if first.weight <= floor {
-        return Improvement {
-            answer: first,
+        return BestSoFar {
+            placement: first,
             left: rounds,
             stuck: true,
         };
@@ -129,39 +133,36 @@ fn reach(
     let needs = place_tables::needs(settings, g);
     let caps = place_tables::caps(settings, g);
     let costs = place_tables::costs(settings, held, old, sheet, g);
-    let first = start(&sets, &needs, &caps, &costs);
-    let owners = first.owners;
-    if !first.exists {
-        return Grouped {
+    match start(&sets, &needs, &caps, &costs) {
+        None => Grouped {
             found: false,
-            owners,
+            owners: [16u8; 32],
             left: rounds,
             floor: 0,
-        };
-    }
-    let floor = search_judge::floor::floor(&needs, sheet);
-    if rounds == 0 {
-        return Grouped {
-            found: true,
-            owners,
-            left: rounds,
-            floor,
-        };
-    }
-    let weight = moves_of(settings, old, g, &owners);
-    let from = Solution {
-        exists: true,
-        weight,
-        owners,
-    };
-    let best = onward(&sets, &needs, &caps, &costs, floor, from, rounds);
-    let answer = best.answer;
-    let reached = answer.owners;
-    Grouped {
-        found: true,
-        owners: reached,
-        left: best.left,
-        floor,
+        },
+        Some(first) => {
+            let owners = first.owners;
+            let floor = search_judge::floor::floor(&needs, sheet);
+            if rounds == 0 {
+                return Grouped {
+                    found: true,
+                    owners,
+                    left: rounds,
+                    floor,
+                };
+            }
+            let weight = moves_of(settings, old, g, &owners);
+            let from = search_total::Assignment { weight, owners };
+            let best = onward(&sets, &needs, &caps, &costs, floor, from, rounds);
+            let reached = best.placement;
+            let owners = reached.owners;
+            Grouped {
+                found: true,
+                owners,
+                left: best.left,
+                floor,
+            }
+        }
     }
 }
 
@@ -191,22 +192,23 @@ fn reach_end(
     let caps = place_tables::caps(settings, g);
     let costs = place_tables::costs(settings, held, old, sheet, g);
     let counted = repriced_table(&costs, 1);
-    let best = search_hinted::least(&sets, &needs, &caps, &counted, 0, sheet);
-    let owners = best.owners;
-    if !best.exists {
-        return Grouped {
+    match search_hinted::least(&sets, &needs, &caps, &counted, 0, sheet) {
+        None => Grouped {
             found: false,
-            owners,
+            owners: [16u8; 32],
             left: 0,
             floor: 0,
-        };
-    }
-    let floor = search_judge::floor::floor(&needs, sheet);
-    Grouped {
-        found: true,
-        owners,
-        left: 0,
-        floor,
+        },
+        Some(best) => {
+            let owners = best.owners;
+            let floor = search_judge::floor::floor(&needs, sheet);
+            Grouped {
+                found: true,
+                owners,
+                left: 0,
+                floor,
+            }
+        }
     }
 }
 

@@ -3,7 +3,7 @@
 // Pairs that are open: masks of nodes by shard; after them the mask of the nodes that must be placed.
 #![tactic(auto)]
 
-ghost use Rattle.std.specs.Prelude.{◌≡◌, true, false, cond, [], IfSome, ◌+◌, ◌*◌, ◌-◌, ◌/◌, ◌^◌, ◌≤◌, ◌<◌, min, length, get_or, leb, ltb};
+ghost use Rattle.std.specs.Prelude.{◌≡◌, true, cond, [], IfSome, ◌+◌, ◌*◌, ◌-◌, ◌/◌, ◌^◌, ◌≤◌, ◌<◌, min, length, get_or, leb, ltb};
 ghost use Rattle.base_laws.specs.Definitions.{all_below, has, with, without};
 ghost use Rattle.base_sum_laws.specs.Definitions.{mask_below, sum_below};
 ghost use Rattle.search_laws.specs.Tables.{case_of, owners_of};
@@ -341,25 +341,8 @@ fn cut_row(
     }
 }
 
-// Whether the weights are good, and the floor that they prove.
-#[derive(Clone, Copy)]
-pub struct Bound {
-    pub good: bool,
-    pub floor: usize,
-}
-
-// Weights that prove nothing.
-fn bad() -> Bound
-    ensures { result.good ≡ false }
-{
-    Bound {
-        good: false,
-        floor: 0,
-    }
-}
-
 // Cuts: excludes pairs from t on that no valid placement takes which agrees with the owners before t, takes open pairs only and weighs at
-// most k, and marks nodes without an owner that each of those places.
+// most k, and marks nodes without an owner that each of those places. Gives the floor that the weights prove; none where an inequality fails.
 pub fn cut(
     sets: &[u8; 32],
     needs: &[u8; 16],
@@ -374,15 +357,15 @@ pub fn cut(
     idle: u8,
     t: usize,
     k: usize,
-) -> Bound
+) -> Option<usize>
     requires t_bound { (t ≤ 512) × (k ≤ 8192) }
     requires small { Small sets.now }
     requires rows_len { length rows.old ≡ 17 }
     requires begun { Begun (owners_of owner.now) t }
-    ensures { result.good ≡ true → SoundBound (case_of sets.now needs.now caps.now costs.now idle) k result.floor (owners_of owner.now) t rows.old rows.new }
+    ensures { IfSome result (λ least. SoundBound (case_of sets.now needs.now caps.now costs.now idle) k least (owners_of owner.now) t rows.old rows.new) }
 {
     if !all_steady(sets, costs, owner, wants, rooms, nodes, pairs, idle) {
-        return bad();
+        return None;
     }
     let low = k + takes(caps, wants, rooms, nodes, pairs);
     let high = grants(needs, wants);
@@ -391,12 +374,9 @@ pub fn cut(
         if !cut_row(
             sets, costs, rows, wants, rooms, nodes, pairs, free, t, i, low, high,
         ) {
-            return bad();
+            return None;
         }
     }
     rows[16] = rows[16] | (must(nodes, idle, low, high) & free);
-    Bound {
-        good: true,
-        floor: floor(high, low - k),
-    }
+    Some(floor(high, low - k))
 }

@@ -3,7 +3,7 @@
 // the owners that are found are tested, so no answer rests on the hints. Where a hint fails, the total search answers.
 #![tactic(auto)]
 
-ghost use Rattle.std.specs.Prelude.{◌≡◌, true, false, [], ◌⊎◌, ◌+◌, ◌*◌, ◌/◌, ◌%◌, ◌≤◌, ◌<◌, min, ltb, length, get_or, set};
+ghost use Rattle.std.specs.Prelude.{◌≡◌, true, [], Some, IfSome, ◌⊎◌, ◌+◌, ◌*◌, ◌/◌, ◌%◌, ◌≤◌, ◌<◌, min, ltb, length, get_or, set};
 ghost use Rattle.base_laws.specs.Definitions.{without};
 ghost use Rattle.base_sum_laws.specs.Definitions.{mask_below};
 ghost use Rattle.search_laws.specs.Case.{WeighsWithin, spread};
@@ -11,13 +11,12 @@ ghost use Rattle.search_laws.specs.Tables.{case_of, owners_of};
 ghost use Rattle.search_laws.specs.Order.{Begun, HasNone, From, shard_end};
 ghost use Rattle.search_laws.specs.Floor.{SheetFor};
 ghost use Rattle.search_bounds.specs.Post.{Small, SoundBound};
-ghost use Rattle.search_total.specs.Post.{WithinAnswer, LeastAnswer, no_owners};
-ghost use Rattle.search_total.specs.Answers.{Empty};
+ghost use Rattle.search_total.specs.Post.{WithinAnswer, LeastAnswer, no_owners, as_solution};
+ghost use Rattle.search_hinted.specs.declared.ListEnd.TheVariants as Ends;
 ghost use Rattle.search_hinted.specs.Stage.{Narrowed, Advanced, Exceeded, Later, OnlyHere, AllowedRow, OpenBelow, At, Moved};
 ghost use Rattle.search_hinted.specs.Post.{Found};
 
-use search_bounds::Bound;
-use search_total::Solution;
+use search_total::Assignment;
 
 // The pairs of shard i that are allowed.
 fn allowed(prices: &[u8; 512], i: usize) -> u32
@@ -53,7 +52,7 @@ fn all_allowed(caps: &[u8; 16], prices: &[u8; 512]) -> [u32; 17]
     rows
 }
 
-// Cuts with the present weights. A shard that may have no node has a room that weighs more than any placement.
+// Cuts with the present weights, and gives the floor that they prove, if they are good. A shard that may have no node has a room that weighs more than any placement.
 fn prune(
     sets: &[u8; 32],
     needs: &[u8; 16],
@@ -65,12 +64,12 @@ fn prune(
     idle: u8,
     t: usize,
     k: usize,
-) -> Bound
+) -> Option<usize>
     requires t_bound { (t ≤ 512) × (k ≤ 8192) }
     requires small { Small sets.now }
     requires rows_len { length rows.old ≡ 17 }
     requires begun { Begun (owners_of owner.now) t }
-    ensures { result.good ≡ true → SoundBound (case_of sets.now needs.now caps.now prices.now idle) k result.floor (owners_of owner.now) t rows.old rows.new }
+    ensures { IfSome result (λ floor. SoundBound (case_of sets.now needs.now caps.now prices.now idle) k floor (owners_of owner.now) t rows.old rows.new) }
 {
     let mut wants = [0u16; 16];
     let mut rooms = [8300u16; 16];
@@ -102,7 +101,7 @@ fn exceeds(
     ensures { result ≡ true → Exceeded (case_of sets.now needs.now caps.now prices.now idle) k (owners_of owner.now) t rows.now }
 {
     let mut scratch = *rows;
-    let v = prune(
+    match prune(
         sets,
         needs,
         caps,
@@ -113,11 +112,10 @@ fn exceeds(
         idle,
         t,
         k,
-    );
-    if v.good {
-        return v.floor > k;
+    ) {
+        Some(floor) => floor > k,
+        None => false,
     }
-    false
 }
 
 // The nodes that are open for a shard past i.
@@ -167,8 +165,16 @@ fn lacks(sets: &[u8; 32], needs: &[u8; 16], owner: &[u8; 32], t: usize) -> bool
     search_judge::spread(sets, owner, t / 32) < need
 }
 
-// Whether shard t / 32 can't end its list at pair t. 0: no proof was found. 1: its list is ended. 2: it can't be. Where no pair of the
-// shard is open its list is ended.
+// What is found of the end of a shard's list.
+#[derive(Clone, Copy)]
+enum ListEnd {
+    // the list is ended
+    Here,
+    // it can't be
+    Later,
+}
+
+// Whether shard t / 32 can end its list at pair t; none where no proof was found. Where no pair of the shard is open its list is ended.
 fn ends(
     sets: &[u8; 32],
     needs: &[u8; 16],
@@ -180,25 +186,24 @@ fn ends(
     idle: u8,
     t: usize,
     k: usize,
-) -> u32
+) -> Option<ListEnd>
     requires t_bound { (t < 512) × (k ≤ 8192) }
     requires small { Small sets.now }
     requires narrowed { Narrowed (case_of sets.now needs.now caps.now prices.now idle) k owner.now t rows.now }
-    ensures has_none { result ≡ 2 → HasNone (From (WeighsWithin (case_of sets.now needs.now caps.now prices.now idle) k) (owners_of owner.now) (shard_end t)) }
-    ensures upper_bound { result ≤ 2 }
+    ensures { result ≡ Some Ends.Later → HasNone (From (WeighsWithin (case_of sets.now needs.now caps.now prices.now idle) k) (owners_of owner.now) (shard_end t)) }
 {
     if rows[t / 32] == 0 {
-        return 1;
+        return Some(ListEnd::Here);
     }
     if lacks(sets, needs, owner, t) {
-        return 2;
+        return Some(ListEnd::Later);
     }
     if stuck(rows, t / 32) {
-        return 2;
+        return Some(ListEnd::Later);
     }
     let hint = hint_oracle::close(mem, (t / 32) as u32, k as u32);
-    if hint == 0 {
-        return 1;
+    if hint == hint_oracle::GRANTED {
+        return Some(ListEnd::Here);
     }
     if exceeds(
         sets,
@@ -212,9 +217,9 @@ fn ends(
         search_total::next(t),
         k,
     ) {
-        return 2;
+        return Some(ListEnd::Later);
     }
-    0
+    None
 }
 
 // Takes pair t, unless its node has an owner. The node need not be placed any more.
@@ -250,19 +255,20 @@ fn leaves(
     requires narrowed { Narrowed (case_of sets.now needs.now caps.now prices.now idle) k owner.now t rows.old }
     ensures { result ≡ true → Advanced (case_of sets.now needs.now caps.now prices.now idle) k owner.now t owner.now rows.new }
 {
-    if hint == 1 {
+    if hint == hint_oracle::BARRED {
         return search_judge::barred(sets, needs, caps, prices, owner, idle, t);
     }
-    if hint == 2 {
-        let v = prune(sets, needs, caps, prices, rows, owner, mem, idle, t, k);
-        if v.good {
-            return !base_masks::has(rows[t / 32], t % 32);
-        }
+    if hint != hint_oracle::EXCLUDED {
+        return false;
     }
-    false
+    match prune(sets, needs, caps, prices, rows, owner, mem, idle, t, k) {
+        Some(_floor) => !base_masks::has(rows[t / 32], t % 32),
+        None => false,
+    }
 }
 
-// Where the search goes from p: pair p / 2, with the end of the list there tried where p is odd. 2000: no proof was found.
+// Where the search goes from p: pair p / 2, with the end of the list there tried where p is odd; none where no proof
+// was found.
 fn ended(
     sets: &[u8; 32],
     needs: &[u8; 16],
@@ -274,21 +280,17 @@ fn ended(
     idle: u8,
     p: usize,
     k: usize,
-) -> usize
+) -> Option<usize>
     requires p_bound { (p < 1024) × (k ≤ 8192) }
     requires p_value { p % 2 ≡ 0 }
     requires small { Small sets.now }
     requires at { At (case_of sets.now needs.now caps.now prices.now idle) k owner.now p rows.now }
-    ensures { result ≤ 1024 → Moved (case_of sets.now needs.now caps.now prices.now idle) k owner.now p owner.now rows.now result }
+    ensures { IfSome result (λ next. Moved (case_of sets.now needs.now caps.now prices.now idle) k owner.now p owner.now rows.now next) }
 {
-    let e = ends(sets, needs, caps, prices, rows, owner, mem, idle, p / 2, k);
-    if e == 1 {
-        return 2 * search_total::next(p / 2);
+    match ends(sets, needs, caps, prices, rows, owner, mem, idle, p / 2, k)? {
+        ListEnd::Here => Some(2 * search_total::next(p / 2)),
+        ListEnd::Later => Some(p + 1),
     }
-    if e == 2 {
-        return p + 1;
-    }
-    2000
 }
 
 // The same, where the list goes on: its pair is left or taken.
@@ -303,34 +305,34 @@ fn decided(
     idle: u8,
     p: usize,
     k: usize,
-) -> usize
+) -> Option<usize>
     requires p_bound { (p < 1024) × (k ≤ 8192) }
     requires p_value { p % 2 ≡ 1 }
     requires small { Small sets.now }
     requires at { At (case_of sets.now needs.now caps.now prices.now idle) k owner.old p rows.old }
-    ensures { result ≤ 1024 → Moved (case_of sets.now needs.now caps.now prices.now idle) k owner.old p owner.new rows.new result }
+    ensures { IfSome result (λ next. Moved (case_of sets.now needs.now caps.now prices.now idle) k owner.old p owner.new rows.new next) }
 {
     let t = p / 2;
     let n = t % 32;
     if !base_masks::has(rows[t / 32], n) {
-        return passed(p);
+        return Some(passed(p));
     }
     if owner[n] < 16 {
-        return passed(p);
+        return Some(passed(p));
     }
     let hint = hint_oracle::take(mem, (t / 32) as u32, n as u32, k as u32);
-    if hint == 0 {
+    if hint == hint_oracle::GRANTED {
         if take(owner, rows, t) {
-            return p + 1;
+            return Some(p + 1);
         }
-        return 2000;
+        return None;
     }
     if leaves(
         sets, needs, caps, prices, rows, owner, mem, idle, hint, t, k,
     ) {
-        return passed(p);
+        return Some(passed(p));
     }
-    2000
+    None
 }
 
 // Past a pair that is left: the list's end need not be tried again within the shard.
@@ -357,11 +359,11 @@ fn step(
     idle: u8,
     p: usize,
     k: usize,
-) -> usize
+) -> Option<usize>
     requires p_bound { (p < 1024) × (k ≤ 8192) }
     requires small { Small sets.now }
     requires at { At (case_of sets.now needs.now caps.now prices.now idle) k owner.old p rows.old }
-    ensures { result ≤ 1024 → Moved (case_of sets.now needs.now caps.now prices.now idle) k owner.old p owner.new rows.new result }
+    ensures { IfSome result (λ next. Moved (case_of sets.now needs.now caps.now prices.now idle) k owner.old p owner.new rows.new next) }
 {
     if p % 2 == 0 {
         return ended(sets, needs, caps, prices, rows, owner, mem, idle, p, k);
@@ -369,34 +371,7 @@ fn step(
     decided(sets, needs, caps, prices, rows, owner, mem, idle, p, k)
 }
 
-// An answer, if it is sure.
-#[derive(Clone, Copy)]
-struct Quick {
-    sure: bool,
-    answer: Solution,
-}
-
-// No answer.
-fn unsure() -> Quick
-    ensures { result.sure ≡ false }
-{
-    Quick {
-        sure: false,
-        answer: search_total::nothing(),
-    }
-}
-
-// Surely none.
-fn none() -> Quick
-    ensures { (result.sure ≡ true) × Empty result.answer }
-{
-    Quick {
-        sure: true,
-        answer: search_total::nothing(),
-    }
-}
-
-// The first valid placement of a weight of at most k, where the hints lead to it.
+// The first valid placement of a weight of at most k; none where the hints don't lead to it.
 fn follow(
     sets: &[u8; 32],
     needs: &[u8; 16],
@@ -406,28 +381,22 @@ fn follow(
     mem: &mut [u32; 1024],
     idle: u8,
     k: usize,
-) -> Quick
+) -> Option<Assignment>
     requires k_bound { k ≤ 8192 }
     requires small { Small sets.now }
     requires narrowed { Narrowed (case_of sets.now needs.now caps.now prices.now idle) k no_owners 0 rows.old }
-    ensures { result.sure ≡ true → Found (case_of sets.now needs.now caps.now prices.now idle) k result.answer }
+    ensures { IfSome result (λ p. Found (case_of sets.now needs.now caps.now prices.now idle) k (as_solution (Some p))) }
 {
     let mut owner = [16u8; 32];
     let mut p: usize = 0;
     while p < 1024 {
-        let r = step(sets, needs, caps, prices, rows, &mut owner, mem, idle, p, k);
-        if r > 1024 {
-            return unsure();
-        }
-        p = r;
+        let next = step(sets, needs, caps, prices, rows, &mut owner, mem, idle, p, k)?;
+        p = next;
     }
     if search_judge::within(sets, needs, caps, prices, &owner, idle, k) {
-        Quick {
-            sure: true,
-            answer: search_total::some(prices, owner, idle),
-        }
+        Some(search_total::placed(prices, owner, idle))
     } else {
-        unsure()
+        None
     }
 }
 
@@ -450,7 +419,7 @@ fn capped(k: usize) -> usize
     if k < 8192 { k } else { 8192 }
 }
 
-// The first valid placement of a weight of at most k, or that there is none, where the hints lead to it.
+// The first valid placement of a weight of at most k, or that there is none: a sure answer, or none where the hints don't lead to it.
 fn quick_within(
     sets: &[u8; 32],
     needs: &[u8; 16],
@@ -458,58 +427,54 @@ fn quick_within(
     prices: &[u8; 512],
     idle: u8,
     k: usize,
-) -> Quick
-    ensures { result.sure ≡ true → WithinAnswer (case_of sets.now needs.now caps.now prices.now idle) k result.answer }
+) -> Option<Option<Assignment>>
+    ensures { IfSome result (λ sure. WithinAnswer (case_of sets.now needs.now caps.now prices.now idle) k (as_solution sure)) }
 {
     if !fit(sets) {
-        return unsure();
+        return None;
     }
     let most = capped(k);
     let mut mem = [0u32; 1024];
     let mut rows = all_allowed(caps, prices);
     let owner = [16u8; 32];
     hint_oracle::solve(&mut mem, sets, needs, caps, prices, idle);
-    let v = prune(
+    let floor = prune(
         sets, needs, caps, prices, &mut rows, &owner, &mem, idle, 0, most,
-    );
-    if !v.good {
-        return unsure();
+    )?;
+    if most < floor {
+        return Some(None);
     }
-    if most < v.floor {
-        return none();
-    }
-    follow(sets, needs, caps, prices, &mut rows, &mut mem, idle, most)
+    let found = follow(sets, needs, caps, prices, &mut rows, &mut mem, idle, most)?;
+    Some(Some(found))
 }
 
-// The first of the valid placements of least weight, or that there is none, where the hints lead to it.
+// The first of the valid placements of least weight, or that there is none: a sure answer, or none where the hints don't lead to it.
 fn by_claim(
     sets: &[u8; 32],
     needs: &[u8; 16],
     caps: &[u8; 16],
     prices: &[u8; 512],
     idle: u8,
-) -> Quick
+) -> Option<Option<Assignment>>
     requires { Small sets.now }
-    ensures { result.sure ≡ true → LeastAnswer (case_of sets.now needs.now caps.now prices.now idle) result.answer }
+    ensures { IfSome result (λ sure. LeastAnswer (case_of sets.now needs.now caps.now prices.now idle) (as_solution sure)) }
 {
     let mut mem = [0u32; 1024];
     let mut rows = all_allowed(caps, prices);
     let owner = [16u8; 32];
     let claim = hint_oracle::solve(&mut mem, sets, needs, caps, prices, idle);
     let most = capped(claim as usize);
-    let v = prune(
+    let floor = prune(
         sets, needs, caps, prices, &mut rows, &owner, &mem, idle, 0, most,
-    );
-    if !v.good {
-        return unsure();
+    )?;
+    if floor > 8192 {
+        return Some(None);
     }
-    if v.floor > 8192 {
-        return none();
+    if floor != most {
+        return None;
     }
-    if v.floor != most {
-        return unsure();
-    }
-    follow(sets, needs, caps, prices, &mut rows, &mut mem, idle, most)
+    let found = follow(sets, needs, caps, prices, &mut rows, &mut mem, idle, most)?;
+    Some(Some(found))
 }
 
 // The same from the sheet, which tells of some cases that there is none.
@@ -520,15 +485,15 @@ fn quick_least(
     prices: &[u8; 512],
     idle: u8,
     sheet: &[[u8; 16]; 16],
-) -> Quick
+) -> Option<Option<Assignment>>
     requires { SheetFor (case_of sets.now needs.now caps.now prices.now idle) sheet.now }
-    ensures { result.sure ≡ true → LeastAnswer (case_of sets.now needs.now caps.now prices.now idle) result.answer }
+    ensures { IfSome result (λ sure. LeastAnswer (case_of sets.now needs.now caps.now prices.now idle) (as_solution sure)) }
 {
     if !fit(sets) {
-        return unsure();
+        return None;
     }
     if search_judge::floor::short(needs, sheet) {
-        return none();
+        return Some(None);
     }
     by_claim(sets, needs, caps, prices, idle)
 }
@@ -541,14 +506,13 @@ pub fn first_within(
     prices: &[u8; 512],
     idle: u8,
     k: usize,
-) -> Solution
-    ensures { WithinAnswer (case_of sets.now needs.now caps.now prices.now idle) k result }
+) -> Option<Assignment>
+    ensures { WithinAnswer (case_of sets.now needs.now caps.now prices.now idle) k (as_solution result) }
 {
-    let q = quick_within(sets, needs, caps, prices, idle, k);
-    if q.sure {
-        return q.answer;
+    match quick_within(sets, needs, caps, prices, idle, k) {
+        Some(sure) => sure,
+        None => search_total::plain_within(sets, needs, caps, prices, idle, k),
     }
-    search_total::plain_within(sets, needs, caps, prices, idle, k)
 }
 
 // The first of the valid placements of least weight, or that there is none. The sheet has for each shard and failure set 2 where no node
@@ -560,13 +524,12 @@ pub fn least(
     prices: &[u8; 512],
     idle: u8,
     sheet: &[[u8; 16]; 16],
-) -> Solution
+) -> Option<Assignment>
     requires { SheetFor (case_of sets.now needs.now caps.now prices.now idle) sheet.now }
-    ensures { LeastAnswer (case_of sets.now needs.now caps.now prices.now idle) result }
+    ensures { LeastAnswer (case_of sets.now needs.now caps.now prices.now idle) (as_solution result) }
 {
-    let q = quick_least(sets, needs, caps, prices, idle, sheet);
-    if q.sure {
-        return q.answer;
+    match quick_least(sets, needs, caps, prices, idle, sheet) {
+        Some(sure) => sure,
+        None => search_total::plain_least(sets, needs, caps, prices, idle),
     }
-    search_total::plain_least(sets, needs, caps, prices, idle)
 }

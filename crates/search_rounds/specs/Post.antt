@@ -1,12 +1,13 @@
 -- The rounds in one subgroup: each goes to the first valid placement of less weight.
-use Rattle.std.specs.Prelude.{◌≡◌, true, false, ℕ, ◌+◌, ◌-◌, ◌≤◌, ◌<◌}
+use Rattle.std.specs.Prelude.{◌≡◌, true, false, ℕ, ◌+◌, ◌-◌, ◌≤◌, ◌<◌, Some}
 use Rattle.std.proofs.Common.{ap, ◌∙◌, subst, arith}
 use Rattle.search_laws.specs.Case.{Case, Valid, WeighsWithin, weight}
 use Rattle.search_laws.specs.Tables.{owners_of}
 use Rattle.search_laws.specs.Order.{First, HasNone}
 use Rattle.search_total.specs.declared.Solution.{Solution}
-use Rattle.search_total.specs.Post.{WithinAnswer}
+use Rattle.search_total.specs.Post.{WithinAnswer, as_solution}
 use Rattle.search_rounds.specs.declared.Improvement.{Improvement}
+use Rattle.search_rounds.specs.declared.BestSoFar.{BestSoFar}
 
 -- valid, of less weight than z
 pub record Fewer (K : Case) (z y : ℕ → ℕ) : Type 0 where
@@ -44,6 +45,10 @@ pub record Improved (K : Case) (n : ℕ) (a : Solution) (r : Improvement) : Type
   pub steps : Steps K n (owners_of a.owners) r.left (owners_of r.answer.owners)
   pub stuck : r.stuck ≡ true → HasNone (Fewer K (owners_of r.answer.owners))
   pub out : r.stuck ≡ false → r.left ≡ 0
+
+-- what rounds give as an improvement
+abbrev pub as_improvement : BestSoFar → Improvement
+as_improvement r = record { answer = as_solution (Some r.placement); left = r.left; stuck = r.stuck }
 
 -- on the way
 pub record Way (K : Case) (n : ℕ) (a : Solution) (best : Solution) (left : ℕ) : Type 0 where

@@ -1,8 +1,9 @@
 -- The promises of the search.
-use Rattle.std.specs.Prelude.{◌≡◌, Bool, true, false, List, ℕ, ◌≤◌, ◌<◌, length, replicate}
+use Rattle.std.specs.Prelude.{◌≡◌, Bool, true, false, List, ℕ, ◌≤◌, ◌<◌, length, replicate, Option, Some, None}
 use Rattle.search_laws.specs.Case.{Case, Valid, WeighsWithin, LeastWeight, weight}
 use Rattle.search_laws.specs.Tables.{owners_of}
 use Rattle.search_laws.specs.Order.{First, HasNone, From, Begun}
+use Rattle.search_total.specs.declared.Assignment.{Assignment}
 use Rattle.search_total.specs.declared.Solution.{Solution}
 
 -- owners of 32 nodes, 16 for a node that is placed nowhere
@@ -25,6 +26,11 @@ pub record Sought (K : Case) (k : ℕ) (o : List ℕ) (t : ℕ) (p : List ℕ) (
 -- no owners
 abbrev pub no_owners : List ℕ
 no_owners = replicate 32 16
+
+-- what a search gives as a solution
+abbrev pub as_solution : Option Assignment → Solution
+as_solution (Some p) = record { exists = true; weight = p.weight; owners = p.owners }
+as_solution None = record { exists = false; weight = 0; owners = no_owners }
 
 -- the first valid placement of a weight of at most k with its weight, or that there is none
 pub record WithinAnswer (K : Case) (k : ℕ) (a : Solution) : Type 0 where

@@ -2,14 +2,21 @@
 // those of search_judge; shards ascending, the smaller list of nodes in dictionary order comes first, and a list before a longer one.
 #![tactic(auto)]
 
-ghost use Rattle.std.specs.Prelude.{◌≡◌, true, [], ◌+◌, ◌≤◌, ◌<◌, eqb};
+ghost use Rattle.std.specs.Prelude.{◌≡◌, true, Some, [], ◌+◌, ◌≤◌, ◌<◌, eqb};
 ghost use Rattle.search_laws.specs.Case.{WeighsWithin};
 ghost use Rattle.search_laws.specs.Order.{HasNone, From, shard_end};
 ghost use Rattle.search_laws.specs.Tables.{case_of, owners_of};
-ghost use Rattle.search_total.specs.Post.{ReadyFrom, Sought, WithinAnswer, LeastAnswer};
-ghost use Rattle.search_total.specs.Answers.{HasOwners, Empty};
+ghost use Rattle.search_total.specs.Post.{ReadyFrom, Sought, WithinAnswer, LeastAnswer, as_solution};
+ghost use Rattle.search_total.specs.Answers.{HasOwners};
 
-// What a search found: the weight and the owner of each node, 16 for none, where a placement exists; else 0 and no owners.
+// A placement: its weight, and the owner of each node, 16 for none.
+#[derive(Clone, Copy)]
+pub struct Assignment {
+    pub weight: usize,
+    pub owners: [u8; 32],
+}
+
+// What a search found, as definitions have it: a placement, or, where none exists, the weight 0 and no owners.
 #[derive(Clone, Copy)]
 pub struct Solution {
     pub exists: bool,
@@ -80,27 +87,12 @@ fn seek(
     seek(sets, needs, caps, costs, owner, idle, t + 1, k, true)
 }
 
-// The owners that were found, with their weight.
-pub fn some(costs: &[u8; 512], owners: [u8; 32], idle: u8) -> Solution
-    ensures { HasOwners (case_of [] [] [] costs.now idle) owners result }
+// The placement by its owners.
+pub fn placed(costs: &[u8; 512], owners: [u8; 32], idle: u8) -> Assignment
+    ensures { HasOwners (case_of [] [] [] costs.now idle) owners (as_solution (Some result)) }
 {
     let weight = search_judge::weight(costs, &owners, idle);
-    Solution {
-        exists: true,
-        weight,
-        owners,
-    }
-}
-
-// There is none.
-pub fn nothing() -> Solution
-    ensures { Empty result }
-{
-    Solution {
-        exists: false,
-        weight: 0,
-        owners: [16u8; 32],
-    }
+    Assignment { weight, owners }
 }
 
 // The first valid placement of a weight of at most k.
@@ -111,15 +103,14 @@ pub fn plain_within(
     costs: &[u8; 512],
     idle: u8,
     k: usize,
-) -> Solution
-    ensures { WithinAnswer (case_of sets.now needs.now caps.now costs.now idle) k result }
+) -> Option<Assignment>
+    ensures { WithinAnswer (case_of sets.now needs.now caps.now costs.now idle) k (as_solution result) }
 {
     let mut owner = [16u8; 32];
-    if seek(sets, needs, caps, costs, &mut owner, idle, 0, k, false) {
-        some(costs, owner, idle)
-    } else {
-        nothing()
+    if !seek(sets, needs, caps, costs, &mut owner, idle, 0, k, false) {
+        return None;
     }
+    Some(placed(costs, owner, idle))
 }
 
 // The first of the valid placements of least weight: from the first of all, each time one of less weight, until there is none.
@@ -129,20 +120,16 @@ pub fn plain_least(
     caps: &[u8; 16],
     costs: &[u8; 512],
     idle: u8,
-) -> Solution
-    ensures { LeastAnswer (case_of sets.now needs.now caps.now costs.now idle) result }
+) -> Option<Assignment>
+    ensures { LeastAnswer (case_of sets.now needs.now caps.now costs.now idle) (as_solution result) }
 {
-    let start = plain_within(sets, needs, caps, costs, idle, 8192);
-    if !start.exists {
-        return start;
-    }
+    let start = plain_within(sets, needs, caps, costs, idle, 8192)?;
     let mut k = start.weight;
     while k > 0 {
-        let a = plain_within(sets, needs, caps, costs, idle, k - 1);
-        if !a.exists {
-            return plain_within(sets, needs, caps, costs, idle, k);
+        match plain_within(sets, needs, caps, costs, idle, k - 1) {
+            Some(lighter) => k = lighter.weight,
+            None => return plain_within(sets, needs, caps, costs, idle, k),
         }
-        k = a.weight;
     }
     plain_within(sets, needs, caps, costs, idle, k)
 }

@@ -2,7 +2,6 @@
 -- nothing to place. The moves are at most 32, so the total fits. Assumes nothing.
 use mathlib.Core.Path.{refl, sym, ◌∙◌}
 use native.Mathlib.Omega.{arith}
-use borrow.Author.Tests.{not-true, not-false}
 use Rattle.base_laws.specs.Bools.{clash}
 use Rattle.place_layout.specs.Steps.{moved_small, stage_more, stage_none, none_here}
 use Rattle.place_layout.proofs.place_group.Goals as goal
@@ -16,20 +15,17 @@ returns-then-not-has_shards c =
       unplaced = λ e. clash refl e;
     }
 
-pub returns-then-not-answer : goal.returns-then-not-answer
-returns-then-not-answer c =
+pub returns-in-None : goal.returns-in-None
+returns-in-None c =
     let p = c.requires in
-    let s = c.solve-answer in
     record {
       more = λ e. clash e refl;
-      unplaced = λ e. none_here p.settings p.held_bound p.laid_so_far s.ensures p.g_bound (not-true c.solve-answer.result.exists c.if-not-answer.true) refl refl refl;
+      unplaced = λ e. none_here p.settings p.held_bound p.laid_so_far c.in-None.ensures p.g_bound refl refl refl refl;
     }
 
 pub overflow_add-result : goal.overflow_add-result
 overflow_add-result c =
-    let m = c in
-    let s = m.solve-answer in
-    let p = m.requires in
+    let p = c.requires in
     record {
       fits =
           omega (
@@ -37,18 +33,16 @@ overflow_add-result c =
             p.g_bound,
             p.laid_so_far.small,
             c.group_moves-moved.ensures,
-            moved_small p.settings p.held_bound p.laid_so_far s.ensures (not-false m.solve-answer.result.exists m.if-not-answer.false) m.masks_with-masks.ensures,
+            moved_small p.settings p.held_bound p.laid_so_far c.in-Some.ensures refl c.masks_with-masks.ensures,
           );
     }
 
-pub returns : goal.returns
-returns c =
-    let m = c in
-    let s = m.solve-answer in
-    let p = m.requires in
+pub returns-in-Some : goal.returns-in-Some
+returns-in-Some c =
+    let p = c.requires in
     record {
       more = λ e.
-          stage_more p.settings p.held_bound p.laid_so_far s.ensures (not-false m.solve-answer.result.exists m.if-not-answer.false) m.masks_with-masks.ensures
+          stage_more p.settings p.held_bound p.laid_so_far c.in-Some.ensures refl c.masks_with-masks.ensures
           c.group_moves-moved.ensures refl refl;
       unplaced = λ e. clash refl e;
     }

@@ -1,7 +1,6 @@
 -- `place_layout::place_one` meets its contract: the search's answer for the subgroup beside no other, or none exists; a subgroup without
 -- shards has nothing to place. Assumes nothing.
 use mathlib.Core.Path.{refl, sym, ◌∙◌}
-use borrow.Author.Tests.{not-true, not-false}
 use Rattle.place_layout.specs.Steps.{alone_none, alone_unplaced, alone_placed}
 use Rattle.place_layout.proofs.place_one.Goals as goal
 
@@ -11,15 +10,12 @@ returns-then-not-has_shards c =
     let h = c.has_shards in
     alone_none p.settings (sym h.ensures ∙ c.if-not-has_shards.true) refl refl refl
 
-pub returns-then-not-answer : goal.returns-then-not-answer
-returns-then-not-answer c =
+pub returns-in-None : goal.returns-in-None
+returns-in-None c =
     let p = c.requires in
-    let s = c.solve-answer in
-    alone_unplaced p.settings p.held_bound s.ensures (not-true c.solve-answer.result.exists c.if-not-answer.true) refl refl refl
+    alone_unplaced p.settings p.held_bound c.in-None.ensures refl refl refl refl
 
-pub returns : goal.returns
-returns c =
+pub returns-in-Some : goal.returns-in-Some
+returns-in-Some c =
     let p = c.requires in
-    let s = c.solve-answer in
-    let m = c.masks_with-masks in
-    alone_placed p.settings p.held_bound s.ensures (not-false c.solve-answer.result.exists c.if-not-answer.false) refl m.ensures c.group_moves-moves.ensures
+    alone_placed p.settings p.held_bound c.in-Some.ensures refl refl c.masks_with-masks.ensures c.group_moves-moves.ensures

@@ -4,8 +4,10 @@ use mathlib.Core.Bool.{true≢false}
 use mathlib.Core.List.{List}
 use mathlib.Core.Path.{sym, subst}
 use Prim.Native.Nat.{ℕ}
+use Rattle.std.proofs.Common.{Some}
 use Rattle.search_laws.specs.Tables.{case_of}
-use Rattle.search_rounds.specs.Post.{Low, Weighed, Improved, start, way_start, way_low}
+use Rattle.search_total.specs.Post.{as_solution}
+use Rattle.search_rounds.specs.Post.{Low, Weighed, Improved, as_improvement, start, way_start, way_low}
 use Rattle.place_rounds.proofs.onward.Goals as goal
 
 pub returns-then-first-floor : goal.returns-then-first-floor
@@ -17,10 +19,10 @@ pub better-requires : goal.better-requires
 better-requires c =
     let m = c in
     let a = m.args in
-    let e = c.repriced_table-counted.ensures in record { low = subst (λ (t : List ℕ). Low (case_of a.sets.now a.needs.now a.caps.now t 0) a.floor) (sym e) m.requires.low; weighed = subst (λ (t : List ℕ). Weighed (case_of a.sets.now a.needs.now a.caps.now t 0) a.first) (sym e) m.requires.weighed }
+    let e = c.repriced_table-counted.ensures in record { low = subst (λ (t : List ℕ). Low (case_of a.sets.now a.needs.now a.caps.now t 0) a.floor) (sym e) m.requires.low; weighed = subst (λ (t : List ℕ). Weighed (case_of a.sets.now a.needs.now a.caps.now t 0) (as_solution (Some a.first))) (sym e) m.requires.weighed }
 
 pub returns : goal.returns
 returns c =
     let a = c.args in
-    subst (λ (t : List ℕ). Improved (case_of a.sets.now a.needs.now a.caps.now t 0) a.rounds a.first c.better.result)
+    subst (λ (t : List ℕ). Improved (case_of a.sets.now a.needs.now a.caps.now t 0) a.rounds (as_solution (Some a.first)) (as_improvement c.better.result))
     c.repriced_table-counted.ensures c.better.ensures

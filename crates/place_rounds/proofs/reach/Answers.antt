@@ -1,14 +1,13 @@
 -- `place_rounds::reach` meets its contract: the start is the first of all, the rounds go on from it, and a subgroup without shards has nothing
 -- to place. Assumes nothing.
 use Prim.Native.Nat.{ℕ}
-use mathlib.Core.Bool.{true}
+use Rattle.std.proofs.Common.{Some, None}
 use mathlib.Core.Path.{refl, sym, ◌∙◌, subst}
 use lib.ListN.{get_or}
-use borrow.Author.Tests.{not-true, not-false}
 use Rattle.base_laws.specs.Bools.{clash}
 use Rattle.search_laws.specs.Case.{Case}
-use Rattle.search_total.specs.Post.{WithinAnswer}
-use Rattle.search_rounds.specs.Post.{Low, Weighed, Improved}
+use Rattle.search_total.specs.Post.{WithinAnswer, as_solution}
+use Rattle.search_rounds.specs.Post.{Low, Weighed, Improved, as_improvement}
 use Rattle.place_rounds.specs.Tables.{round_case, floor_told}
 use Rattle.place_rounds.specs.Turns.{round_tables, low_floor, never_placed, start_weighed, reached_start, reached_better, reached_none}
 use Rattle.place_rounds.proofs.reach.Goals as goal
@@ -24,19 +23,18 @@ returns-then-not-has_shards c =
       none = λ e. clash refl e;
     }
 
-pub returns-then-not-first : goal.returns-then-not-first
-returns-then-not-first c =
+pub returns-in-None : goal.returns-in-None
+returns-in-None c =
     let m = c in
     let a = m.args in
     let p = m.requires in
     let o : ℕ → ℕ = λ s. get_or a.old.now s 0 in
-    let u = c.start-first in
     let n = c.needs-needs in
     let t = round_tables a.settings.now a.held o a.g 0 c.sets-sets.ensures n.ensures c.caps-caps.ensures c.costs-costs.ensures in
-    let k = subst (λ (K : Case). WithinAnswer K 0 u.result) t u.ensures in
+    let k = subst (λ (K : Case). WithinAnswer K 0 (as_solution None)) t c.in-None.ensures in
     record {
       reached = λ e. clash e refl;
-      none = λ e. never_placed a.settings.now a.held o a.g p.settings p.held_bound u.result k (not-true c.start-first.result.exists c.if-not-first.true);
+      none = λ e. never_placed a.settings.now a.held o a.g p.settings p.held_bound (as_solution None) k refl;
     }
 
 pub returns-then-rounds-eq0 : goal.returns-then-rounds-eq0
@@ -45,14 +43,13 @@ returns-then-rounds-eq0 c =
     let a = m.args in
     let p = m.requires in
     let o : ℕ → ℕ = λ s. get_or a.old.now s 0 in
-    let u = c.start-first in
     let n = c.needs-needs in
     let t = round_tables a.settings.now a.held o a.g 0 c.sets-sets.ensures n.ensures c.caps-caps.ensures c.costs-costs.ensures in
-    let k = subst (λ (K : Case). WithinAnswer K 0 u.result) t u.ensures in
+    let k = subst (λ (K : Case). WithinAnswer K 0 (as_solution (Some c.in-Some.first))) t c.in-Some.ensures in
     let f = c.floor-floor in
     record {
       reached = λ e.
-          reached_start a.settings.now a.held o a.g p.settings p.held_bound u.result k (not-false c.start-first.result.exists c.if-not-first.false) a.rounds f.result c.if-rounds-eq0.true
+          reached_start a.settings.now a.held o a.g p.settings p.held_bound (as_solution (Some c.in-Some.first)) k refl a.rounds f.result c.if-rounds-eq0.true
           (floor_told a.settings.now a.held o a.g p.settings p.held_bound n.result a.sheet.now f.result n.ensures p.sheet_value f.ensures);
       none = λ e. clash refl e;
     }
@@ -66,38 +63,36 @@ onward-best-requires c =
     let a = m.args in
     let p = m.requires in
     let o : ℕ → ℕ = λ s. get_or a.old.now s 0 in
-    let u = c.start-first in
     let n = c.needs-needs in
     let t = round_tables a.settings.now a.held o a.g 0 c.sets-sets.ensures n.ensures c.caps-caps.ensures c.costs-costs.ensures in
     let i = round_tables a.settings.now a.held o a.g 1 c.sets-sets.ensures n.ensures c.caps-caps.ensures c.costs-costs.ensures in
-    let k = subst (λ (K : Case). WithinAnswer K 0 u.result) t u.ensures in
+    let k = subst (λ (K : Case). WithinAnswer K 0 (as_solution (Some c.in-Some.first))) t c.in-Some.ensures in
     let f = c.floor-floor in
     let v = c.moves_of-weight in
     let l = floor_told a.settings.now a.held o a.g p.settings p.held_bound n.result a.sheet.now f.result n.ensures p.sheet_value f.ensures in record {
       low = subst (λ (K : Case). Low K f.result) (sym i)
           (subst (Low (round_case a.settings.now a.held o a.g 1)) (sym l) (low_floor a.settings.now a.held o a.g p.settings p.held_bound));
-      weighed = subst (λ (K : Case). Weighed K (record { exists = true; weight = v.result; owners = u.result.owners })) (sym i)
-          (start_weighed a.settings.now a.held o a.g p.settings p.held_bound u.result k (not-false c.start-first.result.exists c.if-not-first.false) v.result v.ensures);
+      weighed = subst (λ (K : Case). Weighed K (as_solution (Some (record { weight = v.result; owners = c.in-Some.first.owners })))) (sym i)
+          (start_weighed a.settings.now a.held o a.g p.settings p.held_bound (as_solution (Some c.in-Some.first)) k refl v.result v.ensures);
     }
 
-pub returns : goal.returns
-returns c =
+pub returns-else-rounds-eq0 : goal.returns-else-rounds-eq0
+returns-else-rounds-eq0 c =
     let m = c in
     let a = m.args in
     let p = m.requires in
     let o : ℕ → ℕ = λ s. get_or a.old.now s 0 in
-    let u = c.start-first in
     let n = c.needs-needs in
     let t = round_tables a.settings.now a.held o a.g 0 c.sets-sets.ensures n.ensures c.caps-caps.ensures c.costs-costs.ensures in
     let i = round_tables a.settings.now a.held o a.g 1 c.sets-sets.ensures n.ensures c.caps-caps.ensures c.costs-costs.ensures in
-    let k = subst (λ (K : Case). WithinAnswer K 0 u.result) t u.ensures in
+    let k = subst (λ (K : Case). WithinAnswer K 0 (as_solution (Some c.in-Some.first))) t c.in-Some.ensures in
     let f = c.floor-floor in
     let v = c.moves_of-weight in
     let b = c.onward-best in
     record {
       reached = λ e.
-          reached_better a.settings.now a.held o a.g p.settings p.held_bound u.result k (not-false c.start-first.result.exists c.if-not-first.false) a.rounds v.result f.result b.result
-          (subst (λ (K : Case). Improved K a.rounds (record { exists = true; weight = v.result; owners = u.result.owners }) b.result) i b.ensures)
+          reached_better a.settings.now a.held o a.g p.settings p.held_bound (as_solution (Some c.in-Some.first)) k refl a.rounds v.result f.result (as_improvement b.result)
+          (subst (λ (K : Case). Improved K a.rounds (as_solution (Some (record { weight = v.result; owners = c.in-Some.first.owners }))) (as_improvement b.result)) i b.ensures)
           (floor_told a.settings.now a.held o a.g p.settings p.held_bound n.result a.sheet.now f.result n.ensures p.sheet_value f.ensures);
       none = λ e. clash refl e;
     }

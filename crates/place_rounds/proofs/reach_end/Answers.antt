@@ -4,12 +4,12 @@ use Prim.Native.Nat.{ℕ}
 use mathlib.Core.List.{List}
 use mathlib.Core.Path.{refl, sym, ◌∙◌, subst}
 use lib.ListN.{get_or}
-use borrow.Author.Tests.{not-true, not-false}
+use Rattle.std.proofs.Common.{Some, None}
 use Rattle.base_laws.specs.Bools.{clash}
 use Rattle.search_laws.specs.Case.{Case}
 use Rattle.search_laws.specs.Tables.{case_of}
 use Rattle.search_laws.specs.Floor.{SheetFor}
-use Rattle.search_total.specs.Post.{LeastAnswer}
+use Rattle.search_total.specs.Post.{LeastAnswer, as_solution}
 use Rattle.place_groups.specs.Sheet.{sheet_of}
 use Rattle.place_rounds.specs.Tables.{floor_told}
 use Rattle.place_rounds.specs.Turns.{round_tables}
@@ -26,8 +26,8 @@ returns-then-not-has_shards c =
       none = λ e. clash refl e;
     }
 
-pub least-best-requires : goal.least-best-requires
-least-best-requires c =
+pub least-requires : goal.least-requires
+least-requires c =
     let m = c in
     let a = m.args in
     let p = m.requires in
@@ -41,8 +41,8 @@ least-best-requires c =
     (subst (λ (q : List ℕ). SheetFor (case_of x.result n.result y.result q 0) (sheet_of a.settings.now a.held o)) (sym t.ensures)
     (subst (λ (K : Case). SheetFor K (sheet_of a.settings.now a.held o)) (sym i) (sheet_round a.settings.now a.held o a.g p.settings p.held_bound)))
 
-pub returns-then-not-best : goal.returns-then-not-best
-returns-then-not-best c =
+pub returns-in-None : goal.returns-in-None
+returns-in-None c =
     let m = c in
     let a = m.args in
     let p = m.requires in
@@ -52,15 +52,14 @@ returns-then-not-best c =
     let y = c.caps-caps in
     let t = c.repriced_table-counted in
     let i = round_tables a.settings.now a.held o a.g 1 x.ensures n.ensures y.ensures c.costs-costs.ensures in
-    let u = c.least-best in
-    let k = subst (λ (K : Case). LeastAnswer K u.result) i (subst (λ (q : List ℕ). LeastAnswer (case_of x.result n.result y.result q 0) u.result) t.ensures u.ensures) in
+    let k = subst (λ (K : Case). LeastAnswer K (as_solution None)) i (subst (λ (q : List ℕ). LeastAnswer (case_of x.result n.result y.result q 0) (as_solution None)) t.ensures c.in-None.ensures) in
     record {
       ended = λ e. clash e refl;
-      none = λ e. never_least a.settings.now a.held o a.g p.settings p.held_bound u.result k (not-true c.least-best.result.exists c.if-not-best.true);
+      none = λ e. never_least a.settings.now a.held o a.g p.settings p.held_bound (as_solution None) k refl;
     }
 
-pub returns : goal.returns
-returns c =
+pub returns-in-Some : goal.returns-in-Some
+returns-in-Some c =
     let m = c in
     let a = m.args in
     let p = m.requires in
@@ -70,12 +69,11 @@ returns c =
     let y = c.caps-caps in
     let t = c.repriced_table-counted in
     let i = round_tables a.settings.now a.held o a.g 1 x.ensures n.ensures y.ensures c.costs-costs.ensures in
-    let u = c.least-best in
-    let k = subst (λ (K : Case). LeastAnswer K u.result) i (subst (λ (q : List ℕ). LeastAnswer (case_of x.result n.result y.result q 0) u.result) t.ensures u.ensures) in
+    let k = subst (λ (K : Case). LeastAnswer K (as_solution (Some c.in-Some.best))) i (subst (λ (q : List ℕ). LeastAnswer (case_of x.result n.result y.result q 0) (as_solution (Some c.in-Some.best))) t.ensures c.in-Some.ensures) in
     let f = c.floor-floor in
     record {
       ended = λ e.
-          ended_least a.settings.now a.held o a.g p.settings p.held_bound u.result k (not-false c.least-best.result.exists c.if-not-best.false) f.result
+          ended_least a.settings.now a.held o a.g p.settings p.held_bound (as_solution (Some c.in-Some.best)) k refl f.result
           (floor_told a.settings.now a.held o a.g p.settings p.held_bound n.result a.sheet.now f.result n.ensures p.sheet_value f.ensures);
       none = λ e. clash refl e;
     }

@@ -3,7 +3,6 @@ use Prim.Native.Nat.{ℕ, ◌+◌, ◌/◌}
 use mathlib.Core.Path.{refl, sym, ◌∙◌, ap, subst}
 use native.Mathlib.Nat.{le_antisymm}
 use native.Mathlib.Omega.{arith}
-use Rattle.base_laws.specs.Bools.{clash}
 use Rattle.search_laws.specs.Tables.{case_of, owners_of}
 use Rattle.search_laws.specs.Duality.{gain, toll}
 use Rattle.search_bounds.specs.Post.{weights_of}
@@ -13,9 +12,6 @@ use Rattle.search_bounds.proofs.cut.Goals as goal
 pub all_steady-requires : goal.all_steady-requires
 all_steady-requires c = c.requires.small
 
-pub returns-then-not-all_steady : goal.returns-then-not-all_steady
-returns-then-not-all_steady c = λ e. clash e c.bad.ensures
-
 pub loop-i-init : goal.loop-i-init
 loop-i-init c = let s = c in (omega arith, rows_none (s.args.t / 32) refl s.requires.rows_len)
 
@@ -23,9 +19,6 @@ pub cut_row-requires : goal.cut_row-requires
 cut_row-requires c = let s = c in
     let l = c.loop-i in
     record { t_bound = (l.invariant.0, c.loop-i-test.true); low_bound = (omega (arith, c.takes.ensures.1, s.requires.t_bound.1), omega (arith, c.grants-high.ensures.1)); small = s.requires.small }
-
-pub returns-then-not-cut_row : goal.returns-then-not-cut_row
-returns-then-not-cut_row c = λ e. clash e c.bad-then-not-cut_row.ensures
 
 pub loop-i-preserved : goal.loop-i-preserved
 loop-i-preserved c = let l = c.loop-i in
@@ -37,7 +30,7 @@ must-requires c = let s = c in
 
 pub returns : goal.returns
 unfolding gain toll
-returns c = λ e.
+returns c =
     let s = c in
     let l = c.loop-i in
     let g = c.grants-high in
