@@ -1,5 +1,6 @@
 -- `plan_restart::restart` meets its contract: a condition that fails is a wait, and else a placement gives the verdict. Assumes nothing.
 use mathlib.Core.Path.{refl, ap}
+use Rattle.std.proofs.lemmas.Result.{err_from_is_err_and}
 use Rattle.plan_quorum.specs.Answer.{quorum_from}
 use Rattle.plan_restart.specs.Answers.{verdict_from}
 use Rattle.plan_restart.specs.Planning.{restart_waits, restart_met}
@@ -8,8 +9,10 @@ use Rattle.plan_restart.proofs.restart.Goals as goal
 pub returns-in_err-quorum : goal.returns-in_err-quorum
 returns-in_err-quorum c = let s = c in
     let q = c.quorum in
-    restart_waits s.args.settings.now s.args.kept s.args.held s.args.seen (quorum_from q.result) q.ensures _ _
-    (ap quorum_from c.in_err-quorum.was) refl
+    let p = err_from_is_err_and c.from_residual.result c.from_residual.ensures.1 in
+    rw (p.1, p.2)
+    (restart_waits s.args.settings.now s.args.kept s.args.held s.args.seen (quorum_from q.result) q.ensures _ _
+    (ap quorum_from c.in_err-quorum.was) refl)
 
 pub returns : goal.returns
 returns c = let s = c in
