@@ -127,12 +127,7 @@ fn placement_number(settings: &[u32], v: Layout, held: u32) -> u8
 }
 
 // Waits 1 to 4 with these nodes held: the first that applies.
-pub fn quorum(
-    settings: &[u32],
-    v: Layout,
-    held: u32,
-    masks: &[u32; 16],
-) -> Result<(), Reason>
+pub fn quorum(settings: &[u32], v: Layout, held: u32, masks: &[u32; 16]) -> Result<(), Reason>
     requires { Settings settings.now }
     ensures { quorum_from result ≡ Masks.quorum_in settings.now v held masks.now }
 {

@@ -3,7 +3,7 @@
 use mathlib.Core.Path.{refl, sym, ap, ◌∙◌}
 use Rattle.std.proofs.lemmas.Result.{err_from_is_err_and}
 use Rattle.plan_quorum.specs.Answer.{quorum_from}
-use Rattle.plan_restart.specs.Answers.{verdict_from, offered_from}
+use Rattle.plan_restart.specs.Answers.{verdict_from}
 use Rattle.plan_restart.specs.declared.Verdict.{Verdict}
 use Rattle.plan_restart.specs.Offering.{offer_waits, offer_met, offer_none}
 use Rattle.plan_restart.proofs.rounds.offer.Goals as goal
