@@ -5,4 +5,4 @@ pub returns-in-Ok : goal.returns-in-Ok
 returns-in-Ok c = simp (c.in-Ok.is, c.within.ensures, c.after_verdict.ensures)
 
 pub returns-in-Err : goal.returns-in-Err
-returns-in-Err c = simp (c.in-Err.is, c.within.ensures, c.after_verdict.ensures)
+returns-in-Err c = simp (c.in-Err.is, c.within-in-Err.ensures, c.after_verdict-in-Err.ensures)
