@@ -12,7 +12,7 @@ ghost use Rattle.plan_losses.specs.Definitions.{Lost};
 ghost use Rattle.plan_losses.specs.Losses.{quorums_in, Foretold, LostBelow};
 
 use base_ids::{Node, Shard};
-use report_views::{Layout, Quorum};
+use report_views::Layout;
 
 // One where the test holds.
 fn counted(b: bool) -> u32
@@ -441,8 +441,8 @@ fn waits(
 {
     let found = plan_masks::quorum(settings, v, held, masks);
     match found {
-        Quorum::Short(_) => true,
-        Quorum::Met => {
+        Err(_) => true,
+        Ok(()) => {
             if stays_placed(settings, held, laid, node) {
                 return false;
             }

@@ -2,6 +2,7 @@
 pub mod Definitions
 pub mod Masks
 pub mod Counting
+pub mod Counted
 pub mod Turns
 pub mod Numbered
 pub mod More

@@ -9,29 +9,22 @@ ghost use Rattle.base_laws.specs.Tables.{filled};
 ghost use Rattle.base_lent.specs.Definitions.{words_in};
 ghost use Rattle.settings_values.specs.Definitions.{nodes, Settings};
 ghost use Rattle.report_views.specs.Definitions.{number_of};
+ghost use Rattle.plan_quorum.specs.Answer.{quorum_from};
 ghost use Rattle.plan_masks.specs.Masks as Masks;
 ghost use Rattle.plan_masks.specs.Counting as Counting;
+ghost use Rattle.plan_masks.specs.Counted.{counted_from};
 ghost use Rattle.plan_masks.specs.Definitions as Definitions;
 
 use base_ids::Node;
 use plan_seen::Seen;
-use report_views::{Layout, Quorum, Reason, Termination};
+use report_views::{Layout, Reason, Termination};
 
-// ok: every slot that was asked for is sound. masks: for each shard the nodes that count for it, 0 from S up.
+// What is counted, as definitions have it; calls give an Option. ok: every slot that was asked for is sound. masks: for each shard the
+// nodes that count for it, 0 from S up.
 #[derive(Clone, Copy)]
 pub struct HolderMasks {
     pub ok: bool,
     pub masks: [u32; 16],
-}
-
-// A slot that was asked for is not sound.
-fn none_counted() -> HolderMasks
-    ensures { result ≡ Counting.none_counted }
-{
-    HolderMasks {
-        ok: false,
-        masks: [0u32; 16],
-    }
 }
 
 // A shard's mask with one node more, if the shard has it as holder where no other node is held.
@@ -58,10 +51,16 @@ fn count_node(seen: Seen, node: Node, count: usize, masks: &mut [u32; 16])
 }
 
 // For each shard the nodes of `all` that count for it, if each of their slots is sound.
-pub fn count(settings: &[u32], v: Layout, t: Termination, all: u32, desk: &[u8]) -> HolderMasks
+pub fn count(
+    settings: &[u32],
+    v: Layout,
+    t: Termination,
+    all: u32,
+    desk: &[u8],
+) -> Option<[u32; 16]>
     requires settings { Settings settings.now }
     requires desk_len { length desk.now ≡ 65536 }
-    ensures { result ≡ Counting.counted_of settings.now v t all (words_in desk.now) }
+    ensures { counted_from result ≡ Counting.counted_of settings.now v t all (words_in desk.now) }
 {
     let tables = report_walk::tables_of(settings, v, t);
     let shards = base_ids::wide(settings_values::shards(settings));
@@ -70,12 +69,12 @@ pub fn count(settings: &[u32], v: Layout, t: Termination, all: u32, desk: &[u8])
         if base_masks::has(all, n) {
             let seen = plan_seen::see(settings, v, t, tables, base_masks::with(0, n), desk);
             if !seen.ok {
-                return none_counted();
+                return None;
             }
             count_node(seen, Node(n as u32), shards, &mut masks);
         }
     }
-    HolderMasks { ok: true, masks }
+    Some(masks)
 }
 
 // A shard's holder as far as waits ask: none where no held node counts for it.
@@ -128,9 +127,9 @@ fn placement_number(settings: &[u32], v: Layout, held: u32) -> u8
 }
 
 // Waits 1 to 4 with these nodes held: the first that applies.
-pub fn quorum(settings: &[u32], v: Layout, held: u32, masks: &[u32; 16]) -> Quorum
+pub fn quorum(settings: &[u32], v: Layout, held: u32, masks: &[u32; 16]) -> Result<(), Reason>
     requires { Settings settings.now }
-    ensures { result ≡ Masks.quorum_in settings.now v held masks.now }
+    ensures { quorum_from result ≡ Masks.quorum_in settings.now v held masks.now }
 {
     plan_quorum::quorum(settings, v, held, some_holders(held, masks))
 }
@@ -143,7 +142,7 @@ pub fn number(settings: &[u32], v: Layout, held: u32, masks: &[u32; 16]) -> u8
 {
     let found = quorum(settings, v, held, masks);
     match found {
-        Quorum::Short(reason) => reason_number(reason),
-        Quorum::Met => placement_number(settings, v, held),
+        Err(reason) => reason_number(reason),
+        Ok(()) => placement_number(settings, v, held),
     }
 }

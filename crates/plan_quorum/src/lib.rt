@@ -3,10 +3,11 @@
 
 ghost use Rattle.std.specs.Prelude.{◌≡◌, ◌≤◌};
 ghost use Rattle.settings_values.specs.Definitions.{Settings};
+ghost use Rattle.plan_quorum.specs.Answer.{quorum_from};
 ghost use Rattle.plan_quorum.specs.Quorum.{most_held, first_without, quorum_by};
 
 use base_ids::{Node, Shard};
-use report_views::{Layout, Quorum, Reason};
+use report_views::{Layout, Reason};
 
 // The lowest of the first count shards that has no holder, or count.
 fn first_without(holders: [Node; 16], count: usize) -> usize
@@ -31,24 +32,24 @@ fn most_held(members: u32, held: u32) -> bool
 }
 
 // Waits 1 to 4: the first that applies.
-pub fn quorum(settings: &[u32], v: Layout, held: u32, holders: [Node; 16]) -> Quorum
+pub fn quorum(settings: &[u32], v: Layout, held: u32, holders: [Node; 16]) -> Result<(), Reason>
     requires { Settings settings.now }
-    ensures { result ≡ quorum_by settings.now v held holders }
+    ensures { quorum_from result ≡ quorum_by settings.now v held holders }
 {
     let number = v.number;
     if number.0 == 0 {
-        return Quorum::Short(Reason::NoView);
+        return Err(Reason::NoView);
     }
     if !most_held(v.members, held) {
-        return Quorum::Short(Reason::NoMajority);
+        return Err(Reason::NoMajority);
     }
     if base_masks::count(held) < settings_values::least(settings) {
-        return Quorum::Short(Reason::TooFew);
+        return Err(Reason::TooFew);
     }
     let count = base_ids::wide(settings_values::shards(settings));
     let s = first_without(holders, count);
     if s < count {
-        return Quorum::Short(Reason::NoHolder(Shard(s as u32)));
+        return Err(Reason::NoHolder(Shard(s as u32)));
     }
-    Quorum::Met
+    Ok(())
 }

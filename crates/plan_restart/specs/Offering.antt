@@ -23,6 +23,7 @@ use Rattle.plan_restart.specs.Kept.{members-below}
 use Rattle.plan_restart.specs.Planning.{view_by, plan_by, verdict_by, verdict_plan, verdict_none, tidy_of}
 use Rattle.plan_restart.specs.declared.rounds.Offered.{Offered}
 use Rattle.plan_restart.specs.Definitions.{PlansWithin}
+use Rattle.plan_restart.specs.Restarts.{waiting}
 use Rattle.plan_restart.specs.Offers.{waiting_within, OffersPlan, OffersNone, Offers}
 
 -- what a placement offers
@@ -59,6 +60,20 @@ module _ (σ : List ℕ) (v : Layout) (held : ℕ) (x : Seen) (n : ℕ) (q : Quo
         waits = λ reason h. let z : ◌≡◌ {A = ℕ} 0 1 = cc in absurd (omega arith);
         places = λ h. record { placed = p; places = w; given = a };
       }
+
+-- a subgroup has no placement: beside the wait there is no gap
+pub offer_none : (σ : List ℕ) (v : Layout) (held : ℕ) (x : Seen) (n : ℕ) (p : PlacedWithin) → PlacementWithin σ held (mask_at v) (min n 128) p
+    → (reason : Reason) → waiting reason ≡ verdict_by v held x p.placed → waiting_within reason ≡ offered_by v held x p
+offer_none σ v held x n p w reason e =
+    ⊎_elim
+    (λ f.
+    let h : Short reason ≡ Met = ap (λ (y : Verdict). y.quorum) (e ∙ verdict_plan v held x p.placed f) in
+    let z : ◌≡◌ {A = ℕ} 0 1 = cc in
+    absurd (omega arith))
+    (λ f.
+    let b : 0 ≡ p.gap = sym (w.unplaced f).gap in
+    λ i. record { verdict = e i; gap = b i })
+    (either p.placed.found)
 
 -- x is what the desk tells, with sound slots
 module _ (σ : List ℕ) (v : Layout) (t : Termination) (held : ℕ) (d : List ℕ) (x : Seen) (e : x ≡ seen_of σ v t held d) (right : Settings σ)

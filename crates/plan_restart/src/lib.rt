@@ -6,7 +6,7 @@ pub mod rounds;
 ghost use Rattle.std.specs.Prelude.{◌≡◌, ◌^◌, ◌<◌, ◌≤◌};
 ghost use Rattle.settings_values.specs.Definitions.{nodes, Settings};
 ghost use Rattle.report_views.specs.Definitions.{no_view, no_plan};
-ghost use Rattle.plan_restart.specs.Restarts as Restarts;
+ghost use Rattle.plan_restart.specs.Answers.{verdict_from};
 ghost use Rattle.plan_restart.specs.Planning as Planning;
 
 use base_ids::{Node, View};
@@ -14,7 +14,8 @@ use place_layout::Placed;
 use plan_seen::Seen;
 use report_views::{Layout, Plan, Quorum, Reason};
 
-// What the held reports allow. Met: the plan is there. Short: the first reason why there is none, wait 5 among them, and no plan.
+// What the held reports allow, as definitions have it; calls give a Result. Met: the plan is there. Short: the first reason why there is
+// none, wait 5 among them, and no plan.
 #[derive(Clone, Copy)]
 pub struct Verdict {
     pub quorum: Quorum,
@@ -45,16 +46,6 @@ pub fn no_plan() -> Plan
     }
 }
 
-// A wait for a reason.
-pub fn waiting(reason: Reason) -> Verdict
-    ensures { result ≡ Restarts.waiting reason }
-{
-    Verdict {
-        quorum: Quorum::Short(reason),
-        plan: no_plan(),
-    }
-}
-
 // The plan: the view after the kept one, with all held nodes, their placement, and the holders and targets that are seen.
 fn plan_by(kept: Layout, held: u32, seen: Seen, placed: Placed) -> Plan
     requires { kept.number.0 ≤ 4294967294 }
@@ -77,34 +68,26 @@ fn plan_by(kept: Layout, held: u32, seen: Seen, placed: Placed) -> Plan
 }
 
 // The plan if every subgroup is placed, else wait 5.
-pub fn verdict_by(kept: Layout, held: u32, seen: Seen, placed: Placed) -> Verdict
+pub fn verdict_by(kept: Layout, held: u32, seen: Seen, placed: Placed) -> Result<Plan, Reason>
     requires { kept.number.0 ≤ 4294967294 }
-    ensures { result ≡ Planning.verdict_by kept held seen placed }
+    ensures { verdict_from result ≡ Planning.verdict_by kept held seen placed }
 {
     if !placed.found {
-        return waiting(Reason::NoPlacement(placed.group));
+        return Err(Reason::NoPlacement(placed.group));
     }
-    Verdict {
-        quorum: Quorum::Met,
-        plan: plan_by(kept, held, seen, placed),
-    }
+    Ok(plan_by(kept, held, seen, placed))
 }
 
 // A plan for the held nodes, or the first reason why there is none, by what is seen.
-pub fn restart(settings: &[u32], kept: Layout, held: u32, seen: Seen) -> Verdict
+pub fn restart(settings: &[u32], kept: Layout, held: u32, seen: Seen) -> Result<Plan, Reason>
     requires settings { Settings settings.now }
     requires number_bound { kept.number.0 ≤ 4294967294 }
     requires held_bound { held < 2 ^ nodes settings.now }
-    ensures { Planning.RestartsBy settings.now kept held seen result }
+    ensures { Planning.RestartsBy settings.now kept held seen (verdict_from result) }
 {
     let holders = seen.holders;
-    let quorum = plan_quorum::quorum(settings, kept, held, holders);
-    match quorum {
-        Quorum::Short(reason) => waiting(reason),
-        Quorum::Met => {
-            let old = kept.masks;
-            let placed = place_layout::place(settings, held, &old);
-            verdict_by(kept, held, seen, placed)
-        }
-    }
+    plan_quorum::quorum(settings, kept, held, holders)?;
+    let old = kept.masks;
+    let placed = place_layout::place(settings, held, &old);
+    verdict_by(kept, held, seen, placed)
 }

@@ -36,7 +36,7 @@ pub enum Reason {
     NoPlacement(u32),
 }
 
-// Whether the quorum conditions are met, and if not the first that fails.
+// Whether the quorum conditions are met, and if not the first that fails, as definitions have it; calls give a Result.
 #[derive(Clone, Copy)]
 pub enum Quorum {
     Met,

@@ -8,6 +8,7 @@ ghost use Rattle.settings_values.specs.Definitions.{Settings};
 ghost use Rattle.report_rows.specs.Definitions.{noted};
 ghost use Rattle.report_walk.specs.Kept.{ready_of, TablesOf};
 ghost use Rattle.plan_seen.specs.Sight.{seen_of};
+ghost use Rattle.plan_restart.specs.Answers.{verdict_from, offered_from};
 ghost use Rattle.state_planner.specs.Definitions as Definitions;
 ghost use Rattle.state_planner.specs.Refusing as Refusing;
 ghost use Rattle.state_planner.specs.Events as Events;
@@ -15,12 +16,11 @@ ghost use Rattle.state_planner.specs.Decide as Decide;
 ghost use Rattle.state_planner.specs.DecideWithin as DecideWithin;
 
 use base_ids::{Node, Refusal};
-use plan_restart::Verdict;
-use plan_restart::rounds::Offered;
+use plan_restart::rounds::GappedPlan;
 use plan_seen::Seen;
 use report_kept::Received;
 use report_rows::latest::Latest;
-use report_views::{Layout, Phase, Plan, Quorum, Reason, Termination};
+use report_views::{Layout, Phase, Plan, Reason, Termination};
 use report_walk::Tables;
 
 // The planner's state: the phase, the kept view and its termination, the masks of held, fetched and prepared nodes, the plan, and each
@@ -277,51 +277,52 @@ fn after_prepared(x: State, node: Node) -> State
     }
 }
 
+// The plan stands.
+fn planned(x: State, plan: Plan) -> State
+    ensures { result ≡ Definitions.planned x plan }
+{
+    State {
+        phase: Phase::Ordered,
+        plan,
+        ..x
+    }
+}
+
 // A plan leads to ordered, and a wait changes nothing.
-fn after_quorum(x: State, quorum: Quorum, plan: Plan) -> State
-    ensures { result ≡ Decide.state_by quorum x plan }
+fn after_verdict(x: State, verdict: Result<Plan, Reason>) -> Decided
+    ensures { result ≡ Decide.decided_by (verdict_from verdict).quorum x (verdict_from verdict).plan }
 {
-    match quorum {
-        Quorum::Met => State {
-            phase: Phase::Ordered,
-            plan,
-            ..x
+    match verdict {
+        Ok(plan) => Decided {
+            state: planned(x, plan),
+            decision: Decision::Planned,
         },
-        Quorum::Short(_) => x,
+        Err(reason) => Decided {
+            state: x,
+            decision: Decision::Wait(reason),
+        },
     }
 }
 
-// The decision that a quorum leads to.
-fn decision_of(quorum: Quorum) -> Decision
-    ensures { result ≡ Decide.decision_by quorum }
+// What is decided, with a gap.
+fn within(decided: Decided, gap: u32) -> DecidedWithin
+    ensures { result ≡ record { state = decided.state; decision = decided.decision; gap = gap } }
 {
-    match quorum {
-        Quorum::Met => Decision::Planned,
-        Quorum::Short(reason) => Decision::Wait(reason),
-    }
-}
-
-// The next state and the decision that a verdict leads to.
-fn after_verdict(x: State, verdict: Verdict) -> Decided
-    ensures { result ≡ Decide.decided_by verdict.quorum x verdict.plan }
-{
-    let quorum = verdict.quorum;
-    Decided {
-        state: after_quorum(x, quorum, verdict.plan),
-        decision: decision_of(quorum),
-    }
-}
-
-// The next state, the decision and the gap that an offer leads to.
-fn after_offer(x: State, offered: Offered) -> DecidedWithin
-    ensures { result ≡ DecideWithin.within_by offered.verdict.quorum x offered.verdict.plan offered.gap }
-{
-    let verdict = offered.verdict;
-    let quorum = verdict.quorum;
     DecidedWithin {
-        state: after_quorum(x, quorum, verdict.plan),
-        decision: decision_of(quorum),
-        gap: offered.gap,
+        state: decided.state,
+        decision: decided.decision,
+        gap,
+    }
+}
+
+// The same of a plan that rounds reach. Beside a wait there is no gap.
+fn after_offer(x: State, offered: Result<GappedPlan, Reason>) -> DecidedWithin
+    ensures { result
+        ≡ DecideWithin.within_by (offered_from offered).verdict.quorum x (offered_from offered).verdict.plan (offered_from offered).gap }
+{
+    match offered {
+        Ok(reached) => within(after_verdict(x, Ok(reached.plan)), reached.gap),
+        Err(reason) => within(after_verdict(x, Err(reason)), 0),
     }
 }
 

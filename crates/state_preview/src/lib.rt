@@ -121,7 +121,7 @@ pub fn preview_all_under(x: State, settings: &[u32], desk: &[u8]) -> Warning
         return Warning { refusal, lost: 0 };
     }
     let counted = plan_masks::count(settings, x.kept, x.termination, x.held, desk);
-    let masks = counted.masks;
+    let masks = counted.unwrap();
     Warning {
         refusal,
         lost: plan_losses::losses(settings, x.kept, x.held, &masks),

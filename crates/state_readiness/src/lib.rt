@@ -58,11 +58,9 @@ fn rows_ready(settings: &[u32], x: State, desk: &[u8]) -> ReadyRows
         return refuse(Refusal { code: 23 });
     }
     let all = all_nodes(settings_values::nodes(settings));
-    let counted = plan_masks::count(settings, kept, x.termination, all, desk);
-    if !counted.ok {
+    let Some(masks) = plan_masks::count(settings, kept, x.termination, all, desk) else {
         return refuse(Refusal { code: 23 });
-    }
-    let masks = counted.masks;
+    };
     ReadyRows {
         refusal: Refusal { code: 0 },
         rows: plan_masks::rows::rows_of(settings, kept, &masks),

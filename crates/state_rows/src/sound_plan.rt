@@ -3,20 +3,18 @@ ghost use Rattle.std.specs.Prelude.{◌&&◌, ◌≡◌, ◌<◌, ◌^◌, eqb};
 ghost use Rattle.settings_values.specs.Definitions.{Settings, nodes};
 ghost use Rattle.report_views.specs.Definitions.{same_position};
 ghost use Rattle.report_views.specs.Definitions as Definitions;
+ghost use Rattle.plan_quorum.specs.Answer.{quorum_from};
 ghost use Rattle.state_rows.specs.Matches as Matches;
 
 use base_ids::{Node, Position};
 use plan_seen::Seen;
-use report_views::{Layout, Phase, Plan, Quorum};
+use report_views::{Layout, Phase, Plan, Reason};
 
 // Waits 1 to 4 do not apply.
-fn is_met(q: Quorum) -> bool
-    ensures { result ≡ Definitions.is_met q }
+fn is_met(waits: Result<(), Reason>) -> bool
+    ensures { result ≡ Definitions.is_met (quorum_from waits) }
 {
-    match q {
-        Quorum::Met => true,
-        Quorum::Short(_) => false,
-    }
+    waits.is_ok()
 }
 
 // Two shards' holders and targets are the same.

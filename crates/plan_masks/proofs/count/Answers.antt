@@ -34,8 +34,7 @@ returns-then-not-seen c = let s = c in
     let x = c.see-seen in
     let given = x.ensures ∙ ap (λ (k : ℕ). seen_of a.settings.now a.v a.t k d) (c.with.ensures ∙ alone l.n) in
     let own = seen_own a.settings.now a.v a.t a.all d s.requires.settings (desk_length a.desk.now s.requires.desk_len) l.n m h x.result given in
-    c.none_counted.ensures
-    ∙ counted_failed a.settings.now a.v a.t a.all d s.requires.settings
+    counted_failed a.settings.now a.v a.t a.all d s.requires.settings
     (all_fails 32 (node_ok a.settings.now a.v a.t a.all d) l.n m
     (held_ok a.settings.now a.v a.t a.all d l.n false h (sym own ∙ of_not_true _ c.if-not-seen.true)))
 

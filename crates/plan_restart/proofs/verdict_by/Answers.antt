@@ -8,7 +8,7 @@ use Rattle.plan_restart.proofs.verdict_by.Goals as goal
 
 pub returns-then-not-placed : goal.returns-then-not-placed
 returns-then-not-placed c = let a = c.args in
-    c.waiting.ensures ∙ sym (verdict_none a.kept a.held a.seen a.placed (of_not_true a.placed.found c.if-not-placed.true))
+    sym (verdict_none a.kept a.held a.seen a.placed (of_not_true a.placed.found c.if-not-placed.true))
 
 pub returns : goal.returns
 returns c = let a = c.args in

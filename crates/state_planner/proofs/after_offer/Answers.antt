@@ -1,10 +1,8 @@
--- `state_planner::after_offer` meets its contract: state and decision each follow from the quorum. Assumes nothing.
-use mathlib.Core.Path.{ap₂}
-use Rattle.state_planner.specs.declared.State.{State}
-use Rattle.state_planner.specs.declared.Decision.{Decision}
+-- `state_planner::after_offer` meets its contract: what the plan or the wait leads to, with the gap. Assumes nothing.
 use Rattle.state_planner.proofs.after_offer.Goals as goal
 
-pub returns : goal.returns
-returns c =
-    ap₂ (λ (y : State) (a : Decision). record { state = y; decision = a; gap = c.args.offered.gap })
-    c.after_quorum.ensures c.decision_of.ensures
+pub returns-in-Ok : goal.returns-in-Ok
+returns-in-Ok c = simp (c.in-Ok.is, c.within.ensures, c.after_verdict.ensures)
+
+pub returns-in-Err : goal.returns-in-Err
+returns-in-Err c = simp (c.in-Err.is, c.within-in-Err.ensures, c.after_verdict-in-Err.ensures)

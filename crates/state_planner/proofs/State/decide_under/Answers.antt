@@ -5,6 +5,7 @@ use borrow.Author.Tests.{eq-eqb, ne_eqb}
 use Rattle.base_ids.specs.declared.Refusal.{Refusal}
 use Rattle.base_ids.specs.Definitions.{accepted}
 use Rattle.plan_restart.specs.Kept.{held_below, number_to}
+use Rattle.plan_restart.specs.Answers.{verdict_from}
 use Rattle.plan_restart.specs.Planning.{restarts_told}
 use Rattle.state_planner.specs.declared.Decision.{Decision}
 use Rattle.state_planner.specs.declared.Decided.{Decided}
@@ -50,6 +51,6 @@ returns c =
     k.ensures.refusal ∙ ap (λ (p : Bool). entry_refusal (desk_ok d) a.settings.now a.self d p) g.ensures in
     let t : accepted (decide_refusal a.settings.now a.self d) ≡ true = sym (ap accepted f) ∙ eq-eqb _ _ c.if-refusal-ne0.false in
     subst⁻¹ (λ (r : Decided). Decides a.settings.now a.self d r) c.after_verdict.ensures
-    (decides_by a.settings.now a.self d t c.restart-verdict.result
+    (decides_by a.settings.now a.self d t (verdict_from c.restart-verdict.result)
     (restarts_told a.settings.now a.self.kept a.self.termination a.self.held d k.result.seen k.ensures.seen s.requires.settings (decide_slots a.settings.now a.self d t)
-    (decide_kept a.settings.now a.self d t) c.restart-verdict.result c.restart-verdict.ensures))
+    (decide_kept a.settings.now a.self d t) (verdict_from c.restart-verdict.result) c.restart-verdict.ensures))

@@ -5,6 +5,7 @@ use borrow.Author.Tests.{eq-eqb, ne_eqb}
 use Rattle.base_ids.specs.declared.Refusal.{Refusal}
 use Rattle.base_ids.specs.Definitions.{accepted}
 use Rattle.plan_restart.specs.Kept.{held_below, number_to}
+use Rattle.plan_restart.specs.Answers.{offered_from}
 use Rattle.plan_restart.specs.Offering.{offers_told}
 use Rattle.state_planner.specs.declared.Decision.{Decision}
 use Rattle.state_planner.specs.declared.DecidedWithin.{DecidedWithin}
@@ -51,6 +52,6 @@ returns c =
     k.ensures.refusal ∙ ap (λ (p : Bool). entry_refusal (desk_ok d) a.settings.now a.self d p) g.ensures in
     let t : accepted (decide_refusal a.settings.now a.self d) ≡ true = sym (ap accepted f) ∙ eq-eqb _ _ c.if-refusal-ne0.false in
     subst⁻¹ (λ (r : DecidedWithin). DecidesWithin a.settings.now a.self d a.rounds r) c.after_offer.ensures
-    (within-by a.settings.now a.self d a.rounds t c.offer-offered.result
+    (within-by a.settings.now a.self d a.rounds t (offered_from c.offer-offered.result)
     (offers_told a.settings.now a.self.kept a.self.termination a.self.held d k.result.seen k.ensures.seen s.requires.settings (decide_slots a.settings.now a.self d t) a.rounds
-    (decide_kept a.settings.now a.self d t) c.offer-offered.result c.offer-offered.ensures))
+    (decide_kept a.settings.now a.self d t) (offered_from c.offer-offered.result) c.offer-offered.ensures))
