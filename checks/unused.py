@@ -294,7 +294,7 @@ class Tree:
             if head in aliases and rest.split(".")[0] in aliases[head]:
                 yield aliases[head][rest.split(".")[0]]
 
-    def unreached(self, kept):
+    def unreached(self, kept=()):
         todo, reached = [], set()
         for item in self.words:
             if "%s/%s.%s" % item in kept:
