@@ -43,7 +43,7 @@ returns c =
     let s = c in
     let a = s.args in
     let d = words_in a.desk.now in
-    let k = counted_from (Some c.in-Some.field-0) in
+    let k = counted_from (Some c.in-Some.masks) in
     let e = all_counted a.settings.now a.x d k c.in-Some.ensures c.all_nodes-all.ensures c.nodes.ensures in
     readies_told a.settings.now a.x d k c.rows_of.result s.requires.settings.0 (desk_length a.desk.now s.requires.desk_len)
     c.if-number-eq0.false e refl
