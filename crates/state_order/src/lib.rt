@@ -29,13 +29,17 @@ pub fn order_under(
     let phase = x.phase;
     let in_phase = state_rows::is_ordered(phase);
     let known = base_masks::has(x.held, node.0 as usize);
-    let refusal = state_planner::event_refusal(settings, x, desk, in_phase, node, known);
-    if refusal.code != 0 {
-        return Writing { refusal, length: 0 };
+    match state_planner::check_event(settings, x, desk, in_phase, node, known) {
+        Ok(_) => {
+            let c = plan_order::order_contents(settings, x.plan, desk, node);
+            let length = message_writer::fill(buffer, c);
+            Writing {
+                refusal: Refusal { code: 0 },
+                length,
+            }
+        }
+        Err(refusal) => Writing { refusal, length: 0 },
     }
-    let c = plan_order::order_contents(settings, x.plan, desk, node);
-    let length = message_writer::fill(buffer, c);
-    Writing { refusal, length }
 }
 
 // Rows 1 and 2. The buffer's length and the desk's make row 1.
