@@ -41,7 +41,7 @@ module _ (r : Refusal) (x next : State) where
       (λ h. ap (λ (k : Outcome). is_accepted k.answer) (outcome_refused h) ∙ sym h) (either (accepted r))
 
 -- what a call gives under a refusal, whatever stands beside it
-module _ {A : Type 0} {r e : Refusal} {a : A} (f : Err e ≡ or_refusal r a) where
+module _ {A : Type 0} (r e : Refusal) (a : A) (f : Err e ≡ or_refusal r a) where
   pub given_refusal : e ≡ r
   given_refusal = err_value r e a f
 
@@ -51,7 +51,7 @@ module _ {A : Type 0} {r e : Refusal} {a : A} (f : Err e ≡ or_refusal r a) whe
   pub refused_beside : {B : Type 0} (b : B) → Err e ≡ or_refusal r b
   refused_beside b = err_is r e b given_refusal given_refuses
 
-module _ {A : Type 0} {r : Refusal} {a v : A} (f : Ok v ≡ or_refusal r a) where
+module _ {A : Type 0} (r : Refusal) (a v : A) (f : Ok v ≡ or_refusal r a) where
   pub given_none : r ≡ none
   given_none = ok_none r a v f
 

@@ -40,7 +40,7 @@ returns-in-Ok c =
     let e = c.enter_planner-lent.ensures in
     let p = desk_passes (by_planner a.role) a.settings.now a.state.now a.desk.now _ e c.if-refusal-ne0.false in
     check_done _ _ _ _ _ e c.if-refusal-ne0.false none
-    (sym (given_none c.in-Ok.ensures) ∙ ap (λ (s : List ℕ). check_refusal s c.enter_planner-lent.result.state (words_in a.desk.now)) (settings_front _ _ _ _ _ e p.settings-ok))
+    (sym (given_none _ _ _ c.in-Ok.ensures) ∙ ap (λ (s : List ℕ). check_refusal s c.enter_planner-lent.result.state (words_in a.desk.now)) (settings_front _ _ _ _ _ e p.settings-ok))
 
 pub returns-in-Err : goal.returns-in-Err
 returns-in-Err c =
@@ -48,4 +48,4 @@ returns-in-Err c =
     let e = c.enter_planner-lent.ensures in
     let p = desk_passes (by_planner a.role) a.settings.now a.state.now a.desk.now _ e c.if-refusal-ne0.false in
     check_done _ _ _ _ _ e c.if-refusal-ne0.false _
-    (given_refusal c.in-Err.ensures ∙ ap (λ (s : List ℕ). check_refusal s c.enter_planner-lent.result.state (words_in a.desk.now)) (settings_front _ _ _ _ _ e p.settings-ok))
+    (given_refusal _ _ _ c.in-Err.ensures ∙ ap (λ (s : List ℕ). check_refusal s c.enter_planner-lent.result.state (words_in a.desk.now)) (settings_front _ _ _ _ _ e p.settings-ok))

@@ -22,4 +22,4 @@ pub returns-in-Err : goal.returns-in-Err
 returns-in-Err c =
     λ r x e.
     let k = sym c.in-Err.is ∙ e in
-    told_refused _ r (sym (given_refusal k)) 0 (bytes_of (state_words x)) c.args.state.now (given_refuses k)
+    told_refused _ r (sym (given_refusal _ _ _ k)) 0 (bytes_of (state_words x)) c.args.state.now (given_refuses _ _ _ k)

@@ -26,7 +26,7 @@ unfolding reported
 returns-in-Ok c =
     let run = c.args.run in
     let k = c.in-Ok.ensures.outcome in
-    let e = outcome_accepted _ run.state _ (ap accepted (given_none k)) in
+    let e = outcome_accepted _ run.state _ (ap accepted (given_none _ _ _ k)) in
     subst (λ (y : State). TakesInBlock run _ _ (record { stage = run.stage; state = y; settings = run.settings; words = run.words; pending = run.pending }) _)
     (ap (λ (o : Outcome). o.state) e ∙ sym (ok_value _ _ _ k))
     (report_accepted run (words_in c.args.desk.now) c.args.block.now (reported (take (run.words - 0) run.settings) run.state (words_in c.args.desk.now) c.args.block.now) _ c.requires.stage_value.0 c.requires.stage_value.1 refl c.in-Ok.ensures.words (ap (λ (o : Outcome). o.answer) e))
@@ -36,5 +36,5 @@ unfolding reported
 returns-in-Err c =
     let run = c.args.run in
     let k = c.in-Err.ensures.outcome in
-    let e = outcome_refused _ run.state _ (sym (ap accepted (given_refusal k)) ∙ given_refuses k) in
-    report_refused run (words_in c.args.desk.now) c.args.block.now (reported (take (run.words - 0) run.settings) run.state (words_in c.args.desk.now) c.args.block.now) _ c.requires.stage_value.0 c.requires.stage_value.1 refl c.in-Err.ensures.words _ _ (ap (λ (o : Outcome). o.answer) e ∙ sym (ap Answer.Refused (given_refusal k))) c.closed.ensures
+    let e = outcome_refused _ run.state _ (sym (ap accepted (given_refusal _ _ _ k)) ∙ given_refuses _ _ _ k) in
+    report_refused run (words_in c.args.desk.now) c.args.block.now (reported (take (run.words - 0) run.settings) run.state (words_in c.args.desk.now) c.args.block.now) _ c.requires.stage_value.0 c.requires.stage_value.1 refl c.in-Err.ensures.words _ _ (ap (λ (o : Outcome). o.answer) e ∙ sym (ap Answer.Refused (given_refusal _ _ _ k))) c.closed.ensures

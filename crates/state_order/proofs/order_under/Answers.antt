@@ -13,14 +13,14 @@ returns-in-Err c =
     let s = c in
     let a = s.args in
     let k = c.in-Err.ensures in
-    let e = found_refusal a.settings.now a.x (words_in a.desk.now) a.node.0 a.buffer.now (eq-eqb _ _ s.requires.buffer_len) _ _ c.is_ordered-in_phase.ensures c.has-known.ensures _ (given_refusal k) in
+    let e = found_refusal a.settings.now a.x (words_in a.desk.now) a.node.0 a.buffer.now (eq-eqb _ _ s.requires.buffer_len) _ _ c.is_ordered-in_phase.ensures c.has-known.ensures _ (given_refusal _ _ _ k) in
     record { answer = refused_answer _ _ _ _ _ _ e (err_code _ _ _ k); words = refused_words _ _ _ _ _ _ e (err_code _ _ _ k) }
 
 pub order_contents-c-requires : goal.order_contents-c-requires
 order_contents-c-requires c =
     let s = c in
     let a = s.args in
-    let e = found_refusal a.settings.now a.x (words_in a.desk.now) a.node.0 a.buffer.now (eq-eqb _ _ s.requires.buffer_len) _ _ c.is_ordered-in_phase.ensures c.has-known.ensures _ (sym (given_none c.in-Ok.ensures)) in
+    let e = found_refusal a.settings.now a.x (words_in a.desk.now) a.node.0 a.buffer.now (eq-eqb _ _ s.requires.buffer_len) _ _ c.is_ordered-in_phase.ensures c.has-known.ensures _ (sym (given_none _ _ _ c.in-Ok.ensures)) in
     let h = not_refused _ _ _ _ _ _ e refl in
     record { sizes = s.requires.settings.sizes; readable_slot = taken_node _ _ _ _ _ h; holders = taken_holders _ _ _ _ _ h }
 
@@ -28,14 +28,14 @@ pub fill-length-requires : goal.fill-length-requires
 fill-length-requires c =
     let s = c in
     let a = s.args in
-    let e = found_refusal a.settings.now a.x (words_in a.desk.now) a.node.0 a.buffer.now (eq-eqb _ _ s.requires.buffer_len) _ _ c.is_ordered-in_phase.ensures c.has-known.ensures _ (sym (given_none c.in-Ok.ensures)) in
+    let e = found_refusal a.settings.now a.x (words_in a.desk.now) a.node.0 a.buffer.now (eq-eqb _ _ s.requires.buffer_len) _ _ c.is_ordered-in_phase.ensures c.has-known.ensures _ (sym (given_none _ _ _ c.in-Ok.ensures)) in
     (s.requires.buffer_len, made_few _ _ _ _ _ _ e refl _ c.order_contents-c.ensures)
 
 pub returns-in-Ok : goal.returns-in-Ok
 returns-in-Ok c =
     let s = c in
     let a = s.args in
-    let e = found_refusal a.settings.now a.x (words_in a.desk.now) a.node.0 a.buffer.now (eq-eqb _ _ s.requires.buffer_len) _ _ c.is_ordered-in_phase.ensures c.has-known.ensures _ (sym (given_none c.in-Ok.ensures)) in
+    let e = found_refusal a.settings.now a.x (words_in a.desk.now) a.node.0 a.buffer.now (eq-eqb _ _ s.requires.buffer_len) _ _ c.is_ordered-in_phase.ensures c.has-known.ensures _ (sym (given_none _ _ _ c.in-Ok.ensures)) in
     let made = c.order_contents-c.ensures in
     let filled = c.fill-length.ensures in record {
       answer = made_answer _ _ _ _ _ _ e refl _ made _ filled.answer;

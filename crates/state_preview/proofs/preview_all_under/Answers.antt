@@ -18,7 +18,7 @@ returns-in-Err c =
     let k = c.in-Err.ensures.seen in
     let d = words_in a.desk.now in
     warns_refused a.settings.now a.x d _
-    (given_refusal k ∙ ap (λ (p : Bool). entry_refusal (desk_ok d) a.settings.now a.x d p) c.is_gathering-in_phase.ensures) (err_code _ _ _ k)
+    (given_refusal _ _ _ k ∙ ap (λ (p : Bool). entry_refusal (desk_ok d) a.settings.now a.x d p) c.is_gathering-in_phase.ensures) (err_code _ _ _ k)
 
 pub losses-requires : goal.losses-requires
 unfolding decide_refusal
@@ -27,7 +27,7 @@ losses-requires c =
     let a = s.args in
     let d = words_in a.desk.now in
     let e : none ≡ decide_refusal a.settings.now a.x d =
-    sym (given_none c.in-Ok.ensures.seen) ∙ ap (λ (p : Bool). entry_refusal (desk_ok d) a.settings.now a.x d p) c.is_gathering-in_phase.ensures in
+    sym (given_none _ _ _ c.in-Ok.ensures.seen) ∙ ap (λ (p : Bool). entry_refusal (desk_ok d) a.settings.now a.x d p) c.is_gathering-in_phase.ensures in
     record { settings = s.requires.settings; held_bound = held_below a.settings.now a.x.kept a.x.termination a.x.held (decide_kept a.settings.now a.x d (sym (ap accepted e))) }
 
 pub returns-in-Ok : goal.returns-in-Ok
@@ -37,6 +37,6 @@ returns-in-Ok c =
     let n = c.count-counted in
     let d = words_in a.desk.now in
     let e : none ≡ decide_refusal a.settings.now a.x d =
-    sym (given_none c.in-Ok.ensures.seen) ∙ ap (λ (p : Bool). entry_refusal (desk_ok d) a.settings.now a.x d p) c.is_gathering-in_phase.ensures in
+    sym (given_none _ _ _ c.in-Ok.ensures.seen) ∙ ap (λ (p : Bool). entry_refusal (desk_ok d) a.settings.now a.x d p) c.is_gathering-in_phase.ensures in
     warns_told a.settings.now a.x d none e refl n.result n.ensures
     c.losses.result c.losses.ensures

@@ -14,7 +14,7 @@ pub returns-in-Err : goal.returns-in-Err
 returns-in-Err c =
     let a = c.args in
     let k = c.in-Err.ensures in
-    let e = given_refusal k.1.0 in
+    let e = given_refusal _ _ _ k.1.0 in
     let h = err_code _ _ _ k.1.0 in
     previews_refused a.settings.now a.x (words_in a.desk.now) a.node.0 _ (e ∙ k.1.1.refuses (λ z. h (ap (λ (q : Refusal). q.code) e ∙ z))) h c.refuse.ensures
 
@@ -26,5 +26,5 @@ returns-in-Ok c =
     let f = c.without-fewer in
     let o = c.decide_under in
     let d = words_in a.desk.now in
-    previews_copy a.settings.now a.x d a.node.0 s.requires.settings (desk_length a.desk.now s.requires.desk_len) f.result f.ensures k.0 k.1.1 (ap (λ (q : Refusal). q.code) (given_none k.1.0)) o.result
+    previews_copy a.settings.now a.x d a.node.0 s.requires.settings (desk_length a.desk.now s.requires.desk_len) f.result f.ensures k.0 k.1.1 (ap (λ (q : Refusal). q.code) (given_none _ _ _ k.1.0)) o.result
     (subst (λ (y : State). Decides a.settings.now y d o.result) c.holding.ensures o.ensures) c.hand_back.ensures

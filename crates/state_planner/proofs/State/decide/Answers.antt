@@ -16,7 +16,7 @@ use Rattle.state_planner.proofs.State.decide.Goals as goal
 pub decide_under-requires : goal.decide_under-requires
 decide_under-requires c =
     let a = c.args in
-    let e = sym (given_none c.in-Ok.ensures) in record { settings = called_settings a.settings.now (words_in a.desk.now) _ e refl; desk_len = desk_bytes a.desk.now (called_desk a.settings.now (words_in a.desk.now) _ e refl) }
+    let e = sym (given_none _ _ _ c.in-Ok.ensures) in record { settings = called_settings a.settings.now (words_in a.desk.now) _ e refl; desk_len = desk_bytes a.desk.now (called_desk a.settings.now (words_in a.desk.now) _ e refl) }
 
 pub returns-in-Ok : goal.returns-in-Ok
 returns-in-Ok c = c.decide_under.ensures
@@ -26,5 +26,5 @@ unfolding decide_refusal
 returns-in-Err c =
     let a = c.args in
     let k = c.in-Err.ensures in
-    let f = call_entry a.settings.now (words_in a.desk.now) _ (given_refusal k) (err_code _ _ _ k) a.self (is_gathering a.self.phase) in
-    decides_refused a.settings.now a.self (words_in a.desk.now) _ (sym (ap accepted f) ∙ given_refuses k) (ap (λ (q : Refusal). still a.self (Decision.Refused q)) f)
+    let f = call_entry a.settings.now (words_in a.desk.now) _ (given_refusal _ _ _ k) (err_code _ _ _ k) a.self (is_gathering a.self.phase) in
+    decides_refused a.settings.now a.self (words_in a.desk.now) _ (sym (ap accepted f) ∙ given_refuses _ _ _ k) (ap (λ (q : Refusal). still a.self (Decision.Refused q)) f)

@@ -22,7 +22,7 @@ restart-verdict-requires c =
     let g = c.is_gathering-in_phase in
     let d = words_in a.desk.now in
     let t : accepted (decide_refusal a.settings.now a.self d) ≡ true =
-    ap accepted (sym (ap (λ (p : Bool). entry_refusal (desk_ok d) a.settings.now a.self d p) g.ensures) ∙ given_none c.in-Ok.ensures.seen) in
+    ap accepted (sym (ap (λ (p : Bool). entry_refusal (desk_ok d) a.settings.now a.self d p) g.ensures) ∙ given_none _ _ _ c.in-Ok.ensures.seen) in
     let h = decide_kept a.settings.now a.self d t in
     record { settings = s.requires.settings; number_bound = number_to a.settings.now a.self.kept a.self.termination a.self.held h; held_bound = held_below a.settings.now a.self.kept a.self.termination a.self.held h }
 
@@ -34,7 +34,7 @@ returns-in-Ok c =
     let g = c.is_gathering-in_phase in
     let d = words_in a.desk.now in
     let t : accepted (decide_refusal a.settings.now a.self d) ≡ true =
-    ap accepted (sym (ap (λ (p : Bool). entry_refusal (desk_ok d) a.settings.now a.self d p) g.ensures) ∙ given_none c.in-Ok.ensures.seen) in
+    ap accepted (sym (ap (λ (p : Bool). entry_refusal (desk_ok d) a.settings.now a.self d p) g.ensures) ∙ given_none _ _ _ c.in-Ok.ensures.seen) in
     subst⁻¹ (λ (r : Decided). Decides a.settings.now a.self d r) c.after_verdict.ensures
     (decides_by a.settings.now a.self d t c.restart-verdict.result
     (restarts_told a.settings.now a.self.kept a.self.termination a.self.held d _ (ok_value _ _ _ c.in-Ok.ensures.seen) s.requires.settings (decide_slots a.settings.now a.self d t)
@@ -47,5 +47,5 @@ returns-in-Err c =
     let g = c.is_gathering-in_phase in
     let d = words_in a.desk.now in
     let k = c.in-Err.ensures.seen in
-    let f = given_refusal k ∙ ap (λ (p : Bool). entry_refusal (desk_ok d) a.settings.now a.self d p) g.ensures in
-    decides_refused a.settings.now a.self d _ (sym (ap accepted f) ∙ given_refuses k) (ap (λ (r : Refusal). still a.self (Decision.Refused r)) f)
+    let f = given_refusal _ _ _ k ∙ ap (λ (p : Bool). entry_refusal (desk_ok d) a.settings.now a.self d p) g.ensures in
+    decides_refused a.settings.now a.self d _ (sym (ap accepted f) ∙ given_refuses _ _ _ k) (ap (λ (r : Refusal). still a.self (Decision.Refused r)) f)

@@ -1,5 +1,6 @@
 -- `state_planner::State::report` meets its contract: rows 1 and 2, then the rest. Assumes nothing.
-use mathlib.Core.Path.{refl, sym}
+use Rattle.std.proofs.lemmas.Result.{err_from_is_err_and}
+use mathlib.Core.Path.{refl, sym, ◌∙◌}
 use Rattle.base_lent.specs.Definitions.{words_in}
 use Rattle.base_ids.specs.Results.{err_code}
 use Rattle.report_desk.specs.Bytes.{desk_bytes}
@@ -14,9 +15,9 @@ returns-in_err-check_call c =
     let a = c.args in
     let k = c.in_err-check_call.ensures in
     let p = is_gathering a.self.phase in
-    let f = call_entry a.settings.now (words_in a.desk.now) _ (given_refusal k) (err_code _ _ _ k) a.self p in
+    let f = call_entry a.settings.now (words_in a.desk.now) _ (given_refusal _ _ _ k) (err_code _ _ _ k) a.self p in
     let d = refusal_leaves a.settings.now a.self a.desk.now a.message.now _ f (err_code _ _ _ k) in record {
-      outcome = entry_refuses a.settings.now a.self (words_in a.desk.now) a.message.now p refl _ f (given_refuses k);
+      outcome = (let q = err_from_is_err_and c.from_residual.result c.from_residual.ensures.1 in rw (q.1, q.2) (entry_refuses a.settings.now a.self (words_in a.desk.now) a.message.now p refl _ f (given_refuses _ _ _ k)));
       words = d.0;
       bytes = d.1;
     }
@@ -24,7 +25,7 @@ returns-in_err-check_call c =
 pub report_under-requires : goal.report_under-requires
 report_under-requires c =
     let a = c.args in
-    let e = sym (given_none c.in_ok-check_call.ensures) in record { settings = called_settings a.settings.now (words_in a.desk.now) _ e refl; desk_len = desk_bytes a.desk.now (called_desk a.settings.now (words_in a.desk.now) _ e refl) }
+    let e = sym (given_none _ _ _ c.in_ok-check_call.ensures) in record { settings = called_settings a.settings.now (words_in a.desk.now) _ e refl; desk_len = desk_bytes a.desk.now (called_desk a.settings.now (words_in a.desk.now) _ e refl) }
 
 pub returns : goal.returns
 returns c = c.report_under.ensures
