@@ -8,6 +8,7 @@ ghost use Rattle.message_contents.specs.Gathered.{SmallShards};
 ghost use Rattle.message_contents.specs.Passes.{failing};
 ghost use Rattle.message_contents.specs.Sequence.{follows_at, stray_at};
 
+use base_ids::Node;
 use message_format::{Contents, Form};
 
 // Row 9 at record j: its kind and its word 2.

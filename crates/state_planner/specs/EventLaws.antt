@@ -1,5 +1,5 @@
 -- Laws that the events' code uses: what acceptance gives, and what an event hands back by the refusal that its code found.
-use Rattle.std.specs.Prelude.{ℕ, ◌<◌, Bool, List, ◌≡◌}
+use Rattle.std.specs.Prelude.{ℕ, ◌<◌, Bool, List, ◌≡◌, Result, Ok, Err}
 use Rattle.std.proofs.Math.Bool.{true, false}
 use Rattle.std.proofs.Math.Logic.{⊎_elim}
 use Rattle.std.proofs.Math.Path.{refl, sym, ap, ap₂}
@@ -8,8 +8,9 @@ use Rattle.base_laws.specs.Bools.{either}
 use Rattle.settings_values.specs.Definitions.{Settings}
 use Rattle.settings_values.specs.Laws.{settings_give}
 use Rattle.base_ids.specs.declared.Refusal.{Refusal}
-use Rattle.base_ids.specs.Definitions.{accepted}
+use Rattle.base_ids.specs.Definitions.{none, accepted, or_refusal}
 use Rattle.base_ids.specs.Refusals.{accepted_none}
+use Rattle.base_ids.specs.Results.{ok_is, err_is, ok_none, err_value, err_refused}
 use Rattle.report_views.specs.declared.Phase.{Phase}
 use Rattle.state_planner.specs.declared.State.{State}
 use Rattle.state_planner.specs.declared.Outcome.{Outcome}
@@ -39,13 +40,23 @@ module _ (r : Refusal) (x next : State) where
       ∙ ⊎_elim (λ h. ap (λ (k : Outcome). is_accepted k.answer) (outcome_accepted h) ∙ sym h)
       (λ h. ap (λ (k : Outcome). is_accepted k.answer) (outcome_refused h) ∙ sym h) (either (accepted r))
 
--- r is what the code found of the refusal s
-module _ {r s : Refusal} (e : r ≡ s) (x next : State) where
-  pub settles_refused : (r.code ≡ 0 → ⊥) → refusing x r ≡ outcome_of s x next
-  settles_refused h = sym (outcome_refused r x next (ne_eqb r.code 0 h)) ∙ ap (λ (k : Refusal). outcome_of k x next) e
+-- what a call gives under a refusal, whatever stands beside it
+module _ {A : Type 0} (r e : Refusal) (a : A) (f : Err e ≡ or_refusal r a) where
+  pub given_refusal : e ≡ r
+  given_refusal = err_value r e a f
 
-  pub settles_accepted : r.code ≡ 0 → accepting next ≡ outcome_of s x next
-  settles_accepted h = sym (outcome_accepted r x next (eq-eqb r.code 0 h)) ∙ ap (λ (k : Refusal). outcome_of k x next) e
+  pub given_refuses : accepted e ≡ false
+  given_refuses = ap accepted given_refusal ∙ err_refused r e a f
+
+  pub refused_beside : {B : Type 0} (b : B) → Err e ≡ or_refusal r b
+  refused_beside b = err_is r e b given_refusal given_refuses
+
+module _ {A : Type 0} (r : Refusal) (a v : A) (f : Ok v ≡ or_refusal r a) where
+  pub given_none : r ≡ none
+  given_none = ok_none r a v f
+
+  pub taken_beside : {B : Type 0} (b : B) → Ok b ≡ or_refusal r b
+  taken_beside b = ok_is r b given_none
 
 -- an event that names node n: p and q are what its code found of the phase and of the node, y of the next state
 module _ (σ : List ℕ) (x : State) (d : List ℕ) (p : Bool) (n : ℕ) (q : Bool) {inPhase ok : Bool} (f : p ≡ inPhase) (g : q ≡ ok) where
@@ -59,15 +70,15 @@ module _ (σ : List ℕ) (x : State) (d : List ℕ) (p : Bool) (n : ℕ) (q : Bo
       let t = node_given (desk_ok d) σ x d p n q (accepted_none refusal h) in
       omega (arith, t.node_below, (settings_give σ t.entered.settings-ok).sizes.nodes_to)
 
-  pub event_settles : (y next : State) {o : Outcome} → o ≡ outcome_of (event_refusal (desk_ok d) σ x d p n q) x y → (n < 32 → y ≡ next)
-      → o ≡ outcome_of (event_refusal (desk_ok d) σ x d inPhase n ok) x next
+  pub event_settles : (y next : State) {o : Result State Refusal} → o ≡ or_refusal (event_refusal (desk_ok d) σ x d p n q) y → (n < 32 → y ≡ next)
+      → o ≡ or_refusal (event_refusal (desk_ok d) σ x d inPhase n ok) next
   unfolding refusal
   event_settles y next e i =
-      e ∙ same (accepted refusal) refl ∙ ap₂ (λ (a b : Bool). outcome_of (event_refusal (desk_ok d) σ x d a n b) x next) f g
+      e ∙ same (accepted refusal) refl ∙ ap₂ (λ (a b : Bool). or_refusal (event_refusal (desk_ok d) σ x d a n b) next) f g
     where
-      same : (b : Bool) → accepted refusal ≡ b → outcome_of refusal x y ≡ outcome_of refusal x next
-      same true h = ap (λ (z : State). outcome_of refusal x z) (i (below h))
-      same false h = outcome_refused refusal x y h ∙ sym (outcome_refused refusal x next h)
+      same : (b : Bool) → accepted refusal ≡ b → or_refusal refusal y ≡ or_refusal refusal next
+      same true h = ap (λ (z : State). or_refusal refusal z) (i (below h))
+      same false h = sym (err_is refusal refusal y refl h) ∙ err_is refusal refusal next refl h
 
 -- a state by its phase and the marks changed, where the phase follows from the marks
 pub marks_step : (mk : Phase → ℕ → State) (ph : ℕ → Phase) {y : State} {p : Phase} {f g : ℕ} → y ≡ mk p f → p ≡ ph f → f ≡ g → y ≡ mk (ph g) g
