@@ -4,14 +4,11 @@
 ghost use Rattle.std.specs.Prelude.{◌&&◌, ◌≡◌, eqb, length};
 ghost use Rattle.base_bytes.specs.Definitions.{bytes_of};
 ghost use Rattle.base_lent.specs.Definitions.{words_in};
-ghost use Rattle.base_lent.specs.Answers.{Told};
 ghost use Rattle.base_laws.specs.Definitions.{some_if};
 ghost use Rattle.c_state_words.specs.Definitions.{state_words, is_state};
-ghost use Rattle.base_ids.specs.declared.Refusal.{Refusal};
-ghost use Rattle.base_ids.specs.Definitions.{none, unless, or_refusal};
-ghost use Rattle.state_planner.specs.declared.State.{State};
+ghost use Rattle.base_ids.specs.Definitions.{none, unless};
 ghost use Rattle.c_state.specs.Definitions.{by_planner, state_lent};
-ghost use Rattle.c_state.specs.Calls.{entry};
+ghost use Rattle.c_state.specs.Calls.{entry, step_word, step_bytes};
 
 use base_ids::Refusal;
 use state_planner::State;
@@ -110,7 +107,8 @@ pub fn store(x: State, state: &mut [u8])
 // What a call does last: the next state is stored unless the event was refused.
 pub fn keep(next: Result<State, Refusal>, state: &mut [u8]) -> u32
     requires { length state.old ≡ 640 }
-    ensures { (r : Refusal) (x : State) → next ≡ or_refusal r x → Told r 0 (bytes_of (state_words x)) state.old result state.new }
+    ensures answer { result ≡ step_word next }
+    ensures bytes { state.new ≡ step_bytes next state.old }
 {
     match next {
         Ok(x) => {

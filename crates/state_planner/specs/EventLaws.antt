@@ -16,7 +16,7 @@ use Rattle.state_planner.specs.declared.State.{State}
 use Rattle.state_planner.specs.declared.Outcome.{Outcome}
 use Rattle.state_planner.specs.Definitions.{desk_ok, entry_refusal, event_refusal, refusing, accepting, outcome_of}
 use Rattle.state_planner.specs.Entry.{entry_given, node_given}
-use Rattle.state_planner.specs.Events.{is_accepted}
+use Rattle.state_planner.specs.Events.{is_accepted, outcome_step}
 
 module _ (lengths : Bool) (σ : List ℕ) (x : State) (d : List ℕ) (inPhase : Bool) where
   pub entry_settings : accepted (entry_refusal lengths σ x d inPhase) ≡ true → Settings σ
@@ -39,6 +39,19 @@ module _ (r : Refusal) (x next : State) where
       ap (λ (k : Outcome). is_accepted k.answer) f
       ∙ ⊎_elim (λ h. ap (λ (k : Outcome). is_accepted k.answer) (outcome_accepted h) ∙ sym h)
       (λ h. ap (λ (k : Outcome). is_accepted k.answer) (outcome_refused h) ∙ sym h) (either (accepted r))
+
+-- r is what the code found of the refusal s
+module _ {r s : Refusal} (e : r ≡ s) (x next : State) where
+  pub settles_refused : (r.code ≡ 0 → ⊥) → refusing x r ≡ outcome_of s x next
+  settles_refused h = sym (outcome_refused r x next (ne_eqb r.code 0 h)) ∙ ap (λ (k : Refusal). outcome_of k x next) e
+
+  pub settles_accepted : r.code ≡ 0 → accepting next ≡ outcome_of s x next
+  settles_accepted h = sym (outcome_accepted r x next (eq-eqb r.code 0 h)) ∙ ap (λ (k : Refusal). outcome_of k x next) e
+
+pub given_is : (r : Refusal) (x next : State) → outcome_step (outcome_of r x next) ≡ or_refusal r next
+given_is r x next =
+    ⊎_elim (λ h. ap outcome_step (outcome_accepted r x next h) ∙ ok_is r next (accepted_none r h))
+    (λ h. ap outcome_step (outcome_refused r x next h) ∙ err_is r r next refl h) (either (accepted r))
 
 -- what a call gives under a refusal, whatever stands beside it
 module _ {A : Type 0} (r e : Refusal) (a : A) (f : Err e ≡ or_refusal r a) where
@@ -70,15 +83,21 @@ module _ (σ : List ℕ) (x : State) (d : List ℕ) (p : Bool) (n : ℕ) (q : Bo
       let t = node_given (desk_ok d) σ x d p n q (accepted_none refusal h) in
       omega (arith, t.node_below, (settings_give σ t.entered.settings-ok).sizes.nodes_to)
 
-  pub event_settles : (y next : State) {o : Result State Refusal} → o ≡ or_refusal (event_refusal (desk_ok d) σ x d p n q) y → (n < 32 → y ≡ next)
-      → o ≡ or_refusal (event_refusal (desk_ok d) σ x d inPhase n ok) next
+  pub event_settles : (y next : State) {o : Outcome} → o ≡ outcome_of (event_refusal (desk_ok d) σ x d p n q) x y → (n < 32 → y ≡ next)
+      → o ≡ outcome_of (event_refusal (desk_ok d) σ x d inPhase n ok) x next
   unfolding refusal
   event_settles y next e i =
-      e ∙ same (accepted refusal) refl ∙ ap₂ (λ (a b : Bool). or_refusal (event_refusal (desk_ok d) σ x d a n b) next) f g
+      e ∙ same (accepted refusal) refl ∙ ap₂ (λ (a b : Bool). outcome_of (event_refusal (desk_ok d) σ x d a n b) x next) f g
     where
-      same : (b : Bool) → accepted refusal ≡ b → or_refusal refusal y ≡ or_refusal refusal next
-      same true h = ap (λ (z : State). or_refusal refusal z) (i (below h))
-      same false h = sym (err_is refusal refusal y refl h) ∙ err_is refusal refusal next refl h
+      same : (b : Bool) → accepted refusal ≡ b → outcome_of refusal x y ≡ outcome_of refusal x next
+      same true h = ap (λ (z : State). outcome_of refusal x z) (i (below h))
+      same false h = outcome_refused refusal x y h ∙ sym (outcome_refused refusal x next h)
+
+  pub event_gives : (y next : State) {o : Result State Refusal} → o ≡ or_refusal (event_refusal (desk_ok d) σ x d p n q) y → (n < 32 → y ≡ next)
+      → o ≡ or_refusal (event_refusal (desk_ok d) σ x d inPhase n ok) next
+  event_gives y next e i =
+      e ∙ sym (given_is (event_refusal (desk_ok d) σ x d p n q) x y) ∙ ap outcome_step (event_settles y next refl i)
+      ∙ given_is (event_refusal (desk_ok d) σ x d inPhase n ok) x next
 
 -- a state by its phase and the marks changed, where the phase follows from the marks
 pub marks_step : (mk : Phase → ℕ → State) (ph : ℕ → Phase) {y : State} {p : Phase} {f g : ℕ} → y ≡ mk p f → p ≡ ph f → f ≡ g → y ≡ mk (ph g) g

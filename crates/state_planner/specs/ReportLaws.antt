@@ -10,9 +10,8 @@ use Rattle.base_bytes.specs.Definitions.{bytes_of}
 use Rattle.base_lent.specs.Definitions.{words_in}
 use Rattle.settings_values.specs.Definitions.{Settings}
 use Rattle.base_ids.specs.declared.Refusal.{Refusal}
-use Rattle.base_ids.specs.Definitions.{none, accepted, or_refusal}
+use Rattle.base_ids.specs.Definitions.{accepted, or_refusal}
 use Rattle.base_ids.specs.Refusals.{accepted_none, first_right, rows_refused, rows_followed}
-use Rattle.base_ids.specs.Results.{ok_is, err_is}
 use Rattle.message_format.specs.Definitions.{contents_of}
 use Rattle.report_rows.specs.Definitions.{noted}
 use Rattle.report_kept.specs.declared.Received.{Received}
@@ -21,8 +20,11 @@ use Rattle.report_kept.specs.Reports.{takes_in, taken_in}
 use Rattle.report_kept.specs.Laws.{in-refusal, in_taken, taken_node, taken_words, taken_few}
 use Rattle.report_desk.specs.Definitions.{desk_with}
 use Rattle.state_planner.specs.declared.State.{State}
-use Rattle.state_planner.specs.Definitions.{keeping, desk_ok, entry_refusal, report_refusal, after_report, desk_after, desk_left}
+use Rattle.state_planner.specs.declared.Outcome.{Outcome}
+use Rattle.state_planner.specs.Definitions.{keeping, desk_ok, entry_refusal, report_refusal, refusing, accepting, after_report, reported, desk_after, desk_left}
 use Rattle.report_views.specs.Definitions.{is_gathering}
+use Rattle.state_planner.specs.Events.{is_accepted, outcome_step}
+use Rattle.state_planner.specs.EventLaws.{settles_refused, settles_accepted, answer_accepts, given_is}
 
 -- r: the report beside what is kept and remembered
 module _ (σ : List ℕ) (x : State) (w : List ℕ) (r : Received) (e : r ≡ taken_in σ x.kept x.termination x.latest w) where
@@ -50,32 +52,45 @@ module _ (σ : List ℕ) (x : State) (w : List ℕ) (r : Received) (e : r ≡ ta
         f
         ∙ ap (λ (k : Received). keeping x k.kept k.termination (with x.held k.node.0) (noted x.latest k.node.0 k.view.0)) taken_is
 
--- g: the phase is gathering
-module _ (σ : List ℕ) (x : State) (d w : List ℕ) (g : Bool) (phase : g ≡ is_gathering x.phase) where
-  entry_is : (e : Refusal) → e ≡ entry_refusal (desk_ok d) σ x d g → e ≡ entry_refusal (desk_ok d) σ x d (is_gathering x.phase)
-  entry_is e entry = entry ∙ ap (entry_refusal (desk_ok d) σ x d) phase
+-- g: the phase is gathering; e: the refusal of rows 1 to 4
+module _ (σ : List ℕ) (x : State) (d w : List ℕ) (g : Bool) (phase : g ≡ is_gathering x.phase) (e : Refusal) (entry : e ≡ entry_refusal (desk_ok d) σ x d g) where
+  entry_is : e ≡ entry_refusal (desk_ok d) σ x d (is_gathering x.phase)
+  entry_is = entry ∙ ap (entry_refusal (desk_ok d) σ x d) phase
 
-  -- e: the refusal of rows 1 to 4
-  pub entry_refuses : (e : Refusal) → e ≡ entry_refusal (desk_ok d) σ x d g → accepted e ≡ false
-      → Err e ≡ or_refusal (report_refusal σ x d w) (after_report σ x (contents_of w))
-  unfolding report_refusal
-  entry_refuses e entry h = err_is _ e _ (rows_refused (entry_is e entry) _ h) h
+  pub entry_refuses : (e.code ≡ 0 → ⊥) → refusing x e ≡ reported σ x d w
+  unfolding reported report_refusal
+  entry_refuses h = settles_refused (rows_refused entry_is _ (ne_eqb e.code 0 h)) x (after_report σ x (contents_of w)) h
+
+  pub entry_gives : (e.code ≡ 0 → ⊥) → Err e ≡ or_refusal (report_refusal σ x d w) (after_report σ x (contents_of w))
+  unfolding reported
+  entry_gives h = ap outcome_step (entry_refuses h) ∙ given_is (report_refusal σ x d w) x (after_report σ x (contents_of w))
 
   -- r: the report beside what is kept and remembered
-  module _ (h : entry_refusal (desk_ok d) σ x d g ≡ none) (r : Received) (f : r ≡ taken_in σ x.kept x.termination x.latest w) where
+  module _ (h : e.code ≡ 0) (r : Received) (f : r ≡ taken_in σ x.kept x.termination x.latest w) where
     report_is : r.refusal ≡ report_refusal σ x d w
     unfolding report_refusal
-    report_is = rows_followed (entry_is none (sym h)) (refusal_is σ x w r f) refl
+    report_is = rows_followed entry_is (refusal_is σ x w r f) (eq-eqb e.code 0 h)
 
-    pub beside_refuses : (r.refusal.code ≡ 0 → ⊥) → Err r.refusal ≡ or_refusal (report_refusal σ x d w) (after_report σ x (contents_of w))
-    beside_refuses k = err_is _ r.refusal _ report_is (ne_eqb r.refusal.code 0 k)
+    pub beside_refuses : (r.refusal.code ≡ 0 → ⊥) → refusing x r.refusal ≡ reported σ x d w
+    unfolding reported
+    beside_refuses k = settles_refused report_is x (after_report σ x (contents_of w)) k
 
     pub taken_reports : r.refusal.code ≡ 0 → (y : State)
         → y ≡ keeping x r.kept r.termination (with x.held r.node.0) (noted x.latest r.node.0 r.view.0)
-        → Ok y ≡ or_refusal (report_refusal σ x d w) (after_report σ x (contents_of w))
+        → accepting y ≡ reported σ x d w
+    unfolding reported
     taken_reports k y q =
-        ap Ok (next_is σ x w r f k y q)
-        ∙ ok_is _ _ (sym report_is ∙ accepted_none r.refusal (eq-eqb r.refusal.code 0 k))
+        ap accepting (next_is σ x w r f k y q) ∙ settles_accepted report_is x (after_report σ x (contents_of w)) k
+
+    pub beside_gives : (r.refusal.code ≡ 0 → ⊥) → Err r.refusal ≡ or_refusal (report_refusal σ x d w) (after_report σ x (contents_of w))
+    unfolding reported
+    beside_gives k = ap outcome_step (beside_refuses k) ∙ given_is (report_refusal σ x d w) x (after_report σ x (contents_of w))
+
+    pub taken_gives : r.refusal.code ≡ 0 → (y : State)
+        → y ≡ keeping x r.kept r.termination (with x.held r.node.0) (noted x.latest r.node.0 r.view.0)
+        → Ok y ≡ or_refusal (report_refusal σ x d w) (after_report σ x (contents_of w))
+    unfolding reported
+    taken_gives k y q = ap outcome_step (taken_reports k y q) ∙ given_is (report_refusal σ x d w) x (after_report σ x (contents_of w))
 
 -- ---- the desk
 
@@ -94,26 +109,19 @@ module _ (σ : List ℕ) (x : State) (b w : List ℕ) where
   refusal_leaves r e h =
       leaves_desk (sym (ap accepted (rows_refused e (refusal_beside σ x.kept x.termination x.latest w) (ne_eqb r.code 0 h))) ∙ ne_eqb r.code 0 h)
 
-  -- o: what the event gives
-  module _ (o : Result State Refusal) (e : o ≡ or_refusal (report_refusal σ x (words_in b) w) (after_report σ x (contents_of w))) where
-    is_told : is_err o ≡ not (accepted (report_refusal σ x (words_in b) w))
-    unfolding or_refusal
-    is_told = ap is_err e ∙ go (accepted (report_refusal σ x (words_in b) w))
-      where
-        go : (q : Bool) → is_err (cond q (Ok (after_report σ x (contents_of w))) (Err (report_refusal σ x (words_in b) w))) ≡ not q
-        go true = refl
-        go false = refl
+  -- o: what the event hands back
+  module _ (o : Outcome) (e : o ≡ reported σ x (words_in b) w) where
+    answer_is : is_accepted o.answer ≡ accepted (report_refusal σ x (words_in b) w)
+    unfolding reported
+    answer_is = answer_accepts (report_refusal σ x (words_in b) w) x (after_report σ x (contents_of w)) e
 
-    pub answer_leaves : is_err o ≡ true → ToldDesk b
-    answer_leaves h = leaves_desk (not-true _ (sym is_told ∙ h))
+    pub answer_leaves : is_accepted o.answer ≡ false → ToldDesk b
+    answer_leaves h = leaves_desk (sym answer_is ∙ h)
 
-    module _ (h : is_err o ≡ false) where
-      taken : accepted (report_refusal σ x (words_in b) w) ≡ true
-      taken = not-false _ (sym is_told ∙ h)
-
+    module _ (h : is_accepted o.answer ≡ true) where
       passes : accepted (refusal_beside σ x.kept x.termination x.latest w) ≡ true
       unfolding report_refusal
-      passes = ap accepted (first_right _ _ (accepted_none (report_refusal σ x (words_in b) w) taken))
+      passes = ap accepted (first_right _ _ (accepted_none (report_refusal σ x (words_in b) w) (sym answer_is ∙ h)))
 
       pub reporter_told : 1 ≤ length w
       reporter_told = taken_words σ x.kept x.termination x.latest w passes
@@ -127,4 +135,20 @@ module _ (σ : List ℕ) (x : State) (b w : List ℕ) where
       pub stored_desk : (c : List ℕ)
           → (words_in c ≡ desk_with (words_in b) (get_or w 0 0) w) × (c ≡ bytes_of (desk_with (words_in b) (get_or w 0 0) w)) → ToldDesk c
       unfolding desk_after desk_left
-      stored_desk c f = (f.0 ∙ rw taken, f.1 ∙ rw taken)
+      stored_desk c f = (f.0 ∙ rw (sym answer_is, h), f.1 ∙ rw (sym answer_is, h))
+
+  -- o: what the event gives
+  module _ (o : Result State Refusal) (e : o ≡ or_refusal (report_refusal σ x (words_in b) w) (after_report σ x (contents_of w))) where
+    is_told : is_err o ≡ not (accepted (report_refusal σ x (words_in b) w))
+    unfolding or_refusal
+    is_told = ap is_err e ∙ go (accepted (report_refusal σ x (words_in b) w))
+      where
+        go : (q : Bool) → is_err (cond q (Ok (after_report σ x (contents_of w))) (Err (report_refusal σ x (words_in b) w))) ≡ not q
+        go true = refl
+        go false = refl
+
+    pub left_refused : is_err o ≡ true → is_accepted (reported σ x (words_in b) w).answer ≡ false
+    left_refused h = answer_is (reported σ x (words_in b) w) refl ∙ not-true _ (sym is_told ∙ h)
+
+    pub left_accepted : is_err o ≡ false → is_accepted (reported σ x (words_in b) w).answer ≡ true
+    left_accepted h = answer_is (reported σ x (words_in b) w) refl ∙ not-false _ (sym is_told ∙ h)

@@ -1,5 +1,5 @@
 -- `state_preview::preview_under` meets its contract: what is found first, or what the copy decides. Assumes nothing.
-use mathlib.Core.Path.{sym, ap, ◌∙◌, subst}
+use mathlib.Core.Path.{ap, ◌∙◌, subst}
 use Rattle.base_ids.specs.declared.Refusal.{Refusal}
 use Rattle.base_ids.specs.Results.{err_code}
 use Rattle.base_lent.specs.Definitions.{words_in}

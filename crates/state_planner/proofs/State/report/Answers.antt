@@ -6,8 +6,8 @@ use Rattle.base_ids.specs.Results.{err_code}
 use Rattle.report_desk.specs.Bytes.{desk_bytes}
 use Rattle.report_views.specs.Definitions.{is_gathering}
 use Rattle.state_planner.specs.CallLaws.{called_settings, called_desk, call_entry}
-use Rattle.state_planner.specs.EventLaws.{given_refusal, given_refuses, given_none}
-use Rattle.state_planner.specs.ReportLaws.{entry_refuses, refusal_leaves}
+use Rattle.state_planner.specs.EventLaws.{given_refusal, given_none}
+use Rattle.state_planner.specs.ReportLaws.{entry_gives, refusal_leaves}
 use Rattle.state_planner.proofs.State.report.Goals as goal
 
 pub returns-in_err-check_call : goal.returns-in_err-check_call
@@ -17,7 +17,7 @@ returns-in_err-check_call c =
     let p = is_gathering a.self.phase in
     let f = call_entry a.settings.now (words_in a.desk.now) _ (given_refusal _ _ _ k) (err_code _ _ _ k) a.self p in
     let d = refusal_leaves a.settings.now a.self a.desk.now a.message.now _ f (err_code _ _ _ k) in record {
-      outcome = (let q = err_from_is_err_and c.from_residual.result c.from_residual.ensures.1 in rw (q.1, q.2) (entry_refuses a.settings.now a.self (words_in a.desk.now) a.message.now p refl _ f (given_refuses _ _ _ k)));
+      outcome = (let q = err_from_is_err_and c.from_residual.result c.from_residual.ensures.1 in rw (q.1, q.2) (entry_gives a.settings.now a.self (words_in a.desk.now) a.message.now p refl _ f (err_code _ _ _ k)));
       words = d.0;
       bytes = d.1;
     }
