@@ -13,7 +13,7 @@ returns-in_err-c c =
 pub kept_refusal-requires : goal.kept_refusal-requires
 kept_refusal-requires c =
     let a = c.args in
-    record { settings = c.requires; node_bound = read_node a.settings.now a.v a.t a.latest a.message.now c.requires _ c.in_ok-c.ensures }
+    record { settings = c.requires; node_bound = read_node a.settings.now a.v a.t a.latest a.message.now _ c.in_ok-c.ensures c.requires }
 
 pub returns-in_err-kept_refusal : goal.returns-in_err-kept_refusal
 returns-in_err-kept_refusal c =
