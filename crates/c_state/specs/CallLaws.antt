@@ -184,13 +184,13 @@ pub step_told : (r : Refusal) (x : State) (state : List ℕ) {next : Result Stat
 step_told r x state e f =
     ⊎_elim
     (λ h.
-     let k = e ∙ sym (ok_is r x (accepted_none r h)) in
-     let t = told_accepted r r refl 0 (bytes_of (state_words x)) state h in
-     record { answers = f.0 ∙ ap step_word k ∙ t.answers; leaves = f.1 ∙ ap (λ (s : Result State Refusal). step_bytes s state) k ∙ t.leaves })
+    let k = e ∙ sym (ok_is r x (accepted_none r h)) in
+    let t = told_accepted r r refl 0 (bytes_of (state_words x)) state h in
+    record { answers = f.0 ∙ ap step_word k ∙ t.answers; leaves = f.1 ∙ ap (λ (s : Result State Refusal). step_bytes s state) k ∙ t.leaves })
     (λ h.
-     let k = e ∙ sym (err_is r r x refl h) in
-     let t = told_refused r r refl 0 (bytes_of (state_words x)) state h in
-     record { answers = f.0 ∙ ap step_word k ∙ t.answers; leaves = f.1 ∙ ap (λ (s : Result State Refusal). step_bytes s state) k ∙ t.leaves })
+    let k = e ∙ sym (err_is r r x refl h) in
+    let t = told_refused r r refl 0 (bytes_of (state_words x)) state h in
+    record { answers = f.0 ∙ ap step_word k ∙ t.answers; leaves = f.1 ∙ ap (λ (s : Result State Refusal). step_bytes s state) k ∙ t.leaves })
     (either (accepted r))
 
 module _ (role : ℕ) (settings state desk : List ℕ) (o : Outcome) where

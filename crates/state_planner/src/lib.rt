@@ -122,12 +122,7 @@ fn is_sound(settings: &[u32], x: State, seen: Seen, ready: bool) -> bool
 }
 
 // Rows 3 and 4, and what the desk tells, where rows 1 and 2 do not refuse.
-pub fn enter(
-    settings: &[u32],
-    x: State,
-    desk: &[u8],
-    in_phase: bool,
-) -> Result<Sighted, Refusal>
+pub fn enter(settings: &[u32], x: State, desk: &[u8], in_phase: bool) -> Result<Sighted, Refusal>
     requires settings { Settings settings.now }
     requires desk_len { length desk.now ≡ 65536 }
     ensures seen { Events.seen_by result ≡ or_refusal (Definitions.entry_refusal (Definitions.desk_ok (words_in desk.now)) settings.now x (words_in desk.now) in_phase) (seen_of settings.now x.kept x.termination x.held (words_in desk.now)) }

@@ -29,7 +29,7 @@ returns-in-Ok c =
     let k = c.in-Ok.ensures.outcome in
     let e = outcome_accepted _ run.state _ (ap accepted (given_none _ _ _ k)) in
     subst ((λ (e : List ℕ) (y : State).
-      TakesInBlock run (words_in c.args.desk.now) c.args.block.now (record { stage = run.stage; state = y; settings = run.settings; words = run.words; pending = run.pending }) e) _)
+    TakesInBlock run (words_in c.args.desk.now) c.args.block.now (record { stage = run.stage; state = y; settings = run.settings; words = run.words; pending = run.pending }) e) _)
     (ap (λ (o : Outcome). o.state) e ∙ sym (ok_value _ _ _ k))
     (report_accepted run (words_in c.args.desk.now) c.args.block.now (reported (take (run.words - 0) run.settings) run.state (words_in c.args.desk.now) c.args.block.now) _ c.requires.stage_value.0 c.requires.stage_value.1 refl c.in-Ok.ensures.words (ap (λ (o : Outcome). o.answer) e))
 

@@ -29,8 +29,12 @@ returns c =
     let p = c.is_gathering-in_phase in
     let q = c.has-known in
     let d = words_in a.desk.now in
-    let is = c.holding.ensures ∙ ap (holding a.x) c.minus.ensures in
-    (_, (c.check_under.ensures,
-    found_check a.settings.now a.x d a.node.0 a.fewer s.requires.settings (desk_length a.desk.now s.requires.desk_len)
-    (sym p.ensures ∙ c.if-not-in_phase.false) (sym q.ensures ∙ c.if-not-known.false) _
-    (ap (λ (y : State). check_refusal a.settings.now y d) is)))
+    let is = c.holding.ensures ∙ ap (holding a.x) c.minus.ensures in (
+      _,
+      (
+        c.check_under.ensures,
+        found_check a.settings.now a.x d a.node.0 a.fewer s.requires.settings (desk_length a.desk.now s.requires.desk_len)
+            (sym p.ensures ∙ c.if-not-in_phase.false) (sym q.ensures ∙ c.if-not-known.false) _
+            (ap (λ (y : State). check_refusal a.settings.now y d) is),
+      ),
+    )
