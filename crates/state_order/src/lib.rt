@@ -29,10 +29,7 @@ pub fn order_under(
     let phase = x.phase;
     let in_phase = state_rows::is_ordered(phase);
     let known = base_masks::has(x.held, node.0 as usize);
-    let refusal = state_planner::event_refusal(settings, x, desk, in_phase, node, known);
-    if refusal.code != 0 {
-        return Err(refusal);
-    }
+    state_planner::check_event(settings, x, desk, in_phase, node, known)?;
     let c = plan_order::order_contents(settings, x.plan, desk, node);
     Ok(message_writer::fill(buffer, &c))
 }

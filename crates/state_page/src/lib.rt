@@ -36,16 +36,16 @@ pub fn page_under(settings: &[u32], x: State, desk: &[u8], g: u32) -> Paged
     requires desk_len { length desk.now ≡ 65536 }
     ensures { PageUnder settings.now x (words_in desk.now) g result }
 {
-    let entry = state_planner::enter(settings, x, desk, true);
-    let refusal = entry.refusal;
-    if refusal.code != 0 {
-        return refuse(refusal);
-    }
-    let phase = x.phase;
-    let seen = entry.seen;
-    Paged {
-        refusal,
-        page: plan_page::page_seen(settings, phase, x.kept, x.held, seen, x.plan, g),
+    match state_planner::enter(settings, x, desk, true) {
+        Ok(entry) => {
+            let phase = x.phase;
+            let seen = entry.seen;
+            Paged {
+                refusal: Refusal { code: 0 },
+                page: plan_page::page_seen(settings, phase, x.kept, x.held, seen, x.plan, g),
+            }
+        }
+        Err(refusal) => refuse(refusal),
     }
 }
 

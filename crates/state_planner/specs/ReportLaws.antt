@@ -1,16 +1,16 @@
 -- The report event from its parts: what comes back where rows 1 to 4 refuse, where the report's own rows do, and where none does; and the
 -- desk after each.
-use Rattle.std.specs.Prelude.{ℕ, ◌<◌, ◌≤◌, Bool, true, false, List, ◌≡◌, length}
+use Rattle.std.specs.Prelude.{ℕ, ◌<◌, ◌≤◌, Bool, true, false, cond, not, List, ◌≡◌, refl, length, Result, Ok, Err, is_err}
 use Rattle.std.proofs.Common.{sym, ◌∙◌}
 use Rattle.std.proofs.Math.Path.{ap}
 use Rattle.std.proofs.Math.ListN.{get_or}
-use borrow.Author.Tests.{eq-eqb, ne_eqb}
+use borrow.Author.Tests.{eq-eqb, ne_eqb, not-true, not-false}
 use Rattle.base_laws.specs.Definitions.{with}
 use Rattle.base_bytes.specs.Definitions.{bytes_of}
 use Rattle.base_lent.specs.Definitions.{words_in}
 use Rattle.settings_values.specs.Definitions.{Settings}
 use Rattle.base_ids.specs.declared.Refusal.{Refusal}
-use Rattle.base_ids.specs.Definitions.{accepted}
+use Rattle.base_ids.specs.Definitions.{accepted, or_refusal}
 use Rattle.base_ids.specs.Refusals.{accepted_none, first_right, rows_refused, rows_followed}
 use Rattle.message_format.specs.Definitions.{contents_of}
 use Rattle.report_rows.specs.Definitions.{noted}
@@ -23,8 +23,8 @@ use Rattle.state_planner.specs.declared.State.{State}
 use Rattle.state_planner.specs.declared.Outcome.{Outcome}
 use Rattle.state_planner.specs.Definitions.{keeping, desk_ok, entry_refusal, report_refusal, refusing, accepting, after_report, reported, desk_after, desk_left}
 use Rattle.report_views.specs.Definitions.{is_gathering}
-use Rattle.state_planner.specs.Events.{is_accepted}
-use Rattle.state_planner.specs.EventLaws.{settles_refused, settles_accepted, answer_accepts}
+use Rattle.state_planner.specs.Events.{is_accepted, outcome_step}
+use Rattle.state_planner.specs.EventLaws.{settles_refused, settles_accepted, answer_accepts, given_is}
 
 -- r: the report beside what is kept and remembered
 module _ (σ : List ℕ) (x : State) (w : List ℕ) (r : Received) (e : r ≡ taken_in σ x.kept x.termination x.latest w) where
@@ -61,6 +61,10 @@ module _ (σ : List ℕ) (x : State) (d w : List ℕ) (g : Bool) (phase : g ≡ 
   unfolding reported report_refusal
   entry_refuses h = settles_refused (rows_refused entry_is _ (ne_eqb e.code 0 h)) x (after_report σ x (contents_of w)) h
 
+  pub entry_gives : (e.code ≡ 0 → ⊥) → Err e ≡ or_refusal (report_refusal σ x d w) (after_report σ x (contents_of w))
+  unfolding reported
+  entry_gives h = ap outcome_step (entry_refuses h) ∙ given_is (report_refusal σ x d w) x (after_report σ x (contents_of w))
+
   -- r: the report beside what is kept and remembered
   module _ (h : e.code ≡ 0) (r : Received) (f : r ≡ taken_in σ x.kept x.termination x.latest w) where
     report_is : r.refusal ≡ report_refusal σ x d w
@@ -77,6 +81,16 @@ module _ (σ : List ℕ) (x : State) (d w : List ℕ) (g : Bool) (phase : g ≡ 
     unfolding reported
     taken_reports k y q =
         ap accepting (next_is σ x w r f k y q) ∙ settles_accepted report_is x (after_report σ x (contents_of w)) k
+
+    pub beside_gives : (r.refusal.code ≡ 0 → ⊥) → Err r.refusal ≡ or_refusal (report_refusal σ x d w) (after_report σ x (contents_of w))
+    unfolding reported
+    beside_gives k = ap outcome_step (beside_refuses k) ∙ given_is (report_refusal σ x d w) x (after_report σ x (contents_of w))
+
+    pub taken_gives : r.refusal.code ≡ 0 → (y : State)
+        → y ≡ keeping x r.kept r.termination (with x.held r.node.0) (noted x.latest r.node.0 r.view.0)
+        → Ok y ≡ or_refusal (report_refusal σ x d w) (after_report σ x (contents_of w))
+    unfolding reported
+    taken_gives k y q = ap outcome_step (taken_reports k y q) ∙ given_is (report_refusal σ x d w) x (after_report σ x (contents_of w))
 
 -- ---- the desk
 
@@ -122,3 +136,19 @@ module _ (σ : List ℕ) (x : State) (b w : List ℕ) where
           → (words_in c ≡ desk_with (words_in b) (get_or w 0 0) w) × (c ≡ bytes_of (desk_with (words_in b) (get_or w 0 0) w)) → ToldDesk c
       unfolding desk_after desk_left
       stored_desk c f = (f.0 ∙ rw (sym answer_is, h), f.1 ∙ rw (sym answer_is, h))
+
+  -- o: what the event gives
+  module _ (o : Result State Refusal) (e : o ≡ or_refusal (report_refusal σ x (words_in b) w) (after_report σ x (contents_of w))) where
+    is_told : is_err o ≡ not (accepted (report_refusal σ x (words_in b) w))
+    unfolding or_refusal
+    is_told = ap is_err e ∙ go (accepted (report_refusal σ x (words_in b) w))
+      where
+        go : (q : Bool) → is_err (cond q (Ok (after_report σ x (contents_of w))) (Err (report_refusal σ x (words_in b) w))) ≡ not q
+        go true = refl
+        go false = refl
+
+    pub left_refused : is_err o ≡ true → is_accepted (reported σ x (words_in b) w).answer ≡ false
+    left_refused h = answer_is (reported σ x (words_in b) w) refl ∙ not-true _ (sym is_told ∙ h)
+
+    pub left_accepted : is_err o ≡ false → is_accepted (reported σ x (words_in b) w).answer ≡ true
+    left_accepted h = answer_is (reported σ x (words_in b) w) refl ∙ not-false _ (sym is_told ∙ h)

@@ -1,10 +1,12 @@
 // The planner: its state, and the events that lead from state to state.
 #![tactic(auto)]
 
-ghost use Rattle.std.specs.Prelude.{List, ◌≡◌, ℕ, ◌<◌, length};
+ghost use Rattle.std.specs.Prelude.{List, ◌≡◌, ℕ, ◌<◌, length, IfOk};
 ghost use Rattle.base_laws.specs.Definitions.{with};
+ghost use Rattle.base_ids.specs.Definitions.{or_refusal};
 ghost use Rattle.base_lent.specs.Definitions.{words_in};
 ghost use Rattle.settings_values.specs.Definitions.{Settings};
+ghost use Rattle.message_format.specs.Definitions.{contents_of};
 ghost use Rattle.report_rows.specs.Definitions.{noted};
 ghost use Rattle.report_walk.specs.Kept.{ready_of, TablesOf};
 ghost use Rattle.plan_seen.specs.Sight.{seen_of};
@@ -37,7 +39,7 @@ pub struct State {
     pub latest: Latest,
 }
 
-// The answer to report, drop, fetched and prepared.
+// The answer to report, drop, fetched and prepared, as definitions have it.
 #[derive(Clone, Copy)]
 pub enum Answer {
     Accepted,
@@ -52,7 +54,8 @@ pub enum Decision {
     Refused(Refusal),
 }
 
-// What report, drop, fetched and prepared hand back.
+// What report, drop, fetched and prepared lead to, as definitions have it: the code gives the next state, or the refusal, beside which the
+// state is as it was.
 #[derive(Clone, Copy)]
 pub struct Outcome {
     pub state: State,
@@ -74,25 +77,24 @@ pub struct DecidedWithin {
     pub gap: u32,
 }
 
-// What an event has found of rows 3 and 4, what the desk tells, and what slots and messages are compared with.
+// What the desk tells, and what slots and messages are compared with.
 #[derive(Clone, Copy)]
 pub struct Sighted {
-    pub refusal: Refusal,
     pub seen: Seen,
     pub tables: Tables,
 }
 
 // Rows 1 and 2.
-fn call_refusal(settings: &[u32], desk: &[u8]) -> Refusal
-    ensures { result ≡ Refusing.call_refusal settings.now (words_in desk.now) }
+fn check_call(settings: &[u32], desk: &[u8]) -> Result<(), Refusal>
+    ensures { result ≡ or_refusal (Refusing.call_refusal settings.now (words_in desk.now)) tt }
 {
     if desk.len() != 65536 {
-        return Refusal { code: 1 };
+        return Err(Refusal { code: 1 });
     }
     if !settings_check::check(settings) {
-        return Refusal { code: 2 };
+        return Err(Refusal { code: 2 });
     }
-    Refusal { code: 0 }
+    Ok(())
 }
 
 // Row 3: the state is sound, by what is seen. ready: whether the kept view and its termination pass rows 7, 10 and 11.
@@ -120,86 +122,39 @@ fn is_sound(settings: &[u32], x: State, seen: Seen, ready: bool) -> bool
 }
 
 // Rows 3 and 4, and what the desk tells, where rows 1 and 2 do not refuse.
-pub fn enter(settings: &[u32], x: State, desk: &[u8], in_phase: bool) -> Sighted
+pub fn enter(settings: &[u32], x: State, desk: &[u8], in_phase: bool) -> Result<Sighted, Refusal>
     requires settings { Settings settings.now }
     requires desk_len { length desk.now ≡ 65536 }
-    ensures refusal { result.refusal ≡ Definitions.entry_refusal (Definitions.desk_ok (words_in desk.now)) settings.now x (words_in desk.now) in_phase }
-    ensures seen { result.seen ≡ seen_of settings.now x.kept x.termination x.held (words_in desk.now) }
-    ensures tables { TablesOf settings.now x.kept x.termination result.tables }
+    ensures seen { Events.seen_by result ≡ or_refusal (Definitions.entry_refusal (Definitions.desk_ok (words_in desk.now)) settings.now x (words_in desk.now) in_phase) (seen_of settings.now x.kept x.termination x.held (words_in desk.now)) }
+    ensures tables { IfOk result (λ s. TablesOf settings.now x.kept x.termination s.tables) }
 {
     let tables = report_walk::tables_of(settings, x.kept, x.termination);
     let seen = plan_seen::see(settings, x.kept, x.termination, tables, x.held, desk);
     let frame = tables.frame;
     if !is_sound(settings, x, seen, frame.ready) {
-        return Sighted {
-            refusal: Refusal { code: 3 },
-            seen,
-            tables,
-        };
+        return Err(Refusal { code: 3 });
     }
     if !in_phase {
-        return Sighted {
-            refusal: Refusal { code: 4 },
-            seen,
-            tables,
-        };
+        return Err(Refusal { code: 4 });
     }
-    Sighted {
-        refusal: Refusal { code: 0 },
-        seen,
-        tables,
-    }
+    Ok(Sighted { seen, tables })
 }
 
-// The refusal of an event that names a node, where rows 1 and 2 do not refuse: rows 3, 4, 6 and 14.
-pub fn event_refusal(
+// An event that names a node, where rows 1 and 2 do not refuse: rows 3, 4, 6 and 14.
+pub fn check_event(
     settings: &[u32],
     x: State,
     desk: &[u8],
     in_phase: bool,
     node: Node,
     ok: bool,
-) -> Refusal
+) -> Result<(), Refusal>
     requires settings { Settings settings.now }
     requires desk_len { length desk.now ≡ 65536 }
-    ensures { result ≡ Definitions.event_refusal (Definitions.desk_ok (words_in desk.now)) settings.now x (words_in desk.now) in_phase node.0 ok }
+    ensures { result ≡ or_refusal (Definitions.event_refusal (Definitions.desk_ok (words_in desk.now)) settings.now x (words_in desk.now) in_phase node.0 ok) tt }
 {
-    let entry = enter(settings, x, desk, in_phase);
-    let refusal = entry.refusal;
-    if refusal.code != 0 {
-        return refusal;
-    }
-    state_rows::node_refusal(settings, node, ok)
-}
-
-// The state as it was, beside a refusal.
-fn refuse(x: State, refusal: Refusal) -> Outcome
-    ensures { result ≡ Definitions.refusing x refusal }
-{
-    Outcome {
-        state: x,
-        answer: Answer::Refused(refusal),
-    }
-}
-
-// The next state.
-fn accept(next: State) -> Outcome
-    ensures { result ≡ Definitions.accepting next }
-{
-    Outcome {
-        state: next,
-        answer: Answer::Accepted,
-    }
-}
-
-// Whether an event was accepted.
-fn is_accepted(answer: Answer) -> bool
-    ensures { result ≡ Events.is_accepted answer }
-{
-    match answer {
-        Answer::Accepted => true,
-        Answer::Refused(_) => false,
-    }
+    enter(settings, x, desk, in_phase)?;
+    state_rows::check_node(settings, node, ok)
 }
 
 // Gathering anew: the kept view, its termination and the views that nodes have reported remain.
@@ -347,18 +302,14 @@ impl State {
     }
 
     // A node reports, where rows 1 and 2 do not refuse; the desk is left to the caller.
-    fn report_by(self, settings: &[u32], desk: &[u8], message: &[u32]) -> Outcome
+    fn report_by(self, settings: &[u32], desk: &[u8], message: &[u32]) -> Result<State, Refusal>
         requires settings { Settings settings.now }
         requires desk_len { length desk.now ≡ 65536 }
-        ensures { result ≡ Definitions.reported settings.now self (words_in desk.now) message.now }
+        ensures { result ≡ or_refusal (Definitions.report_refusal settings.now self (words_in desk.now) message.now) (Definitions.after_report settings.now self (contents_of message.now)) }
     {
         let phase = self.phase;
         let in_phase = state_rows::is_gathering(phase);
-        let entry = enter(settings, self, desk, in_phase);
-        let first = entry.refusal;
-        if first.code != 0 {
-            return refuse(self, first);
-        }
+        let entry = enter(settings, self, desk, in_phase)?;
         let taken = report_kept::take_in(
             settings,
             self.kept,
@@ -369,22 +320,26 @@ impl State {
         );
         let refusal = taken.refusal;
         if refusal.code != 0 {
-            return refuse(self, refusal);
+            return Err(refusal);
         }
-        accept(after_report(self, taken))
+        Ok(after_report(self, taken))
     }
 
     // A node reports, where rows 1 and 2 do not refuse.
-    pub fn report_under(self, settings: &[u32], desk: &mut [u8], message: &[u32]) -> Outcome
+    pub fn report_under(
+        self,
+        settings: &[u32],
+        desk: &mut [u8],
+        message: &[u32],
+    ) -> Result<State, Refusal>
         requires settings { Settings settings.now }
         requires desk_len { length desk.old ≡ 65536 }
-        ensures outcome { result ≡ Definitions.reported settings.now self (words_in desk.old) message.now }
+        ensures outcome { result ≡ or_refusal (Definitions.report_refusal settings.now self (words_in desk.old) message.now) (Definitions.after_report settings.now self (contents_of message.now)) }
         ensures words { words_in desk.new ≡ Definitions.desk_after settings.now self (words_in desk.old) message.now }
         ensures bytes { desk.new ≡ Definitions.desk_left settings.now self desk.old message.now }
     {
-        let outcome = State::report_by(self, settings, desk, message);
-        let answer = outcome.answer;
-        if !is_accepted(answer) {
+        let outcome = self.report_by(settings, desk, message);
+        if outcome.is_err() {
             return outcome;
         }
         report_desk::store(desk, Node(message[0]), message);
@@ -392,97 +347,81 @@ impl State {
     }
 
     // A node reports: its message is copied to its slot of the desk, and the node is held.
-    pub fn report(self, settings: &[u32], desk: &mut [u8], message: &[u32]) -> Outcome
-        ensures outcome { result ≡ Definitions.reported settings.now self (words_in desk.old) message.now }
+    pub fn report(
+        self,
+        settings: &[u32],
+        desk: &mut [u8],
+        message: &[u32],
+    ) -> Result<State, Refusal>
+        ensures outcome { result ≡ or_refusal (Definitions.report_refusal settings.now self (words_in desk.old) message.now) (Definitions.after_report settings.now self (contents_of message.now)) }
         ensures words { words_in desk.new ≡ Definitions.desk_after settings.now self (words_in desk.old) message.now }
         ensures bytes { desk.new ≡ Definitions.desk_left settings.now self desk.old message.now }
     {
-        let refusal = call_refusal(settings, desk);
-        if refusal.code != 0 {
-            return refuse(self, refusal);
-        }
-        State::report_under(self, settings, desk, message)
+        check_call(settings, desk)?;
+        self.report_under(settings, desk, message)
     }
 
     // A node is no longer there, where rows 1 and 2 do not refuse.
-    pub fn drop_under(self, settings: &[u32], desk: &[u8], node: Node) -> Outcome
+    pub fn drop_under(self, settings: &[u32], desk: &[u8], node: Node) -> Result<State, Refusal>
         requires settings { Settings settings.now }
         requires desk_len { length desk.now ≡ 65536 }
-        ensures { result ≡ Definitions.dropped settings.now self (words_in desk.now) node.0 }
+        ensures { result ≡ or_refusal (Definitions.drop_refusal settings.now self (words_in desk.now) node.0) (Definitions.after_drop self node.0) }
     {
         let phase = self.phase;
         let in_phase = !state_rows::is_committed(phase);
         let known = base_masks::has(self.held, node.0 as usize);
-        let refusal = event_refusal(settings, self, desk, in_phase, node, known);
-        if refusal.code != 0 {
-            return refuse(self, refusal);
-        }
-        accept(after_drop(self, node))
+        check_event(settings, self, desk, in_phase, node, known)?;
+        Ok(after_drop(self, node))
     }
 
     // A node is no longer there.
-    pub fn drop(self, settings: &[u32], desk: &[u8], node: Node) -> Outcome
-        ensures { result ≡ Definitions.dropped settings.now self (words_in desk.now) node.0 }
+    pub fn drop(self, settings: &[u32], desk: &[u8], node: Node) -> Result<State, Refusal>
+        ensures { result ≡ or_refusal (Definitions.drop_refusal settings.now self (words_in desk.now) node.0) (Definitions.after_drop self node.0) }
     {
-        let refusal = call_refusal(settings, desk);
-        if refusal.code != 0 {
-            return refuse(self, refusal);
-        }
-        State::drop_under(self, settings, desk, node)
+        check_call(settings, desk)?;
+        self.drop_under(settings, desk, node)
     }
 
     // A node has fetched what it lacked, where rows 1 and 2 do not refuse.
-    pub fn fetched_under(self, settings: &[u32], desk: &[u8], node: Node) -> Outcome
+    pub fn fetched_under(self, settings: &[u32], desk: &[u8], node: Node) -> Result<State, Refusal>
         requires settings { Settings settings.now }
         requires desk_len { length desk.now ≡ 65536 }
-        ensures { result ≡ Definitions.fetched_of settings.now self (words_in desk.now) node.0 }
+        ensures { result ≡ or_refusal (Definitions.fetched_refusal settings.now self (words_in desk.now) node.0) (Definitions.after_fetched self node.0) }
     {
         let phase = self.phase;
         let in_phase = state_rows::is_ordered(phase);
         let known = state_rows::lacks(self.held, self.fetched, node);
-        let refusal = event_refusal(settings, self, desk, in_phase, node, known);
-        if refusal.code != 0 {
-            return refuse(self, refusal);
-        }
-        accept(after_fetched(self, node))
+        check_event(settings, self, desk, in_phase, node, known)?;
+        Ok(after_fetched(self, node))
     }
 
     // A node has fetched what it lacked.
-    pub fn fetched(self, settings: &[u32], desk: &[u8], node: Node) -> Outcome
-        ensures { result ≡ Definitions.fetched_of settings.now self (words_in desk.now) node.0 }
+    pub fn fetched(self, settings: &[u32], desk: &[u8], node: Node) -> Result<State, Refusal>
+        ensures { result ≡ or_refusal (Definitions.fetched_refusal settings.now self (words_in desk.now) node.0) (Definitions.after_fetched self node.0) }
     {
-        let refusal = call_refusal(settings, desk);
-        if refusal.code != 0 {
-            return refuse(self, refusal);
-        }
-        State::fetched_under(self, settings, desk, node)
+        check_call(settings, desk)?;
+        self.fetched_under(settings, desk, node)
     }
 
     // A node has prepared the new view, where rows 1 and 2 do not refuse.
-    pub fn prepared_under(self, settings: &[u32], desk: &[u8], node: Node) -> Outcome
+    pub fn prepared_under(self, settings: &[u32], desk: &[u8], node: Node) -> Result<State, Refusal>
         requires settings { Settings settings.now }
         requires desk_len { length desk.now ≡ 65536 }
-        ensures { result ≡ Definitions.prepared_of settings.now self (words_in desk.now) node.0 }
+        ensures { result ≡ or_refusal (Definitions.prepared_refusal settings.now self (words_in desk.now) node.0) (Definitions.after_prepared self node.0) }
     {
         let phase = self.phase;
         let in_phase = state_rows::is_preparing(phase);
         let known = state_rows::lacks(self.held, self.prepared, node);
-        let refusal = event_refusal(settings, self, desk, in_phase, node, known);
-        if refusal.code != 0 {
-            return refuse(self, refusal);
-        }
-        accept(after_prepared(self, node))
+        check_event(settings, self, desk, in_phase, node, known)?;
+        Ok(after_prepared(self, node))
     }
 
     // A node has prepared the new view.
-    pub fn prepared(self, settings: &[u32], desk: &[u8], node: Node) -> Outcome
-        ensures { result ≡ Definitions.prepared_of settings.now self (words_in desk.now) node.0 }
+    pub fn prepared(self, settings: &[u32], desk: &[u8], node: Node) -> Result<State, Refusal>
+        ensures { result ≡ or_refusal (Definitions.prepared_refusal settings.now self (words_in desk.now) node.0) (Definitions.after_prepared self node.0) }
     {
-        let refusal = call_refusal(settings, desk);
-        if refusal.code != 0 {
-            return refuse(self, refusal);
-        }
-        State::prepared_under(self, settings, desk, node)
+        check_call(settings, desk)?;
+        self.prepared_under(settings, desk, node)
     }
 
     // A plan for the held nodes, or the first reason to wait, where rows 1 and 2 do not refuse.
@@ -493,30 +432,29 @@ impl State {
     {
         let phase = self.phase;
         let in_phase = state_rows::is_gathering(phase);
-        let entered = enter(settings, self, desk, in_phase);
-        let refusal = entered.refusal;
-        if refusal.code != 0 {
-            return Decided {
+        match enter(settings, self, desk, in_phase) {
+            Ok(entered) => {
+                let verdict = plan_restart::restart(settings, self.kept, self.held, entered.seen);
+                after_verdict(self, verdict)
+            }
+            Err(refusal) => Decided {
                 state: self,
                 decision: Decision::Refused(refusal),
-            };
+            },
         }
-        let verdict = plan_restart::restart(settings, self.kept, self.held, entered.seen);
-        after_verdict(self, verdict)
     }
 
     // A plan for the held nodes, or the first reason to wait.
     pub fn decide(self, settings: &[u32], desk: &[u8]) -> Decided
         ensures { Definitions.Decides settings.now self (words_in desk.now) result }
     {
-        let refusal = call_refusal(settings, desk);
-        if refusal.code != 0 {
-            return Decided {
+        match check_call(settings, desk) {
+            Ok(_) => self.decide_under(settings, desk),
+            Err(refusal) => Decided {
                 state: self,
                 decision: Decision::Refused(refusal),
-            };
+            },
         }
-        State::decide_under(self, settings, desk)
     }
 
     // A plan that so many improving rounds reach, or the first reason to wait, where rows 1 and 2 do not refuse.
@@ -526,59 +464,55 @@ impl State {
         ensures { Definitions.DecidesWithin settings.now self (words_in desk.now) rounds result }
     {
         let phase = self.phase;
-        let in_phase = state_rows::is_gathering(phase);
-        let sighted = enter(settings, self, desk, in_phase);
-        let refusal = sighted.refusal;
-        if refusal.code != 0 {
-            return DecidedWithin {
+        let gathering = state_rows::is_gathering(phase);
+        match enter(settings, self, desk, gathering) {
+            Ok(sighted) => {
+                let offered = plan_restart::rounds::offer(
+                    settings,
+                    self.kept,
+                    self.held,
+                    sighted.seen,
+                    rounds,
+                );
+                after_offer(self, offered)
+            }
+            Err(refusal) => DecidedWithin {
                 state: self,
                 decision: Decision::Refused(refusal),
                 gap: 0,
-            };
+            },
         }
-        let offered = plan_restart::rounds::offer(
-            settings,
-            self.kept,
-            self.held,
-            sighted.seen,
-            rounds,
-        );
-        after_offer(self, offered)
     }
 
     // A plan that so many improving rounds reach, or the first reason to wait.
     pub fn decide_within(self, settings: &[u32], desk: &[u8], rounds: u32) -> DecidedWithin
         ensures { Definitions.DecidesWithin settings.now self (words_in desk.now) rounds result }
     {
-        let refusal = call_refusal(settings, desk);
-        if refusal.code != 0 {
-            return DecidedWithin {
+        match check_call(settings, desk) {
+            Ok(_) => self.decide_within_under(settings, desk, rounds),
+            Err(refusal) => DecidedWithin {
                 state: self,
                 decision: Decision::Refused(refusal),
                 gap: 0,
-            };
+            },
         }
-        State::decide_within_under(self, settings, desk, rounds)
     }
 
     // Whether the state is sound beside these settings and this desk, where rows 1 and 2 do not refuse: row 3.
-    pub fn check_under(self, settings: &[u32], desk: &[u8]) -> Refusal
+    pub fn check_under(self, settings: &[u32], desk: &[u8]) -> Result<(), Refusal>
         requires settings { Settings settings.now }
         requires desk_len { length desk.now ≡ 65536 }
-        ensures { result ≡ Definitions.check_refusal settings.now self (words_in desk.now) }
+        ensures { result ≡ or_refusal (Definitions.check_refusal settings.now self (words_in desk.now)) tt }
     {
-        let entry = enter(settings, self, desk, true);
-        entry.refusal
+        enter(settings, self, desk, true)?;
+        Ok(())
     }
 
     // Whether the state is sound beside these settings and this desk, in whatever phase it is: rows 1 to 3.
-    pub fn check(self, settings: &[u32], desk: &[u8]) -> Refusal
-        ensures { result ≡ Definitions.check_refusal settings.now self (words_in desk.now) }
+    pub fn check(self, settings: &[u32], desk: &[u8]) -> Result<(), Refusal>
+        ensures { result ≡ or_refusal (Definitions.check_refusal settings.now self (words_in desk.now)) tt }
     {
-        let refusal = call_refusal(settings, desk);
-        if refusal.code != 0 {
-            return refusal;
-        }
-        State::check_under(self, settings, desk)
+        check_call(settings, desk)?;
+        self.check_under(settings, desk)
     }
 }

@@ -4,6 +4,8 @@
 
 ghost use Rattle.std.specs.Prelude.{◌≡◌, length};
 ghost use Rattle.base_lent.specs.Definitions.{words_in};
+ghost use Rattle.base_ids.specs.declared.Refusal.{Refusal};
+ghost use Rattle.base_ids.specs.Definitions.{or_refusal};
 ghost use Rattle.settings_values.specs.Definitions.{Settings};
 ghost use Rattle.state_planner.specs.Definitions as Definitions;
 ghost use Rattle.state_planner.specs.Refusing.{call_refusal};
@@ -51,21 +53,27 @@ fn holding(x: State, held: u32) -> State
     State { held, ..x }
 }
 
-// The refusal of a preview, where rows 1 and 2 do not refuse, as far as it does not lie with the other held nodes. While gathering a state
+// A preview, where rows 1 and 2 do not refuse, as far as its refusal does not lie with the other held nodes. While gathering a state
 // is sound just where it is so with the node alone held and with the others alone held.
-fn first_refusal(settings: &[u32], x: State, desk: &[u8], node: Node, fewer: u32) -> Refusal
+fn check_first(
+    settings: &[u32],
+    x: State,
+    desk: &[u8],
+    node: Node,
+    fewer: u32,
+) -> Result<(), Refusal>
     requires settings { Settings settings.now }
     requires desk_len { length desk.now ≡ 65536 }
-    ensures { FirstFound settings.now x (words_in desk.now) node.0 fewer result }
+    ensures { (k : Refusal) × ((result ≡ or_refusal k tt) × FirstFound settings.now x (words_in desk.now) node.0 fewer k) }
 {
     let phase = x.phase;
     let in_phase = state_rows::is_gathering(phase);
     let known = base_masks::has(x.held, node.0 as usize);
     if !in_phase {
-        return state_planner::event_refusal(settings, x, desk, in_phase, node, known);
+        return state_planner::check_event(settings, x, desk, in_phase, node, known);
     }
     if !known {
-        return state_planner::event_refusal(settings, x, desk, in_phase, node, known);
+        return state_planner::check_event(settings, x, desk, in_phase, node, known);
     }
     State::check_under(holding(x, base_masks::minus(x.held, fewer)), settings, desk)
 }
@@ -89,11 +97,10 @@ pub fn preview_under(x: State, settings: &[u32], desk: &[u8], node: Node) -> Dec
     ensures { Previews settings.now x (words_in desk.now) node.0 result }
 {
     let fewer = base_masks::without(x.held, node.0 as usize);
-    let refusal = first_refusal(settings, x, desk, node, fewer);
-    if refusal.code != 0 {
-        return refuse(x, refusal);
+    match check_first(settings, x, desk, node, fewer) {
+        Ok(_) => hand_back(x, State::decide_under(holding(x, fewer), settings, desk)),
+        Err(refusal) => refuse(x, refusal),
     }
-    hand_back(x, State::decide_under(holding(x, fewer), settings, desk))
 }
 
 // What decide would give without a held node: the node is dropped in a copy of the state, and the copy decides.
@@ -115,16 +122,16 @@ pub fn preview_all_under(x: State, settings: &[u32], desk: &[u8]) -> Warning
 {
     let phase = x.phase;
     let in_phase = state_rows::is_gathering(phase);
-    let entered = state_planner::enter(settings, x, desk, in_phase);
-    let refusal = entered.refusal;
-    if refusal.code != 0 {
-        return Warning { refusal, lost: 0 };
-    }
-    let counted = plan_masks::count(settings, x.kept, x.termination, x.held, desk);
-    let masks = counted.unwrap();
-    Warning {
-        refusal,
-        lost: plan_losses::losses(settings, x.kept, x.held, &masks),
+    match state_planner::enter(settings, x, desk, in_phase) {
+        Ok(_) => {
+            let counted = plan_masks::count(settings, x.kept, x.termination, x.held, desk);
+            let masks = counted.unwrap();
+            Warning {
+                refusal: Refusal { code: 0 },
+                lost: plan_losses::losses(settings, x.kept, x.held, &masks),
+            }
+        }
+        Err(refusal) => Warning { refusal, lost: 0 },
     }
 }
 

@@ -75,15 +75,15 @@ pub fn readiness_under(settings: &[u32], x: State, desk: &[u8], in_limits: bool)
 {
     let phase = x.phase;
     let in_phase = state_rows::is_gathering(phase);
-    let entry = state_planner::enter(settings, x, desk, in_phase);
-    let refusal = entry.refusal;
-    if refusal.code != 0 {
-        return refuse(refusal);
+    match state_planner::enter(settings, x, desk, in_phase) {
+        Ok(_) => {
+            if !is_small(settings, in_limits) {
+                return refuse(Refusal { code: 22 });
+            }
+            rows_ready(settings, x, desk)
+        }
+        Err(refusal) => refuse(refusal),
     }
-    if !is_small(settings, in_limits) {
-        return refuse(Refusal { code: 22 });
-    }
-    rows_ready(settings, x, desk)
 }
 
 // The rows: what decide would answer for each mask of held nodes, each node being remembered at its report's view.

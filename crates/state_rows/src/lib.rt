@@ -6,6 +6,7 @@ pub mod sound_plan;
 
 ghost use Rattle.std.specs.Prelude.{cond, not, ◌&&◌, ◌≡◌, eqb, ltb};
 ghost use Rattle.base_laws.specs.Definitions.{has, with};
+ghost use Rattle.base_ids.specs.Definitions.{or_refusal};
 ghost use Rattle.settings_values.specs.Definitions.{Settings};
 ghost use Rattle.report_views.specs.Definitions.{is_gathering, is_ordered, is_preparing, is_committed};
 ghost use Rattle.state_rows.specs.Definitions as Definitions;
@@ -58,17 +59,17 @@ pub fn is_committed(phase: Phase) -> bool
 }
 
 // Rows 6 and 14, for a node that an event names.
-pub fn node_refusal(settings: &[u32], node: Node, ok: bool) -> Refusal
+pub fn check_node(settings: &[u32], node: Node, ok: bool) -> Result<(), Refusal>
     requires { Settings settings.now }
-    ensures { result ≡ Definitions.node_refusal settings.now node.0 ok }
+    ensures { result ≡ or_refusal (Definitions.node_refusal settings.now node.0 ok) tt }
 {
     if settings_values::nodes(settings) <= node.0 {
-        return Refusal { code: 6 };
+        return Err(Refusal { code: 6 });
     }
     if !ok {
-        return Refusal { code: 14 };
+        return Err(Refusal { code: 14 });
     }
-    Refusal { code: 0 }
+    Ok(())
 }
 
 // The node is in one mask and not in the other.

@@ -1,7 +1,9 @@
 -- `state_planner::enter` meets its contract: row by row, after rows 1 and 2. Assumes nothing.
-use mathlib.Core.Path.{sym, ◌∙◌}
+use mathlib.Core.Path.{refl, sym, ap, ◌∙◌}
 use lib.ListN.{length}
 use borrow.Author.Tests.{eq-eqb}
+use Rattle.std.specs.Prelude.{Ok}
+use Rattle.base_ids.specs.Results.{ok_is, err_is}
 use Rattle.base_lent.specs.Definitions.{words_in}
 use Rattle.report_desk.specs.Bytes.{desk_length}
 use Rattle.state_rows.specs.Laws.{row_3, row_4, no_row, rows_passed}
@@ -19,12 +21,10 @@ returns-then-not-is_sound c =
     let a = s.args in
     let d = words_in a.desk.now in
     let k = c.is_sound in
-    let e = c.see-seen.ensures in
-    let t = c.tables_of-tables.ensures in record {
-      refusal = row_3 (sound a.settings.now a.x d) a.in_phase (sym (k.ensures d e) ∙ c.if-not-is_sound.true)
-          ∙ rows_passed (sound a.settings.now a.x d) a.in_phase (desk_ok d) a.settings.now (eq-eqb (length d) 16384 (desk_length a.desk.now s.requires.desk_len)) s.requires.settings;
-      seen = e;
-      tables = t;
+    record {
+      seen = err_is _ _ _ (row_3 (sound a.settings.now a.x d) a.in_phase (sym (k.ensures d c.see-seen.ensures) ∙ c.if-not-is_sound.true)
+          ∙ rows_passed (sound a.settings.now a.x d) a.in_phase (desk_ok d) a.settings.now (eq-eqb (length d) 16384 (desk_length a.desk.now s.requires.desk_len)) s.requires.settings) refl;
+      tables = tt;
     }
 
 pub returns-then-not-in_phase : goal.returns-then-not-in_phase
@@ -34,12 +34,10 @@ returns-then-not-in_phase c =
     let a = s.args in
     let d = words_in a.desk.now in
     let k = c.is_sound in
-    let e = c.see-seen.ensures in
-    let t = c.tables_of-tables.ensures in record {
-      refusal = row_4 (sound a.settings.now a.x d) a.in_phase (sym (k.ensures d e) ∙ c.if-not-is_sound.false) (c.if-not-in_phase.true)
-          ∙ rows_passed (sound a.settings.now a.x d) a.in_phase (desk_ok d) a.settings.now (eq-eqb (length d) 16384 (desk_length a.desk.now s.requires.desk_len)) s.requires.settings;
-      seen = e;
-      tables = t;
+    record {
+      seen = err_is _ _ _ (row_4 (sound a.settings.now a.x d) a.in_phase (sym (k.ensures d c.see-seen.ensures) ∙ c.if-not-is_sound.false) (c.if-not-in_phase.true)
+          ∙ rows_passed (sound a.settings.now a.x d) a.in_phase (desk_ok d) a.settings.now (eq-eqb (length d) 16384 (desk_length a.desk.now s.requires.desk_len)) s.requires.settings) refl;
+      tables = tt;
     }
 
 pub returns : goal.returns
@@ -51,8 +49,7 @@ returns c =
     let k = c.is_sound in
     let e = c.see-seen.ensures in
     let t = c.tables_of-tables.ensures in record {
-      refusal = no_row (sound a.settings.now a.x d) a.in_phase (sym (k.ensures d e) ∙ c.if-not-is_sound.false) (c.if-not-in_phase.false)
-          ∙ rows_passed (sound a.settings.now a.x d) a.in_phase (desk_ok d) a.settings.now (eq-eqb (length d) 16384 (desk_length a.desk.now s.requires.desk_len)) s.requires.settings;
-      seen = e;
+      seen = ap Ok e ∙ ok_is _ _ (sym (no_row (sound a.settings.now a.x d) a.in_phase (sym (k.ensures d e) ∙ c.if-not-is_sound.false) (c.if-not-in_phase.false)
+          ∙ rows_passed (sound a.settings.now a.x d) a.in_phase (desk_ok d) a.settings.now (eq-eqb (length d) 16384 (desk_length a.desk.now s.requires.desk_len)) s.requires.settings));
       tables = t;
     }

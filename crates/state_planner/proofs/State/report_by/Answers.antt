@@ -1,27 +1,25 @@
 -- `state_planner::State::report_by` meets its contract: each way out is one of the laws of a report, from what the calls before it ensure. Assumes nothing.
-use mathlib.Core.Path.{◌∙◌}
-use Rattle.state_planner.specs.ReportLaws.{entry_refuses, beside_refuses, reporter_below, taken_reports}
+use Rattle.std.proofs.lemmas.Result.{err_from_is_err_and}
+use mathlib.Core.Path.{refl, sym}
+use Rattle.base_ids.specs.Results.{err_code}
+use Rattle.state_planner.specs.EventLaws.{given_refusal, given_none}
+use Rattle.state_planner.specs.ReportLaws.{entry_gives, beside_gives, reporter_below, taken_gives}
 use Rattle.base_lent.specs.Definitions.{words_in}
 use Rattle.state_planner.proofs.State.report_by.Goals as goal
 
-pub returns-then-first-ne0 : goal.returns-then-first-ne0
-returns-then-first-ne0 c =
-    let s = c in
-    let a = s.args in
+pub returns-in_err-entry : goal.returns-in_err-entry
+returns-in_err-entry c =
+    let a = c.args in
     let g = c.is_gathering-in_phase in
-    let k = c.enter-entry in
-    let d = words_in a.desk.now in
-    c.refuse.ensures ∙ entry_refuses a.settings.now a.self d a.message.now g.result g.ensures k.result.refusal k.ensures.refusal c.if-first-ne0.true
+    let f = c.in_err-entry.ensures.seen in
+    let p = err_from_is_err_and c.from_residual.result c.from_residual.ensures.1 in rw (p.1, p.2) (entry_gives a.settings.now a.self (words_in a.desk.now) a.message.now g.result g.ensures _ (given_refusal _ _ _ f) (err_code _ _ _ f))
 
 pub returns-then-refusal-ne0 : goal.returns-then-refusal-ne0
 returns-then-refusal-ne0 c =
-    let s = c in
-    let a = s.args in
+    let a = c.args in
     let g = c.is_gathering-in_phase in
-    let k = c.enter-entry in
     let t = c.take_in-taken in
-    let d = words_in a.desk.now in
-    c.refuse-then-refusal-ne0.ensures ∙ beside_refuses a.settings.now a.self d a.message.now g.result g.ensures k.result.refusal k.ensures.refusal c.if-first-ne0.false t.result t.ensures c.if-refusal-ne0.true
+    beside_gives a.settings.now a.self (words_in a.desk.now) a.message.now g.result g.ensures _ (sym (given_none _ _ _ c.in_ok-entry.ensures.seen)) refl t.result t.ensures c.if-refusal-ne0.true
 
 pub after_report-requires : goal.after_report-requires
 after_report-requires c =
@@ -32,11 +30,8 @@ after_report-requires c =
 
 pub returns : goal.returns
 returns c =
-    let s = c in
-    let a = s.args in
+    let a = c.args in
     let g = c.is_gathering-in_phase in
-    let k = c.enter-entry in
     let t = c.take_in-taken in
     let y = c.after_report in
-    let d = words_in a.desk.now in
-    c.accept.ensures ∙ taken_reports a.settings.now a.self d a.message.now g.result g.ensures k.result.refusal k.ensures.refusal c.if-first-ne0.false t.result t.ensures c.if-refusal-ne0.false y.result y.ensures
+    taken_gives a.settings.now a.self (words_in a.desk.now) a.message.now g.result g.ensures _ (sym (given_none _ _ _ c.in_ok-entry.ensures.seen)) refl t.result t.ensures c.if-refusal-ne0.false y.result y.ensures
