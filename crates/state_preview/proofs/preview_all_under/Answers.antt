@@ -1,8 +1,7 @@
 -- `state_preview::preview_all_under` meets its contract: rows 3 and 4, then the losses by the masks that are counted. Assumes nothing.
-use mathlib.Core.Bool.{Bool, true}
+use mathlib.Core.Bool.{Bool}
 use mathlib.Core.Path.{◌≡◌, sym, ap, ◌∙◌, refl}
 use Rattle.std.specs.Prelude.{Some}
-use borrow.Author.Tests.{eq-eqb}
 use Rattle.base_lent.specs.Definitions.{words_in}
 use Rattle.base_ids.specs.Definitions.{none, accepted}
 use Rattle.base_ids.specs.Results.{err_code}

@@ -1,7 +1,7 @@
 -- `state_planner::State::check` meets its contract: rows 1 and 2, then the rest. Assumes nothing.
 use Rattle.std.proofs.lemmas.Result.{err_from_is_err_and}
 use mathlib.Core.Bool.{true}
-use mathlib.Core.Path.{refl, sym, ◌∙◌}
+use mathlib.Core.Path.{refl, sym}
 use Rattle.base_ids.specs.Results.{err_is, err_code}
 use Rattle.state_planner.specs.Definitions.{check_refusal}
 use Rattle.state_planner.specs.CallLaws.{called_settings, called_desk, call_entry}

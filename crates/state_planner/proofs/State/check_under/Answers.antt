@@ -1,6 +1,5 @@
 -- `state_planner::State::check_under` meets its contract: rows 3 and 4 of an event that any phase takes. Assumes nothing.
 use Rattle.std.proofs.lemmas.Result.{err_from_is_err_and}
-use mathlib.Core.Path.{◌∙◌}
 use Rattle.state_planner.specs.Definitions.{check_refusal}
 use Rattle.state_planner.specs.EventLaws.{refused_beside, taken_beside}
 use Rattle.state_planner.proofs.State.check_under.Goals as goal

@@ -1,5 +1,5 @@
 -- `state_planner::State::decide` meets its contract: rows 1 and 2, then the rest. Assumes nothing.
-use mathlib.Core.Path.{◌≡◌, refl, sym, ap, ◌∙◌}
+use mathlib.Core.Path.{refl, sym, ap, ◌∙◌}
 use Rattle.base_ids.specs.declared.Refusal.{Refusal}
 use Rattle.base_ids.specs.Definitions.{accepted}
 use Rattle.base_ids.specs.Results.{err_code}

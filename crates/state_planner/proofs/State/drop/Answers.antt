@@ -2,7 +2,7 @@
 use Rattle.std.proofs.lemmas.Result.{err_from_is_err_and}
 use mathlib.Core.Bool.{not}
 use Rattle.base_laws.specs.Definitions.{has}
-use mathlib.Core.Path.{refl, sym, ◌∙◌}
+use mathlib.Core.Path.{refl, sym}
 use Rattle.base_ids.specs.Results.{err_is, err_code}
 use Rattle.report_views.specs.Definitions.{is_committed}
 use Rattle.state_planner.specs.Definitions.{drop_refusal}

@@ -1,7 +1,7 @@
 -- `state_planner::State::drop_under` meets its contract: the refusal is the definition's, and the state follows. Assumes nothing.
 use Rattle.std.proofs.lemmas.Result.{err_from_is_err_and}
 use mathlib.Core.Bool.{not}
-use mathlib.Core.Path.{refl, ap, ◌∙◌}
+use mathlib.Core.Path.{refl, ap}
 use Rattle.state_planner.specs.Definitions.{drop_refusal, after_drop}
 use Rattle.state_planner.specs.EventLaws.{refused_beside, taken_beside, event_gives}
 use Rattle.base_lent.specs.Definitions.{words_in}

@@ -1,6 +1,6 @@
 -- `state_planner::State::fetched_under` meets its contract: the refusal is the definition's, and the state follows. Assumes nothing.
 use Rattle.std.proofs.lemmas.Result.{err_from_is_err_and}
-use mathlib.Core.Path.{refl, ◌∙◌}
+use mathlib.Core.Path.{refl}
 use Rattle.state_planner.specs.Definitions.{fetched_refusal, after_fetched}
 use Rattle.state_planner.specs.EventLaws.{refused_beside, taken_beside, event_gives}
 use Rattle.base_lent.specs.Definitions.{words_in}

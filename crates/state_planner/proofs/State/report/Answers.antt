@@ -1,6 +1,6 @@
 -- `state_planner::State::report` meets its contract: rows 1 and 2, then the rest. Assumes nothing.
 use Rattle.std.proofs.lemmas.Result.{err_from_is_err_and}
-use mathlib.Core.Path.{refl, sym, ◌∙◌}
+use mathlib.Core.Path.{refl, sym}
 use Rattle.base_lent.specs.Definitions.{words_in}
 use Rattle.base_ids.specs.Results.{err_code}
 use Rattle.report_desk.specs.Bytes.{desk_bytes}
