@@ -10,7 +10,7 @@
 -- ---- a call whose event hands back an outcome
 use Rattle.std.specs.Prelude.{◌≡◌, Bool, ◌&&◌, List, ℕ, ◌-◌, ◌≤◌, eqb, drop, Option, is_some, Result}
 use Rattle.core.specs.Option.{unwrap_or}
-use Rattle.base_laws.specs.Definitions.{some_if}
+use Rattle.base_laws.specs.Options.{some_if}
 use Rattle.std.proofs.Math.Path.{refl, sym, ap}
 use Rattle.std.proofs.Common.{ap₂, ◌∙◌, ⊎_elim, arith}
 use Rattle.std.proofs.Math.Bool.{true, false}

@@ -4,7 +4,7 @@
 ghost use Rattle.std.specs.Prelude.{◌&&◌, ◌≡◌, eqb, length};
 ghost use Rattle.base_bytes.specs.Definitions.{bytes_of};
 ghost use Rattle.base_lent.specs.Definitions.{words_in};
-ghost use Rattle.base_laws.specs.Definitions.{some_if};
+ghost use Rattle.base_laws.specs.Options.{some_if};
 ghost use Rattle.c_state_words.specs.Definitions.{state_words, is_state};
 ghost use Rattle.base_ids.specs.Definitions.{none, unless};
 ghost use Rattle.c_state.specs.Definitions.{by_planner, state_lent};
