@@ -22,8 +22,8 @@ returns-in-Err c =
     readies_refused a.settings.now (desk_says a.settings.now a.x d) _
     (entry-refused a.in_limits a.settings.now a.x d _ e (err_code _ _ _ k)) (err_code _ _ _ k) c.refuse-in-Err.ensures
 
-pub returns-in-Ok-then-not-is_small : goal.returns-in-Ok-then-not-is_small
-returns-in-Ok-then-not-is_small c =
+pub returns-then-not-is_small : goal.returns-then-not-is_small
+returns-then-not-is_small c =
     let a = c.args in
     let d = words_in a.desk.now in
     let e = entered a.settings.now a.x d none c.is_gathering-in_phase.ensures (sym (given_none _ _ _ c.in-Ok.ensures.seen)) in
@@ -39,8 +39,8 @@ rows_ready-requires c =
     let n = nodes s.args.settings.now in
     record { settings = (s.requires.settings, leb-true n 10 (and_left (leb n 10) s.args.in_limits (sym m.ensures ∙ c.if-not-is_small.false))); desk_len = s.requires.desk_len }
 
-pub returns-in-Ok : goal.returns-in-Ok
-returns-in-Ok c =
+pub returns-else-not-is_small : goal.returns-else-not-is_small
+returns-else-not-is_small c =
     let a = c.args in
     let d = words_in a.desk.now in
     let e = entered a.settings.now a.x d none c.is_gathering-in_phase.ensures (sym (given_none _ _ _ c.in-Ok.ensures.seen)) in
