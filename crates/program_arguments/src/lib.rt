@@ -79,11 +79,9 @@ fn answer(
     version: &[u8],
     help: &[u8],
 ) -> Result<usize, usize>
-    ensures {
-        MatchResult result
-            (λ len. (is_known word.now ≡ true) × Puts out.old 0 (answer_text word.now name.now version.now help.now) out.new len)
-            (λ len. (is_known word.now ≡ false) × Puts out.old 0 (answer_text word.now name.now version.now help.now) out.new len)
-    }
+    ensures { MatchResult result
+        (λ len. (is_known word.now ≡ true) × Puts out.old 0 (answer_text word.now name.now version.now help.now) out.new len)
+        (λ len. (is_known word.now ≡ false) × Puts out.old 0 (answer_text word.now name.now version.now help.now) out.new len) }
 {
     if word == b"--version".as_slice() {
         return Ok(put_told(out, name, b" ", version));
