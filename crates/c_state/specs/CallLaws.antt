@@ -8,8 +8,7 @@
 -- an entry by its parts
 -- the entry of a call that is lent a desk
 -- ---- a call whose event hands back an outcome
-use Rattle.std.specs.Prelude.{◌≡◌, Bool, ◌&&◌, List, ℕ, ◌-◌, ◌≤◌, eqb, drop, Option, is_some, Result}
-use Rattle.core.specs.Option.{unwrap_or}
+use Rattle.std.specs.Prelude.{◌≡◌, Bool, ◌&&◌, List, ℕ, ◌-◌, ◌≤◌, eqb, drop, Option, is_some, Result, unwrap_or}
 use Rattle.base_laws.specs.Options.{some_if}
 use Rattle.std.proofs.Math.Path.{refl, sym, ap}
 use Rattle.std.proofs.Common.{ap₂, ◌∙◌, ⊎_elim, arith}
