@@ -7,7 +7,7 @@
 - a path in backquotes that begins with a folder of the repository is there;
 - every row of docs/PROMISES.md, a line that starts with "- ", has such a link to a name, and each word in backquotes after it is a name: of
   the file that the link before it opens, else of the specs of that file's crate, else one that the specs of all crates have once;
-- docs/ and README.md together have at most 90 KB, docs/PORT.md and docs/DESIGN-PASS.md aside.
+- docs/ and README.md together have at most 90 KB, docs/PORT.md, docs/DESIGN-PASS.md and docs/LOOK-BACK.md aside.
 
     python3 checks/promises.py [--write]     --write puts the lines where names are defined into the links
 
@@ -18,8 +18,8 @@ import os
 import re
 import sys
 
-# PORT has names as they were beside those of today, and is no page to be read; nor are the lists of PASS, whose names and links are those of today
-PROMISES, READING, PORT, PASS = "docs/PROMISES.md", "docs/READING.md", "docs/PORT.md", "docs/DESIGN-PASS.md"
+# PORT has names as they were beside those of today, and is no page to be read; nor are the lists of PASS and BACK, whose names and links are those of today
+PROMISES, READING, PORT, PASS, BACK = "docs/PROMISES.md", "docs/READING.md", "docs/PORT.md", "docs/DESIGN-PASS.md", "docs/LOOK-BACK.md"
 MOST = 90 * 1024
 LINK = re.compile(r"\[([^\]]*)\]\(([^)\s]+)\)")
 QUALIFIED = re.compile(r"`([a-z0-9_]+)(::|/)([A-Za-z0-9_.:'-]+)`")
@@ -230,7 +230,7 @@ def write(page):
 
 def size_fault():
     """The pages of docs/ and README.md are to be read: all in all they have so many bytes at most."""
-    size = sum(os.path.getsize(page) for page in pages() if page not in ("CONTRIBUTING.md", PASS))
+    size = sum(os.path.getsize(page) for page in pages() if page not in ("CONTRIBUTING.md", PASS, BACK))
     return "docs/ and README.md have %d bytes, more than %d" % (size, MOST) if size > MOST else None
 
 

@@ -2,8 +2,8 @@
 - every name in a line `use` of code, specs and proofs is used in its file, or by a wrong program that changes it;
 - every crate in a line of crates.txt is named by that crate's code, specs or proofs, or its code touches a type from there;
 - every public function is called by another crate's code, is a call for C, or stands in a program; and every struct and enum is named;
-- every declaration of specs is reached: from a contract, from a function's proof, from a name in docs/PROMISES.md or docs/ASSUMPTIONS.md, or
-  from a law that checks/allowed.txt keeps, by way of the declarations that these name, those that these name, and so on;
+- every declaration of specs is reached: from a contract, from a function's proof, or from a name in docs/PROMISES.md or docs/ASSUMPTIONS.md,
+  by way of the declarations that these name, those that these name, and so on;
 - checks/allowed.txt, under "unused", names what may stand all the same, and nothing else.
 
 Names are read off the words of the texts, so that rather too little is found than too much: a name that a text binds itself is taken for
@@ -294,11 +294,8 @@ class Tree:
             if head in aliases and rest.split(".")[0] in aliases[head]:
                 yield aliases[head][rest.split(".")[0]]
 
-    def unreached(self, kept=()):
+    def unreached(self):
         todo, reached = [], set()
-        for item in self.words:
-            if "%s/%s.%s" % item in kept:
-                todo += [other for other in self.named(*self.words[item]) if other != item]
         for file in self.of("src"):
             todo += self.named(file, file.contracts)
             for crate, kind, name, item in NAMED.findall("\n".join(file.texts)):
@@ -345,8 +342,7 @@ def main():
     if "--mend" in sys.argv:
         print(mend(tree, tuple(sys.argv[sys.argv.index("--mend") + 1 :]) or ("",)))
         tree = Tree()
-    kept = allowed("unused")
-    found = [*tree.uncalled(), *tree.unreached(kept)]
+    found, kept = [*tree.uncalled(), *tree.unreached()], allowed("unused")
     functions, rest = [[entry for entry in found if ("::" in entry[0]) is code and entry[0] not in kept] for code in (True, False)]
     tests = [
         list(tree.unused_names()),

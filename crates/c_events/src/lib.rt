@@ -11,11 +11,10 @@ pub mod report;
 ghost use Rattle.std.specs.Prelude.{◌≡◌, length};
 ghost use Rattle.base_lent.specs.Definitions.{words_in};
 ghost use Rattle.settings_values.specs.Definitions.{Settings};
-ghost use Rattle.c_state.specs.Calls.{given_by};
 ghost use Rattle.c_events.specs.Definitions as Definitions;
 
-use base_ids::{Node, Refusal};
-use state_planner::State;
+use base_ids::Node;
+use state_planner::{Outcome, State};
 
 // An event that names a node.
 #[derive(Clone, Copy)]
@@ -40,17 +39,11 @@ pub fn fresh(role: u32, state: &mut [u8]) -> u32
     0
 }
 
-// What an event leads to, where rows 1 and 2 do not refuse.
-fn outcome(
-    event: Event,
-    x: State,
-    settings: &[u32],
-    desk: &[u8],
-    node: u32,
-) -> Result<State, Refusal>
+// The outcome of an event, where rows 1 and 2 do not refuse.
+fn outcome(event: Event, x: State, settings: &[u32], desk: &[u8], node: u32) -> Outcome
     requires settings { Settings settings.now }
     requires desk_len { length desk.now ≡ 65536 }
-    ensures { result ≡ given_by (Definitions.happened event settings.now x (words_in desk.now) node) }
+    ensures { result ≡ Definitions.happened event settings.now x (words_in desk.now) node }
 {
     match event {
         Event::Drop => x.drop_under(settings, desk, Node(node)),

@@ -8,9 +8,9 @@
 -- an entry by its parts
 -- the entry of a call that is lent a desk
 -- ---- a call whose event hands back an outcome
-use Rattle.std.specs.Prelude.{◌≡◌, Bool, ◌&&◌, List, ℕ, ◌-◌, ◌≤◌, eqb, drop, Option, is_some, Result, unwrap_or}
+use Rattle.std.specs.Prelude.{◌≡◌, Bool, ◌&&◌, List, ℕ, ◌-◌, ◌≤◌, eqb, drop, Option, is_some, unwrap_or}
 use Rattle.base_laws.specs.Options.{some_if}
-use Rattle.std.proofs.Math.Path.{refl, sym, ap}
+use Rattle.std.proofs.Math.Path.{sym, ap}
 use Rattle.std.proofs.Common.{ap₂, ◌∙◌, ⊎_elim, arith}
 use Rattle.std.proofs.Math.Bool.{true, false}
 use Rattle.std.proofs.Math.ListN.{length, take}
@@ -22,23 +22,21 @@ use Rattle.base_bytes.specs.Definitions.{bytes_of}
 use Rattle.base_bytes.specs.Words.{length_words}
 use Rattle.base_lent.specs.Definitions.{words_in}
 use Rattle.base_lent.specs.Lent.{count_within, words_within, within_le, bytes_of_words, length-test, HoldsSettings}
-use Rattle.base_lent.specs.Answers.{Told, told_refused, told_accepted}
+use Rattle.base_lent.specs.Answers.{Told, told_refused}
 use Rattle.base_ids.specs.declared.Refusal.{Refusal}
-use Rattle.base_ids.specs.Definitions.{none, accepted, unless, or_refusal}
-use Rattle.base_ids.specs.Results.{ok_is, err_is}
+use Rattle.base_ids.specs.Definitions.{none, accepted, unless}
 use Rattle.base_ids.specs.Refusals.{accepted_none, unless_ok, unless_rest, first_none, first_refused}
 use Rattle.settings_values.specs.Definitions.{settings_ok}
 use Rattle.c_messages.specs.Limits.{settings_within, settings_same}
 use Rattle.state_planner.specs.declared.State.{State}
 use Rattle.state_planner.specs.declared.Outcome.{Outcome}
-use Rattle.state_planner.specs.Definitions.{fresh, desk_ok, outcome_of}
-use Rattle.state_planner.specs.EventLaws.{outcome_accepted, outcome_refused}
+use Rattle.state_planner.specs.Definitions.{fresh, desk_ok}
 use Rattle.c_state_words.specs.Definitions.{state_words, is_state}
 use Rattle.c_state_words.specs.StateWords.{decoded}
 use Rattle.c_state_words.specs.Laws.{stated}
 use Rattle.c_state.specs.declared.CallFinds.{CallFinds}
 use Rattle.c_state.specs.Definitions.{lengths_ok, by_planner, state_lent, entry_refused, called, refusal_of, event_refused, event_answer, event_leaves}
-use Rattle.c_state.specs.Calls.{entry, given_by, step_word, step_bytes}
+use Rattle.c_state.specs.Calls.{entry}
 
 not_state : (w : List ℕ) → (length w ≡ 160 → ⊥) → is_state w ≡ false
 not_state w h = no_true (is_state w) (λ s. h (stated w s).long)
@@ -168,29 +166,6 @@ module _ (allowed : Bool) (settings state desk buffer : List ℕ) (lengths : Boo
 
     pub buffer_long : length buffer ≡ 2048
     buffer_long = bytes_of_words buffer 511 buffer_words
-
--- the next state, or the refusal, is that of the outcome
-pub outcome_given : (r : Refusal) (x next : State) → or_refusal r next ≡ given_by (outcome_of r x next)
-outcome_given r x next =
-    ⊎_elim
-    (λ h. sym (ok_is r next (accepted_none r h)) ∙ ok_is none next refl ∙ sym (ap given_by (outcome_accepted r x next h)))
-    (λ h. sym (err_is r r next refl h) ∙ err_is r r x refl h ∙ sym (ap given_by (outcome_refused r x next h)))
-    (either (accepted r))
-
--- a refusal leaves the state, and a next state is stored
-pub step_told : (r : Refusal) (x : State) (state : List ℕ) {next : Result State Refusal} {answer : ℕ} {left : List ℕ} → next ≡ or_refusal r x
-    → (answer ≡ step_word next) × (left ≡ step_bytes next state) → Told r 0 (bytes_of (state_words x)) state answer left
-step_told r x state e f =
-    ⊎_elim
-    (λ h.
-    let k = e ∙ sym (ok_is r x (accepted_none r h)) in
-    let t = told_accepted r r refl 0 (bytes_of (state_words x)) state h in
-    record { answers = f.0 ∙ ap step_word k ∙ t.answers; leaves = f.1 ∙ ap (λ (s : Result State Refusal). step_bytes s state) k ∙ t.leaves })
-    (λ h.
-    let k = e ∙ sym (err_is r r x refl h) in
-    let t = told_refused r r refl 0 (bytes_of (state_words x)) state h in
-    record { answers = f.0 ∙ ap step_word k ∙ t.answers; leaves = f.1 ∙ ap (λ (s : Result State Refusal). step_bytes s state) k ∙ t.leaves })
-    (either (accepted r))
 
 module _ (role : ℕ) (settings state desk : List ℕ) (o : Outcome) where
   -- what it answers, and leaves in the state's bytes

@@ -4,14 +4,15 @@
 ghost use Rattle.std.specs.Prelude.{◌&&◌, ◌≡◌, eqb, length};
 ghost use Rattle.base_bytes.specs.Definitions.{bytes_of};
 ghost use Rattle.base_lent.specs.Definitions.{words_in};
+ghost use Rattle.base_lent.specs.Answers.{Told};
 ghost use Rattle.base_laws.specs.Options.{some_if};
 ghost use Rattle.c_state_words.specs.Definitions.{state_words, is_state};
 ghost use Rattle.base_ids.specs.Definitions.{none, unless};
-ghost use Rattle.c_state.specs.Definitions.{by_planner, state_lent};
-ghost use Rattle.c_state.specs.Calls.{entry, step_word, step_bytes};
+ghost use Rattle.c_state.specs.Definitions.{by_planner, state_lent, refusal_of};
+ghost use Rattle.c_state.specs.Calls.{entry};
 
 use base_ids::Refusal;
-use state_planner::State;
+use state_planner::{Answer, Outcome, State};
 
 // What a call finds before its event: a refusal, the state, and the settings' words, which are the first of the table.
 #[derive(Clone, Copy)]
@@ -104,17 +105,26 @@ pub fn store(x: State, state: &mut [u8])
     base_bytes::encode(&words, state);
 }
 
-// What a call does last: the next state is stored unless the event was refused.
-pub fn keep(next: Result<State, Refusal>, state: &mut [u8]) -> u32
-    requires { length state.old ≡ 640 }
-    ensures answer { result ≡ step_word next }
-    ensures bytes { state.new ≡ step_bytes next state.old }
+// The refusal that an answer holds.
+fn refusal_of(answer: Answer) -> Refusal
+    ensures { result ≡ refusal_of answer }
 {
-    match next {
-        Ok(x) => {
-            store(x, state);
-            0
-        }
-        Err(refusal) => refusal.code,
+    match answer {
+        Answer::Accepted => Refusal { code: 0 },
+        Answer::Refused(refusal) => refusal,
     }
+}
+
+// What a call does last: the next state is stored unless the event was refused.
+pub fn keep(o: Outcome, state: &mut [u8]) -> u32
+    requires { length state.old ≡ 640 }
+    ensures { Told (refusal_of o.answer) 0 (bytes_of (state_words o.state)) state.old result state.new }
+{
+    let answer = o.answer;
+    let refusal = refusal_of(answer);
+    if refusal.code != 0 {
+        return refusal.code;
+    }
+    store(o.state, state);
+    0
 }

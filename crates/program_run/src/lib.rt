@@ -9,7 +9,7 @@ ghost use Rattle.program_run.specs.Definitions as Definitions;
 ghost use Rattle.program_run.specs.Machine as Machine;
 
 use base_ids::Refusal;
-use state_planner::State;
+use state_planner::{Answer, State};
 
 // How far a run has come.
 #[derive(Clone, Copy)]
@@ -69,9 +69,12 @@ fn report(run: Run, desk: &mut [u8], block: &[u32]) -> Run
     let n = run.words;
     let settings = run.settings;
     let state = run.state;
-    match state.report_under(&settings[0..n], desk, block) {
-        Ok(next) => Run { state: next, ..run },
-        Err(refusal) => closed(run, refusal),
+    let outcome = state.report_under(&settings[0..n], desk, block);
+    let answer = outcome.answer;
+    let next = outcome.state;
+    match answer {
+        Answer::Accepted => Run { state: next, ..run },
+        Answer::Refused(refusal) => closed(run, refusal),
     }
 }
 

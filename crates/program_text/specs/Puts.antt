@@ -1,10 +1,10 @@
 -- Laws of text put into lent bytes: nothing, one byte, and one text after another.
-use Prim.Native.Nat.{ℕ, ◌+◌, ◌-◌, ◌≤◌, ◌<◌, min, zero-le}
+use Prim.Native.Nat.{ℕ, ◌+◌, ◌≤◌, ◌<◌, min, zero-le}
 use Rattle.std.proofs.Math.Logic.{⊎_elim}
 use mathlib.Core.List.{List, [], ◌∷◌, ◌++◌, append_assoc, append-nil}
-use Rattle.std.specs.Prelude.{◌≡◌, set}
+use Rattle.std.specs.Prelude.{◌≡◌, get_or, set}
 use Rattle.std.proofs.Math.Path.{refl, sym, ap, ap₂}
-use Rattle.std.proofs.Common.{◌∙◌, subst, add-one, length-take, length-drop, drop-drop, drop_of_length-le}
+use Rattle.std.proofs.Common.{◌∙◌, subst, add-one, length-take, length-drop, take-suc, drop-drop}
 use native.Mathlib.Omega.{arith}
 use Rattle.std.proofs.Math.ListN.{length, take, drop, take-append-drop, length-append}
 use Rattle.std.proofs.Math.Seq.{take_all, take-length, take_at, take-append-le, drop-append-add}
@@ -104,32 +104,6 @@ module _ (out : List ℕ) (at : ℕ) (h : at ≤ length out) where
       (sym (joined_cut [] t (omega arith) ∙ ap (take (length out)) (append-nil (take at out) ∙ all) ∙ take-length out))
       (omega arith)
 
-  -- the front of a text, as far as there is room, is copied into its place
-  pub puts_copied : (text last : List ℕ) (n k : ℕ) → n ≡ min (length text) (length out - at) → k ≡ n → last ≡ take k text
-      → Puts out at text (take at out ++ (last ++ drop k (drop at out))) (at + n)
-  unfolding place_after
-  puts_copied text last n k room e f =
-      puts text (take at out ++ (last ++ drop k (drop at out))) (at + n)
-      (ap₂ (λ (l : List ℕ) (j : ℕ). take at out ++ (l ++ drop j (drop at out))) (f ∙ ap (λ (j : ℕ). take j text) e) e
-      ∙ ⊎_elim (λ s. fits (omega arith)) (λ s. cut s) (lt_or_le (at + length text) (length out)))
-      (omega arith)
-    where
-      fits : at + length text ≤ length out → take at out ++ (take n text ++ drop n (drop at out)) ≡ with_text out at text
-      fits s =
-          let whole : n ≡ length text = omega arith in
-          ap₂ (λ (l r : List ℕ). take at out ++ (l ++ r)) (take_all n text (omega arith))
-          (drop-drop n at out ∙ ap (λ (j : ℕ). drop (at + j) out) whole)
-          ∙ sym (joined_fits text s)
-
-      cut : length out ≤ at + length text → take at out ++ (take n text ++ drop n (drop at out)) ≡ with_text out at text
-      cut s =
-          let size : length (take n text) ≡ n = length-take n text ∙ omega arith in
-          ap (λ (r : List ℕ). take at out ++ r)
-          (ap (λ (r : List ℕ). take n text ++ r) (drop_of_length-le (drop at out) (omega (arith, length-drop at out))) ∙ append-nil (take n text))
-          ∙ sym (take_all (length out) (take at out ++ take n text) (omega (arith, front_length (take n text) (omega arith))))
-          ∙ sym (joined_cut (take n text) (drop n text) (omega arith))
-          ∙ ap (with_text out at) (take-append-drop n text)
-
   -- one text after another
   puts_then : (t u l m : List ℕ) (a b : ℕ) → Puts out at t l a → Puts l a u m b → Puts out at (t ++ u) m b
   unfolding place_after
@@ -164,3 +138,11 @@ unfolding place_after
 puts_first out t l r m p =
     let e : r ≡ length t = omega (arith, p.place) in
     (e, ap₂ take e (p.bytes ∙ joined_fits out 0 zero-le t (omega arith)) ∙ take_at t _ (length t) refl)
+
+-- a loop that puts a text byte by byte: a turn, and the end
+pub puts_more : {out l m : List ℕ} {at a b : ℕ} (text : List ℕ) (i : ℕ) → at ≤ length out → i < length text
+    → Puts out at (take i text) l a → Puts l a (get_or text i 0 ∷ []) m b → Puts out at (take (i + 1) text) m b
+puts_more text i h k p q = puts_as (ap (λ (n : ℕ). take n text) (add-one i) ∙ take-suc text i 0 k) (then-puts h p q)
+
+pub puts_all : {out l : List ℕ} {at a : ℕ} (text : List ℕ) (i : ℕ) → length text ≤ i → Puts out at (take i text) l a → Puts out at text l a
+puts_all text i k p = puts_as (sym (take_all i text k)) p

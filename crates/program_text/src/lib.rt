@@ -20,14 +20,16 @@ pub fn put_byte(out: &mut [u8], at: usize, byte: u8) -> usize
     at
 }
 
-// Bytes, as many of them as there is room for.
+// Bytes, one after another: texts of a few bytes, put faster so than by a copy of the slice.
 pub fn put_text(out: &mut [u8], at: usize, text: &[u8]) -> usize
     requires { at ≤ length out.old }
     ensures { Puts out.old at text.now out.new result }
 {
-    let end = at + text.len().min(out.len() - at);
-    out[at..end].copy_from_slice(&text[..end - at]);
-    end
+    let mut next = at;
+    for i in 0..text.len() {
+        next = put_byte(out, next, text[i]);
+    }
+    next
 }
 
 // A digit as text.

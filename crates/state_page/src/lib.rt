@@ -36,13 +36,23 @@ pub fn page_under(settings: &[u32], x: State, desk: &[u8], g: u32) -> Paged
     requires desk_len { length desk.now ≡ 65536 }
     ensures { PageUnder settings.now x (words_in desk.now) g result }
 {
-    match state_planner::enter(settings, x, desk, true) {
-        Ok(entry) => {
+    let entry = state_planner::enter(settings, x, desk, true);
+    let rows = entry.rows;
+    match rows {
+        Ok(_) => {
             let phase = x.phase;
-            let seen = entry.seen;
+            let sighted = entry.sighted;
             Paged {
                 refusal: Refusal { code: 0 },
-                page: plan_page::page_seen(settings, phase, x.kept, x.held, seen, x.plan, g),
+                page: plan_page::page_seen(
+                    settings,
+                    phase,
+                    x.kept,
+                    x.held,
+                    sighted.seen,
+                    x.plan,
+                    g,
+                ),
             }
         }
         Err(refusal) => refuse(refusal),

@@ -16,7 +16,7 @@ use Rattle.state_planner.specs.declared.State.{State}
 use Rattle.state_planner.specs.declared.Outcome.{Outcome}
 use Rattle.state_planner.specs.Definitions.{desk_ok, entry_refusal, event_refusal, refusing, accepting, outcome_of}
 use Rattle.state_planner.specs.Entry.{entry_given, node_given}
-use Rattle.state_planner.specs.Events.{is_accepted, outcome_step}
+use Rattle.state_planner.specs.Events.{is_accepted, outcome_step, outcome_by}
 
 module _ (lengths : Bool) (σ : List ℕ) (x : State) (d : List ℕ) (inPhase : Bool) where
   pub entry_settings : accepted (entry_refusal lengths σ x d inPhase) ≡ true → Settings σ
@@ -52,6 +52,12 @@ pub given_is : (r : Refusal) (x next : State) → outcome_step (outcome_of r x n
 given_is r x next =
     ⊎_elim (λ h. ap outcome_step (outcome_accepted r x next h) ∙ ok_is r next (accepted_none r h))
     (λ h. ap outcome_step (outcome_refused r x next h) ∙ err_is r r next refl h) (either (accepted r))
+
+-- and back
+pub handed_is : (r : Refusal) (x next : State) → outcome_by x (or_refusal r next) ≡ outcome_of r x next
+handed_is r x next =
+    ⊎_elim (λ h. sym (ap (outcome_by x) (ok_is r next (accepted_none r h))) ∙ sym (outcome_accepted r x next h))
+    (λ h. sym (ap (outcome_by x) (err_is r r next refl h)) ∙ sym (outcome_refused r x next h)) (either (accepted r))
 
 -- what a call gives under a refusal, whatever stands beside it
 module _ {A : Type 0} (r e : Refusal) (a : A) (f : Err e ≡ or_refusal r a) where

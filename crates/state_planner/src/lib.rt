@@ -1,7 +1,7 @@
 // The planner: its state, and the events that lead from state to state.
 #![tactic(auto)]
 
-ghost use Rattle.std.specs.Prelude.{List, ◌≡◌, ℕ, ◌<◌, length, IfOk};
+ghost use Rattle.std.specs.Prelude.{List, ◌≡◌, ℕ, ◌<◌, length};
 ghost use Rattle.base_laws.specs.Definitions.{with};
 ghost use Rattle.base_ids.specs.Definitions.{or_refusal};
 ghost use Rattle.base_lent.specs.Definitions.{words_in};
@@ -39,7 +39,7 @@ pub struct State {
     pub latest: Latest,
 }
 
-// The answer to report, drop, fetched and prepared, as definitions have it.
+// The answer to report, drop, fetched and prepared.
 #[derive(Clone, Copy)]
 pub enum Answer {
     Accepted,
@@ -54,8 +54,7 @@ pub enum Decision {
     Refused(Refusal),
 }
 
-// What report, drop, fetched and prepared lead to, as definitions have it: the code gives the next state, or the refusal, beside which the
-// state is as it was.
+// What report, drop, fetched and prepared hand back.
 #[derive(Clone, Copy)]
 pub struct Outcome {
     pub state: State,
@@ -82,6 +81,13 @@ pub struct DecidedWithin {
 pub struct Sighted {
     pub seen: Seen,
     pub tables: Tables,
+}
+
+// What an event finds first: whether rows 3 and 4 refuse it, and beside a refusal too what it has seen.
+#[derive(Clone, Copy)]
+pub struct EventFinds {
+    pub rows: Result<(), Refusal>,
+    pub sighted: Sighted,
 }
 
 // Rows 1 and 2.
@@ -122,22 +128,33 @@ fn is_sound(settings: &[u32], x: State, seen: Seen, ready: bool) -> bool
 }
 
 // Rows 3 and 4, and what the desk tells, where rows 1 and 2 do not refuse.
-pub fn enter(settings: &[u32], x: State, desk: &[u8], in_phase: bool) -> Result<Sighted, Refusal>
+pub fn enter(settings: &[u32], x: State, desk: &[u8], in_phase: bool) -> EventFinds
     requires settings { Settings settings.now }
     requires desk_len { length desk.now ≡ 65536 }
-    ensures seen { Events.seen_by result ≡ or_refusal (Definitions.entry_refusal (Definitions.desk_ok (words_in desk.now)) settings.now x (words_in desk.now) in_phase) (seen_of settings.now x.kept x.termination x.held (words_in desk.now)) }
-    ensures tables { IfOk result (λ s. TablesOf settings.now x.kept x.termination s.tables) }
+    ensures rows { result.rows ≡ or_refusal (Definitions.entry_refusal (Definitions.desk_ok (words_in desk.now)) settings.now x (words_in desk.now) in_phase) tt }
+    ensures seen { result.sighted.seen ≡ seen_of settings.now x.kept x.termination x.held (words_in desk.now) }
+    ensures tables { TablesOf settings.now x.kept x.termination result.sighted.tables }
 {
     let tables = report_walk::tables_of(settings, x.kept, x.termination);
     let seen = plan_seen::see(settings, x.kept, x.termination, tables, x.held, desk);
+    let sighted = Sighted { seen, tables };
     let frame = tables.frame;
     if !is_sound(settings, x, seen, frame.ready) {
-        return Err(Refusal { code: 3 });
+        return EventFinds {
+            rows: Err(Refusal { code: 3 }),
+            sighted,
+        };
     }
     if !in_phase {
-        return Err(Refusal { code: 4 });
+        return EventFinds {
+            rows: Err(Refusal { code: 4 }),
+            sighted,
+        };
     }
-    Ok(Sighted { seen, tables })
+    EventFinds {
+        rows: Ok(()),
+        sighted,
+    }
 }
 
 // An event that names a node, where rows 1 and 2 do not refuse: rows 3, 4, 6 and 14.
@@ -153,8 +170,26 @@ pub fn check_event(
     requires desk_len { length desk.now ≡ 65536 }
     ensures { result ≡ or_refusal (Definitions.event_refusal (Definitions.desk_ok (words_in desk.now)) settings.now x (words_in desk.now) in_phase node.0 ok) tt }
 {
-    enter(settings, x, desk, in_phase)?;
+    let entry = enter(settings, x, desk, in_phase);
+    let rows = entry.rows;
+    rows?;
     state_rows::check_node(settings, node, ok)
+}
+
+// What an event hands back: the next state, or beside a refusal the state as it was.
+fn handed_back(x: State, next: Result<State, Refusal>) -> Outcome
+    ensures { result ≡ Events.outcome_by x next }
+{
+    match next {
+        Ok(state) => Outcome {
+            state,
+            answer: Answer::Accepted,
+        },
+        Err(refusal) => Outcome {
+            state: x,
+            answer: Answer::Refused(refusal),
+        },
+    }
 }
 
 // Gathering anew: the kept view, its termination and the views that nodes have reported remain.
@@ -301,7 +336,7 @@ impl State {
         }
     }
 
-    // A node reports, where rows 1 and 2 do not refuse; the desk is left to the caller.
+    // The next state where a report is not refused; the desk is left to the caller.
     fn report_by(self, settings: &[u32], desk: &[u8], message: &[u32]) -> Result<State, Refusal>
         requires settings { Settings settings.now }
         requires desk_len { length desk.now ≡ 65536 }
@@ -309,12 +344,15 @@ impl State {
     {
         let phase = self.phase;
         let in_phase = state_rows::is_gathering(phase);
-        let entry = enter(settings, self, desk, in_phase)?;
+        let entry = enter(settings, self, desk, in_phase);
+        let rows = entry.rows;
+        rows?;
+        let sighted = entry.sighted;
         let taken = report_kept::take_in(
             settings,
             self.kept,
             self.termination,
-            entry.tables,
+            sighted.tables,
             self.latest,
             message,
         );
@@ -326,43 +364,35 @@ impl State {
     }
 
     // A node reports, where rows 1 and 2 do not refuse.
-    pub fn report_under(
-        self,
-        settings: &[u32],
-        desk: &mut [u8],
-        message: &[u32],
-    ) -> Result<State, Refusal>
+    pub fn report_under(self, settings: &[u32], desk: &mut [u8], message: &[u32]) -> Outcome
         requires settings { Settings settings.now }
         requires desk_len { length desk.old ≡ 65536 }
-        ensures outcome { result ≡ or_refusal (Definitions.report_refusal settings.now self (words_in desk.old) message.now) (Definitions.after_report settings.now self (contents_of message.now)) }
+        ensures outcome { result ≡ Definitions.reported settings.now self (words_in desk.old) message.now }
         ensures words { words_in desk.new ≡ Definitions.desk_after settings.now self (words_in desk.old) message.now }
         ensures bytes { desk.new ≡ Definitions.desk_left settings.now self desk.old message.now }
     {
-        let outcome = self.report_by(settings, desk, message);
-        if outcome.is_err() {
-            return outcome;
+        let next = self.report_by(settings, desk, message);
+        if next.is_err() {
+            return handed_back(self, next);
         }
         report_desk::store(desk, Node(message[0]), message);
-        outcome
+        handed_back(self, next)
     }
 
     // A node reports: its message is copied to its slot of the desk, and the node is held.
-    pub fn report(
-        self,
-        settings: &[u32],
-        desk: &mut [u8],
-        message: &[u32],
-    ) -> Result<State, Refusal>
-        ensures outcome { result ≡ or_refusal (Definitions.report_refusal settings.now self (words_in desk.old) message.now) (Definitions.after_report settings.now self (contents_of message.now)) }
+    pub fn report(self, settings: &[u32], desk: &mut [u8], message: &[u32]) -> Outcome
+        ensures outcome { result ≡ Definitions.reported settings.now self (words_in desk.old) message.now }
         ensures words { words_in desk.new ≡ Definitions.desk_after settings.now self (words_in desk.old) message.now }
         ensures bytes { desk.new ≡ Definitions.desk_left settings.now self desk.old message.now }
     {
-        check_call(settings, desk)?;
-        self.report_under(settings, desk, message)
+        match check_call(settings, desk) {
+            Ok(_) => self.report_under(settings, desk, message),
+            Err(refusal) => handed_back(self, Err(refusal)),
+        }
     }
 
-    // A node is no longer there, where rows 1 and 2 do not refuse.
-    pub fn drop_under(self, settings: &[u32], desk: &[u8], node: Node) -> Result<State, Refusal>
+    // The next state where it is not refused.
+    fn drop_by(self, settings: &[u32], desk: &[u8], node: Node) -> Result<State, Refusal>
         requires settings { Settings settings.now }
         requires desk_len { length desk.now ≡ 65536 }
         ensures { result ≡ or_refusal (Definitions.drop_refusal settings.now self (words_in desk.now) node.0) (Definitions.after_drop self node.0) }
@@ -374,16 +404,27 @@ impl State {
         Ok(after_drop(self, node))
     }
 
-    // A node is no longer there.
-    pub fn drop(self, settings: &[u32], desk: &[u8], node: Node) -> Result<State, Refusal>
-        ensures { result ≡ or_refusal (Definitions.drop_refusal settings.now self (words_in desk.now) node.0) (Definitions.after_drop self node.0) }
+    // A node is no longer there, where rows 1 and 2 do not refuse.
+    pub fn drop_under(self, settings: &[u32], desk: &[u8], node: Node) -> Outcome
+        requires settings { Settings settings.now }
+        requires desk_len { length desk.now ≡ 65536 }
+        ensures { result ≡ Definitions.dropped settings.now self (words_in desk.now) node.0 }
     {
-        check_call(settings, desk)?;
-        self.drop_under(settings, desk, node)
+        handed_back(self, self.drop_by(settings, desk, node))
     }
 
-    // A node has fetched what it lacked, where rows 1 and 2 do not refuse.
-    pub fn fetched_under(self, settings: &[u32], desk: &[u8], node: Node) -> Result<State, Refusal>
+    // A node is no longer there.
+    pub fn drop(self, settings: &[u32], desk: &[u8], node: Node) -> Outcome
+        ensures { result ≡ Definitions.dropped settings.now self (words_in desk.now) node.0 }
+    {
+        match check_call(settings, desk) {
+            Ok(_) => self.drop_under(settings, desk, node),
+            Err(refusal) => handed_back(self, Err(refusal)),
+        }
+    }
+
+    // The next state where it is not refused.
+    fn fetched_by(self, settings: &[u32], desk: &[u8], node: Node) -> Result<State, Refusal>
         requires settings { Settings settings.now }
         requires desk_len { length desk.now ≡ 65536 }
         ensures { result ≡ or_refusal (Definitions.fetched_refusal settings.now self (words_in desk.now) node.0) (Definitions.after_fetched self node.0) }
@@ -395,16 +436,27 @@ impl State {
         Ok(after_fetched(self, node))
     }
 
-    // A node has fetched what it lacked.
-    pub fn fetched(self, settings: &[u32], desk: &[u8], node: Node) -> Result<State, Refusal>
-        ensures { result ≡ or_refusal (Definitions.fetched_refusal settings.now self (words_in desk.now) node.0) (Definitions.after_fetched self node.0) }
+    // A node has fetched what it lacked, where rows 1 and 2 do not refuse.
+    pub fn fetched_under(self, settings: &[u32], desk: &[u8], node: Node) -> Outcome
+        requires settings { Settings settings.now }
+        requires desk_len { length desk.now ≡ 65536 }
+        ensures { result ≡ Definitions.fetched_of settings.now self (words_in desk.now) node.0 }
     {
-        check_call(settings, desk)?;
-        self.fetched_under(settings, desk, node)
+        handed_back(self, self.fetched_by(settings, desk, node))
     }
 
-    // A node has prepared the new view, where rows 1 and 2 do not refuse.
-    pub fn prepared_under(self, settings: &[u32], desk: &[u8], node: Node) -> Result<State, Refusal>
+    // A node has fetched what it lacked.
+    pub fn fetched(self, settings: &[u32], desk: &[u8], node: Node) -> Outcome
+        ensures { result ≡ Definitions.fetched_of settings.now self (words_in desk.now) node.0 }
+    {
+        match check_call(settings, desk) {
+            Ok(_) => self.fetched_under(settings, desk, node),
+            Err(refusal) => handed_back(self, Err(refusal)),
+        }
+    }
+
+    // The next state where it is not refused.
+    fn prepared_by(self, settings: &[u32], desk: &[u8], node: Node) -> Result<State, Refusal>
         requires settings { Settings settings.now }
         requires desk_len { length desk.now ≡ 65536 }
         ensures { result ≡ or_refusal (Definitions.prepared_refusal settings.now self (words_in desk.now) node.0) (Definitions.after_prepared self node.0) }
@@ -416,12 +468,23 @@ impl State {
         Ok(after_prepared(self, node))
     }
 
-    // A node has prepared the new view.
-    pub fn prepared(self, settings: &[u32], desk: &[u8], node: Node) -> Result<State, Refusal>
-        ensures { result ≡ or_refusal (Definitions.prepared_refusal settings.now self (words_in desk.now) node.0) (Definitions.after_prepared self node.0) }
+    // A node has prepared the new view, where rows 1 and 2 do not refuse.
+    pub fn prepared_under(self, settings: &[u32], desk: &[u8], node: Node) -> Outcome
+        requires settings { Settings settings.now }
+        requires desk_len { length desk.now ≡ 65536 }
+        ensures { result ≡ Definitions.prepared_of settings.now self (words_in desk.now) node.0 }
     {
-        check_call(settings, desk)?;
-        self.prepared_under(settings, desk, node)
+        handed_back(self, self.prepared_by(settings, desk, node))
+    }
+
+    // A node has prepared the new view.
+    pub fn prepared(self, settings: &[u32], desk: &[u8], node: Node) -> Outcome
+        ensures { result ≡ Definitions.prepared_of settings.now self (words_in desk.now) node.0 }
+    {
+        match check_call(settings, desk) {
+            Ok(_) => self.prepared_under(settings, desk, node),
+            Err(refusal) => handed_back(self, Err(refusal)),
+        }
     }
 
     // A plan for the held nodes, or the first reason to wait, where rows 1 and 2 do not refuse.
@@ -432,9 +495,12 @@ impl State {
     {
         let phase = self.phase;
         let in_phase = state_rows::is_gathering(phase);
-        match enter(settings, self, desk, in_phase) {
-            Ok(entered) => {
-                let verdict = plan_restart::restart(settings, self.kept, self.held, entered.seen);
+        let entered = enter(settings, self, desk, in_phase);
+        let rows = entered.rows;
+        match rows {
+            Ok(_) => {
+                let sighted = entered.sighted;
+                let verdict = plan_restart::restart(settings, self.kept, self.held, sighted.seen);
                 after_verdict(self, verdict)
             }
             Err(refusal) => Decided {
@@ -465,8 +531,11 @@ impl State {
     {
         let phase = self.phase;
         let gathering = state_rows::is_gathering(phase);
-        match enter(settings, self, desk, gathering) {
-            Ok(sighted) => {
+        let entered = enter(settings, self, desk, gathering);
+        let rows = entered.rows;
+        match rows {
+            Ok(_) => {
+                let sighted = entered.sighted;
                 let offered = plan_restart::rounds::offer(
                     settings,
                     self.kept,
@@ -504,8 +573,8 @@ impl State {
         requires desk_len { length desk.now ≡ 65536 }
         ensures { result ≡ or_refusal (Definitions.check_refusal settings.now self (words_in desk.now)) tt }
     {
-        enter(settings, self, desk, true)?;
-        Ok(())
+        let entered = enter(settings, self, desk, true);
+        entered.rows
     }
 
     // Whether the state is sound beside these settings and this desk, in whatever phase it is: rows 1 to 3.

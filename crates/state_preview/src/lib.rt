@@ -122,7 +122,9 @@ pub fn preview_all_under(x: State, settings: &[u32], desk: &[u8]) -> Warning
 {
     let phase = x.phase;
     let in_phase = state_rows::is_gathering(phase);
-    match state_planner::enter(settings, x, desk, in_phase) {
+    let entry = state_planner::enter(settings, x, desk, in_phase);
+    let rows = entry.rows;
+    match rows {
         Ok(_) => {
             let counted = plan_masks::count(settings, x.kept, x.termination, x.held, desk);
             let masks = counted.unwrap();

@@ -75,7 +75,9 @@ pub fn readiness_under(settings: &[u32], x: State, desk: &[u8], in_limits: bool)
 {
     let phase = x.phase;
     let in_phase = state_rows::is_gathering(phase);
-    match state_planner::enter(settings, x, desk, in_phase) {
+    let entry = state_planner::enter(settings, x, desk, in_phase);
+    let rows = entry.rows;
+    match rows {
         Ok(_) => {
             if !is_small(settings, in_limits) {
                 return refuse(Refusal { code: 22 });

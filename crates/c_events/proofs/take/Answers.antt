@@ -1,13 +1,12 @@
 -- Each return is a case of what the call answers and leaves.
-use mathlib.Core.Path.{sym, ap, subst}
+use mathlib.Core.Path.{sym, ap, ◌∙◌, subst}
 use mathlib.Core.List.{List}
-use Prim.Native.Nat.{ℕ, ◌-◌}
-use lib.ListN.{take, drop}
+use Prim.Native.Nat.{ℕ}
 use Rattle.settings_values.specs.Definitions.{Settings}
 use Rattle.settings_values.specs.Laws.{settings_give}
 use Rattle.base_lent.specs.Definitions.{words_in}
 use Rattle.c_state.specs.Definitions.{by_planner}
-use Rattle.c_state.specs.CallLaws.{desk_passes, desk_long, settings_few, settings_long, settings_front, step_told}
+use Rattle.c_state.specs.CallLaws.{desk_passes, desk_long, settings_few, settings_long, settings_front}
 use Rattle.c_events.specs.Definitions.{happened}
 use Rattle.c_events.specs.EventCases.{take_refused, take_done}
 use native.Mathlib.Omega.{arith}
@@ -45,7 +44,6 @@ returns c =
     let a = c.args in
     let e = c.enter_planner-entry.ensures in
     let p = desk_passes (by_planner a.role) a.settings.now a.state.now a.desk.now _ e c.if-refusal-ne0.false in
-    let o = happened a.event (take (c.enter_planner-entry.result.words - 0) (drop 0 c.enter_planner-entry.result.settings)) c.enter_planner-entry.result.state (words_in a.desk.now) a.node in
-    let t = take_done c.args.role c.args.event c.args.settings.now c.args.state.now c.args.desk.now c.args.node _ e c.if-refusal-ne0.false o
-    (ap (λ (s : List ℕ). happened a.event s c.enter_planner-entry.result.state (words_in a.desk.now) a.node) (settings_front _ _ _ _ _ e p.settings-ok)) (step_told _ _ _ c.outcome-o.ensures (c.keep.ensures.answer, c.keep.ensures.bytes)) in
+    let t = take_done c.args.role c.args.event c.args.settings.now c.args.state.now c.args.desk.now c.args.node _ e c.if-refusal-ne0.false _
+    (c.outcome-o.ensures ∙ ap (λ (s : List ℕ). happened a.event s c.enter_planner-entry.result.state (words_in a.desk.now) a.node) (settings_front _ _ _ _ _ e p.settings-ok)) c.keep.ensures in
     record { answer = t.0; bytes = t.1 }

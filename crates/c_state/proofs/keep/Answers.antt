@@ -1,17 +1,14 @@
 -- The event was refused, or the next state is stored.
-use mathlib.Core.Path.{sym, ap, ◌∙◌}
-use Rattle.std.specs.Prelude.{Result}
-use Rattle.base_ids.specs.declared.Refusal.{Refusal}
-use Rattle.state_planner.specs.declared.State.{State}
-use Rattle.c_state.specs.Calls.{step_word, step_bytes}
+use mathlib.Core.Path.{sym, ◌∙◌}
+use borrow.Author.Tests.{eq-eqb, ne_eqb}
+use Rattle.base_lent.specs.Answers.{told_refused, told_accepted}
 use Rattle.c_state.proofs.keep.Goals as goal
 
-pub returns-in-Ok : goal.returns-in-Ok
-returns-in-Ok c =
-    let k = sym c.in-Ok.is in
-    record { answer = ap step_word k; bytes = c.store.ensures ∙ ap (λ (s : Result State Refusal). step_bytes s c.args.state.now) k }
+pub returns-then-refusal-ne0 : goal.returns-then-refusal-ne0
+returns-then-refusal-ne0 c = told_refused c.refusal_of-refusal.result _ (sym c.refusal_of-refusal.ensures) _ _ _ (ne_eqb _ _ c.if-refusal-ne0.true)
 
-pub returns-in-Err : goal.returns-in-Err
-returns-in-Err c =
-    let k = sym c.in-Err.is in
-    record { answer = ap step_word k; bytes = ap (λ (s : Result State Refusal). step_bytes s c.args.state.now) k }
+pub returns : goal.returns
+returns c =
+    let t =
+    told_accepted c.refusal_of-refusal.result _ (sym c.refusal_of-refusal.ensures) 0 _ c.args.state.now (eq-eqb _ _ c.if-refusal-ne0.false) in
+    record { answers = t.answers; leaves = c.store.ensures ∙ t.leaves }

@@ -2,7 +2,7 @@
 use mathlib.Core.Path.{refl, sym, ap, ◌∙◌}
 use Rattle.base_lent.specs.Definitions.{words_in}
 use Rattle.base_ids.specs.Definitions.{accepted}
-use Rattle.base_ids.specs.Results.{ok_value, err_code}
+use Rattle.base_ids.specs.Results.{err_code}
 use Rattle.report_desk.specs.Bytes.{desk_length}
 use Rattle.plan_restart.specs.Kept.{held_below}
 use Rattle.state_planner.specs.EventLaws.{given_refusal, given_none}
@@ -14,7 +14,7 @@ returns-in-Err c =
     let s = c in
     let a = s.args in
     let d = words_in a.desk.now in
-    let k = c.in-Err.ensures.seen in
+    let k = sym c.in-Err.is ∙ c.enter-entry.ensures.rows in
     paged_refused a.settings.now a.x d a.g _ (given_refusal _ _ _ k ∙ sound_entry a.settings.now a.x d (desk_length a.desk.now s.requires.desk_len) s.requires.settings)
     (err_code _ _ _ k) c.refuse.ensures
 
@@ -23,7 +23,7 @@ page_seen-requires c =
     let s = c in
     let a = s.args in
     let d = words_in a.desk.now in
-    let e = sym (given_none _ _ _ c.in-Ok.ensures.seen) ∙ sound_entry a.settings.now a.x d (desk_length a.desk.now s.requires.desk_len) s.requires.settings in
+    let e = sym (given_none _ _ _ (sym c.in-Ok.is ∙ c.enter-entry.ensures.rows)) ∙ sound_entry a.settings.now a.x d (desk_length a.desk.now s.requires.desk_len) s.requires.settings in
     record { settings = s.requires.settings; held_bound = held_below a.settings.now a.x.kept a.x.termination a.x.held (sound_passed a.settings.now a.x d (sym (ap accepted e))).kept-sound }
 
 pub returns-in-Ok : goal.returns-in-Ok
@@ -31,5 +31,5 @@ returns-in-Ok c =
     let s = c in
     let a = s.args in
     let d = words_in a.desk.now in
-    let e = sym (given_none _ _ _ c.in-Ok.ensures.seen) ∙ sound_entry a.settings.now a.x d (desk_length a.desk.now s.requires.desk_len) s.requires.settings in
-    paged_shown a.settings.now a.x d a.g _ e refl (ok_value _ _ _ c.in-Ok.ensures.seen) c.page_seen.ensures
+    let e = sym (given_none _ _ _ (sym c.in-Ok.is ∙ c.enter-entry.ensures.rows)) ∙ sound_entry a.settings.now a.x d (desk_length a.desk.now s.requires.desk_len) s.requires.settings in
+    paged_shown a.settings.now a.x d a.g _ e refl c.enter-entry.ensures.seen c.page_seen.ensures

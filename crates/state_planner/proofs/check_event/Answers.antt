@@ -9,13 +9,13 @@ use Rattle.state_planner.specs.Definitions.{event_refusal}
 use Rattle.state_planner.specs.EventLaws.{given_refusal, given_refuses, given_none}
 use Rattle.state_planner.proofs.check_event.Goals as goal
 
-pub returns-in_err-enter : goal.returns-in_err-enter
+pub returns-in_err-rows : goal.returns-in_err-rows
 unfolding event_refusal
-returns-in_err-enter c =
-    let f = c.in_err-enter.ensures.seen in
+returns-in_err-rows c =
+    let f = sym c.in_err-rows.was ∙ c.enter-entry.ensures.rows in
     let p = err_from_is_err_and c.from_residual.result c.from_residual.ensures.1 in rw (p.1, p.2) (err_is _ _ _ (rows_refused (given_refusal _ _ _ f) _ (given_refuses _ _ _ f)) (given_refuses _ _ _ f))
 
 pub returns : goal.returns
 unfolding event_refusal
 returns c =
-    c.check_node.ensures ∙ ap (λ (r : Refusal). or_refusal r tt) (sym (first_none _ _ (given_none _ _ _ c.in_ok-enter.ensures.seen)))
+    c.check_node.ensures ∙ ap (λ (r : Refusal). or_refusal r tt) (sym (first_none _ _ (given_none _ _ _ (sym c.in_ok-rows.was ∙ c.enter-entry.ensures.rows))))

@@ -1,8 +1,7 @@
 -- `state_planner::enter` meets its contract: row by row, after rows 1 and 2. Assumes nothing.
-use mathlib.Core.Path.{refl, sym, ap, ◌∙◌}
+use mathlib.Core.Path.{refl, sym, ◌∙◌}
 use lib.ListN.{length}
 use borrow.Author.Tests.{eq-eqb}
-use Rattle.std.specs.Prelude.{Ok}
 use Rattle.base_ids.specs.Results.{ok_is, err_is}
 use Rattle.base_lent.specs.Definitions.{words_in}
 use Rattle.report_desk.specs.Bytes.{desk_length}
@@ -21,10 +20,12 @@ returns-then-not-is_sound c =
     let a = s.args in
     let d = words_in a.desk.now in
     let k = c.is_sound in
-    record {
-      seen = err_is _ _ _ (row_3 (sound a.settings.now a.x d) a.in_phase (sym (k.ensures d c.see-seen.ensures) ∙ c.if-not-is_sound.true)
+    let e = c.see-seen.ensures in
+    let t = c.tables_of-tables.ensures in record {
+      rows = err_is _ _ _ (row_3 (sound a.settings.now a.x d) a.in_phase (sym (k.ensures d e) ∙ c.if-not-is_sound.true)
           ∙ rows_passed (sound a.settings.now a.x d) a.in_phase (desk_ok d) a.settings.now (eq-eqb (length d) 16384 (desk_length a.desk.now s.requires.desk_len)) s.requires.settings) refl;
-      tables = tt;
+      seen = e;
+      tables = t;
     }
 
 pub returns-then-not-in_phase : goal.returns-then-not-in_phase
@@ -34,10 +35,12 @@ returns-then-not-in_phase c =
     let a = s.args in
     let d = words_in a.desk.now in
     let k = c.is_sound in
-    record {
-      seen = err_is _ _ _ (row_4 (sound a.settings.now a.x d) a.in_phase (sym (k.ensures d c.see-seen.ensures) ∙ c.if-not-is_sound.false) (c.if-not-in_phase.true)
+    let e = c.see-seen.ensures in
+    let t = c.tables_of-tables.ensures in record {
+      rows = err_is _ _ _ (row_4 (sound a.settings.now a.x d) a.in_phase (sym (k.ensures d e) ∙ c.if-not-is_sound.false) (c.if-not-in_phase.true)
           ∙ rows_passed (sound a.settings.now a.x d) a.in_phase (desk_ok d) a.settings.now (eq-eqb (length d) 16384 (desk_length a.desk.now s.requires.desk_len)) s.requires.settings) refl;
-      tables = tt;
+      seen = e;
+      tables = t;
     }
 
 pub returns : goal.returns
@@ -49,7 +52,8 @@ returns c =
     let k = c.is_sound in
     let e = c.see-seen.ensures in
     let t = c.tables_of-tables.ensures in record {
-      seen = ap Ok e ∙ ok_is _ _ (sym (no_row (sound a.settings.now a.x d) a.in_phase (sym (k.ensures d e) ∙ c.if-not-is_sound.false) (c.if-not-in_phase.false)
+      rows = ok_is _ _ (sym (no_row (sound a.settings.now a.x d) a.in_phase (sym (k.ensures d e) ∙ c.if-not-is_sound.false) (c.if-not-in_phase.false)
           ∙ rows_passed (sound a.settings.now a.x d) a.in_phase (desk_ok d) a.settings.now (eq-eqb (length d) 16384 (desk_length a.desk.now s.requires.desk_len)) s.requires.settings));
+      seen = e;
       tables = t;
     }

@@ -17,7 +17,7 @@ pub returns-in-Err : goal.returns-in-Err
 unfolding decide_refusal
 returns-in-Err c =
     let a = c.args in
-    let k = c.in-Err.ensures.seen in
+    let k = sym c.in-Err.is ∙ c.enter-entry.ensures.rows in
     let d = words_in a.desk.now in
     warns_refused a.settings.now a.x d _
     (given_refusal _ _ _ k ∙ ap (λ (p : Bool). entry_refusal (desk_ok d) a.settings.now a.x d p) c.is_gathering-in_phase.ensures) (err_code _ _ _ k)
@@ -29,7 +29,7 @@ unwrap-masks-requires c =
     let a = c.args in
     let d = words_in a.desk.now in
     let e : none ≡ decide_refusal a.settings.now a.x d =
-    sym (given_none _ _ _ c.in-Ok.ensures.seen) ∙ ap (λ (p : Bool). entry_refusal (desk_ok d) a.settings.now a.x d p) c.is_gathering-in_phase.ensures in
+    sym (given_none _ _ _ (sym c.in-Ok.is ∙ c.enter-entry.ensures.rows)) ∙ ap (λ (p : Bool). entry_refusal (desk_ok d) a.settings.now a.x d p) c.is_gathering-in_phase.ensures in
     counted_some a.settings.now a.x.kept a.x.termination a.x.held d c.count-counted.result c.count-counted.ensures (decide_slots a.settings.now a.x d (sym (ap accepted e)))
 
 pub losses-requires : goal.losses-requires
@@ -39,7 +39,7 @@ losses-requires c =
     let a = s.args in
     let d = words_in a.desk.now in
     let e : none ≡ decide_refusal a.settings.now a.x d =
-    sym (given_none _ _ _ c.in-Ok.ensures.seen) ∙ ap (λ (p : Bool). entry_refusal (desk_ok d) a.settings.now a.x d p) c.is_gathering-in_phase.ensures in
+    sym (given_none _ _ _ (sym c.in-Ok.is ∙ c.enter-entry.ensures.rows)) ∙ ap (λ (p : Bool). entry_refusal (desk_ok d) a.settings.now a.x d p) c.is_gathering-in_phase.ensures in
     record { settings = s.requires.settings; held_bound = held_below a.settings.now a.x.kept a.x.termination a.x.held (decide_kept a.settings.now a.x d (sym (ap accepted e))) }
 
 pub returns-in-Ok : goal.returns-in-Ok
@@ -49,6 +49,6 @@ returns-in-Ok c =
     let n = c.count-counted in
     let d = words_in a.desk.now in
     let e : none ≡ decide_refusal a.settings.now a.x d =
-    sym (given_none _ _ _ c.in-Ok.ensures.seen) ∙ ap (λ (p : Bool). entry_refusal (desk_ok d) a.settings.now a.x d p) c.is_gathering-in_phase.ensures in
+    sym (given_none _ _ _ (sym c.in-Ok.is ∙ c.enter-entry.ensures.rows)) ∙ ap (λ (p : Bool). entry_refusal (desk_ok d) a.settings.now a.x d p) c.is_gathering-in_phase.ensures in
     warns_told a.settings.now a.x d none e refl (counted_from (Some c.unwrap-masks.result)) (sym (ap counted_from c.unwrap-masks.ensures) ∙ n.ensures)
     c.losses.result c.losses.ensures

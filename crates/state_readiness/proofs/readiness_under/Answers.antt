@@ -17,7 +17,7 @@ pub returns-in-Err : goal.returns-in-Err
 returns-in-Err c =
     let a = c.args in
     let d = words_in a.desk.now in
-    let k = c.in-Err.ensures.seen in
+    let k = sym c.in-Err.is ∙ c.enter-entry.ensures.rows in
     let e = entered a.settings.now a.x d _ c.is_gathering-in_phase.ensures (given_refusal _ _ _ k) in
     readies_refused a.settings.now (desk_says a.settings.now a.x d) _
     (entry-refused a.in_limits a.settings.now a.x d _ e (err_code _ _ _ k)) (err_code _ _ _ k) c.refuse-in-Err.ensures
@@ -26,7 +26,7 @@ pub returns-then-not-is_small : goal.returns-then-not-is_small
 returns-then-not-is_small c =
     let a = c.args in
     let d = words_in a.desk.now in
-    let e = entered a.settings.now a.x d none c.is_gathering-in_phase.ensures (sym (given_none _ _ _ c.in-Ok.ensures.seen)) in
+    let e = entered a.settings.now a.x d none c.is_gathering-in_phase.ensures (sym (given_none _ _ _ (sym c.in-Ok.is ∙ c.enter-entry.ensures.rows))) in
     let m = c.is_small in
     readies_refused a.settings.now (desk_says a.settings.now a.x d) _
     (size_refused a.in_limits a.settings.now a.x d none e refl (sym m.ensures ∙ c.if-not-is_small.true))
@@ -43,7 +43,7 @@ pub returns-else-not-is_small : goal.returns-else-not-is_small
 returns-else-not-is_small c =
     let a = c.args in
     let d = words_in a.desk.now in
-    let e = entered a.settings.now a.x d none c.is_gathering-in_phase.ensures (sym (given_none _ _ _ c.in-Ok.ensures.seen)) in
+    let e = entered a.settings.now a.x d none c.is_gathering-in_phase.ensures (sym (given_none _ _ _ (sym c.in-Ok.is ∙ c.enter-entry.ensures.rows))) in
     let m = c.is_small in
     readies_by a.settings.now (desk_says a.settings.now a.x d)
     (size_passed a.in_limits a.settings.now a.x d none e refl (sym m.ensures ∙ c.if-not-is_small.false))

@@ -9,7 +9,7 @@ use Rattle.settings_values.specs.Definitions.{Settings}
 use Rattle.settings_values.specs.Laws.{settings_give}
 use Rattle.state_planner.specs.Definitions.{reported, desk_left}
 use Rattle.c_state.specs.Definitions.{by_planner}
-use Rattle.c_state.specs.CallLaws.{desk_passes, desk_long, settings_few, settings_long, settings_front, outcome_given, step_told}
+use Rattle.c_state.specs.CallLaws.{desk_passes, desk_long, settings_few, settings_long, settings_front}
 use Rattle.c_events.specs.ReportCases.{report_not_entered, report_done}
 use Rattle.c_events.proofs.report.report.Goals as goal
 
@@ -41,7 +41,6 @@ keep-requires c =
     p.long
 
 pub returns : goal.returns
-unfolding reported
 returns c =
     let a = c.args in
     let e = c.enter_planner-entry.ensures in
@@ -52,8 +51,7 @@ returns c =
     let looked = take (w.result.len - 0) (drop 0 w.result.table) in
     let front = settings_front _ _ _ _ _ e p.settings-ok in
     let u = c.report_under-o.ensures in
-    let o = reported (take (c.enter_planner-entry.result.words - 0) (drop 0 c.enter_planner-entry.result.settings)) x (words_in a.desk.now) looked in
-    let t = report_done a.role a.settings.now a.state.now a.desk.now a.message.now _ e h looked w.ensures.front o
-    (ap (λ (s : List ℕ). reported s x (words_in a.desk.now) looked) front) (step_told _ _ _ (u.outcome ∙ outcome_given _ x _) (c.keep.ensures.answer, c.keep.ensures.bytes))
+    let t = report_done a.role a.settings.now a.state.now a.desk.now a.message.now _ e h looked w.ensures.front _
+    (u.outcome ∙ ap (λ (s : List ℕ). reported s x (words_in a.desk.now) looked) front) c.keep.ensures
     (u.bytes ∙ ap (λ (s : List ℕ). desk_left s x a.desk.now looked) front) in
     record { answer = t.0; state = t.1.0; desk = t.1.1 }

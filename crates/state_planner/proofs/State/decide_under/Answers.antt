@@ -3,7 +3,6 @@ use mathlib.Core.Bool.{Bool, true}
 use mathlib.Core.Path.{◌≡◌, sym, ap, ◌∙◌, subst⁻¹}
 use Rattle.base_ids.specs.declared.Refusal.{Refusal}
 use Rattle.base_ids.specs.Definitions.{accepted}
-use Rattle.base_ids.specs.Results.{ok_value}
 use Rattle.plan_restart.specs.Kept.{held_below, number_to}
 use Rattle.plan_restart.specs.Answers.{verdict_from}
 use Rattle.plan_restart.specs.Planning.{restarts_told}
@@ -23,7 +22,7 @@ restart-verdict-requires c =
     let g = c.is_gathering-in_phase in
     let d = words_in a.desk.now in
     let t : accepted (decide_refusal a.settings.now a.self d) ≡ true =
-    ap accepted (sym (ap (λ (p : Bool). entry_refusal (desk_ok d) a.settings.now a.self d p) g.ensures) ∙ given_none _ _ _ c.in-Ok.ensures.seen) in
+    ap accepted (sym (ap (λ (p : Bool). entry_refusal (desk_ok d) a.settings.now a.self d p) g.ensures) ∙ given_none _ _ _ (sym c.in-Ok.is ∙ c.enter-entered.ensures.rows)) in
     let h = decide_kept a.settings.now a.self d t in
     record { settings = s.requires.settings; number_bound = number_to a.settings.now a.self.kept a.self.termination a.self.held h; held_bound = held_below a.settings.now a.self.kept a.self.termination a.self.held h }
 
@@ -35,10 +34,10 @@ returns-in-Ok c =
     let g = c.is_gathering-in_phase in
     let d = words_in a.desk.now in
     let t : accepted (decide_refusal a.settings.now a.self d) ≡ true =
-    ap accepted (sym (ap (λ (p : Bool). entry_refusal (desk_ok d) a.settings.now a.self d p) g.ensures) ∙ given_none _ _ _ c.in-Ok.ensures.seen) in
+    ap accepted (sym (ap (λ (p : Bool). entry_refusal (desk_ok d) a.settings.now a.self d p) g.ensures) ∙ given_none _ _ _ (sym c.in-Ok.is ∙ c.enter-entered.ensures.rows)) in
     subst⁻¹ (λ (r : Decided). Decides a.settings.now a.self d r) c.after_verdict.ensures
     (decides_by a.settings.now a.self d t (verdict_from c.restart-verdict.result)
-    (restarts_told a.settings.now a.self.kept a.self.termination a.self.held d _ (ok_value _ _ _ c.in-Ok.ensures.seen) s.requires.settings (decide_slots a.settings.now a.self d t)
+    (restarts_told a.settings.now a.self.kept a.self.termination a.self.held d _ c.enter-entered.ensures.seen s.requires.settings (decide_slots a.settings.now a.self d t)
     (decide_kept a.settings.now a.self d t) (verdict_from c.restart-verdict.result) c.restart-verdict.ensures))
 
 pub returns-in-Err : goal.returns-in-Err
@@ -47,6 +46,6 @@ returns-in-Err c =
     let a = c.args in
     let g = c.is_gathering-in_phase in
     let d = words_in a.desk.now in
-    let k = c.in-Err.ensures.seen in
+    let k = sym c.in-Err.is ∙ c.enter-entered.ensures.rows in
     let f = given_refusal _ _ _ k ∙ ap (λ (p : Bool). entry_refusal (desk_ok d) a.settings.now a.self d p) g.ensures in
     decides_refused a.settings.now a.self d _ (sym (ap accepted f) ∙ given_refuses _ _ _ k) (ap (λ (r : Refusal). still a.self (Decision.Refused r)) f)

@@ -1,2 +1,0 @@
--- Laws over the values that definitions have.
-pub mod Values
