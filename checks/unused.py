@@ -98,10 +98,11 @@ class File:
             self.module = ("proofs/" if self.kind == "proofs" else "") + self.inside[: -len(".antt")]
 
     def contract_lines(self):
-        clause = None
+        clause, open_ghost = None, False
         for owner, line in parts_of("\n".join(self.texts)):
-            if owner is None and line.strip().startswith("ghost "):
+            if owner is None and (open_ghost or line.strip().startswith("ghost ")):
                 # what an impl promises, as an iterator what it gives
+                open_ghost = line.count("{") > line.count("}") or open_ghost and not line.rstrip().endswith("};")
                 yield line
             if owner is None or owner[2]:
                 clause = None

@@ -38,9 +38,7 @@ fn turn_under(settings: &[u8], flat: &[u8], words: &mut [u32]) -> Result<usize, 
     ensures words { words.new ≡ turned_words (words_in settings.now) (words_in flat.now) words.old }
 {
     let s = base_lent::settings_of(settings);
-    let n = s.len;
-    let own = s.table;
-    turn(&own[0..n], flat, words)
+    turn(&s.table[0..s.len], flat, words)
 }
 
 // Turns a report into a flat one in 512 words: rows 1, 2 and 5 to 11.

@@ -154,7 +154,9 @@ fn sixteen(words: &[u32], at: usize) -> [u32; 16]
     ensures { result ≡ Definitions.span words.now at 16 }
 {
     let mut out = [0u32; 16];
-    out.copy_from_slice(&words[at..at + 16]);
+    for s in 0..16 {
+        out[s] = words[at + s];
+    }
     out
 }
 

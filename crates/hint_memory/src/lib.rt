@@ -4,7 +4,7 @@
 
 pub mod owners;
 
-ghost use Rattle.std.specs.Prelude.{◌≡◌, ◌+◌, ◌-◌, ◌^◌, ◌%◌, ◌≤◌, ◌<◌, min, max, get_or, IfSome};
+ghost use Rattle.std.specs.Prelude.{◌≡◌, ◌+◌, ◌-◌, ◌^◌, ◌%◌, ◌≤◌, ◌<◌, min, max, get_or, IfSome, MatchOption};
 ghost use Rattle.std.specs.Iterator.{at_most};
 ghost use Rattle.std.proofs.Math.ListN as Lists;
 ghost use Rattle.std.specs.Int.Bits.{bit_and, bit_or};
@@ -161,7 +161,8 @@ impl Iterator for Bits {
 
     ghost remaining = { λ s. at_most s.0 };
 
-    ghost next_gives = { λ s r after. IfSome r (λ n. n < 32) };
+    ghost next_gives = { λ s r after. IfSome r (λ n. n < 32) ×
+        MatchOption r (s.0 ≡ 0) (λ n. (n ≡ count_trailing_zeros 32 s.0 % 32) × (after.0 ≡ bit_and s.0 (s.0 - 1))) };
 
     fn next(&mut self) -> Option<u32> {
         if self.0 == 0 {

@@ -66,8 +66,10 @@ pub fn weigh(
     levels::wants(wants, mem, rooms);
     levels::nodes(nodes, mem, rooms);
     let count = hint_memory::owners::shards(mem);
-    for i in 0..count {
+    let mut i: u32 = 0;
+    while i < count {
         levels::weigh_row(pairs, mem, sets, wants, rooms, i);
+        i += 1;
     }
     levels::weigh_fixed(pairs, mem, sets, wants);
 }
