@@ -1,5 +1,5 @@
 """Wrong programs: that each is refused because a fact fails, and that every public function has enough of them: two, or one if it
-asks something of its caller (`requires`). No crate has more than two checks of wrong bodies.
+asks something of its caller (`requires`). No crate has more than two files code_N, four where its code has modules.
 
     edits.py            that every wrong program fits the text, and the counts; and of SAMPLE, a few files, that each wrong program of them is refused
                         for a fact of its own. wrong.py asks that of all

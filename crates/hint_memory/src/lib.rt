@@ -162,7 +162,7 @@ impl Iterator for Bits {
     ghost remaining = { λ s. at_most s.0 };
 
     ghost next_gives = { λ s r after. IfSome r (λ n. n < 32) ×
-        MatchOption r (s.0 ≡ 0) (λ n. (n ≡ count_trailing_zeros 32 s.0 % 32) × (after.0 ≡ bit_and s.0 (s.0 - 1))) };
+        MatchOption r ((s.0 ≡ 0) × (after.0 ≡ 0)) (λ n. (n ≡ count_trailing_zeros 32 s.0 % 32) × (after.0 ≡ bit_and s.0 (s.0 - 1))) };
 
     fn next(&mut self) -> Option<u32> {
         if self.0 == 0 {
